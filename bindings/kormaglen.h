@@ -103,7 +103,8 @@ typedef struct kormaglen_found_field {
     uint64_t rest;  /* where the rest of the path begins: the path into the field's JSON objects */
 } kormaglen_found_field;
 
-/* A schema that was read once, or none. The caller neither reads nor writes what is in it. */
+/* A schema that was read once, or none, and the memory that reading lines needs: as much as the longest line took, and 16 KiB at least once
+ * a line was read. The caller neither reads nor writes what is in it. */
 typedef struct kormaglen_schema {
     void *at;
 } kormaglen_schema;

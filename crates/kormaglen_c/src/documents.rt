@@ -9,6 +9,7 @@ ghost use Rattle.tv_blocks.specs.Documents.{IsForeignRefusal, IsPrintedBy, IsWri
 ghost use Rattle.tv_blocks.specs.Status.{wrong_version};
 ghost use Rattle.tv_doc.specs.Document.{document_of};
 ghost use Rattle.tv_format.specs.WriteVersion.{written_version};
+ghost use Rattle.tv_handles.specs.Held.{entries_of};
 ghost use Rattle.tv_reader.specs.Version.{numbered, version_of};
 
 use crate::handles::closed;
@@ -20,6 +21,7 @@ use tv_doc::document::CompactDoc;
 use tv_doc::parse_buffers::ParseBuffers;
 use tv_handles::document_handle::DocumentHandle;
 use tv_handles::schema_handle::SchemaHandle;
+use tv_handles::schema_memory::SchemaMemory;
 use tv_schema::Schema;
 use tv_store::DocStoreVersion;
 
@@ -73,14 +75,14 @@ pub extern "C" fn kormaglen_document_read(
 fn parse(
     alloc: Global,
     schema: &Schema,
+    buffers: &mut ParseBuffers,
     line: &[u8],
     handle: &mut DocumentHandle,
 ) -> Result<u64, BlockError>
     ensures { ParsesOr schema.now line.now handle.new.document result }
 {
     let mut document = taken(alloc, handle)?;
-    let mut buffers = ParseBuffers::new(alloc);
-    tv_blocks::parse_line(alloc, schema, line, document.as_mut(), &mut buffers)?;
+    tv_blocks::parse_line(alloc, schema, line, document.as_mut(), buffers)?;
     handle.keep(alloc, document);
     Ok(0)
 }
@@ -94,15 +96,19 @@ pub extern "C" fn kormaglen_document_parse(
     line: &[u8],
     handle: &mut DocumentHandle,
 ) -> Answer
-    ensures schema { schema.new.entries ≡ schema.old.entries }
-    ensures answer { MatchOption schema.old.entries
+    ensures schema { entries_of schema.new ≡ entries_of schema.old }
+    ensures answer { MatchOption (entries_of schema.old)
         (HoldsNone closed handle.new.document result)
         (λ entries. AnswersParsed entries line.now handle.new.document result) }
 {
     match schema.take(alloc) {
-        Some(entries) => {
-            let parsed = parse(alloc, &entries, line, handle);
-            schema.keep(alloc, entries);
+        Some(mut memory) => {
+            let SchemaMemory {
+                schema: entries,
+                buffers,
+            } = memory.as_mut();
+            let parsed = parse(alloc, entries, buffers, line, handle);
+            schema.keep(alloc, memory);
             written_answer(parsed)
         }
         None => {
@@ -138,16 +144,16 @@ pub extern "C" fn kormaglen_document_to_json(
     text: &mut [u8],
 ) -> Answer
     ensures handle { handle.new.document ≡ handle.old.document }
-    ensures schema { schema.new.entries ≡ schema.old.entries }
-    ensures answer { MatchOption schema.old.entries (IsClosed text.old text.new result)
+    ensures schema { entries_of schema.new ≡ entries_of schema.old }
+    ensures answer { MatchOption (entries_of schema.old) (IsClosed text.old text.new result)
         (λ entries. MatchOption handle.old.document (IsClosed text.old text.new result)
         (λ document. AnswersFill (IsPrintedBy entries (document_of document)) (λ error. ⊥)
         text.old text.new result)) }
 {
     match schema.take(alloc) {
-        Some(entries) => {
-            let answer = print(alloc, &entries, handle, text);
-            schema.keep(alloc, entries);
+        Some(memory) => {
+            let answer = print(alloc, &memory.schema, handle, text);
+            schema.keep(alloc, memory);
             answer
         }
         None => closed(),
@@ -210,8 +216,8 @@ pub extern "C" fn kormaglen_document_write(
     bytes: &mut [u8],
 ) -> Answer
     ensures handle { handle.new.document ≡ handle.old.document }
-    ensures schema { schema.new.entries ≡ schema.old.entries }
-    ensures answer { MatchOption schema.old.entries (IsClosed bytes.old bytes.new result)
+    ensures schema { entries_of schema.new ≡ entries_of schema.old }
+    ensures answer { MatchOption (entries_of schema.old) (IsClosed bytes.old bytes.new result)
         (λ entries. MatchOption handle.old.document (IsClosed bytes.old bytes.new result)
         (λ document. MatchOption (write_numbered version)
         (IsWrongVersion bytes.old bytes.new result)
@@ -219,9 +225,9 @@ pub extern "C" fn kormaglen_document_write(
         (IsForeignRefusal entries (document_of document)) bytes.old bytes.new result))) }
 {
     match schema.take(alloc) {
-        Some(entries) => {
-            let answer = write(alloc, &entries, version, handle, bytes);
-            schema.keep(alloc, entries);
+        Some(memory) => {
+            let answer = write(alloc, &memory.schema, version, handle, bytes);
+            schema.keep(alloc, memory);
             answer
         }
         None => closed(),

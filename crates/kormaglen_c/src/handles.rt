@@ -9,6 +9,7 @@ ghost use Rattle.tv_blocks.specs.Blocks.{IsPrintedBlock};
 ghost use Rattle.tv_blocks.specs.Fields.{FindsBy};
 ghost use Rattle.tv_blocks.specs.Imports.{ImportsBy};
 ghost use Rattle.tv_blocks.specs.Refusals.{IsBlockRefusal, IsUnfound};
+ghost use Rattle.tv_handles.specs.Held.{entries_of};
 ghost use Rattle.tv_reader.specs.Version.{numbered, version_of};
 
 use crate::{NOTHING_FOUND, found_answer};
@@ -16,6 +17,7 @@ use std::alloc::Global;
 use tv_blocks::status::{Answer, import_answer, written_answer, wrong_version};
 use tv_blocks::{BlockError, FoundField, LineAnswer};
 use tv_handles::schema_handle::SchemaHandle;
+use tv_handles::schema_memory::SchemaMemory;
 use tv_schema::Schema;
 use tv_store::DocStoreVersion;
 
@@ -34,7 +36,7 @@ pub(crate) fn closed() -> Answer
 
 // Has the handle hold the schema that a text describes.
 fn open(alloc: Global, json: &[u8], handle: &mut SchemaHandle) -> Result<u64, BlockError>
-    ensures { OpensOr json.now handle.new.entries result }
+    ensures { OpensOr json.now (entries_of handle.new) result }
 {
     handle.close(alloc);
     let schema = tv_blocks::read_schema(alloc, json)?;
@@ -49,7 +51,7 @@ pub extern "C" fn kormaglen_schema_open(
     json: &[u8],
     handle: &mut SchemaHandle,
 ) -> Answer
-    ensures { AnswersOpened json.now handle.new.entries result }
+    ensures { AnswersOpened json.now (entries_of handle.new) result }
 {
     written_answer(open(alloc, json, handle))
 }
@@ -57,7 +59,7 @@ pub extern "C" fn kormaglen_schema_open(
 /// Gives up the schema that the handle holds, if it holds one.
 #[unsafe(no_mangle)]
 pub extern "C" fn kormaglen_schema_close(alloc: Global, handle: &mut SchemaHandle)
-    ensures { handle.new.entries ≡ None }
+    ensures { entries_of handle.new ≡ None }
 {
     handle.close(alloc);
 }
@@ -78,15 +80,15 @@ pub extern "C" fn kormaglen_schema_find_field(
     path: &[u8],
     found: &mut FoundField,
 ) -> Answer
-    ensures handle { handle.new.entries ≡ handle.old.entries }
-    ensures answer { MatchOption handle.old.entries (IsClosedFound found.new result)
+    ensures handle { entries_of handle.new ≡ entries_of handle.old }
+    ensures answer { MatchOption (entries_of handle.old) (IsClosedFound found.new result)
         (λ entries. AnswersFound (FindsBy entries path.now) (IsUnfound entries path.now) found.new
         result) }
 {
     match handle.take(alloc) {
-        Some(schema) => {
-            let answer = find(&schema, path, found);
-            handle.keep(alloc, schema);
+        Some(memory) => {
+            let answer = find(&memory.schema, path, found);
+            handle.keep(alloc, memory);
             answer
         }
         None => {
@@ -105,16 +107,19 @@ pub extern "C" fn kormaglen_schema_import_lines(
     block: &mut [u8],
     answers: &mut [LineAnswer],
 ) -> Answer
-    ensures handle { handle.new.entries ≡ handle.old.entries }
-    ensures answer { MatchOption handle.old.entries
+    ensures handle { entries_of handle.new ≡ entries_of handle.old }
+    ensures answer { MatchOption (entries_of handle.old)
         (IsClosedImport block.old block.new answers.old answers.new result)
         (λ entries. AnswersImport (ImportsBy entries lines.now block.old block.new answers.old
         answers.new) result) }
 {
     match handle.take(alloc) {
-        Some(schema) => {
-            let imported = tv_blocks::import_lines_by(alloc, &schema, lines, block, answers);
-            handle.keep(alloc, schema);
+        Some(mut memory) => {
+            let SchemaMemory { schema, buffers } = memory.as_mut();
+            let imported = tv_blocks::import_lines_by(
+                alloc, schema, buffers, lines, block, answers,
+            );
+            handle.keep(alloc, memory);
             import_answer(imported)
         }
         None => closed(),
@@ -144,16 +149,16 @@ pub extern "C" fn kormaglen_schema_export_block(
     block: &[u8],
     lines: &mut [u8],
 ) -> Answer
-    ensures handle { handle.new.entries ≡ handle.old.entries }
-    ensures answer { MatchOption handle.old.entries (IsClosed lines.old lines.new result)
+    ensures handle { entries_of handle.new ≡ entries_of handle.old }
+    ensures answer { MatchOption (entries_of handle.old) (IsClosed lines.old lines.new result)
         (λ entries. MatchOption (numbered version) (IsWrongVersion lines.old lines.new result)
         (λ v. AnswersFill (IsPrintedBlock entries (version_of v) block.now)
         (IsBlockRefusal (version_of v) block.now) lines.old lines.new result)) }
 {
     match handle.take(alloc) {
-        Some(schema) => {
-            let answer = export(alloc, &schema, version, block, lines);
-            handle.keep(alloc, schema);
+        Some(memory) => {
+            let answer = export(alloc, &memory.schema, version, block, lines);
+            handle.keep(alloc, memory);
             answer
         }
         None => closed(),

@@ -73,26 +73,17 @@ impl LineOutcome {
     }
 }
 
-// The memory of a line's document, which serves the next line.
-#[derive(Drop)]
-struct LineMemory {
-    /// The document.
-    document: CompactDoc,
-    /// What reading its JSON needs.
-    buffers: ParseBuffers,
-}
-
 // Appends the line's stored document to the block, and says what became of the line.
 fn import_line(
     alloc: Global,
     schema: &Schema,
     line: &[u8],
-    memory: &mut LineMemory,
+    document: &mut CompactDoc,
+    buffers: &mut ParseBuffers,
     block: &mut VecSink,
 ) -> Result<LineOutcome, AllocError>
     ensures { IfOk result (Appends schema.now line.now block.old.bytes.items block.new.bytes.items) }
 {
-    let LineMemory { document, buffers } = memory;
     match parse_line(alloc, schema, line, document, buffers) {
         Ok(()) => store_document(schema, document, block),
         Err(BlockError::BadLine(refusal)) => Ok(LineOutcome::Refused(refusal)),
@@ -124,6 +115,7 @@ fn store_document(
 fn import_each(
     alloc: Global,
     schema: &Schema,
+    buffers: &mut ParseBuffers,
     lines: &[u8],
     block: &mut VecSink,
     answers: &mut Vec<LineAnswer>,
@@ -132,14 +124,11 @@ fn import_each(
     requires answers { answers.old.items ≡ [] }
     ensures { OnOk result (ImportsEach schema.now lines.now block.new.bytes.items answers.new.items) }
 {
-    let mut memory = LineMemory {
-        document: CompactDoc::new(alloc),
-        buffers: ParseBuffers::new(alloc),
-    };
+    let mut document = CompactDoc::new(alloc);
     let mut left = lines;
     while !left.is_empty() {
         let (line, behind) = first_line(left);
-        let outcome = import_line(alloc, schema, line, &mut memory, block)?;
+        let outcome = import_line(alloc, schema, line, &mut document, buffers, block)?;
         answers.push(outcome.answer())?;
         left = behind;
     }
@@ -171,14 +160,15 @@ fn put_both(
 }
 
 /// Stores the documents of lines of JSON by a schema, one behind the other in version 2, and answers each line. A line ends at a line feed,
-/// and the last may lack it. A line that is refused stores nothing, and the next line follows. See `CompactDoc::parse_json` and
-/// `BinaryDocumentSerializer`.
+/// and the last may lack it. A line that is refused stores nothing, and the next line follows. The buffers serve each line, and any later
+/// call. See `CompactDoc::parse_json_into` and `BinaryDocumentSerializer`.
 ///
 /// Errors: `TooSmall` with the bytes of the block and the number of lines, where one of the buffers is too small; `Memory`. Both buffers then
 /// stay as they are.
 pub fn import_lines_by(
     alloc: Global,
     schema: &Schema,
+    buffers: &mut ParseBuffers,
     lines: &[u8],
     block: &mut [u8],
     answers: &mut [LineAnswer],
@@ -187,7 +177,7 @@ pub fn import_lines_by(
 {
     let mut stored = VecSink::new(alloc);
     let mut outcomes = Vec::new(alloc);
-    import_each(alloc, schema, lines, &mut stored, &mut outcomes)?;
+    import_each(alloc, schema, buffers, lines, &mut stored, &mut outcomes)?;
     put_both(stored.as_slice(), outcomes.as_slice(), block, answers)
 }
 
@@ -205,5 +195,6 @@ pub fn import_lines(
     ensures { ImportsInto schema.now lines.now block.old block.new answers.old answers.new result }
 {
     let schema = read_schema(alloc, schema)?;
-    import_lines_by(alloc, &schema, lines, block, answers)
+    let mut buffers = ParseBuffers::new(alloc);
+    import_lines_by(alloc, &schema, &mut buffers, lines, block, answers)
 }

@@ -1,7 +1,7 @@
 //! Calls over whole blocks of bytes, as callers in other languages need them: each is given its input as bytes, keeps nothing from one call to
 //! the next, and writes its answer into a buffer of the caller's. Where the buffer is too small nothing is written, and the answer says how
-//! many bytes are needed. A call that needs a schema is there twice: it reads the schema's JSON anew, or it is given the schema that
-//! `read_schema` read. (Not in tantivy.)
+//! many bytes are needed. A call over a block that needs a schema is there twice: it reads the schema's JSON anew, or it is given the schema
+//! that `read_schema` read. A call of one document is given the document, too, or puts another one in its place. (Not in tantivy.)
 #![tactic(auto)]
 
 pub mod block_error;

@@ -21,8 +21,8 @@ fn refused(error: SchemaError) -> BlockError
     }
 }
 
-/// The schema that a text of JSON describes, for the calls that are given a schema: `import_lines_by`, `export_block_by` and
-/// `find_field_by`.
+/// The schema that a text of JSON describes, for the calls that are given a schema: `import_lines_by`, `export_block_by`, `find_field_by`, and
+/// those of one document.
 ///
 /// Errors: `InvalidJson` where the text isn't JSON, `BadSchema` where the JSON describes no schema, `Memory`.
 pub fn read_schema(alloc: Global, text: &[u8]) -> Result<Schema, BlockError>

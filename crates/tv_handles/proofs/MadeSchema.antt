@@ -7,11 +7,11 @@ use Rattle.std.specs.Ptr.{Ptr, block_ptr, null_ptr}
 use Rattle.std.specs.contracts.alloc.Global.{the_row as global_row}
 use Rattle.std.specs.contracts.boxed.Box.{the_row as box_row}
 use Rattle.std.specs.contracts.impls.GlobalAllocator.TheImpl.{ghosts}
-use Rattle.tv_field.specs.Entry.{Entry}
+use Rattle.tv_handles.specs.declared.schema_memory.SchemaMemory.{SchemaMemory}
 use Rattle.tv_handles.specs.Kept.{keeps}
 use Rattle.tv_handles.specs.contracts.schema_handle.SchemaHandle.{the_row, the_type}
-use Rattle.tv_schema.proofs.schema.Schema.TheLaws as schema_laws
-use Rattle.tv_schema.specs.contracts.schema.Schema.{the_row as schema_row}
+use Rattle.tv_handles.proofs.schema_memory.SchemaMemory.TheLaws as schema_laws
+use Rattle.tv_handles.specs.contracts.schema_memory.SchemaMemory.{the_row as schema_row}
 use base.Logic.{ent}
 use denote.Exit.{no}
 use denote.Laws.{Lawful}
@@ -41,10 +41,10 @@ pub handle_typed : (p : Ptr) → T (has_ty (lone the_row.mir) (handle_val p)) ×
 handle_typed (block_ptr b o) = (tt, (tt, tt))
 handle_typed null_ptr = (tt, (record { fits = lit< tt }, tt))
 
-pub made : {M : Type 1} {𝓤 : Ura M} (𝓛 : Logic 𝓤) (p : Ptr) (entries : Option (List Entry))
-    → ent 𝓤 (sem 𝓛 (keeps schema_row p entries)) (sem 𝓛 (the_row.own_val (record { at = p; entries = entries }) (handle_vals p)))
-made 𝓛 p entries =
-    qed 𝓛 (‵ (keeps schema_row p entries) ∷ []) ∵ nothing ! $ feq_i ! (List Val) (rawptr_vals p) (rawptr_vals p) refl $ fjoin ! $
+pub made : {M : Type 1} {𝓤 : Ura M} (𝓛 : Logic 𝓤) (p : Ptr) (memory : Option SchemaMemory)
+    → ent 𝓤 (sem 𝓛 (keeps schema_row p memory)) (sem 𝓛 (the_row.own_val (record { at = p; memory = memory }) (handle_vals p)))
+made 𝓛 p memory =
+    qed 𝓛 (‵ (keeps schema_row p memory) ∷ []) ∵ nothing ! $ feq_i ! (List Val) (rawptr_vals p) (rawptr_vals p) refl $ fjoin ! $
     feq_i ! (List Val) (handle_vals p) (handle_vals p) refl $ fjoin ! $
     fpack ! (Valss (shape the_type).fields) (within (shape the_type) (p, tt) (handle_vals p)) (rawptr_vals p, tt) $ fjoin ! $ done !
 

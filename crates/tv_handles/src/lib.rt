@@ -3,3 +3,4 @@
 
 pub mod document_handle;
 pub mod schema_handle;
+pub mod schema_memory;

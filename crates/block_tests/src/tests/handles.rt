@@ -15,9 +15,9 @@ fn found(
     handle: &mut SchemaHandle,
     path: &[u8],
 ) -> Option<Result<FoundField, BlockError>> {
-    let schema = handle.take(alloc)?;
-    let found = find_field_by(&schema, path);
-    handle.keep(alloc, schema);
+    let memory = handle.take(alloc)?;
+    let found = find_field_by(&memory.schema, path);
+    handle.keep(alloc, memory);
     Some(found)
 }
 

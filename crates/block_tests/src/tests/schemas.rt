@@ -5,6 +5,7 @@ use tv_blocks::{
     BlockError, FoundField, Imported, LineAnswer, export_block_by, find_field_by, import_lines_by,
     read_schema,
 };
+use tv_doc::parse_buffers::ParseBuffers;
 use tv_field::SchemaError;
 use tv_store::DocStoreVersion;
 
@@ -49,9 +50,17 @@ const ANSWERS: [LineAnswer; 3] = [
 fn a_schema_serves_many_calls(rt: HostRuntime) -> Result<(), Fail> {
     let alloc = rt.alloc();
     let schema = read_schema(alloc, SCHEMA).expect(&rt, "a schema");
+    let mut buffers = ParseBuffers::new(alloc);
     let mut block = [KEPT; 9];
     let mut answers = [NO_ANSWER; 3];
-    let imported = import_lines_by(alloc, &schema, LINES, &mut block, &mut answers);
+    let imported = import_lines_by(
+        alloc,
+        &schema,
+        &mut buffers,
+        LINES,
+        &mut block,
+        &mut answers,
+    );
     assert_eq!(rt; imported, Ok(Imported { bytes: 8, lines: 2 }));
     assert_eq!(rt; block.as_slice(), BLOCK);
     assert_eq!(rt; &answers, &ANSWERS);
@@ -71,9 +80,17 @@ fn a_schema_serves_many_calls(rt: HostRuntime) -> Result<(), Fail> {
 fn nothing_is_written_where_a_buffer_is_too_small(rt: HostRuntime) -> Result<(), Fail> {
     let alloc = rt.alloc();
     let schema = read_schema(alloc, SCHEMA).expect(&rt, "a schema");
+    let mut buffers = ParseBuffers::new(alloc);
     let mut block = [KEPT; 7];
     let mut answers = [NO_ANSWER; 3];
-    let short = import_lines_by(alloc, &schema, LINES, &mut block, &mut answers);
+    let short = import_lines_by(
+        alloc,
+        &schema,
+        &mut buffers,
+        LINES,
+        &mut block,
+        &mut answers,
+    );
     let needed = BlockError::TooSmall { bytes: 8, lines: 2 };
     assert_eq!(rt; short, Err(needed));
     assert_eq!(rt; &block, &[KEPT; 7]);

@@ -7,4 +7,4 @@ returns-in-Ok c = stored_appends _ _ _ _ _ _ c.in-Ok.ensures.ok c.store_document
 pub returns-in-Err-BadLine : goal.returns-in-Err-BadLine
 returns-in-Err-BadLine c =
     let refused = c.in-Err-BadLine in
-    rw refused.field-0-is (refused_appends c.args.schema.now c.args.line.now c.args.block.now.bytes.items refused.refusal (rw refused.field-0-is at refused.ensures.err))
+    refused_appends c.args.schema.now c.args.line.now c.args.block.now.bytes.items refused.refusal (rw refused.field-0-is at refused.ensures.err)

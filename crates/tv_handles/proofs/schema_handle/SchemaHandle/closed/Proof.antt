@@ -26,6 +26,6 @@ closed_spec 𝓤 𝓛 𝓜 𝓡 wired =
     qed 𝓛 (raw (on_entry 𝓛 f.signature κs qs a y.0.4) ∷ ‵ ftrue ∷ []) ∵ drop ! $ drop ! $ enter ! _ _ _ _ _ $ alloc_all ! (λ l. pass_all ! refl tt $
     sets ! (agg ! (and_then ! (lit ! tt) (no_more !))) refl (tt, (record { fits = lit< tt }, tt)) $
     returns ! (look_at ! 0 refl) $ free_all ! refl $
-    suffices ! _ (ends_at 𝓛 f.ended tt c y (vstruct (of_list (vnull ∷ []))) (record { at = null_ptr; entries = None }) tt tt) $ says ! refl $
-    feq_i ! Ptr null_ptr null_ptr refl $ use1 𝓛 (‵ (the_row.own_val (record { at = null_ptr; entries = None }) (handle_vals null_ptr))) (made 𝓛 null_ptr None) $
+    suffices ! _ (ends_at 𝓛 f.ended tt c y (vstruct (of_list (vnull ∷ []))) (record { at = null_ptr; memory = None }) tt tt) $ says ! refl $
+    feq_i ! Ptr null_ptr null_ptr refl $ use1 𝓛 (‵ (the_row.own_val (record { at = null_ptr; memory = None }) (handle_vals null_ptr))) (made 𝓛 null_ptr None) $
     nothing ! $ nothing ! $ done !))

@@ -17,13 +17,13 @@ use Rattle.tv_handles.proofs.Heap.{Heap, heap_laws, heap_drop}
 use Rattle.tv_handles.proofs.MadeSchema.{Kept, kept_laws, boxed_lawful, handle_val, handle_vals, handle_typed, made}
 use Rattle.tv_handles.proofs.schema_handle.SchemaHandle.of_box.Code as code
 use Rattle.tv_handles.proofs.schema_handle.SchemaHandle.of_box.Statement.{statement}
-use Rattle.tv_handles.proofs.tv_schema++schema++Schema+Destruct.drop.Kinds as drop_kinds
-use Rattle.tv_handles.proofs.tv_schema++schema++Schema+Destruct.drop.Met as drop_met
-use Rattle.tv_handles.proofs.tv_schema++schema++Schema+Destruct.drop.Reads as drop_reads
-use Rattle.tv_handles.proofs.tv_schema++schema++Schema+Destruct.drop.Symbol as drop_symbol
+use Rattle.tv_handles.proofs.tv_handles++schema_memory++SchemaMemory+Destruct.drop.Kinds as drop_kinds
+use Rattle.tv_handles.proofs.tv_handles++schema_memory++SchemaMemory+Destruct.drop.Met as drop_met
+use Rattle.tv_handles.proofs.tv_handles++schema_memory++SchemaMemory+Destruct.drop.Reads as drop_reads
+use Rattle.tv_handles.proofs.tv_handles++schema_memory++SchemaMemory+Destruct.drop.Symbol as drop_symbol
 use Rattle.tv_handles.specs.contracts.schema_handle.SchemaHandle.{the_row}
 use Rattle.tv_handles.specs.contracts.schema_handle.SchemaHandle.of_box as f
-use Rattle.tv_schema.specs.contracts.schema.Schema.{the_row as schema_row}
+use Rattle.tv_handles.specs.contracts.schema_memory.SchemaMemory.{the_row as schema_row}
 use base.Fml.{ftrue, flft}
 use base.Fraction.{full_share}
 use base.Logic.{emp, id⊢}
@@ -73,7 +73,7 @@ abbrev stayed : Stays f.ended.signature.params f.ended.kept
 stayed = (stay_dropped _ no, tt)
 
 abbrev schema_drop : Dict
-schema_drop = impl ("tv_handles::tv_schema++schema++Schema+Destruct::drop" ∷ []) tnil dnil
+schema_drop = impl ("tv_handles::tv_handles++schema_memory++SchemaMemory+Destruct::drop" ∷ []) tnil dnil
 
 module _ {M : Type 1} (𝓤 : Ura M) (𝓛 : Logic 𝓤) (𝓜 : Model 𝓤 𝓛.H) (𝓡 : Running 𝓤 𝓛.H 𝓜) (wired : Wired 𝓡.env code.code) where
   -- a schema can be dropped
@@ -82,7 +82,7 @@ module _ {M : Type 1} (𝓤 : Ura M) (𝓛 : Logic 𝓤) (𝓜 : Model 𝓤 𝓛
       let E = ended_of 1 drop_kinds.ps drop_kinds.r in
       let w : World = record { M = M; 𝓤 = 𝓤; 𝓛 = 𝓛; 𝓜 = 𝓜; 𝓡 = 𝓡 } in
       let m = method schema_drop 0 no_args in
-      let called = code.calls-tv_handles::tv_schema++schema++Schema+Destruct::drop 𝓡.env wired in
+      let called = code.calls-tv_handles::tv_handles++schema_memory++SchemaMemory+Destruct::drop 𝓡.env wired in
       glue_by Kept kept_laws w schema_drop 𝓡.env
       (λ κs a. Lasts E ([], tt) a) (λ κs a. lasts E ([], tt) a)
       (λ κs a x ws. Fit E (stays drop_kinds.ps) ([], tt) a ws × drop_reads.Learnt ([], tt) a x (at_exit E ([], tt) a ws))
@@ -133,6 +133,6 @@ of_box_spec 𝓤 𝓛 𝓜 𝓡 wired =
     sets ! (agg ! (and_then ! (get ! refl) (no_more !))) refl (handle_typed p) $
     returns ! (look_at ! 0 refl) $ free_all ! refl $
     fpack ! Global (λ heap. box_owns (ghosts.dealloc_token heap) schema_row p a.0.value) a.0.alloc $
-    use1 𝓛 (‵ (the_row.own_val (record { at = p; entries = Some a.0.value }) (handle_vals p))) (made 𝓛 p (Some a.0.value)) $
-    suffices ! _ (ends_at 𝓛 f.ended stayed c y (handle_val p) (record { at = p; entries = Some a.0.value }) (tt, tt) (tt, tt)) $ says ! refl $
+    use1 𝓛 (‵ (the_row.own_val (record { at = p; memory = Some a.0.value }) (handle_vals p))) (made 𝓛 p (Some a.0.value)) $
+    suffices ! _ (ends_at 𝓛 f.ended stayed c y (handle_val p) (record { at = p; memory = Some a.0.value }) (tt, tt) (tt, tt)) $ says ! refl $
     nothing ! $ nothing ! $ join ! $ nothing ! $ done !))))))
