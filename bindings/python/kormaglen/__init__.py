@@ -239,9 +239,7 @@ def end_of_prefix(prefix: bytes) -> bytes:
 
 
 class _Held:
-    """What the library holds for a value of Python: it is used on the thread that made it alone."""
-
-    _close = staticmethod(_CALLS.kormaglen_schema_close)
+    """What the library holds for a value of Python, on the thread that made it alone. A class of it names the call that gives it up: `_close`."""
 
     def __init__(self):
         self._handle = _Handle()
@@ -276,6 +274,8 @@ class Schema(_Held):
     ...     schema.find_field("age")
     (0, '')
     """
+
+    _close = staticmethod(_CALLS.kormaglen_schema_close)
 
     def __init__(self, json: bytes):
         super().__init__()
