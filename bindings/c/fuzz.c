@@ -159,6 +159,9 @@ static void import_once(void) {
         if (answers[i].status > KORMAGLEN_LINE_NO_ROOM) {
             fail("an unknown status of a line");
         }
+        if (answers[i].field != 0 && (answers[i].status < KORMAGLEN_LINE_OVERFLOW || answers[i].status > KORMAGLEN_LINE_FLOAT)) {
+            fail("a field where no value is refused");
+        }
     }
     if (answer.status == KORMAGLEN_OK && sum != answer.bytes) {
         fail("the lines' bytes are not the block's");

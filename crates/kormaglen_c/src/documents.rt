@@ -51,7 +51,9 @@ fn read(
 }
 
 /// Reads the document with which the bytes begin, see `tv_blocks::read_first_document`. The version is 1, 2 or 3. The handle holds the document
-/// in the place of what it held before, and after a refusal it holds none.
+/// in the place of what it held before.
+///
+/// It is refused with status 2, 8 at place 0, or 9. The handle then holds none.
 #[unsafe(no_mangle)]
 pub extern "C" fn kormaglen_document_read(
     alloc: Global,
@@ -87,8 +89,9 @@ fn parse(
     Ok(0)
 }
 
-/// Makes the document of a line of JSON, see `tv_blocks::parse_line`. The handle holds the document in the place of what it held before, and
-/// after a refusal it holds none.
+/// Makes the document of a line of JSON, see `tv_blocks::parse_line`. The handle holds the document in the place of what it held before.
+///
+/// It is refused with status 2, 11, or 15 where the schema's handle is closed. The document's handle then holds none.
 #[unsafe(no_mangle)]
 pub extern "C" fn kormaglen_document_parse(
     alloc: Global,
@@ -104,10 +107,10 @@ pub extern "C" fn kormaglen_document_parse(
     match schema.take(alloc) {
         Some(mut memory) => {
             let SchemaMemory {
-                schema: entries,
+                schema: held_schema,
                 buffers,
             } = memory.as_mut();
-            let parsed = parse(alloc, entries, buffers, line, handle);
+            let parsed = parse(alloc, held_schema, buffers, line, handle);
             schema.keep(alloc, memory);
             written_answer(parsed)
         }
@@ -136,6 +139,8 @@ fn print(alloc: Global, schema: &Schema, handle: &mut DocumentHandle, text: &mut
 }
 
 /// Writes the text of JSON of the handle's document by the names of the schema's fields, see `tv_blocks::print_document`.
+///
+/// It is refused with status 1, 2, or 15 where one of the handles is closed. The text then stays as it is.
 #[unsafe(no_mangle)]
 pub extern "C" fn kormaglen_document_to_json(
     alloc: Global,
@@ -207,6 +212,8 @@ fn write(
 }
 
 /// Writes the stored pairs of the handle's document, see `tv_blocks::write_document`. The version is 2 or 3.
+///
+/// It is refused with status 1, 2, 9, 12, or 15 where one of the handles is closed. The bytes then stay as they are.
 #[unsafe(no_mangle)]
 pub extern "C" fn kormaglen_document_write(
     alloc: Global,

@@ -1,13 +1,13 @@
 //! Documents behind a pointer that C holds.
 
 ghost use Rattle.std.specs.Option.{option_map};
-ghost use Rattle.std.specs.Prelude.{◌≡◌, None, Option, Some, OnErr, OnOk};
+ghost use Rattle.std.specs.Prelude.{◌≡◌, None, Option, Some};
 ghost use Rattle.std.specs.Coded.{coded_option};
 ghost use Rattle.tv_doc.specs.declared.document.CompactDoc.{CompactDoc};
 ghost use Rattle.tv_handles.specs.Kept.{keeps};
 ghost use Rattle.tv_doc.specs.contracts.document.CompactDoc.{the_row as document_row};
 
-use std::alloc::{AllocError, Global};
+use std::alloc::Global;
 use std::marker::Model;
 use std::mem::replace;
 use std::ptr::null_mut;
@@ -71,16 +71,5 @@ impl DocumentHandle {
         ensures { self.new.document ≡ None }
     {
         let _ = self.take(alloc);
-    }
-
-    /// Gives the handle a document, in the place of what it held. Where memory is refused, the handle holds no document.
-    pub fn open(&mut self, alloc: Global, document: CompactDoc) -> Result<(), AllocError>
-        ensures ok { OnOk result (self.new.document ≡ Some document) }
-        ensures err { OnErr result (self.new.document ≡ None) }
-    {
-        self.close(alloc);
-        let boxed = Box::new(alloc, document)?;
-        self.keep(alloc, boxed);
-        Ok(())
     }
 }

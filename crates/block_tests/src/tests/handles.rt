@@ -1,8 +1,10 @@
-//! Schemas that a handle holds. A handle has to be given up on each way out, so what it answers is compared afterwards.
+//! Schemas and documents that a handle holds. A handle has to be given up on each way out, so what it answers is compared afterwards.
 
 use std::alloc::Global;
 use std::test::Fail;
+use tantivy_schema::schema::{Field, TantivyDocument};
 use tv_blocks::{BlockError, FoundField, find_field_by, read_schema};
+use tv_handles::document_handle::DocumentHandle;
 use tv_handles::schema_handle::SchemaHandle;
 
 const SCHEMA: &[u8] = br#"[{"name":"s","type":"text","options":{"stored":true}}]"#;
@@ -43,6 +45,40 @@ fn a_handle_holds_one_schema_at_a_time(rt: HostRuntime) -> Result<(), Fail> {
     assert_eq!(rt; (first, again), (field, field));
     assert_eq!(rt; gone, Some(Err(BlockError::NoField)));
     assert_eq!(rt; held, field);
+    assert!(rt; left.is_none());
+    Ok(())
+}
+
+// How many pairs the handle's document has, if there is one.
+fn pairs(alloc: Global, handle: &mut DocumentHandle) -> Option<usize> {
+    let document = handle.take(alloc)?;
+    let count = document.len();
+    handle.keep(alloc, document);
+    Some(count)
+}
+
+#[test]
+fn a_handle_holds_one_document_at_a_time(rt: HostRuntime) -> Result<(), Fail> {
+    let alloc = rt.alloc();
+    let mut document = TantivyDocument::new(alloc);
+    document
+        .add_u64(Field::from_field_id(0), 7)
+        .expect(&rt, "room");
+    let first = Box::new(alloc, document).expect(&rt, "memory");
+    let second = Box::new(alloc, TantivyDocument::new(alloc)).expect(&rt, "memory");
+    let mut handle = DocumentHandle::closed();
+    let closed = pairs(alloc, &mut handle);
+    handle.keep(alloc, first);
+    let once = pairs(alloc, &mut handle);
+    let again = pairs(alloc, &mut handle);
+    handle.keep(alloc, second);
+    let other = pairs(alloc, &mut handle);
+    handle.close(alloc);
+    handle.close(alloc);
+    let left = handle.into_box(alloc);
+    assert_eq!(rt; closed, None);
+    assert_eq!(rt; (once, again), (Some(1), Some(1)));
+    assert_eq!(rt; other, Some(0));
     assert!(rt; left.is_none());
     Ok(())
 }
