@@ -9,6 +9,7 @@ ghost use Rattle.tv_blocks.specs.Blocks.{IsPrintedBlock};
 ghost use Rattle.tv_blocks.specs.Fields.{FindsBy};
 ghost use Rattle.tv_blocks.specs.Imports.{ImportsBy};
 ghost use Rattle.tv_blocks.specs.Refusals.{IsBlockRefusal, IsUnfound};
+ghost use Rattle.tv_blocks.specs.Schemas.{IsSchemaText};
 ghost use Rattle.tv_handles.specs.Held.{entries_of};
 ghost use Rattle.tv_reader.specs.Version.{numbered, version_of};
 
@@ -62,6 +63,34 @@ pub extern "C" fn kormaglen_schema_close(alloc: Global, handle: &mut SchemaHandl
     ensures { entries_of handle.new ≡ None }
 {
     handle.close(alloc);
+}
+
+// Writes the schema's text of JSON.
+fn print(alloc: Global, schema: &Schema, text: &mut [u8]) -> Answer
+    ensures { AnswersFill (IsSchemaText schema.now) (λ error. ⊥) text.old text.new result }
+{
+    written_answer(tv_blocks::print_schema(alloc, schema, text))
+}
+
+/// Writes the text of JSON of the schema that the handle holds, see `tv_blocks::print_schema`.
+#[unsafe(no_mangle)]
+pub extern "C" fn kormaglen_schema_to_json(
+    alloc: Global,
+    handle: &mut SchemaHandle,
+    text: &mut [u8],
+) -> Answer
+    ensures handle { entries_of handle.new ≡ entries_of handle.old }
+    ensures answer { MatchOption (entries_of handle.old) (IsClosed text.old text.new result)
+        (λ entries. AnswersFill (IsSchemaText entries) (λ error. ⊥) text.old text.new result) }
+{
+    match handle.take(alloc) {
+        Some(memory) => {
+            let answer = print(alloc, &memory.schema, text);
+            handle.keep(alloc, memory);
+            answer
+        }
+        None => closed(),
+    }
 }
 
 // Finds the field that a path names by a schema, and puts it into `found`.
