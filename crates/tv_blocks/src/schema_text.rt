@@ -53,6 +53,7 @@ pub fn read_schema(alloc: Global, text: &[u8]) -> Result<Schema, BlockError>
 /// `Schema::to_json_value`, without spaces.
 ///
 /// Errors: `TooSmall`, `Memory`. The buffer then stays as it is.
+#[tactic(auto, using(tv_schema::proofs::SchemaJsonFloats::schema_has_no_float))]
 pub fn print_schema(alloc: Global, schema: &Schema, text: &mut [u8]) -> Result<u64, BlockError>
     ensures { Fills (IsSchemaText schema.now) (λ error. ⊥) text.old text.new result }
 {
