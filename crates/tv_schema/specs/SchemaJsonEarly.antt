@@ -25,18 +25,22 @@ abbrev pub fault_in : {A : Type 0} → Result A EntryFault → Option EntryFault
 fault_in (Ok found) = None
 fault_in (Err fault) = Some fault
 
--- the fault of an entry's description before the members of its options
-abbrev pub head_fault : Data → Option EntryFault
-head_fault description = fault_in (opened description)
+abbrev pub error_at : {A : Type 0} → ℕ → Result A EntryFault → Option SchemaJsonError
+error_at place (Ok found) = None
+error_at place (Err fault) = Some (at_entry place fault)
+
+-- the error of an entry's description before the members of its options
+abbrev pub head_error : ℕ → Data → Option SchemaJsonError
+head_error place description = error_at place (opened description)
 
 -- the same of the first entry
-abbrev pub first_fault : Items → Option EntryFault
-first_fault no_items = None
-first_fault (item first others) = head_fault first
+abbrev pub first_error : Items → Option SchemaJsonError
+first_error no_items = None
+first_error (item first others) = head_error 0 first
 
 abbrev pub early_error_of : Option Items → Option SchemaJsonError
 early_error_of None = Some (Other (BadJson None))
-early_error_of (Some items) = option_map (at_entry 0) (first_fault items)
+early_error_of (Some items) = first_error items
 
 -- a value that is no array, or the first entry's name, type or options
 abbrev pub early_by_key : Data → Option SchemaJsonError

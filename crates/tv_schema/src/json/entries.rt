@@ -1,11 +1,10 @@
 //! Entries out of their JSON descriptions.
 
 ghost use Rattle.std.specs.Prelude.{◌≡◌, ◌+◌, [], length, Err, IfSome, OnOk, string_bytes};
-ghost use Rattle.std.specs.Option.{option_map};
 ghost use Rattle.serde_json.specs.View.{view, items_view};
 ghost use Rattle.tv_field.specs.Entry.{Entry};
-ghost use Rattle.tv_schema.specs.SchemaJsonEarly.{head_fault, first_fault};
-ghost use Rattle.tv_schema.specs.SchemaJsonReading.{Describes, Gives, at_entry, entry_of};
+ghost use Rattle.tv_schema.specs.SchemaJsonEarly.{fault_in, first_error, head_error, opened};
+ghost use Rattle.tv_schema.specs.SchemaJsonReading.{Describes, Gives, entry_of};
 ghost use Rattle.tv_schema.specs.SchemaJsonReading.{with_entry, with_entries, type_named};
 
 use crate::json::error::{EntryFault, SchemaJsonError};
@@ -23,8 +22,7 @@ use tv_options::Type;
 // A builder with the entries that the JSON values describe.
 pub(super) fn builder_of(alloc: Global, items: &[Value]) -> Result<SchemaBuilder, SchemaJsonError>
     ensures built { Gives (λ builder. builder) (with_entries [] (items_view items.now)) result }
-    ensures early { IfSome (first_fault (items_view items.now))
-        (λ fault. result ≡ Err (at_entry 0 fault)) }
+    ensures early { IfSome (first_error (items_view items.now)) (λ error. result ≡ Err error) }
 {
     let mut builder = SchemaBuilder::new(alloc);
     for (place, description) in items.iter().enumerate() {
@@ -44,8 +42,7 @@ fn add_entry(
     requires { place ≡ length builder.old }
     ensures added { Gives (λ _. builder.new) (with_entry builder.old (view description.now))
         result }
-    ensures early { IfSome (head_fault (view description.now))
-        (λ fault. result ≡ Err (at_entry place fault)) }
+    ensures early { IfSome (head_error place (view description.now)) (λ error. result ≡ Err error) }
     ensures one_more { OnOk result (length builder.new ≡ place + 1) }
 {
     match entry_of(alloc, description) {
@@ -63,7 +60,7 @@ fn entry_of(alloc: Global, description: &Value) -> Result<(String, FieldType), E
     ensures found { Describes
         (λ found. record { name = string_bytes found.0; field_type = found.1 })
         (entry_of (view description.now)) result }
-    ensures early { IfSome (head_fault (view description.now)) (λ fault. result ≡ Err fault) }
+    ensures early { IfSome (fault_in (opened (view description.now))) (λ fault. result ≡ Err fault) }
 {
     let members = description.as_object().ok_or(EntryFault::NoObject)?;
     let name = required_text(members, SchemaKey::Name)?;

@@ -2,6 +2,9 @@
 
 ghost use Rattle.std.specs.Prelude.{◌≡◌};
 ghost use Rattle.tv_schema.specs.SchemaJsonReading.{at_entry, plain_error};
+ghost use Rattle.tv_schema.specs.declared.json.error.EntryFault.TheVariants.{Key, Memory};
+ghost use Rattle.tv_schema.specs.declared.json.error.SchemaJsonError.TheVariants.{Other};
+ghost use Rattle.tv_field.specs.declared.schema_error.SchemaError.TheVariants as schemas;
 
 use crate::json::key::SchemaKey;
 use std::alloc::AllocError;
@@ -37,7 +40,7 @@ impl Display for SchemaJsonError {
 impl Error for SchemaJsonError {}
 
 impl From<SchemaError> for SchemaJsonError {
-    ghost from_gives = { λ error told. told ≡ SchemaJsonError.Other error };
+    ghost from_gives = { λ error told. told ≡ Other error };
 
     fn from(error: SchemaError) -> SchemaJsonError {
         SchemaJsonError::Other(error)
@@ -45,7 +48,7 @@ impl From<SchemaError> for SchemaJsonError {
 }
 
 impl From<AllocError> for SchemaJsonError {
-    ghost from_gives = { λ _ told. told ≡ SchemaJsonError.Other SchemaError.Memory };
+    ghost from_gives = { λ _ told. told ≡ Other schemas.Memory };
 
     fn from(_error: AllocError) -> SchemaJsonError {
         SchemaJsonError::Other(SchemaError::Memory)
@@ -96,7 +99,7 @@ impl EntryFault {
 }
 
 impl From<SchemaKey> for EntryFault {
-    ghost from_gives = { λ key fault. fault ≡ EntryFault.Key key };
+    ghost from_gives = { λ key fault. fault ≡ Key key };
 
     fn from(key: SchemaKey) -> EntryFault {
         EntryFault::Key(key)
@@ -104,7 +107,7 @@ impl From<SchemaKey> for EntryFault {
 }
 
 impl From<AllocError> for EntryFault {
-    ghost from_gives = { λ _ fault. fault ≡ EntryFault.Memory };
+    ghost from_gives = { λ _ fault. fault ≡ Memory };
 
     fn from(_error: AllocError) -> EntryFault {
         EntryFault::Memory

@@ -145,9 +145,11 @@ fn optional_indexing(
     ensures { Reads (optional_indexing (members_view members.now.entries)) result }
 {
     match present(members, SchemaKey::Indexing) {
+        Some(found) => {
+            let inner = found.as_object().ok_or(SchemaKey::Indexing)?;
+            Ok(Some(indexing_of(alloc, inner)?))
+        }
         None => Ok(None),
-        Some(Value::Object(inner)) => Ok(Some(indexing_of(alloc, inner)?)),
-        Some(_) => Err(EntryFault::Key(SchemaKey::Indexing)),
     }
 }
 
