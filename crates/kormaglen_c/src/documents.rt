@@ -55,7 +55,7 @@ fn read(
 ///
 /// It is refused with status 2, 8 at place 0, or 9. The handle then holds none.
 #[unsafe(no_mangle)]
-pub extern "C" fn kormaglen_document_read(
+pub extern "C" fn raw_document_read(
     alloc: Global,
     version: u32,
     bytes: &[u8],
@@ -93,7 +93,7 @@ fn parse(
 ///
 /// It is refused with status 2, 11, or 15 where the schema's handle is closed. The document's handle then holds none.
 #[unsafe(no_mangle)]
-pub extern "C" fn kormaglen_document_parse(
+pub extern "C" fn raw_document_parse(
     alloc: Global,
     schema: &mut SchemaHandle,
     line: &[u8],
@@ -142,7 +142,7 @@ fn print(alloc: Global, schema: &Schema, handle: &mut DocumentHandle, text: &mut
 ///
 /// It is refused with status 1, 2, or 15 where one of the handles is closed. The text then stays as it is.
 #[unsafe(no_mangle)]
-pub extern "C" fn kormaglen_document_to_json(
+pub extern "C" fn raw_document_to_json(
     alloc: Global,
     handle: &mut DocumentHandle,
     schema: &mut SchemaHandle,
@@ -215,7 +215,7 @@ fn write(
 ///
 /// It is refused with status 1, 2, 9, 12, or 15 where one of the handles is closed. The bytes then stay as they are.
 #[unsafe(no_mangle)]
-pub extern "C" fn kormaglen_document_write(
+pub extern "C" fn raw_document_write(
     alloc: Global,
     handle: &mut DocumentHandle,
     schema: &mut SchemaHandle,
@@ -243,7 +243,7 @@ pub extern "C" fn kormaglen_document_write(
 
 /// Gives up the document that the handle holds, if it holds one.
 #[unsafe(no_mangle)]
-pub extern "C" fn kormaglen_document_close(alloc: Global, handle: &mut DocumentHandle)
+pub extern "C" fn raw_document_close(alloc: Global, handle: &mut DocumentHandle)
     ensures { handle.new.document ≡ None }
 {
     handle.close(alloc);

@@ -9,6 +9,7 @@ ghost use Rattle.tv_blocks.specs.Blocks.{IsPrintedBlock};
 ghost use Rattle.tv_blocks.specs.Fields.{FindsBy};
 ghost use Rattle.tv_blocks.specs.Imports.{ImportsBy};
 ghost use Rattle.tv_blocks.specs.Refusals.{IsBlockRefusal, IsUnfound};
+ghost use Rattle.tv_blocks.specs.Schemas.{IsSchemaText};
 ghost use Rattle.tv_handles.specs.Held.{entries_of};
 ghost use Rattle.tv_reader.specs.Version.{numbered, version_of};
 
@@ -46,11 +47,7 @@ fn open(alloc: Global, json: &[u8], handle: &mut SchemaHandle) -> Result<u64, Bl
 
 /// Reads the schema that a text of JSON describes, see `tv_blocks::read_schema`. The handle holds it in the place of what it held before.
 #[unsafe(no_mangle)]
-pub extern "C" fn kormaglen_schema_open(
-    alloc: Global,
-    json: &[u8],
-    handle: &mut SchemaHandle,
-) -> Answer
+pub extern "C" fn raw_schema_open(alloc: Global, json: &[u8], handle: &mut SchemaHandle) -> Answer
     ensures { AnswersOpened json.now (entries_of handle.new) result }
 {
     written_answer(open(alloc, json, handle))
@@ -58,10 +55,38 @@ pub extern "C" fn kormaglen_schema_open(
 
 /// Gives up the schema that the handle holds, if it holds one.
 #[unsafe(no_mangle)]
-pub extern "C" fn kormaglen_schema_close(alloc: Global, handle: &mut SchemaHandle)
+pub extern "C" fn raw_schema_close(alloc: Global, handle: &mut SchemaHandle)
     ensures { entries_of handle.new ≡ None }
 {
     handle.close(alloc);
+}
+
+// Writes the schema's text of JSON.
+fn print(alloc: Global, schema: &Schema, text: &mut [u8]) -> Answer
+    ensures { AnswersFill (IsSchemaText schema.now) (λ error. ⊥) text.old text.new result }
+{
+    written_answer(tv_blocks::print_schema(alloc, schema, text))
+}
+
+/// Writes the text of JSON of the schema that the handle holds, see `tv_blocks::print_schema`.
+#[unsafe(no_mangle)]
+pub extern "C" fn raw_schema_to_json(
+    alloc: Global,
+    handle: &mut SchemaHandle,
+    text: &mut [u8],
+) -> Answer
+    ensures handle { entries_of handle.new ≡ entries_of handle.old }
+    ensures answer { MatchOption (entries_of handle.old) (IsClosed text.old text.new result)
+        (λ entries. AnswersFill (IsSchemaText entries) (λ error. ⊥) text.old text.new result) }
+{
+    match handle.take(alloc) {
+        Some(memory) => {
+            let answer = print(alloc, &memory.schema, text);
+            handle.keep(alloc, memory);
+            answer
+        }
+        None => closed(),
+    }
 }
 
 // Finds the field that a path names by a schema, and puts it into `found`.
@@ -74,7 +99,7 @@ fn find(schema: &Schema, path: &[u8], found: &mut FoundField) -> Answer
 
 /// Finds the field that a path names, see `tv_blocks::find_field_by`, and puts it into `found`: 0 and 0 where there is none.
 #[unsafe(no_mangle)]
-pub extern "C" fn kormaglen_schema_find_field(
+pub extern "C" fn raw_schema_find_field(
     alloc: Global,
     handle: &mut SchemaHandle,
     path: &[u8],
@@ -100,7 +125,7 @@ pub extern "C" fn kormaglen_schema_find_field(
 
 /// Stores documents of lines of JSON and answers each line, see `tv_blocks::import_lines_by`.
 #[unsafe(no_mangle)]
-pub extern "C" fn kormaglen_schema_import_lines(
+pub extern "C" fn raw_schema_import_lines(
     alloc: Global,
     handle: &mut SchemaHandle,
     lines: &[u8],
@@ -142,7 +167,7 @@ fn export(alloc: Global, schema: &Schema, version: u32, block: &[u8], lines: &mu
 
 /// Writes the documents of a block as lines of JSON, see `tv_blocks::export_block_by`. The version is 1, 2 or 3.
 #[unsafe(no_mangle)]
-pub extern "C" fn kormaglen_schema_export_block(
+pub extern "C" fn raw_schema_export_block(
     alloc: Global,
     handle: &mut SchemaHandle,
     version: u32,

@@ -1,5 +1,6 @@
 //! Calls for C, over blocks of bytes: each is one of `tv_blocks`, and its contract is said of the numbers that it answers. A slice is a
-//! pointer, which is never null, and a length. Only handles keep something between two calls; all other calls are safe from any thread.
+//! pointer, which is never null, and a length, and what is written overlaps nothing else: `bindings/c/calls.c` tests that, and calls these. Only
+//! handles keep something between two calls. A handle is used by one call at a time, on any thread.
 #![tactic(auto)]
 
 ghost use Rattle.std.specs.Prelude.{◌≡◌, Some, IsUtf8, MatchOption};
@@ -29,7 +30,7 @@ const NOTHING_FOUND: FoundField = FoundField { field: 0, rest: 0 };
 
 /// Writes the encoded facet that a text names, see `tv_blocks::facet_of_text`.
 #[unsafe(no_mangle)]
-pub extern "C" fn kormaglen_facet_of_text(alloc: Global, text: &[u8], encoded: &mut [u8]) -> Answer
+pub extern "C" fn raw_facet_of_text(alloc: Global, text: &[u8], encoded: &mut [u8]) -> Answer
     ensures { AnswersFill (λ content. IsUtf8 text.now × (parse text.now ≡ Some content))
         (IsFacetRefusal text.now) encoded.old encoded.new result }
 {
@@ -38,7 +39,7 @@ pub extern "C" fn kormaglen_facet_of_text(alloc: Global, text: &[u8], encoded: &
 
 /// Writes the text that names an encoded facet, see `tv_blocks::text_of_facet`.
 #[unsafe(no_mangle)]
-pub extern "C" fn kormaglen_text_of_facet(alloc: Global, encoded: &[u8], text: &mut [u8]) -> Answer
+pub extern "C" fn raw_text_of_facet(alloc: Global, encoded: &[u8], text: &mut [u8]) -> Answer
     ensures { AnswersFill (λ content. IsUtf8 encoded.now × (content ≡ printed encoded.now))
         (IsTextRefusal encoded.now) text.old text.new result }
 {
@@ -63,7 +64,7 @@ fn found_answer(answered: Result<FoundField, BlockError>, found: &mut FoundField
 
 /// Finds the field that a path names, see `tv_blocks::find_field`, and puts it into `found`: 0 and 0 where there is none.
 #[unsafe(no_mangle)]
-pub extern "C" fn kormaglen_find_field(
+pub extern "C" fn raw_find_field(
     alloc: Global,
     schema: &[u8],
     path: &[u8],
@@ -77,7 +78,7 @@ pub extern "C" fn kormaglen_find_field(
 
 /// Stores documents of lines of JSON and answers each line, see `tv_blocks::import_lines`.
 #[unsafe(no_mangle)]
-pub extern "C" fn kormaglen_import_lines(
+pub extern "C" fn raw_import_lines(
     alloc: Global,
     schema: &[u8],
     lines: &[u8],
@@ -92,7 +93,7 @@ pub extern "C" fn kormaglen_import_lines(
 
 /// Writes the documents of a block as lines of JSON, see `tv_blocks::export_block`. The version is 1, 2 or 3.
 #[unsafe(no_mangle)]
-pub extern "C" fn kormaglen_export_block(
+pub extern "C" fn raw_export_block(
     alloc: Global,
     schema: &[u8],
     version: u32,
@@ -124,7 +125,7 @@ pub(crate) fn write_version(number: u32) -> Option<WriteVersion>
 
 /// Writes the documents of a block in another version, see `tv_blocks::migrate_block`. The versions are 1, 2 or 3, and 2 or 3.
 #[unsafe(no_mangle)]
-pub extern "C" fn kormaglen_migrate_block(
+pub extern "C" fn raw_migrate_block(
     alloc: Global,
     from: u32,
     block: &[u8],
@@ -146,7 +147,7 @@ pub extern "C" fn kormaglen_migrate_block(
 
 /// Writes the terms of a field's values in a block, see `tv_blocks::terms_of_block`. The version is 1, 2 or 3.
 #[unsafe(no_mangle)]
-pub extern "C" fn kormaglen_terms_of_block(
+pub extern "C" fn raw_terms_of_block(
     alloc: Global,
     field: u32,
     version: u32,
@@ -167,7 +168,7 @@ pub extern "C" fn kormaglen_terms_of_block(
 
 /// Writes the term of a text, see `tv_blocks::term_of_text`.
 #[unsafe(no_mangle)]
-pub extern "C" fn kormaglen_term_of_text(
+pub extern "C" fn raw_term_of_text(
     alloc: Global,
     field: u32,
     text: &[u8],
@@ -181,7 +182,7 @@ pub extern "C" fn kormaglen_term_of_text(
 
 /// Writes the least byte string above all that begin with a prefix, see `tv_blocks::end_of_prefix`.
 #[unsafe(no_mangle)]
-pub extern "C" fn kormaglen_end_of_prefix(alloc: Global, prefix: &[u8], end: &mut [u8]) -> Answer
+pub extern "C" fn raw_end_of_prefix(alloc: Global, prefix: &[u8], end: &mut [u8]) -> Answer
     ensures { AnswersFill (IsEnd prefix.now) (IsEndRefusal prefix.now) end.old end.new result }
 {
     written_answer(tv_blocks::end_of_prefix(alloc, prefix, end))

@@ -123,6 +123,7 @@ pub use Rattle.tv_builder.specs.TreeBytes
 pub use Rattle.tv_builder.specs.Weight as StateWeight
 -- the store
 pub use Rattle.tv_store.specs.Documents
+pub use Rattle.tv_store.specs.Reading
 pub use Rattle.tv_store.specs.Migrate
 pub use Rattle.tv_store.specs.Error as StoreError
 pub use Rattle.tv_store.specs.Decoder

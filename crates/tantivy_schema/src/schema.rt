@@ -31,7 +31,7 @@ pub use tv_options::{
     NumericOptions, OfBytes, OfIpAddrs, STORED, STRING, SchemaFlagList, StoredFlag, TEXT,
     TextFieldIndexing, TextOptions, TextualOptions, TokenizerName, Type, TypeIter,
 };
-pub use tv_schema::{FieldIter, Schema, SchemaBuilder};
+pub use tv_schema::{FieldIter, Schema, SchemaBuilder, SchemaJsonError, SchemaKey};
 pub use tv_term::{
     FacetCount, FacetCountsError, OwnedValueBytes, Term, TermError, TermRange, TermWriter,
     ValueBytes, count_child_facets, successor,

@@ -17,7 +17,8 @@ use Rattle.tv_lines.specs.Answers.{IsJson, ReadsSchema}
 use Rattle.tv_reader.specs.declared.error.DeserializeError.{DeserializeError}
 use Rattle.tv_reader.specs.declared.error.DeserializeError.TheVariants as reads
 use Rattle.tv_schema.specs.Path.{find}
-use Rattle.tv_schema.specs.SchemaJsonReading.{schema_of}
+use Rattle.tv_schema.specs.SchemaJsonReading.{schema_by_key}
+use Rattle.tv_schema.specs.declared.json.error.SchemaJsonError.TheVariants.{BadKey, Other}
 use Rattle.tv_store.specs.Documents.{NoDocument, HasNoRoom}
 use Rattle.tv_store.specs.declared.migration.MigrateError.{MigrateError}
 use Rattle.tv_store.specs.declared.migration.MigrateError.TheVariants.{Read, Write}
@@ -36,10 +37,11 @@ IsFacetRefusal text e = IsTextRefusal text e
 
 -- ---- schemas
 
--- The text is no JSON, or describes no schema.
+-- The text is no JSON, or describes no schema: for this key, or else for another reason.
 abbrev pub IsSchemaRefusal : List ℕ → BlockError → Type 0
 IsSchemaRefusal text errors.InvalidJson = (value : Data) → ¬ IsJson text value
-IsSchemaRefusal text (errors.BadSchema e) = (value : Data) × IsJson text value × (schema_of value ≡ Err e)
+IsSchemaRefusal text (errors.BadSchemaKey entry key) = (value : Data) × IsJson text value × (schema_by_key value ≡ Err (BadKey entry key))
+IsSchemaRefusal text (errors.BadSchema e) = (value : Data) × IsJson text value × (schema_by_key value ≡ Err (Other e))
 IsSchemaRefusal text e = ⊥
 
 -- ---- documents of a block

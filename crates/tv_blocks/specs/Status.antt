@@ -11,6 +11,8 @@ use Rattle.tv_blocks.specs.declared.import.Imported.{Imported}
 use Rattle.tv_blocks.specs.declared.status.Answer.{Answer}
 use Rattle.tv_field.specs.declared.schema_error.SchemaError.{SchemaError}
 use Rattle.tv_field.specs.declared.schema_error.SchemaError.TheVariants as schemas
+use Rattle.tv_schema.specs.declared.json.key.SchemaKey.{SchemaKey}
+use Rattle.tv_schema.specs.declared.json.key.SchemaKey.TheVariants as keys
 
 abbrev pub nothing_written : ℕ → ℕ → ℕ → Answer
 nothing_written status detail place = record { status = status; detail = detail; place = place; bytes = 0; lines = 0 }
@@ -42,6 +44,24 @@ abbrev pub entry_place : Option ℕ → ℕ
 entry_place None = 0
 entry_place (Some entry) = min (entry + 1) (2 ^ 64 - 1)
 
+abbrev pub key_number : SchemaKey → ℕ
+key_number keys.Name = 6
+key_number keys.Type = 7
+key_number keys.Options = 8
+key_number keys.Indexed = 9
+key_number keys.Stored = 10
+key_number keys.Fieldnorms = 11
+key_number keys.Fast = 12
+key_number keys.FastOfText = 13
+key_number keys.Coerce = 14
+key_number keys.Precision = 15
+key_number keys.Indexing = 16
+key_number keys.Record = 17
+key_number keys.IndexingFieldnorms = 18
+key_number keys.Tokenizer = 19
+key_number keys.WithTokenizer = 20
+key_number keys.ExpandDots = 21
+
 abbrev pub schema_answer : SchemaError → Answer
 schema_answer schemas.InvalidName = nothing_written 6 1 0
 schema_answer schemas.DuplicateName = nothing_written 6 2 0
@@ -58,6 +78,7 @@ error_answer errors.NotUtf8 = nothing_written 3 0 0
 error_answer errors.NotFacet = nothing_written 4 0 0
 error_answer errors.InvalidJson = nothing_written 5 0 0
 error_answer (errors.BadSchema e) = schema_answer e
+error_answer (errors.BadSchemaKey entry key) = nothing_written 6 (key_number key) (entry_place (Some entry))
 error_answer errors.NoField = nothing_written 7 0 0
 error_answer errors.NoEnd = nothing_written 10 0 0
 error_answer (errors.BadDocument start refusal) = nothing_written 8 (refusal_number refusal) start

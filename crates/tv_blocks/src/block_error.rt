@@ -9,6 +9,7 @@ use std::alloc::AllocError;
 use thiserror::Error;
 use tv_base::Cause;
 use tv_field::SchemaError;
+use tv_schema::SchemaKey;
 use tv_store::DeserializeError;
 use tv_term::TermError;
 
@@ -49,9 +50,17 @@ pub enum BlockError {
     /// The schema's text isn't JSON.
     #[error("the schema is not JSON")]
     InvalidJson,
-    /// The JSON describes no schema.
+    /// The JSON describes no schema, and that isn't for a key of an entry.
     #[error("{0}")]
     BadSchema(SchemaError),
+    /// The JSON describes no schema: a key's value in an entry is not as it has to be, or is missing.
+    #[error("at entry {entry} of the schema: {key}")]
+    BadSchemaKey {
+        /// The place of the entry, from 0.
+        entry: usize,
+        /// The first such key, in the order in which the keys are read.
+        key: SchemaKey,
+    },
     /// The path names no field of the schema.
     #[error("the path names no field")]
     NoField,

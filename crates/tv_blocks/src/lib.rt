@@ -28,6 +28,6 @@ pub use import::{Imported, LineAnswer, LineOutcome, import_lines, import_lines_b
 pub use line_document::parse_line;
 pub use line_refusal::{LineRefusal, ValueRefusal};
 pub use migration::migrate_block;
-pub use schema_text::read_schema;
+pub use schema_text::{print_schema, read_schema};
 pub use status::Answer;
 pub use terms::{end_of_prefix, term_of_text, terms_of_block};

@@ -1,30 +1,33 @@
-//! Schemas out of bytes.
+//! Schemas out of bytes, and into them.
 
-ghost use Rattle.std.specs.Prelude.{◌≡◌, ◌≢◌, IfErr, IfOk};
-ghost use Rattle.tv_blocks.specs.Schemas.{IsRefusedSchema};
+ghost use Rattle.std.specs.Prelude.{◌≡◌, IfErr, IfOk};
+ghost use Rattle.tv_blocks.specs.Buffer.{Fills};
+ghost use Rattle.tv_blocks.specs.Schemas.{IsRefusedSchema, IsSchemaText, schema_refusal};
 ghost use Rattle.tv_lines.specs.Answers.{ReadsSchema};
 
 use crate::block_error::BlockError;
+use crate::buffer::put_whole;
 use serde_json::Value;
 use std::alloc::Global;
 use tv_field::SchemaError;
-use tv_schema::Schema;
+use tv_schema::{Schema, SchemaJsonError};
 
 // What is said of a schema that is refused.
-fn refused(error: SchemaError) -> BlockError
-    ensures memory { error ≡ SchemaError.Memory → result ≡ BlockError.Memory }
-    ensures others { error ≢ SchemaError.Memory → result ≡ BlockError.BadSchema error }
+fn refused(error: SchemaJsonError) -> BlockError
+    ensures { result ≡ schema_refusal error }
 {
     match error {
-        SchemaError::Memory => BlockError::Memory,
-        error => BlockError::BadSchema(error),
+        SchemaJsonError::BadKey { entry, key } => BlockError::BadSchemaKey { entry, key },
+        SchemaJsonError::Other(SchemaError::Memory) => BlockError::Memory,
+        SchemaJsonError::Other(error) => BlockError::BadSchema(error),
     }
 }
 
 /// The schema that a text of JSON describes, for the calls that are given a schema: `import_lines_by`, `export_block_by`, `find_field_by`, and
 /// those of one document.
 ///
-/// Errors: `InvalidJson` where the text isn't JSON, `BadSchema` where the JSON describes no schema, `Memory`.
+/// Errors: `InvalidJson` where the text isn't JSON, `BadSchemaKey` where a key of an entry is at fault, see `Schema::from_json_value_by_key`,
+/// `BadSchema` where the JSON describes no schema for another reason, `Memory`.
 pub fn read_schema(alloc: Global, text: &[u8]) -> Result<Schema, BlockError>
     ensures ok { IfOk result (λ schema. ReadsSchema text.now schema) }
     ensures err { IfErr result (IsRefusedSchema text.now) }
@@ -33,7 +36,7 @@ pub fn read_schema(alloc: Global, text: &[u8]) -> Result<Schema, BlockError>
         return Err(BlockError::InvalidJson);
     };
     match Value::from_str(alloc, text) {
-        Ok(value) => match Schema::from_json_value(alloc, &value) {
+        Ok(value) => match Schema::from_json_value_by_key(alloc, &value) {
             Ok(schema) => Ok(schema),
             Err(error) => Err(refused(error)),
         },
@@ -44,4 +47,16 @@ pub fn read_schema(alloc: Global, text: &[u8]) -> Result<Schema, BlockError>
             Err(BlockError::InvalidJson)
         }
     }
+}
+
+/// Writes the schema's text of JSON, which `read_schema` reads as this schema, and returns how many bytes it takes. It is the value of
+/// `Schema::to_json_value`, without spaces.
+///
+/// Errors: `TooSmall`, `Memory`. The buffer then stays as it is.
+#[tactic(auto, using(tv_schema::proofs::SchemaJsonFloats::schema_has_no_float))]
+pub fn print_schema(alloc: Global, schema: &Schema, text: &mut [u8]) -> Result<u64, BlockError>
+    ensures { Fills (IsSchemaText schema.now) (λ error. ⊥) text.old text.new result }
+{
+    let json = schema.to_json_value(alloc)?.to_string(alloc)?;
+    put_whole(json.as_bytes(), text)
 }

@@ -2,12 +2,14 @@
 
 ghost use Rattle.std.specs.Prelude.{◌≡◌};
 ghost use Rattle.tv_blocks.specs.Status.{answer_of, cause_number, error_answer, import_answer};
-ghost use Rattle.tv_blocks.specs.Status.{nothing_written, refusal_number, schema_answer, wrong_version};
+ghost use Rattle.tv_blocks.specs.Status.{key_number, nothing_written, refusal_number};
+ghost use Rattle.tv_blocks.specs.Status.{schema_answer, wrong_version};
 
 use crate::block_error::{BlockError, DocumentRefusal};
 use crate::import::Imported;
 use tv_base::Cause;
 use tv_field::SchemaError;
+use tv_schema::SchemaKey;
 
 /// What a call answers, as numbers. (Not in tantivy.)
 #[repr(C)]
@@ -18,8 +20,11 @@ pub struct Answer {
     /// of the block is refused, 9 where there is no such version of the store, 10 where a prefix has no end, 11 where there is no document of
     /// a line, 12 where a document has a field that the schema doesn't have, and 15 where a handle is closed.
     pub status: u32,
-    /// With status 6 why there is no schema: 1 for a bad name, 2 for a name that comes twice, 3 for too many fields, 4 for a bad entry,
-    /// 5 for a field of type `f64`. With status 8 why the document is refused: 1 to 11 and 14 for the variants of `Cause` in their order, 12
+    /// With status 6 why there is no schema: 1 for a bad name, 2 for a name that comes twice, 3 for too many fields, 4 for an entry that is no
+    /// object, or with `place` 0 a whole that is no array, 5 for a field of type `f64`; or the key whose value in the entry is not as it has to
+    /// be, or is missing: 6 `name`, 7 `type`, 8 `options`, 9 `indexed`, 10 `stored`, 11 `fieldnorms`, 12 `fast`, 13 `fast` of a text or a JSON
+    /// object, 14 `coerce`, 15 `precision`, 16 `indexing`, of `indexing` 17 `record`, 18 `fieldnorms` and 19 `tokenizer`, 20 `with_tokenizer` of
+    /// `fast`, 21 `expand_dots_enabled`; see `SchemaKey`. With status 8 why the document is refused: 1 to 11 and 14 for the variants of `Cause` in their order, 12
     /// where a key is no text, 13 where the document has no room. With status 11 the number of the `LineRefusal`. Else 0.
     pub detail: u32,
     /// With status 6 the place of the entry, from 1, and 0 where the whole is meant; with status 8 where in the block the document begins;
@@ -83,6 +88,30 @@ fn refusal_number(refusal: DocumentRefusal) -> u32
     }
 }
 
+// The number of a key of a schema's entry.
+fn key_number(key: SchemaKey) -> u32
+    ensures { result ≡ key_number key }
+{
+    match key {
+        SchemaKey::Name => 6,
+        SchemaKey::Type => 7,
+        SchemaKey::Options => 8,
+        SchemaKey::Indexed => 9,
+        SchemaKey::Stored => 10,
+        SchemaKey::Fieldnorms => 11,
+        SchemaKey::Fast => 12,
+        SchemaKey::FastOfText => 13,
+        SchemaKey::Coerce => 14,
+        SchemaKey::Precision => 15,
+        SchemaKey::Indexing => 16,
+        SchemaKey::Record => 17,
+        SchemaKey::IndexingFieldnorms => 18,
+        SchemaKey::Tokenizer => 19,
+        SchemaKey::WithTokenizer => 20,
+        SchemaKey::ExpandDots => 21,
+    }
+}
+
 // The answer for a schema that is refused.
 fn schema_answer(error: SchemaError) -> Answer
     ensures { result ≡ schema_answer error }
@@ -120,6 +149,11 @@ pub fn error_answer(error: BlockError) -> Answer
         BlockError::NotFacet => refusal(4, 0, 0),
         BlockError::InvalidJson => refusal(5, 0, 0),
         BlockError::BadSchema(error) => schema_answer(error),
+        BlockError::BadSchemaKey { entry, key } => refusal(
+            6,
+            key_number(key),
+            (entry as u64).saturating_add(1),
+        ),
         BlockError::NoField => refusal(7, 0, 0),
         BlockError::NoEnd => refusal(10, 0, 0),
         BlockError::BadDocument {

@@ -6,3 +6,4 @@ pub mod Names
 pub mod Finding
 pub mod Equality
 pub mod LongPaths
+pub mod SchemaJsonFloats

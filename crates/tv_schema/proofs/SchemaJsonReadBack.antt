@@ -1,5 +1,5 @@
 -- What is written of a schema is read as that schema.
-use Rattle.std.proofs.Common.{◌≡◌, ◌≢◌, ℕ, suc, ◌+◌, ◌<◌, Bool, true, false, List, [], ◌∷◌, ◌++◌, length, get_or, Option, Some, None, Result, Ok, refl, sym, ap, ◌∙◌, arith, append_assoc, append-nil, subst, eqb, option_and_then}
+use Rattle.std.proofs.Common.{◌≡◌, ◌≢◌, ℕ, suc, ◌+◌, ◌<◌, Bool, true, false, List, [], ◌∷◌, ◌++◌, length, get_or, Option, Some, None, Result, Ok, Err, refl, sym, ap, ◌∙◌, arith, append_assoc, append-nil, subst, eqb}
 use Rattle.std.proofs.lemmas.Bool.{ne_eqb}
 use Rattle.std.proofs.lemmas.Grind.{common_steps}
 use Rattle.std.proofs.lemmas.List.{length-append}
@@ -22,9 +22,12 @@ use Rattle.tv_field.specs.Entry.{Entry, value_type, is_valid_name}
 use Rattle.tv_schema.specs.Schema.{IsSchema, refusal, field_named, place_from}
 use Rattle.tv_schema.specs.SchemaJson.{type_word, record_word, precision_word, fast_json, indexing_json, text_json, numeric_json, date_json, json_object_json, options_json, entry_json, entries_json, schema_json}
 use Rattle.tv_schema.specs.SchemaJsonOptions.{type_of_word, record_of_word, precision_of_word, required_bool, required_text, required_object, bool_or, text_or, fieldnorms_or, record_or_basic, indexing_of, optional_indexing, fast_field_of, fast_field_or_none, required_fast_field, text_options_of, numeric_options_of, bytes_options_of, precision_or_seconds, date_options_of, facet_options_of, json_object_options_of, ip_addr_options_of, options_of}
-use Rattle.tv_schema.specs.SchemaJsonReading.{or_bad, ◌>>=◌, type_named, entry_of, with_entry, with_entries, schema_of}
+use Rattle.std.specs.Prelude.{ok_or}
+use Rattle.tv_schema.specs.SchemaJsonReading.{by_key, ◌>>=◌, type_named, entry_of, with_entry, with_entries, schema_by_key, plain, schema_of}
 use Rattle.tv_schema.proofs.SchemaJsonWords.{cond-not}
-use Rattle.tv_field.specs.declared.schema_error.SchemaError.{SchemaError}
+use Rattle.tv_schema.specs.declared.json.error.EntryFault.{EntryFault}
+use Rattle.tv_schema.specs.declared.json.key.SchemaKey.{SchemaKey}
+use Rattle.tv_schema.specs.declared.json.key.SchemaKey.TheVariants as keys
 use Rattle.tv_field.specs.declared.field_type.FieldType.{FieldType}
 use Rattle.tv_field.specs.declared.field_type.FieldType.TheVariants as types
 
@@ -43,32 +46,37 @@ precision_of_word-precision_word Milliseconds = refl
 precision_of_word-precision_word Microseconds = refl
 precision_of_word-precision_word Nanoseconds = refl
 
-type_named-type_word : (place : ℕ) (type_tag : TypeTag) → type_named place (type_word type_tag) ≡ Ok type_tag
+type_named-type_word : (type_tag : TypeTag) → type_named (type_word type_tag) ≡ Ok type_tag
 unfolding type_named type_of_word
-type_named-type_word place tags.Str = refl
-type_named-type_word place tags.U64 = refl
-type_named-type_word place tags.I64 = refl
-type_named-type_word place tags.Bool = refl
-type_named-type_word place tags.Date = refl
-type_named-type_word place tags.Facet = refl
-type_named-type_word place tags.Bytes = refl
-type_named-type_word place tags.Json = refl
-type_named-type_word place tags.IpAddr = refl
+type_named-type_word tags.Str = refl
+type_named-type_word tags.U64 = refl
+type_named-type_word tags.I64 = refl
+type_named-type_word tags.Bool = refl
+type_named-type_word tags.Date = refl
+type_named-type_word tags.Facet = refl
+type_named-type_word tags.Bytes = refl
+type_named-type_word tags.Json = refl
+type_named-type_word tags.IpAddr = refl
 
 -- ---- options
 
-fast_field_of-fast_json : (fast : FastFieldTextOptions) → fast_field_of (fast_json (is_fast_field fast) (tokenizer_of fast)) ≡ Some fast
+-- what is read of the members, where there are some
+abbrev read_in : {A B : Type 0} → (A → Result B SchemaKey) → Option A → Result B SchemaKey
+read_in read None = Err keys.Options
+read_in read (Some members) = read members
+
+fast_field_of-fast_json : (fast : FastFieldTextOptions) → fast_field_of (fast_json (is_fast_field fast) (tokenizer_of fast)) ≡ Ok fast
 unfolding fast_field_of required_text
 fast_field_of-fast_json (IsEnabled enabled) = refl
 fast_field_of-fast_json (EnabledWithTokenizer tokenizer) = refl
 
-indexing_of-indexing_json : (indexing : TextFieldIndexing) → option_and_then indexing_of (as_object (indexing_json indexing)) ≡ Some indexing
+indexing_of-indexing_json : (indexing : TextFieldIndexing) → read_in indexing_of (as_object (indexing_json indexing)) ≡ Ok indexing
 unfolding indexing_of record_or_basic bool_or text_or
 indexing_of-indexing_json indexing = rw (record_of_word-record_word indexing.«record»)
 
 text_members_read : (indexing : Option TextFieldIndexing) (stored : Bool) (fast : FastFieldTextOptions) (coerce : Bool)
-    → option_and_then text_options_of (as_object (text_json (record { indexing = indexing; stored = stored; fast = fast; part = record { coerce = coerce } })))
-    ≡ Some (record { indexing = indexing; stored = stored; fast = fast; part = record { coerce = coerce } })
+    → read_in text_options_of (as_object (text_json (record { indexing = indexing; stored = stored; fast = fast; part = record { coerce = coerce } })))
+    ≡ Ok (record { indexing = indexing; stored = stored; fast = fast; part = record { coerce = coerce } })
 unfolding text_options_of optional_indexing bool_or fast_field_or_none
 text_members_read None stored fast true = rw (fast_field_of-fast_json fast)
 text_members_read None stored fast false = rw (fast_field_of-fast_json fast)
@@ -76,28 +84,28 @@ text_members_read (Some indexing) stored fast true = rw (indexing_of-indexing_js
 text_members_read (Some indexing) stored fast false = rw (indexing_of-indexing_json indexing, fast_field_of-fast_json fast)
 
 numeric_members_read : (indexed fieldnorms fast stored coerce : Bool)
-    → option_and_then numeric_options_of (as_object (numeric_json (record { indexed = indexed; fieldnorms = fieldnorms; fast = fast; stored = stored; part = record { coerce = coerce } })))
-    ≡ Some (record { indexed = indexed; fieldnorms = fieldnorms; fast = fast; stored = stored; part = record { coerce = coerce } })
+    → read_in numeric_options_of (as_object (numeric_json (record { indexed = indexed; fieldnorms = fieldnorms; fast = fast; stored = stored; part = record { coerce = coerce } })))
+    ≡ Ok (record { indexed = indexed; fieldnorms = fieldnorms; fast = fast; stored = stored; part = record { coerce = coerce } })
 unfolding numeric_options_of required_bool bool_or fieldnorms_or
 numeric_members_read indexed fieldnorms fast stored true = refl
 numeric_members_read indexed fieldnorms fast stored false = refl
 
-numeric_options_of-numeric_json : (options : FlagOptions Coercion) → option_and_then numeric_options_of (as_object (numeric_json options)) ≡ Some options
+numeric_options_of-numeric_json : (options : FlagOptions Coercion) → read_in numeric_options_of (as_object (numeric_json options)) ≡ Ok options
 numeric_options_of-numeric_json options = numeric_members_read options.indexed options.fieldnorms options.fast options.stored options.part.coerce
 
-date_options_of-date_json : (options : FlagOptions DateTimePrecision) → option_and_then date_options_of (as_object (date_json options)) ≡ Some options
+date_options_of-date_json : (options : FlagOptions DateTimePrecision) → read_in date_options_of (as_object (date_json options)) ≡ Ok options
 unfolding date_options_of required_bool bool_or precision_or_seconds
 date_options_of-date_json options = rw (precision_of_word-precision_word options.part)
 
 json_object_members_read : (stored : Bool) (indexing : Option TextFieldIndexing) (fast : FastFieldTextOptions) (expand_dots_enabled : Bool)
-    → option_and_then json_object_options_of (as_object (json_object_json (record { stored = stored; indexing = indexing; fast = fast; part = record { expand_dots_enabled = expand_dots_enabled } })))
-    ≡ Some (record { stored = stored; indexing = indexing; fast = fast; part = record { expand_dots_enabled = expand_dots_enabled } })
+    → read_in json_object_options_of (as_object (json_object_json (record { stored = stored; indexing = indexing; fast = fast; part = record { expand_dots_enabled = expand_dots_enabled } })))
+    ≡ Ok (record { stored = stored; indexing = indexing; fast = fast; part = record { expand_dots_enabled = expand_dots_enabled } })
 unfolding json_object_options_of optional_indexing required_bool bool_or required_fast_field
 json_object_members_read stored None fast dots = rw (fast_field_of-fast_json fast)
 json_object_members_read stored (Some indexing) fast dots = rw (fast_field_of-fast_json fast, indexing_of-indexing_json indexing)
 
 -- each type's options
-options_of-options_json : (field_type : FieldType) → option_and_then (options_of (value_type field_type)) (as_object (options_json field_type)) ≡ Some field_type
+options_of-options_json : (field_type : FieldType) → read_in (options_of (value_type field_type)) (as_object (options_json field_type)) ≡ Ok field_type
 unfolding options_of bytes_options_of facet_options_of ip_addr_options_of required_bool fieldnorms_or
 options_of-options_json (types.Str options) = rw (text_members_read options.indexing options.stored options.fast options.part.coerce)
 options_of-options_json (types.U64 options) = rw (numeric_options_of-numeric_json options)
@@ -111,21 +119,21 @@ options_of-options_json (types.IpAddr options) = refl
 
 -- ---- entries
 
-options_then : {A B : Type 0} (place : ℕ) (found : Option A) (read : A → Option B) (make : B → Result Entry SchemaError) (b : B) → option_and_then read found ≡ Some b
-    → (or_bad place found >>= (λ a. or_bad place (read a) >>= make)) ≡ make b
-options_then place None read make b e = cc
-options_then place (Some a) read make b e = rw e
+options_then : {A B : Type 0} (found : Option A) (read : A → Result B SchemaKey) (make : B → Result Entry EntryFault) (b : B) → read_in read found ≡ Ok b
+    → (by_key (ok_or found keys.Options) >>= (λ a. by_key (read a) >>= make)) ≡ make b
+options_then None read make b e = cc
+options_then (Some a) read make b e = rw e
 
-entry_of-entry_json : (place : ℕ) (entry : Entry) → entry_of place (entry_json entry) ≡ Ok entry
+entry_of-entry_json : (entry : Entry) → entry_of (entry_json entry) ≡ Ok entry
 unfolding entry_of required_text required_object
-entry_of-entry_json place entry =
-    rw (type_named-type_word place (value_type entry.field_type))
-    (options_then place (as_object (options_json entry.field_type)) (options_of (value_type entry.field_type)) (λ field_type. Ok (record { name = entry.name; field_type = field_type }))
+entry_of-entry_json entry =
+    rw (type_named-type_word (value_type entry.field_type))
+    (options_then (as_object (options_json entry.field_type)) (options_of (value_type entry.field_type)) (λ field_type. Ok (record { name = entry.name; field_type = field_type }))
     entry.field_type (options_of-options_json entry.field_type))
 
 with_entry-entry_json : (schema : List Entry) (entry : Entry) → refusal schema entry.name ≡ None → with_entry schema (entry_json entry) ≡ Ok (schema ++ entry ∷ [])
 unfolding with_entry
-with_entry-entry_json schema entry taken = rw (entry_of-entry_json (length schema) entry, taken)
+with_entry-entry_json schema entry taken = rw (entry_of-entry_json entry, taken)
 
 -- ---- schemas
 
@@ -160,5 +168,8 @@ with_entries-entries_json prefix (entry ∷ rest) is =
     rw (with_entry-entry_json prefix entry (refusal-fresh prefix entry rest is))
     (with_entries-entries_json (prefix ++ entry ∷ []) rest (subst IsSchema (sym again) is) ∙ ap Ok again)
 
+schema_by_key-schema_json : (schema : List Entry) → IsSchema schema → schema_by_key (schema_json schema) ≡ Ok schema
+schema_by_key-schema_json schema is = with_entries-entries_json [] schema is
+
 pub schema_of-schema_json : (schema : List Entry) → IsSchema schema → schema_of (schema_json schema) ≡ Ok schema
-schema_of-schema_json schema is = with_entries-entries_json [] schema is
+schema_of-schema_json schema is = ap plain (schema_by_key-schema_json schema is)

@@ -5,61 +5,115 @@ use Rattle.serde_json.specs.Data.{Data, Items, no_items, item}
 use Rattle.serde_json.specs.Find.{as_array, as_object}
 use Rattle.tv_options.specs.declared.types.TypeTag.{TypeTag}
 use Rattle.tv_field.specs.Entry.{Entry}
+use Rattle.tv_field.specs.declared.schema_error.SchemaError.{SchemaError}
+use Rattle.tv_field.specs.declared.schema_error.SchemaError.TheVariants as schemas
 use Rattle.tv_schema.specs.Schema.{refusal}
 use Rattle.tv_schema.specs.SchemaJsonOptions.{type_of_word, required_text, required_object, options_of}
-use Rattle.tv_field.specs.declared.schema_error.SchemaError.{SchemaError}
-use Rattle.tv_field.specs.declared.schema_error.SchemaError.TheVariants.{BadJson, FloatField, Memory}
+use Rattle.tv_schema.specs.declared.json.error.EntryFault.{EntryFault}
+use Rattle.tv_schema.specs.declared.json.error.EntryFault.TheVariants.{NoObject, Key, FloatField, Memory}
+use Rattle.tv_schema.specs.declared.json.error.SchemaJsonError.{SchemaJsonError}
+use Rattle.tv_schema.specs.declared.json.error.SchemaJsonError.TheVariants.{BadKey, Other}
+use Rattle.tv_schema.specs.declared.json.key.SchemaKey.{SchemaKey}
+use Rattle.tv_schema.specs.declared.json.key.SchemaKey.TheVariants as keys
+
+-- ---- an entry
 
 infixl 10 ◌>>=◌
-abbrev pub ◌>>=◌ : {A B : Type 0} → Result A SchemaError → (A → Result B SchemaError) → Result B SchemaError
+abbrev pub ◌>>=◌ : {A B : Type 0} → Result A EntryFault → (A → Result B EntryFault) → Result B EntryFault
 Ok found >>= next = next found
-Err error >>= next = Err error
+Err fault >>= next = Err fault
 
--- what was found, or else the entry of this place is no entry's description
-abbrev pub or_bad : {A : Type 0} → ℕ → Option A → Result A SchemaError
-or_bad place found = ok_or found (BadJson (Some place))
+-- what was read, or else the key is at fault
+abbrev pub by_key : {A : Type 0} → Result A SchemaKey → Result A EntryFault
+by_key (Ok found) = Ok found
+by_key (Err key) = Err (Key key)
 
 -- the type of the word; `f64` is a type of tantivy's that this library doesn't have
-unfoldable pub type_named : ℕ → List ℕ → Result TypeTag SchemaError
-type_named place word = if bytes_eq word (codes "f64") then Err (FloatField place) else or_bad place (type_of_word word)
+unfoldable pub type_named : List ℕ → Result TypeTag EntryFault
+type_named word = if bytes_eq word (codes "f64") then Err FloatField else ok_or (type_of_word word) (Key keys.Type)
 
--- the entry that an object describes at this place; whether a schema takes it is asked later
-unfoldable pub entry_of : ℕ → Data → Result Entry SchemaError
-entry_of place description = do
-  members ← or_bad place (as_object description)
-  name ← or_bad place (required_text (codes "name") members)
-  word ← or_bad place (required_text (codes "type") members)
-  type_tag ← type_named place word
-  options ← or_bad place (required_object (codes "options") members)
-  field_type ← or_bad place (options_of type_tag options)
+-- the entry that an object describes; whether a schema takes it is asked later
+unfoldable pub entry_of : Data → Result Entry EntryFault
+entry_of description = do
+  members ← ok_or (as_object description) NoObject
+  name ← by_key (required_text keys.Name members)
+  word ← by_key (required_text keys.Type members)
+  type_tag ← type_named word
+  options ← by_key (required_object keys.Options members)
+  field_type ← by_key (options_of type_tag options)
   Ok (record { name = name; field_type = field_type })
 
+-- ---- a schema
+
+-- the error, at the entry of this place
+abbrev pub at_entry : ℕ → EntryFault → SchemaJsonError
+at_entry place NoObject = Other (schemas.BadJson (Some place))
+at_entry place (Key key) = BadKey place key
+at_entry place FloatField = Other (schemas.FloatField place)
+at_entry place Memory = Other schemas.Memory
+
 -- the schema with the entry behind the others, unless it is refused
-abbrev pub accepted : List Entry → Entry → Option SchemaError → Result (List Entry) SchemaError
+abbrev pub accepted : List Entry → Entry → Option SchemaError → Result (List Entry) SchemaJsonError
 accepted schema entry None = Ok (schema ++ entry ∷ [])
-accepted schema entry (Some error) = Err error
+accepted schema entry (Some error) = Err (Other error)
+
+-- the schema with the entry that was read
+abbrev pub with_read : List Entry → Result Entry EntryFault → Result (List Entry) SchemaJsonError
+with_read schema (Ok entry) = accepted schema entry (refusal schema entry.name)
+with_read schema (Err fault) = Err (at_entry (length schema) fault)
 
 -- the schema with the next entry
-unfoldable pub with_entry : List Entry → Data → Result (List Entry) SchemaError
-with_entry schema description = do
-  entry ← entry_of (length schema) description
-  accepted schema entry (refusal schema entry.name)
+unfoldable pub with_entry : List Entry → Data → Result (List Entry) SchemaJsonError
+with_entry schema description = with_read schema (entry_of description)
+
+abbrev pub and_then : Result (List Entry) SchemaJsonError → (List Entry → Result (List Entry) SchemaJsonError) → Result (List Entry) SchemaJsonError
+and_then (Ok schema) next = next schema
+and_then (Err error) next = Err error
 
 -- the schema with all of these entries, in order
-abbrev pub with_entries : List Entry → Items → Result (List Entry) SchemaError
+abbrev pub with_entries : List Entry → Items → Result (List Entry) SchemaJsonError
 with_entries schema no_items = Ok schema
 with_entries schema (item description descriptions) =
-    with_entry schema description >>= (λ longer. with_entries longer descriptions)
+    and_then (with_entry schema description) (λ longer. with_entries longer descriptions)
 
-abbrev pub of_items : Option Items → Result (List Entry) SchemaError
-of_items None = Err (BadJson None)
+abbrev pub of_items : Option Items → Result (List Entry) SchemaJsonError
+of_items None = Err (Other (schemas.BadJson None))
 of_items (Some items) = with_entries [] items
 
-abbrev pub schema_of : Data → Result (List Entry) SchemaError
-schema_of description = of_items (as_array description)
+-- the schema, or why there is none, with the key that is at fault
+abbrev pub schema_by_key : Data → Result (List Entry) SchemaJsonError
+schema_by_key description = of_items (as_array description)
 
--- the result, its value seen through the view, is this outcome, unless memory was refused
-abbrev pub Gives : {A B : Type 0} → (A → B) → Result B SchemaError → Result A SchemaError → Type 0
+-- ---- without the key
+
+abbrev pub plain_error : SchemaJsonError → SchemaError
+plain_error (BadKey entry key) = schemas.BadJson (Some entry)
+plain_error (Other error) = error
+
+abbrev pub plain : Result (List Entry) SchemaJsonError → Result (List Entry) SchemaError
+plain (Ok schema) = Ok schema
+plain (Err error) = Err (plain_error error)
+
+abbrev pub schema_of : Data → Result (List Entry) SchemaError
+schema_of description = plain (schema_by_key description)
+
+-- ---- what is returned
+
+-- the options are these, or the key is at fault, unless memory was refused
+abbrev pub Reads : {A : Type 0} → Result A SchemaKey → Result A EntryFault → Type 0
+Reads outcome (Ok found) = outcome ≡ Ok found
+Reads outcome (Err (Key key)) = outcome ≡ Err key
+Reads outcome (Err Memory) = ⊤
+Reads outcome (Err fault) = ⊥
+
+-- the same of an entry, its parts seen through the view
+abbrev pub Describes : {A : Type 0} → (A → Entry) → Result Entry EntryFault → Result A EntryFault → Type 0
+Describes view outcome (Ok found) = outcome ≡ Ok (view found)
+Describes view outcome (Err Memory) = ⊤
+Describes view outcome (Err fault) = outcome ≡ Err fault
+
+-- the same of a schema
+abbrev pub Gives : {A : Type 0} → (A → List Entry) → Result (List Entry) SchemaJsonError → Result A SchemaJsonError → Type 0
 Gives view outcome (Ok found) = outcome ≡ Ok (view found)
-Gives view outcome (Err Memory) = ⊤
+Gives view outcome (Err (Other schemas.Memory)) = ⊤
 Gives view outcome (Err error) = outcome ≡ Err error

@@ -9,4 +9,6 @@ pub mod schema;
 mod table;
 
 pub use field_iter::FieldIter;
+pub use json::error::SchemaJsonError;
+pub use json::key::SchemaKey;
 pub use schema::{Schema, SchemaBuilder};

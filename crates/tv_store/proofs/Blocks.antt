@@ -1,6 +1,6 @@
 -- The end of a block: no bytes begin with no document, and no other bytes are called an end.
 use Rattle.std.proofs.Common.{◌≡◌, ℕ, ◌+◌, ◌-◌, ◌<◌, Bool, true, false, List, [], ◌∷◌, ◌++◌, length, Result, Ok, Err, refl, sym, ap, subst, ◌∙◌, arith, inl, length-append}
-use Rattle.std.specs.Prelude.{IfErr, IsErrOf}
+use Rattle.std.specs.Prelude.{IsErrOf}
 use Rattle.tv_base.specs.declared.cause.Cause.TheVariants.{UnexpectedEnd}
 use Rattle.tv_base.specs.ErrorInPart.{number_ends}
 use Rattle.tv_base.specs.Number.{Groups, last, more}
@@ -9,6 +9,7 @@ use Rattle.tv_base.specs.Stop.{Taken}
 use Rattle.tv_builder.specs.Parts.{Part, number}
 use Rattle.tv_builder.specs.Prefix.{Encoded}
 use Rattle.tv_decoder.specs.Prefix.{HasNoRoom}
+use Rattle.tv_doc.specs.Document.{document_of}
 use Rattle.tv_doc.specs.declared.document.CompactDoc.{CompactDoc}
 use Rattle.tv_format.specs.Encoding.{EncodesDocument}
 use Rattle.tv_format.specs.InputError.{Refusal, corrupted, no_text_key, corrupt}
@@ -17,24 +18,20 @@ use Rattle.tv_format.specs.Version.{Version}
 use Rattle.tv_format.proofs.SingleTrees.{single_document}
 use Rattle.tv_legacy.specs.Legacy.{Legacy, ErrorInLegacy}
 use Rattle.tv_legacy.proofs.Unique.{one_legacy, legacy_excludes, single_legacy}
-use Rattle.tv_reader.specs.Error.{key_stop, is_no_text}
-use Rattle.tv_reader.specs.Finds.{GivesStop, Finds}
+use Rattle.tv_reader.specs.Finds.{Finds}
 use Rattle.tv_reader.specs.declared.error.DeserializeError.{DeserializeError}
 use Rattle.tv_reader.specs.declared.error.DeserializeError.TheVariants as errors
 use Rattle.tv_reader.specs.declared.value_type.ValueType.TheVariants as types
 use Rattle.tv_store.specs.Blocks.{as_read, SaysEnd}
-use Rattle.tv_store.specs.Documents.{EncodesRead, NoDocument, IsReadingError, in_place}
+use Rattle.tv_store.specs.Documents.{EncodesRead, NoDocument, in_place}
 use Rattle.tv_store.proofs.InPlace.{error_placed}
-use Rattle.tv_store.proofs.Promises.{end, FoundDocument, told, told_cause, excluded}
+use Rattle.tv_store.specs.Reading.{documents}
+use Rattle.tv_store.proofs.Promises.{end, FoundAs, told_cause, excluded}
 
 -- ---- what the call returned, and what reading a document would have
 
 pub as_error : {D : Type 0} (result : Result Bool DeserializeError) (document : D) (e : DeserializeError) → IsErrOf result e → IsErrOf (as_read result document) e
 as_error result document e is = ap (λ r. as_read r document) is
-
-pub as_err : {D : Type 0} (P : DeserializeError → Type 0) (result : Result Bool DeserializeError) (document : D) → IfErr (as_read result document) P → IfErr result P
-as_err P (Ok next) document h = tt
-as_err P (Err e) document h = h
 
 -- what was read in a place is what the call says of it
 pub of_place : {S : Type 0} (is_known : S → Type 0) (left : S → List ℕ) (failures : S → Failures) (old new : S) (count : ℕ) (v : Version) (read : Result (Unit {0}) DeserializeError) (result : Result Bool DeserializeError) (document : CompactDoc)
@@ -78,26 +75,21 @@ never_full v old none full = no_number v full.prefix full.announced _ (none_befo
 
 -- ---- the end
 
-pub at_end : (v : Version) (result : Result Bool DeserializeError) (document : CompactDoc) (old new : List ℕ) (count : ℕ) → FoundDocument v (as_read result document) old new count
-    → (IsErrOf result errors.HeapFull → HasNoRoom v old) → IfErr result IsReadingError → (IsErrOf result (errors.CorruptedValue UnexpectedEnd) → 0 < count) → count ≡ 0 → old ≡ [] → SaysEnd result
-at_end v (Ok true) document old new count h full kind cut few none = excluded v old h.prefix new _ end h.joined h.encoded (subst (λ (l : List ℕ). NoDocument v l end) (sym none) (nothing_ends v))
-at_end v (Ok false) document old new count h full kind cut few none = tt
-at_end v (Err (errors.CorruptedValue c)) document old new count h full kind cut few none =
-    let same = ends_only v old (corrupted c) none (told_cause v c old new count (omega (arith, few)) h).stands in
+pub at_end : (v : Version) (result : Result Bool DeserializeError) (document : CompactDoc) (old new : List ℕ) (count : ℕ) → FoundAs (documents v) document_of (as_read result document) old new count
+    → (IsErrOf result errors.HeapFull → HasNoRoom v old) → (IsErrOf result (errors.CorruptedValue UnexpectedEnd) → 0 < count) → count ≡ 0 → old ≡ [] → SaysEnd result
+at_end v (Ok true) document old new count h full cut few none = excluded v old h.prefix new _ end h.joined h.encoded (subst (λ (l : List ℕ). NoDocument v l end) (sym none) (nothing_ends v))
+at_end v (Ok false) document old new count h full cut few none = tt
+at_end v (Err (errors.CorruptedValue c)) document old new count h full cut few none =
+    let same = ends_only v old (corrupted c) none (told_cause (NoDocument v) c old new count (omega (arith, few)) h).stands in
     let is : c ≡ UnexpectedEnd = cc in
     absurd (omega (arith, few, cut (ap (λ (x : _). Err (errors.CorruptedValue x)) is)))
-at_end v (Err (errors.TypeMismatch expected actual)) document old new count h full kind cut few none =
-    let r = told v (errors.TypeMismatch types.String actual) (no_text_key _) old new count is_no_text (omega (arith, few)) (subst (λ z. GivesStop end (NoDocument v) old new count (key_stop z actual)) kind h) in
-    let same = ends_only v old (no_text_key _) none r.stands in
+at_end v (Err (errors.TypeMismatch types.String actual)) document old new count h full cut few none =
+    let same = ends_only v old (no_text_key _) none h.stands in
     absurd (cc)
-at_end v (Err errors.HeapFull) document old new count h full kind cut few none = never_full v old none (full refl)
-at_end v (Err (errors.Io k)) document old new count h full kind cut few none = tt
-at_end v (Err errors.Memory) document old new count h full kind cut few none = tt
-at_end v (Err (errors.UnsupportedType t)) document old new count h full kind cut few none = kind
-at_end v (Err (errors.Custom s)) document old new count h full kind cut few none = kind
-at_end v (Err (errors.UnsupportedVersion m n)) document old new count h full kind cut few none = kind
-at_end v (Err errors.AlreadyFailed) document old new count h full kind cut few none = kind
-at_end v (Err errors.TooDeep) document old new count h full kind cut few none = kind
+at_end v (Err errors.HeapFull) document old new count h full cut few none = never_full v old none (full refl)
+at_end v (Err (errors.Io k)) document old new count h full cut few none = tt
+at_end v (Err errors.Memory) document old new count h full cut few none = tt
+at_end v (Err _) document old new count h full cut few none = h
 
 pub no_more : (old new : List ℕ) (count : ℕ) → Taken old new 0 count → old ≡ [] → count ≡ 0
 no_more old new count t none = omega (arith, t.counted, ap length t.joined, ap length none, length-append t.prefix new)

@@ -2,6 +2,7 @@
 use Rattle.std.proofs.Common.{◌≡◌, ℕ, ◌+◌, ◌-◌, ◌^◌, ◌<◌, Bool, true, false, List, [], ◌∷◌, ◌++◌, length, Option, Some, None, Result, Ok, Err, refl, sym, ap, subst, ◌∙◌, arith, inl, inr, length-append}
 use Rattle.std.specs.Prelude.{◌≢◌, IfErr, IsErrOf, OnOk, OnErr}
 use Rattle.tv_base.specs.declared.cause.Cause.TheVariants.{UnexpectedEnd}
+use Rattle.tv_base.specs.declared.source.ByteSource.{Ghosts}
 use Rattle.tv_base.specs.Source.{Failures}
 use Rattle.tv_base.specs.Stop.{Counts, CountsStop, Taken}
 use Rattle.tv_builder.specs.Builder.{built, state_of}
@@ -21,7 +22,7 @@ use Rattle.tv_reader.specs.declared.error.DeserializeError.{DeserializeError}
 use Rattle.tv_reader.specs.declared.error.DeserializeError.TheVariants as errors
 use Rattle.tv_store.specs.Blocks.{as_read_within, SaysEnd, SaysEndWithin}
 use Rattle.tv_store.specs.Documents.{BeginsWith, NoDocument, IsReadingError, in_place}
-use Rattle.tv_store.specs.Limits.{IsPast, IsLarge, PassesDepth, IsAll, Comes, IsLimitedError, limited_stop}
+use Rattle.tv_store.specs.Limits.{IsPast, IsLarge, PassesDepth, IsAll, Comes, IsLimitedError, StopsWithin, limited_stop}
 use Rattle.tv_store.specs.declared.limits.LimitedReadError.{LimitedReadError}
 use Rattle.tv_store.specs.declared.limits.LimitedReadError.TheVariants as limited
 use Rattle.tv_store.specs.declared.limits.ReadLimit.TheVariants as limit
@@ -39,14 +40,6 @@ pub said_comes : (v : Version) (limits : ReadLimits) (old new : List ℕ) (read 
     → Comes v limits old new (in_place read document) → Comes v limits old new (as_read_within next document)
 said_comes v limits old new read next document same h = subst (λ (r : Result CompactDoc LimitedReadError). Comes v limits old new r) (sym (same document)) h
 
-pub said_error : (next : Result Bool LimitedReadError) (document : CompactDoc) (e : LimitedReadError) → IsErrOf next e → IsErrOf (as_read_within next document) e
-said_error next document e is = ap (λ r. as_read_within r document) is
-
-pub said_errors : (P : LimitedReadError → Type 0) (read : Result (Unit {0}) LimitedReadError) (next : Result Bool LimitedReadError) (document : CompactDoc) → IsSaid read next → IfErr read P → IfErr next P
-said_errors P read (Ok b) document same h = tt
-said_errors P (Ok x) (Err e) document same h = let is = same document in absurd (cc)
-said_errors P (Err f) (Err e) document same h = let is = same document in subst P (cc) h
-
 pub said_errors_as : (P : LimitedReadError → Type 0) (read : Result (Unit {0}) LimitedReadError) (next : Result Bool LimitedReadError) (document : CompactDoc) → IsSaid read next → IfErr read P → IfErr (as_read_within next document) P
 said_errors_as P (Ok x) next document same h = subst (λ (r : Result CompactDoc LimitedReadError). IfErr r P) (sym (same document)) tt
 said_errors_as P (Err f) next document same h = subst (λ (r : Result CompactDoc LimitedReadError). IfErr r P) (sym (same document)) h
@@ -63,15 +56,18 @@ said_none P (Ok x) (Ok true) document same h none = absurd (none refl)
 said_none P (Ok x) (Ok false) document same h none = let is = same document in absurd (cc)
 said_none P (Ok x) (Err e) document same h none = let is = same document in absurd (cc)
 
-pub said_counts : (read : Result (Unit {0}) LimitedReadError) (next : Result Bool LimitedReadError) (document : CompactDoc) (old new : Failures) → IsSaid read next → Counts limited_stop read old new → Counts limited_stop next old new
-said_counts (Ok x) (Ok b) document old new same h = h
-said_counts (Ok x) (Err e) document old new same h = let is = same document in absurd (cc)
-said_counts (Err f) (Ok true) document old new same h = let is = same document in absurd (cc)
-said_counts (Err f) (Ok false) document old new same h =
-    let is = same document in
-    let end_is : f ≡ limited.Read (errors.CorruptedValue UnexpectedEnd) = cc in
-    subst (λ z. CountsStop (limited_stop z) old new) end_is h
-said_counts (Err f) (Err e) document old new same h = let is = same document in subst (λ z. CountsStop (limited_stop z) old new) (cc) h
+pub said_counts_as : (read : Result (Unit {0}) LimitedReadError) (next : Result Bool LimitedReadError) (document : CompactDoc) (old new : Failures) → IsSaid read next → Counts limited_stop read old new → Counts limited_stop (as_read_within next document) old new
+said_counts_as (Ok x) next document old new same h = subst (λ (r : Result CompactDoc LimitedReadError). Counts limited_stop r old new) (sym (same document)) h
+said_counts_as (Err f) next document old new same h = subst (λ (r : Result CompactDoc LimitedReadError). Counts limited_stop r old new) (sym (same document)) h
+
+pub said_stops : {S : Type 0} (source : Ghosts S) (v : Version) (limits : ReadLimits) {old new : S} (next : Result Bool LimitedReadError) (document : CompactDoc) → StopsWithin v limits source old new (as_read_within next document) → StopsWithin v limits source old new next
+said_stops source v limits next document h = record {
+  depth = λ known is. h.depth known (ap (λ r. as_read_within r document) is);
+  heap = λ known is. h.heap known (ap (λ r. as_read_within r document) is);
+  bytes = λ known is. h.bytes known (ap (λ r. as_read_within r document) is);
+  ends = λ known is. h.ends known (ap (λ r. as_read_within r document) is);
+  most = h.most;
+}
 
 pub said_found : (v : Version) (limits : ReadLimits) (old new : List ℕ) (next : Result Bool LimitedReadError) (document : CompactDoc) → Comes v limits old new (as_read_within next document) → next ≡ Ok true → BeginsWith v old new (document_of document)
 said_found v limits old new next document h is = found_in v limits old new (Ok document) (subst (λ z. Comes v limits old new (as_read_within z document)) is h)
@@ -86,7 +82,7 @@ pub said_end : (v : Version) (limits : ReadLimits) (old new : List ℕ) (count :
 said_end v limits old new count next document comes t none is =
     let h = subst (λ z. Comes v limits old new (as_read_within z document)) is comes in
     let few : length h.taken ≡ 0 = omega (arith, t.counted, none, ap length h.joined, ap length t.joined, length-append h.taken new, length-append t.prefix new) in
-    no_bytes old h.taken new h.joined ((told_cause v UnexpectedEnd old new (length h.taken) (omega (arith, few)) h.outcome.stop).shows.all refl) few
+    no_bytes old h.taken new h.joined ((told_cause (NoDocument v) UnexpectedEnd old new (length h.taken) (omega (arith, few)) h.outcome.stop).shows.all refl) few
 
 weighs_nothing : (v : Version) (most : Option ℕ) (taken : List ℕ) (a f : Option ℕ) (d : Document) (s : State) → IsPlace a d f s → Encoded Legacy v taken (parts_at a d f s) → taken ≡ [] → IsPast most (document_weight d + state_weight s) → ⊥
 weighs_nothing v most taken None None d s place p none past = past_none most (subst (λ z. IsPast most (document_weight z + 0)) place.0 (subst (λ z. IsPast most (document_weight d + state_weight z)) place.1 past))
@@ -98,16 +94,16 @@ never_deep : (v : Version) (most : Option ℕ) (taken : List ℕ) → taken ≡ 
 never_deep v most taken none (inl deep) = no_number v taken deep.announced _ none deep.encoded
 never_deep v most taken none (inr deeper) = no_document v taken deeper.document none deeper.encoded
 
-pub said_at_end : (v : Version) (limits : ReadLimits) (old new : List ℕ) (count : ℕ) (next : Result Bool LimitedReadError) (document : CompactDoc) → Comes v limits old new (as_read_within next document) → IfErr next (IsLimitedError limits)
+pub said_at_end : (v : Version) (limits : ReadLimits) (old new : List ℕ) (count : ℕ) (next : Result Bool LimitedReadError) (document : CompactDoc) → Comes v limits old new (as_read_within next document)
     → (IsErrOf next (limited.Read (errors.CorruptedValue UnexpectedEnd)) → 0 < count) → Taken old new 0 count → old ≡ [] → SaysEndWithin limits next
-said_at_end v limits old new count (Ok true) document h kind cut t none = no_document v h.taken (document_of document) (none_before h.taken new (sym h.joined ∙ none)) h.outcome
-said_at_end v limits old new count (Ok false) document h kind cut t none = tt
-said_at_end v limits old new count (Err (limited.Read e)) document h kind cut t none =
+said_at_end v limits old new count (Ok true) document h cut t none = no_document v h.taken (document_of document) (none_before h.taken new (sym h.joined ∙ none)) h.outcome
+said_at_end v limits old new count (Ok false) document h cut t none = tt
+said_at_end v limits old new count (Err (limited.Read e)) document h cut t none =
     let few : length h.taken ≡ 0 = ap length (none_before h.taken new (sym h.joined ∙ none)) in
     let same : count ≡ 0 = omega (arith, t.counted, ap length t.joined, ap length none, length-append t.prefix new) in
-    at_end v (Err e) document old new count (subst (λ n. GivesStop end (NoDocument v) old new n (store_stop e)) (few ∙ sym same) h.outcome.stop) (λ is. h.outcome.full (cc)) kind (λ is. cut (cc)) same none
-said_at_end v limits old new count (Err (limited.Limit limit.Bytes)) document h kind cut t none = h.outcome.0 ∙ ap (λ z. Some (length z)) (none_before h.taken new (sym h.joined ∙ none))
-said_at_end v limits old new count (Err (limited.Limit limit.HeapBytes)) document h kind cut t none =
+    at_end v (Err e) document old new count (subst (λ n. GivesStop end (NoDocument v) old new n (store_stop e)) (few ∙ sym same) h.outcome.stop) (λ is. h.outcome.full (cc)) (λ is. cut (cc)) same none
+said_at_end v limits old new count (Err (limited.Limit limit.Bytes)) document h cut t none = h.outcome.0 ∙ ap (λ z. Some (length z)) (none_before h.taken new (sym h.joined ∙ none))
+said_at_end v limits old new count (Err (limited.Limit limit.HeapBytes)) document h cut t none =
     let r = h.outcome.reading in
     weighs_nothing v limits.heap_bytes h.taken r.announced r.field (built r.builder) (state_of r.builder) h.outcome.sound.place h.outcome.encoded (none_before h.taken new (sym h.joined ∙ none)) h.outcome.weighs
-said_at_end v limits old new count (Err (limited.Limit limit.Depth)) document h kind cut t none = never_deep v limits.depth h.taken (none_before h.taken new (sym h.joined ∙ none)) h.outcome
+said_at_end v limits old new count (Err (limited.Limit limit.Depth)) document h cut t none = never_deep v limits.depth h.taken (none_before h.taken new (sym h.joined ∙ none)) h.outcome

@@ -14,4 +14,3 @@ pub mod Nesting
 pub mod NestedSteps
 pub mod WithinDepth
 pub mod WithinLimits
-mod ChosenReads

@@ -1,55 +1,53 @@
--- From the bytes that were taken for a document to what is promised of it.
-use Rattle.std.proofs.Common.{◌≡◌, ℕ, ◌-◌, ◌^◌, ◌<◌, ◌≤◌, subst, List, ◌++◌, Result, Ok, Err, refl, sym, ap, ◌∙◌, arith}
+-- From the bytes that were taken to what is promised of what was read.
+use Rattle.std.proofs.Common.{◌≡◌, ℕ, ◌-◌, ◌^◌, ◌<◌, ◌≤◌, List, ◌++◌, Result, Ok, Err, refl, sym, ap, subst, ◌∙◌, arith}
 use Rattle.std.specs.Prelude.{IfOk, IfErr, IsErrOf}
 use Rattle.std.proofs.lemmas.List.{append_cancel_left}
+use Rattle.std.proofs.lemmas.Result.{IfErr-at_err}
 use Rattle.tv_base.specs.declared.cause.Cause.{Cause}
 use Rattle.tv_base.specs.declared.cause.Cause.TheVariants.{UnexpectedEnd, TooLong}
+use Rattle.tv_base.specs.declared.source.ByteSource.{Ghosts}
+use Rattle.tv_base.specs.Parts.{Begins}
 use Rattle.tv_base.specs.Source.{Failures}
 use Rattle.tv_base.specs.Stop.{CountsStop, Counts}
-use Rattle.tv_doc.specs.declared.document.CompactDoc.{CompactDoc}
-use Rattle.tv_doc.specs.Document.{document_of}
+use Rattle.tv_base.proofs.ByGrammar.{few_taken}
+use Rattle.tv_chosen.specs.ChosenFields.{chosen}
+use Rattle.tv_chosen.proofs.RoomChosen.{chosen_has_room}
+use Rattle.tv_decoder.specs.Prefix.{HasNoRoom}
+use Rattle.tv_decoder.proofs.RoomWithin.{document_within}
+use Rattle.tv_format.specs.Encoding.{EncodesDocument}
+use Rattle.tv_format.specs.InputError.{Refusal, corrupted, no_text_key}
+use Rattle.tv_format.specs.Tree.{Document}
+use Rattle.tv_format.specs.Version.{Version}
+use Rattle.tv_format.proofs.ExcludingTrees.{document_excludes, value_excludes}
+use Rattle.tv_format.proofs.Trees.{one_document, one_tree}
 use Rattle.tv_heap.specs.Room.{document_room}
 use Rattle.tv_legacy.specs.Legacy.{Legacy, ErrorInLegacy}
 use Rattle.tv_legacy.proofs.Unique.{one_legacy, legacy_excludes}
-use Rattle.tv_reader.specs.Error.{key_stop, store_stop}
-use Rattle.tv_reader.specs.Error.{IsRefusal, is_corrupted, is_no_text}
-use Rattle.tv_reader.specs.Finds.{Refuses, GivesStop, Found}
+use Rattle.tv_reader.specs.Error.{key_stop, store_stop, IsRefusal, is_corrupted, is_no_text, StoreMayStop, StoreMayStopRoomy}
+use Rattle.tv_reader.specs.Finds.{Refuses, GivesStop, Found, FindsIf}
+use Rattle.tv_reader.specs.Trees.{NoValue}
 use Rattle.tv_reader.specs.declared.error.DeserializeError.{DeserializeError}
 use Rattle.tv_reader.specs.declared.error.DeserializeError.TheVariants as errors
 use Rattle.tv_reader.specs.declared.value_type.ValueType.{ValueType}
 use Rattle.tv_reader.specs.declared.value_type.ValueType.TheVariants as types
-use Rattle.tv_format.specs.InputError.{Refusal, corrupted, no_text_key}
-use Rattle.tv_format.specs.Encoding.{EncodesDocument}
-use Rattle.tv_format.specs.Tree.{Document}
-use Rattle.tv_format.specs.Version.{Version}
-use Rattle.tv_format.proofs.ExcludingTrees.{document_excludes}
-use Rattle.tv_format.proofs.Trees.{one_document}
-use Rattle.tv_store.specs.Documents.{EncodesRead, BeginsWith, Answers, NoDocument, IsReadingError}
-use Rattle.tv_decoder.specs.Prefix.{HasNoRoom}
-use Rattle.tv_decoder.proofs.RoomWithin.{document_within}
+use Rattle.tv_skip.specs.Skip.{IsDocument, IsValue}
+use Rattle.tv_store.specs.Documents.{IsReadUnless, IsReadingError, NoDocument, SaysNothing, in_place}
+use Rattle.tv_store.specs.Reading.{Grammar, Reads, reading, documents, chosen_pairs, passed}
+use Rattle.tv_value.specs.declared.field.Field.{Field}
 
 abbrev pub end : Refusal
 end = corrupted UnexpectedEnd
 
-abbrev pub FoundDocument : Version → Result CompactDoc DeserializeError → List ℕ → List ℕ → ℕ → Type 0
-FoundDocument v result old new count = Found store_stop end (EncodesRead v) (NoDocument v) old new count result
-
-pub found_by : (v : Version) (result : Result CompactDoc DeserializeError) (old new : List ℕ) (count : ℕ) → FoundDocument v result old new count → IfOk result (λ d. BeginsWith v old new (document_of d))
-found_by v (Ok d) old new count h = h
-found_by v (Err e) old new count h = tt
+-- ---- refusals
 
 -- more can be counted
-pub told_cause : (v : Version) (c : Cause) (old new : List ℕ) (count : ℕ) → count < 2 ^ 64 - 1 → GivesStop end (NoDocument v) old new count (store_stop (errors.CorruptedValue c)) → Refuses end (NoDocument v) old new (corrupted c)
-told_cause v TooLong old new count few h = absurd (omega (arith, few, h.0))
-told_cause v c old new count few h = h
+pub told_cause : (P : List ℕ → Refusal → Type 0) (c : Cause) (old new : List ℕ) (count : ℕ) → count < 2 ^ 64 - 1 → GivesStop end P old new count (store_stop (errors.CorruptedValue c)) → Refuses end P old new (corrupted c)
+told_cause P TooLong old new count few h = absurd (omega (arith, few, h.0))
+told_cause P c old new count few h = h
 
-pub told : (v : Version) (e : DeserializeError) (r : Refusal) (old new : List ℕ) (count : ℕ) → IsRefusal e r → count < 2 ^ 64 - 1 → GivesStop end (NoDocument v) old new count (store_stop e) → Refuses end (NoDocument v) old new r
-told v _ _ old new count is_corrupted few h = told_cause v _ old new count few h
-told v _ _ old new count is_no_text few h = h
-
-pub refused_by : (v : Version) (result : Result CompactDoc DeserializeError) (old new : List ℕ) (count : ℕ) → count < 2 ^ 64 - 1 → FoundDocument v result old new count
-    → (e : DeserializeError) (r : Refusal) → IsErrOf result e → IsRefusal e r → Refuses end (NoDocument v) old new r
-refused_by v result old new count few h e r is refusal = told v e r old new count refusal few (subst (λ z. FoundDocument v z old new count) is h)
+pub told : (P : List ℕ → Refusal → Type 0) (e : DeserializeError) (r : Refusal) (old new : List ℕ) (count : ℕ) → IsRefusal e r → count < 2 ^ 64 - 1 → GivesStop end P old new count (store_stop e) → Refuses end P old new r
+told P _ _ old new count is_corrupted few h = told_cause P _ old new count few h
+told P _ _ old new count is_no_text few h = h
 
 -- ---- which errors come
 
@@ -57,45 +55,117 @@ mismatched : (expected actual : ValueType) (old new : Failures) → CountsStop (
 mismatched types.String actual old new h = refl
 mismatched _ actual old new h = absurd h
 
-pub errors_by : (result : Result CompactDoc DeserializeError) (old new : Failures) → Counts store_stop result old new → IfErr result IsReadingError
-errors_by (Ok d) old new h = tt
-errors_by (Err (errors.CorruptedValue c)) old new h = tt
-errors_by (Err (errors.TypeMismatch expected actual)) old new h = mismatched expected actual old new h
-errors_by (Err errors.HeapFull) old new h = tt
-errors_by (Err (errors.Io k)) old new h = tt
-errors_by (Err errors.Memory) old new h = tt
-errors_by (Err (errors.UnsupportedType t)) old new h = h
-errors_by (Err (errors.Custom s)) old new h = h
-errors_by (Err (errors.UnsupportedVersion m n)) old new h = h
-errors_by (Err errors.AlreadyFailed) old new h = h
-errors_by (Err errors.TooDeep) old new h = h
+may_come : (e : DeserializeError) (old new : Failures) → CountsStop (store_stop e) old new → IsReadingError e
+may_come (errors.CorruptedValue c) old new h = tt
+may_come (errors.TypeMismatch expected actual) old new h = mismatched expected actual old new h
+may_come errors.HeapFull old new h = tt
+may_come (errors.Io k) old new h = tt
+may_come errors.Memory old new h = tt
+may_come _ old new h = h
 
--- ---- want of room
+pub errors_by : {X : Type 0} (result : Result X DeserializeError) (old new : Failures) → Counts store_stop result old new → IfErr result IsReadingError
+errors_by (Ok x) old new h = tt
+errors_by (Err e) old new h = may_come e old new h
+
+pub no_heap_full : {X : Type 0} (result : Result X DeserializeError) (count : ℕ) → IfErr result (λ e. StoreMayStopRoomy e count) → ¬ IsErrOf result errors.HeapFull
+no_heap_full result count may is = (IfErr-at_err (λ e. StoreMayStopRoomy e count) is may).1 refl
+
+-- ---- one reading
+
+-- of these bytes: what is encoded is one value, is no refusal, and has no room only where there is none
+pub record IsSingle {Y : Type 0} (grammar : Grammar Y) (old : List ℕ) : Type 0 where
+  pub same : (a b x y : List ℕ) (m n : Y) → grammar.Encodes a m → grammar.Encodes b n → a ++ x ≡ b ++ y → (a ≡ b) × (m ≡ n)
+  pub excludes : (a x : List ℕ) (m : Y) (r : Refusal) → old ≡ a ++ x → grammar.Encodes a m → grammar.HasError old r → ⊥
+  pub fits : (a x : List ℕ) (m : Y) → old ≡ a ++ x → grammar.Encodes a m → grammar.NoRoom old → grammar.HasRoom m → ⊥
+
+pub excluded : (v : Version) (old prefix rest : List ℕ) (d : Document) (r : Refusal) → old ≡ prefix ++ rest → EncodesDocument Legacy v prefix d → NoDocument v old r → ⊥
+excluded v old prefix rest d r joined encoded f = (document_excludes Legacy ErrorInLegacy v one_legacy legacy_excludes d).excludes old prefix rest r f encoded joined
 
 has_room : (v : Version) (old prefix rest : List ℕ) (d : Document) → old ≡ prefix ++ rest → EncodesDocument Legacy v prefix d → HasNoRoom v old → document_room d ≤ 4294967295 → ⊥
 has_room v old prefix rest d joined encoded full small =
     let within = document_within Legacy v one_legacy full.announced full.finished full.field full.state full.prefix full.rest prefix rest d full.is full.less full.encoded (sym full.joined ∙ joined) encoded in
     omega (arith, full.full, small, within)
 
--- ---- what is encoded is what is returned
+pub single_documents : (v : Version) (old : List ℕ) → IsSingle (documents v) old
+single_documents v old = record {
+  same = λ a b x y m n p q e. one_document Legacy v one_legacy a b x y m n p q e;
+  excludes = λ a x m r joined p f. excluded v old a x m r joined p f;
+  fits = λ a x m joined p full small. has_room v old a x m joined p full small;
+}
 
-pub excluded : (v : Version) (old prefix rest : List ℕ) (d : Document) (r : Refusal) → old ≡ prefix ++ rest → EncodesDocument Legacy v prefix d → NoDocument v old r → ⊥
-excluded v old prefix rest d r joined encoded f = (document_excludes Legacy ErrorInLegacy v one_legacy legacy_excludes d).excludes old prefix rest r f encoded joined
+pub single_chosen : (v : Version) (fields : List Field) (old : List ℕ) → IsSingle (chosen_pairs v fields) old
+single_chosen v fields old = record {
+  same = λ a b x y m n p q e. let one = one_document Legacy v one_legacy a b x y p.0 q.0 p.1 q.1 e in (one.0, p.2 ∙ ap (chosen fields) one.1 ∙ sym q.2);
+  excludes = λ a x m r joined p f. excluded v old a x p.0 r joined p.1 f;
+  fits = λ a x m joined p full small. chosen_has_room v fields old a x p.0 joined p.1 full (subst (λ (z : Document). document_room z ≤ 4294967295) p.2 small);
+}
 
-pub only_by : (v : Version) (result : Result CompactDoc DeserializeError) (old new : List ℕ) (count : ℕ) → FoundDocument v result old new count → (IsErrOf result errors.HeapFull → HasNoRoom v old) → IfErr result IsReadingError → count < 2 ^ 64 - 1
-    → (d : Document) (prefix rest : List ℕ) → old ≡ prefix ++ rest → EncodesDocument Legacy v prefix d → document_room d ≤ 4294967295 → Answers result d rest new
-only_by v (Ok x) old new count h full kind few d prefix rest joined encoded small =
-    let same = one_document Legacy v one_legacy h.prefix prefix new rest (document_of x) d h.encoded encoded (sym h.joined ∙ joined) in
-    (same.1, append_cancel_left prefix new rest (ap (λ (l : List ℕ). l ++ new) (sym same.0) ∙ sym h.joined ∙ joined))
-only_by v (Err (errors.CorruptedValue c)) old new count h full kind few d prefix rest joined encoded small = excluded v old prefix rest d (corrupted c) joined encoded (told_cause v c old new count few h).stands
-only_by v (Err (errors.TypeMismatch expected actual)) old new count h full kind few d prefix rest joined encoded small =
-    let r = told v (errors.TypeMismatch types.String actual) (no_text_key _) old new count is_no_text few (subst (λ z. GivesStop end (NoDocument v) old new count (key_stop z actual)) kind h) in
-    excluded v old prefix rest d (no_text_key _) joined encoded r.stands
-only_by v (Err errors.HeapFull) old new count h full kind few d prefix rest joined encoded small = has_room v old prefix rest d joined encoded (full refl) small
-only_by v (Err (errors.Io k)) old new count h full kind few d prefix rest joined encoded small = tt
-only_by v (Err errors.Memory) old new count h full kind few d prefix rest joined encoded small = tt
-only_by v (Err (errors.UnsupportedType t)) old new count h full kind few d prefix rest joined encoded small = kind
-only_by v (Err (errors.Custom s)) old new count h full kind few d prefix rest joined encoded small = kind
-only_by v (Err (errors.UnsupportedVersion m n)) old new count h full kind few d prefix rest joined encoded small = kind
-only_by v (Err errors.AlreadyFailed) old new count h full kind few d prefix rest joined encoded small = kind
-only_by v (Err errors.TooDeep) old new count h full kind few d prefix rest joined encoded small = kind
+pub single_passed : (v : Version) (old : List ℕ) → IsSingle (passed (IsDocument v) (NoDocument v)) old
+single_passed v old = record {
+  same = λ a b x y m n p q e. ((one_document Legacy v one_legacy a b x y p.0 q.0 p.1 q.1 e).0, refl);
+  excludes = λ a x m r joined p f. excluded v old a x p.0 r joined p.1 f;
+  fits = λ a x m joined p full small. full;
+}
+
+pub single_values : (v : Version) (old : List ℕ) → IsSingle (passed (IsValue v) (NoValue v)) old
+single_values v old = record {
+  same = λ a b x y m n p q e. ((one_tree Legacy v one_legacy a b x y p.0 q.0 p.1 q.1 e).0, refl);
+  excludes = λ a x m r joined p f. value_excludes Legacy ErrorInLegacy v one_legacy legacy_excludes f p.0 a x p.1 joined;
+  fits = λ a x m joined p full small. full;
+}
+
+-- ---- what is found is what is promised
+
+-- an error where a prefix encodes what has room
+pub excused : {Y : Type 0} (grammar : Grammar Y) (e : DeserializeError) (old new : List ℕ) (count : ℕ) → IsSingle grammar old → GivesStop end grammar.HasError old new count (store_stop e) → (e ≡ errors.HeapFull → grammar.NoRoom old) → count < 2 ^ 64 - 1
+    → (y : Y) (prefix rest : List ℕ) → old ≡ prefix ++ rest → grammar.Encodes prefix y → grammar.HasRoom y → SaysNothing e
+excused grammar (errors.CorruptedValue c) old new count single h full few y prefix rest joined encoded small = single.excludes prefix rest y (corrupted c) joined encoded (told_cause grammar.HasError c old new count few h).stands
+excused grammar (errors.TypeMismatch types.String actual) old new count single h full few y prefix rest joined encoded small = single.excludes prefix rest y (no_text_key _) joined encoded h.stands
+excused grammar errors.HeapFull old new count single h full few y prefix rest joined encoded small = single.fits prefix rest y joined encoded (full refl) small
+excused grammar (errors.Io k) old new count single h full few y prefix rest joined encoded small = tt
+excused grammar errors.Memory old new count single h full few y prefix rest joined encoded small = tt
+excused grammar _ old new count single h full few y prefix rest joined encoded small = h
+
+abbrev pub FoundAs : {X Y : Type 0} → Grammar Y → (X → Y) → Result X DeserializeError → List ℕ → List ℕ → ℕ → Type 0
+FoundAs grammar view result old new count = Found store_stop end (λ b x. grammar.Encodes b (view x)) grammar.HasError old new count result
+
+module _ {X Y : Type 0} (grammar : Grammar Y) (view : X → Y) where
+  found_by : (result : Result X DeserializeError) (old new : List ℕ) (count : ℕ) → FoundAs grammar view result old new count → IfOk result (λ x. Begins (λ b. grammar.Encodes b (view x)) old new)
+  found_by (Ok x) old new count h = h
+  found_by (Err e) old new count h = tt
+
+  pub refused_by : (result : Result X DeserializeError) (old new : List ℕ) (count : ℕ) → count < 2 ^ 64 - 1 → FoundAs grammar view result old new count → (e : DeserializeError) (r : Refusal) → IsErrOf result e → IsRefusal e r → Refuses end grammar.HasError old new r
+  refused_by result old new count few h e r is refusal = told grammar.HasError e r old new count refusal few (subst (λ z. FoundAs grammar view z old new count) is h)
+
+  pub only_by : (result : Result X DeserializeError) (old new : List ℕ) (count : ℕ) → IsSingle grammar old → FoundAs grammar view result old new count → (IsErrOf result errors.HeapFull → grammar.NoRoom old) → count < 2 ^ 64 - 1
+      → (y : Y) (prefix rest : List ℕ) → old ≡ prefix ++ rest → grammar.Encodes prefix y → grammar.HasRoom y → IsReadUnless SaysNothing view result y rest new
+  only_by (Ok x) old new count single h full few y prefix rest joined encoded small =
+      let same = single.same h.prefix prefix new rest (view x) y h.encoded encoded (sym h.joined ∙ joined) in
+      (same.1, append_cancel_left prefix new rest (ap (λ (l : List ℕ). l ++ new) (sym same.0) ∙ sym h.joined ∙ joined))
+  only_by (Err e) old new count single h full few y prefix rest joined encoded small = excused grammar e old new count single h (λ is. full (ap (λ z. Err z) is)) few y prefix rest joined encoded small
+
+  -- a reader that stops where it may
+  pub reads_of : {S : Type 0} (source : Ghosts S) {old new : S} {count : ℕ} (result : Result X DeserializeError) (May : DeserializeError → ℕ → Type 0) → ((e : DeserializeError) → May e count → StoreMayStop e count) → IsSingle grammar (source.left old)
+      → FindsIf May source.is_known source.left source.failures old 0 new count result (λ b x. grammar.Encodes b (view x)) grammar.HasError → (source.is_known old → IsErrOf result errors.HeapFull → grammar.NoRoom (source.left old)) → Reads reading grammar source old new view result
+  reads_of source {old = old} {new = new} {count = count} result May may single h room = record {
+    found = λ known. found_by result (source.left old) (source.left new) count (h.found known);
+    only = λ known. only_by result (source.left old) (source.left new) count single (h.found known.0) (room known.0) (few_taken known.1 (h.taken known.0));
+    error = λ known e r is refusal. (refused_by result (source.left old) (source.left new) count (few_taken known.1 (h.taken known.0)) (h.found known.0) e r is refusal).stands;
+    full = room;
+    errors = errors_by result (source.failures old) (source.failures new) h.counts;
+    shows = λ known e r is refusal. (refused_by result (source.left old) (source.left new) count (few_taken known.1 (h.taken known.0)) (h.found known.0) e r is refusal).shows;
+    taken = λ known. let t = h.taken known in (t.prefix, t.joined);
+    too_long = λ known is.
+        let t = h.taken known in
+        let most : count ≡ 2 ^ 64 - 1 = may (errors.CorruptedValue TooLong) (IfErr-at_err (λ e. May e count) is h.may_stop) in
+        (t.prefix, t.joined, omega (arith, t.counted, most));
+    failures = h.counts;
+    stays_known = h.stays_known;
+  }
+
+-- ---- in place of what is there
+
+pub finds_placed : {S D : Type 0} {May : DeserializeError → ℕ → Type 0} {is_known : S → Type 0} {left : S → List ℕ} {failures : S → Failures} {old new : S} {i k : ℕ} (result : Result (Unit {0}) DeserializeError) (document : D) (A : List ℕ → D → Type 0) (H : List ℕ → Refusal → Type 0)
+    → FindsIf May is_known left failures old i new k (in_place result document) A H → FindsIf May is_known left failures old i new k result (λ b _. A b document) H
+finds_placed (Ok x) document A H h = record { found = h.found; taken = h.taken; stays_known = h.stays_known; counts = h.counts; rises = h.rises; may_stop = h.may_stop }
+finds_placed (Err e) document A H h = record { found = h.found; taken = h.taken; stays_known = h.stays_known; counts = h.counts; rises = h.rises; may_stop = h.may_stop }

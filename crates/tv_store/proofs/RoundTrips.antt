@@ -23,7 +23,7 @@ use Rattle.tv_reader.specs.ValueType.{type_code}
 use Rattle.tv_reader.specs.declared.error.DeserializeError.{DeserializeError}
 use Rattle.tv_reader.specs.declared.error.DeserializeError.TheVariants as errors
 use Rattle.tv_reader.specs.declared.value_type.ValueType.{ValueType}
-use Rattle.tv_store.specs.Documents.{Answers, IsReadingError}
+use Rattle.tv_store.specs.Documents.{IsReadingError, SaysNothing}
 use Rattle.tv_store.specs.RoundTrip.{asked, given, IsCalled, IsKept}
 use Rattle.tv_format.specs.InputError.{Refusal, corrupted, no_text_key}
 use Rattle.tv_format.specs.Tree.{Tree, Document}
@@ -140,8 +140,8 @@ only_short errors.TooDeep f g error reading last counts = absurd reading
 pub above : (n m : ℕ) → (n ≤ m → ⊥) → m < n
 above n m not = omega (arith, not)
 
-pub full_answers_none : (e : DeserializeError) (d : Document) (rest left : List ℕ) → e ≡ errors.HeapFull → Answers (Err e) d rest left → ⊥
-full_answers_none e d rest left f h = subst (λ (x : DeserializeError). Answers (Err x) d rest left) f h
+pub full_answers_none : (e : DeserializeError) → e ≡ errors.HeapFull → SaysNothing e → ⊥
+full_answers_none e is h = subst SaysNothing is h
 
 pub left_behind : (a b x y : List ℕ) → a ≡ b → a ++ x ≡ b ++ y → x ≡ y
 left_behind a b x y same joined = cancel a (joined ∙ ap (λ l. l ++ y) (sym same))

@@ -6,7 +6,8 @@ use Rattle.std.proofs.lemmas.List.{length-take, take-append-drop}
 use lib.Seq.{take-append-le}
 use Rattle.tv_base.specs.declared.cause.Cause.TheVariants.{UnexpectedEnd, TooLong}
 use Rattle.tv_base.specs.Parts.{Begins}
-use Rattle.tv_base.specs.ReadsAs.{EndsEarly}
+use Rattle.tv_base.specs.declared.source.ByteSource.{Ghosts}
+use Rattle.tv_base.specs.ReadsAs.{EndsEarly, TakesMost}
 use Rattle.tv_base.specs.Source.{Failures}
 use Rattle.tv_base.specs.Stop.{Stop, CountsStop, Counts, Taken}
 use Rattle.tv_builder.specs.Builder.{built, state_of, heap_so_far}
@@ -34,9 +35,10 @@ use Rattle.tv_decoder.proofs.BufferedPairs.{none_passed}
 use Rattle.tv_decoder.proofs.States.{is_state}
 use Rattle.tv_builder.proofs.PairBuilding.{heap_weighs}
 use Rattle.tv_decoder.proofs.WholeDocuments.{Goes, step_more, step_fails, step_takes, done_encodes, awaits_more}
-use Rattle.tv_store.proofs.Promises.{refused_by, only_by, excluded}
-use Rattle.tv_store.specs.Documents.{BeginsWith, NoDocument, HasNoRoom, IsReadingError}
-use Rattle.tv_store.specs.Limits.{IsPast, Checks, FindsWithin, IsDeep, PassesDepth, IsLarge, IsAll, Unread, Comes, IsLimitedError, AnswersWithin, AllNestWithinLimit, TestsDepth}
+use Rattle.tv_store.proofs.Promises.{refused_by, only_by, excluded, excused, single_documents}
+use Rattle.tv_store.specs.Reading.{documents}
+use Rattle.tv_store.specs.Documents.{BeginsWith, IsReadUnless, NoDocument, HasNoRoom, IsReadingError}
+use Rattle.tv_store.specs.Limits.{IsPast, Checks, FindsWithin, IsDeep, PassesDepth, IsLarge, IsAll, Unread, Comes, IsLimitedError, MayPass, ReadsWithin, StopsWithin, AllNestWithinLimit, TestsDepth}
 use Rattle.tv_store.specs.Limits.{first_count, limited_stop, FindsPart, Told}
 use Rattle.tv_store.specs.declared.limits.ReadLimits.{ReadLimits}
 use Rattle.tv_store.specs.declared.limits.ReadLimit.{ReadLimit}
@@ -299,25 +301,25 @@ pub found_in : (v : Version) (limits : ReadLimits) (old new : List ℕ) (result 
 found_in v limits old new (Ok d) h = record { prefix = h.taken; joined = h.joined; encoded = h.outcome }
 found_in v limits old new (Err e) h = tt
 
-pub deep_in : (v : Version) (limits : ReadLimits) (old new : List ℕ) (result : Result CompactDoc LimitedReadError) → Comes v limits old new result → IsErrOf result (limited.Limit limit.Depth)
+deep_in : (v : Version) (limits : ReadLimits) (old new : List ℕ) (result : Result CompactDoc LimitedReadError) → Comes v limits old new result → IsErrOf result (limited.Limit limit.Depth)
     → Begins (PassesDepth v limits.depth) old new
 deep_in v limits old new result comes is =
     let h = subst (λ z. Comes v limits old new z) is comes in
     record { prefix = h.taken; joined = h.joined; encoded = h.outcome }
 
-pub large_in : (v : Version) (limits : ReadLimits) (old new : List ℕ) (result : Result CompactDoc LimitedReadError) → Comes v limits old new result → IsErrOf result (limited.Limit limit.HeapBytes)
+large_in : (v : Version) (limits : ReadLimits) (old new : List ℕ) (result : Result CompactDoc LimitedReadError) → Comes v limits old new result → IsErrOf result (limited.Limit limit.HeapBytes)
     → Begins (IsLarge v limits.heap_bytes) old new
 large_in v limits old new result comes is =
     let h = subst (λ z. Comes v limits old new z) is comes in
     record { prefix = h.taken; joined = h.joined; encoded = h.outcome }
 
-pub early_in : (v : Version) (limits : ReadLimits) (old new : List ℕ) (result : Result CompactDoc LimitedReadError) → Comes v limits old new result → IsErrOf result (limited.Limit limit.Bytes)
+early_in : (v : Version) (limits : ReadLimits) (old new : List ℕ) (result : Result CompactDoc LimitedReadError) → Comes v limits old new result → IsErrOf result (limited.Limit limit.Bytes)
     → EndsEarly (corrupted UnexpectedEnd) (NoDocument v) old new
 early_in v limits old new result comes is =
     let h = subst (λ z. Comes v limits old new z) is comes in
     record { taken = h.taken; joined = h.joined; shown = h.outcome.1 }
 
-pub all_in : (v : Version) (limits : ReadLimits) (old new : List ℕ) (result : Result CompactDoc LimitedReadError) → Comes v limits old new result → IsErrOf result (limited.Limit limit.Bytes)
+all_in : (v : Version) (limits : ReadLimits) (old new : List ℕ) (result : Result CompactDoc LimitedReadError) → Comes v limits old new result → IsErrOf result (limited.Limit limit.Bytes)
     → Begins (IsAll limits.bytes) old new
 all_in v limits old new result comes is =
     let h = subst (λ z. Comes v limits old new z) is comes in
@@ -341,21 +343,50 @@ longer_in v most taken old new split all early d prefix rest joined encoded =
           absurd (excluded v taken prefix (drop (length prefix) taken) d (corrupted UnexpectedEnd) cut encoded early)
     ])
 
-pub full_in : (v : Version) (limits : ReadLimits) (old new : List ℕ) (result : Result CompactDoc LimitedReadError) → Comes v limits old new result → IsErrOf result (limited.Read errors.HeapFull) → HasNoRoom v old
+full_in : (v : Version) (limits : ReadLimits) (old new : List ℕ) (result : Result CompactDoc LimitedReadError) → Comes v limits old new result → IsErrOf result (limited.Read errors.HeapFull) → HasNoRoom v old
 full_in v limits old new result comes is = (subst (λ z. Comes v limits old new z) is comes).outcome.full refl
 
-pub refused_in : (v : Version) (limits : ReadLimits) (old new : List ℕ) (result : Result CompactDoc LimitedReadError) → length old < 2 ^ 64 - 1 → Comes v limits old new result
+refused_in : (v : Version) (limits : ReadLimits) (old new : List ℕ) (result : Result CompactDoc LimitedReadError) → length old < 2 ^ 64 - 1 → Comes v limits old new result
     → (e : DeserializeError) (r : Refusal) → IsErrOf result (limited.Read e) → IsRefusal e r → Refuses (corrupted UnexpectedEnd) (NoDocument v) old new r
 refused_in v limits old new result few comes e r is refusal =
     let h = subst (λ z. Comes v limits old new z) is comes in
-    refused_by v (Err e) old new (length h.taken) (omega (arith, few, ap length h.joined, length-append h.taken new)) h.outcome.stop e r refl refusal
+    refused_by (documents v) document_of (Err e) old new (length h.taken) (omega (arith, few, ap length h.joined, length-append h.taken new)) h.outcome.stop e r refl refusal
 
-pub only_in : (v : Version) (limits : ReadLimits) (old new : List ℕ) (result : Result CompactDoc LimitedReadError) → length old < 2 ^ 64 - 1 → Comes v limits old new result → IfErr result (IsLimitedError limits)
-    → (d : Document) (prefix rest : List ℕ) → old ≡ prefix ++ rest → EncodesDocument Legacy v prefix d → document_room d ≤ 4294967295 → AnswersWithin limits.bytes result d prefix rest new
-only_in v limits old new (Ok x) few h errors d prefix rest joined encoded small =
-    only_by v (Ok x) old new 0 (record { prefix = h.taken; joined = h.joined; encoded = h.outcome }) (λ is. absurd (cc)) tt (omega arith) d prefix rest joined encoded small
-only_in v limits old new (Err (limited.Read e)) few h errors d prefix rest joined encoded small =
+long_in : (v : Version) (limits : ReadLimits) (old new : List ℕ) (result : Result CompactDoc LimitedReadError) → Comes v limits old new result → IsErrOf result (limited.Read (errors.CorruptedValue TooLong)) → TakesMost old new
+long_in v limits old new result comes is = let h = subst (λ z. Comes v limits old new z) is comes in (h.taken, h.joined, h.outcome.stop.0)
+
+only_in : (v : Version) (limits : ReadLimits) (old new : List ℕ) (result : Result CompactDoc LimitedReadError) → length old < 2 ^ 64 - 1 → Comes v limits old new result
+    → (d : Document) (prefix rest : List ℕ) → old ≡ prefix ++ rest → EncodesDocument Legacy v prefix d → document_room d ≤ 4294967295 → IsReadUnless (MayPass limits.bytes prefix) document_of result d rest new
+only_in v limits old new (Ok x) few h d prefix rest joined encoded small =
+    only_by (documents v) document_of (Ok x) old new 0 (single_documents v old) (record { prefix = h.taken; joined = h.joined; encoded = h.outcome }) (λ is. absurd (cc)) (omega arith) d prefix rest joined encoded small
+only_in v limits old new (Err (limited.Read e)) few h d prefix rest joined encoded small =
     let few_taken : length h.taken < 2 ^ 64 - 1 = omega (arith, few, ap length h.joined, length-append h.taken new) in
-    only_by v (Err e) old new (length h.taken) h.outcome.stop (λ is. h.outcome.full (cc)) errors few_taken d prefix rest joined encoded small
-only_in v limits old new (Err (limited.Limit limit.Bytes)) few h errors d prefix rest joined encoded small = longer_in v limits.bytes h.taken old new h.joined h.outcome.0 h.outcome.1 d prefix rest joined encoded
-only_in v limits old new (Err (limited.Limit l)) few h errors d prefix rest joined encoded small = tt
+    excused (documents v) e old new (length h.taken) (single_documents v old) h.outcome.stop h.outcome.full few_taken d prefix rest joined encoded small
+only_in v limits old new (Err (limited.Limit limit.Bytes)) few h d prefix rest joined encoded small = longer_in v limits.bytes h.taken old new h.joined h.outcome.0 h.outcome.1 d prefix rest joined encoded
+only_in v limits old new (Err (limited.Limit l)) few h d prefix rest joined encoded small = tt
+
+module _ {S : Type 0} (source : Ghosts S) (v : Version) (limits : ReadLimits) {old new : S} where
+  pub reads_within : (result : Result CompactDoc LimitedReadError) → (source.is_known old → Comes v limits (source.left old) (source.left new) result) → IfErr result (IsLimitedError limits)
+      → Counts limited_stop result (source.failures old) (source.failures new) → (source.is_known old → source.is_known new) → ReadsWithin v limits source old new result
+  reads_within result comes may counts stays = record {
+    found = λ known. found_in v limits (source.left old) (source.left new) result (comes known);
+    only = λ known. only_in v limits (source.left old) (source.left new) result known.1 (comes known.0);
+    error = λ known e r is refusal. (refused_in v limits (source.left old) (source.left new) result known.1 (comes known.0) e r is refusal).stands;
+    full = λ known is. full_in v limits (source.left old) (source.left new) result (comes known) is;
+    errors = may;
+    shows = λ known e r is refusal. (refused_in v limits (source.left old) (source.left new) result known.1 (comes known.0) e r is refusal).shows;
+    taken = λ known. let t = comes known in (t.taken, t.joined);
+    too_long = λ known is. long_in v limits (source.left old) (source.left new) result (comes known) is;
+    failures = counts;
+    stays_known = stays;
+  }
+
+  -- what was taken where a limit was passed
+  pub stops_within : (result : Result CompactDoc LimitedReadError) → (source.is_known old → Comes v limits (source.left old) (source.left new) result) → StopsWithin v limits source old new result
+  stops_within result comes = record {
+    depth = λ known is. deep_in v limits (source.left old) (source.left new) result (comes known) is;
+    heap = λ known is. large_in v limits (source.left old) (source.left new) result (comes known) is;
+    bytes = λ known is. all_in v limits (source.left old) (source.left new) result (comes known) is;
+    ends = λ known is. early_in v limits (source.left old) (source.left new) result (comes known) is;
+    most = λ known. let t = comes known in record { prefix = t.taken; joined = t.joined; encoded = t.most };
+  }

@@ -3,6 +3,7 @@ use Rattle.std.specs.Prelude.{◌≡◌, Bool, true, false, Some, Result, Ok, Er
 use Rattle.tv_base.specs.declared.cause.Cause.TheVariants.{UnexpectedEnd}
 use Rattle.tv_reader.specs.declared.error.DeserializeError.{DeserializeError}
 use Rattle.tv_reader.specs.declared.error.DeserializeError.TheVariants as errors
+use Rattle.tv_store.specs.Documents.{SaysNothing}
 use Rattle.tv_store.specs.declared.limits.ReadLimits.{ReadLimits}
 use Rattle.tv_store.specs.declared.limits.ReadLimit.TheVariants as limit
 use Rattle.tv_store.specs.declared.limits.LimitedReadError.{LimitedReadError}
@@ -30,16 +31,7 @@ as_passed result = as_read result (tt {0})
 abbrev pub SaysEnd : Result Bool DeserializeError → Type 0
 SaysEnd (Ok true) = ⊥
 SaysEnd (Ok false) = Unit {0}
-SaysEnd (Err (errors.Io k)) = Unit {0}
-SaysEnd (Err errors.Memory) = Unit {0}
-SaysEnd (Err (errors.CorruptedValue c)) = ⊥
-SaysEnd (Err (errors.UnsupportedType t)) = ⊥
-SaysEnd (Err (errors.TypeMismatch t u)) = ⊥
-SaysEnd (Err (errors.Custom s)) = ⊥
-SaysEnd (Err (errors.UnsupportedVersion m n)) = ⊥
-SaysEnd (Err errors.HeapFull) = ⊥
-SaysEnd (Err errors.AlreadyFailed) = ⊥
-SaysEnd (Err errors.TooDeep) = ⊥
+SaysEnd (Err e) = SaysNothing e
 
 -- the same within limits: where no byte may be taken, the end isn't seen
 abbrev pub SaysEndWithin : ReadLimits → Result Bool LimitedReadError → Type 0

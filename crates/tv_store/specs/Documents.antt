@@ -25,19 +25,20 @@ BeginsWith v bytes rest d = Begins (λ prefix. EncodesDocument Legacy v prefix d
 abbrev pub EncodesRead : Version → List ℕ → CompactDoc → Type 0
 EncodesRead v b document = EncodesDocument Legacy v b (document_of document)
 
+-- an error that says nothing of the bytes: the source failed, or memory was refused
+abbrev pub SaysNothing : DeserializeError → Type 0
+SaysNothing (errors.Io k) = Unit {0}
+SaysNothing errors.Memory = Unit {0}
+SaysNothing _ = ⊥
+
+-- this value is returned and this rest left, unless an error comes that may come all the same
+abbrev pub IsReadUnless : {X Y E : Type 0} → (E → Type 0) → (X → Y) → Result X E → Y → List ℕ → List ℕ → Type 0
+IsReadUnless MayComeStill view (Ok x) y rest left = (view x ≡ y) × (left ≡ rest)
+IsReadUnless MayComeStill view (Err e) y rest left = MayComeStill e
+
 -- this document is returned and this rest left, unless the source failed or memory was refused
 abbrev pub Answers : Result CompactDoc DeserializeError → Document → List ℕ → List ℕ → Type 0
-Answers (Ok found) d rest left = (document_of found ≡ d) × (left ≡ rest)
-Answers (Err (errors.Io k)) d rest left = Unit {0}
-Answers (Err errors.Memory) d rest left = Unit {0}
-Answers (Err (errors.CorruptedValue c)) d rest left = ⊥
-Answers (Err (errors.UnsupportedType t)) d rest left = ⊥
-Answers (Err (errors.TypeMismatch t u)) d rest left = ⊥
-Answers (Err (errors.Custom s)) d rest left = ⊥
-Answers (Err (errors.UnsupportedVersion m n)) d rest left = ⊥
-Answers (Err errors.HeapFull) d rest left = ⊥
-Answers (Err errors.AlreadyFailed) d rest left = ⊥
-Answers (Err errors.TooDeep) d rest left = ⊥
+Answers result d rest left = IsReadUnless SaysNothing document_of result d rest left
 
 -- just the bytes that show the refusal were taken
 abbrev pub ShowsRefusal : Version → List ℕ → List ℕ → Refusal → Type 0
@@ -50,8 +51,4 @@ IsReadingError (errors.TypeMismatch expected actual) = expected ≡ String
 IsReadingError errors.HeapFull = Unit {0}
 IsReadingError (errors.Io k) = Unit {0}
 IsReadingError errors.Memory = Unit {0}
-IsReadingError (errors.UnsupportedType t) = ⊥
-IsReadingError (errors.Custom s) = ⊥
-IsReadingError (errors.UnsupportedVersion m n) = ⊥
-IsReadingError errors.AlreadyFailed = ⊥
-IsReadingError errors.TooDeep = ⊥
+IsReadingError _ = ⊥

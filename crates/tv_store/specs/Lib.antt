@@ -1,6 +1,7 @@
 pub mod Error
 pub mod Stored
 pub mod Documents
+pub mod Reading
 pub mod Decoder
 pub mod Blocks
 pub mod Pairs
@@ -10,6 +11,5 @@ pub mod Migrate
 pub mod Nested
 pub mod Depth
 pub mod Limits
-pub mod Skip
 pub use Rattle.tv_writer.specs.Serialized
 pub mod Chosen

@@ -1,6 +1,9 @@
 -- What reading a document within limits returns.
-use Rattle.std.specs.Prelude.{◌≡◌, ◌⊎◌, ℕ, Bool, IsTrue, ◌+◌, ◌-◌, ◌^◌, ◌<◌, List, ◌++◌, length, Option, Some, None, Result, Ok, Err, IsSome}
+use Rattle.std.specs.Prelude.{◌≡◌, ◌⊎◌, ℕ, Bool, IsTrue, ◌+◌, ◌-◌, ◌^◌, ◌<◌, List, ◌++◌, length, Option, Some, None, Result, Ok, Err, IsErrOf, IsSome}
 use Rattle.tv_base.specs.declared.cause.Cause.TheVariants.{UnexpectedEnd, TooLong}
+use Rattle.tv_base.specs.declared.source.ByteSource.{Ghosts}
+use Rattle.tv_base.specs.Parts.{Begins}
+use Rattle.tv_base.specs.ReadsAs.{EndsEarly}
 use Rattle.tv_base.specs.Source.{Failures}
 use Rattle.tv_base.specs.Stop.{Stop}
 use Rattle.tv_base.specs.Stop.Stop.{Short}
@@ -25,7 +28,8 @@ use Rattle.tv_format.specs.InputError.{Refusal, corrupted}
 use Rattle.tv_format.specs.Tree.{Document}
 use Rattle.tv_format.specs.Version.{Version}
 use Rattle.tv_value.specs.Nesting.{AllNestWithin}
-use Rattle.tv_store.specs.Documents.{Answers, NoDocument, IsReadingError}
+use Rattle.tv_store.specs.Documents.{SaysNothing, NoDocument, IsReadingError}
+use Rattle.tv_store.specs.Reading.{Errors, Reads, documents}
 use Rattle.tv_store.specs.declared.limits.ReadLimits.{ReadLimits}
 use Rattle.tv_store.specs.declared.limits.ReadLimit.{ReadLimit}
 use Rattle.tv_store.specs.declared.limits.ReadLimit.TheVariants as limit
@@ -168,10 +172,26 @@ IsLimitedError limits (limited.Limit limit.HeapBytes) = IsSome limits.heap_bytes
 IsLimitedError limits (limited.Limit limit.Depth) = IsSome limits.depth
 IsLimitedError limits (limited.Limit limit.Bytes) = IsSome limits.bytes
 
--- This document, which is encoded by this prefix, is returned and this rest left, unless a limit is passed, the source failed or memory was
--- refused. The limit of the bytes is passed only where the prefix has more.
-abbrev pub AnswersWithin : Option ℕ → Result CompactDoc LimitedReadError → Document → List ℕ → List ℕ → List ℕ → Type 0
-AnswersWithin most (Ok found) d prefix rest left = Answers (Ok found) d rest left
-AnswersWithin most (Err (limited.Read e)) d prefix rest left = Answers (Err e) d rest left
-AnswersWithin most (Err (limited.Limit limit.Bytes)) d prefix rest left = IsPast most (length prefix)
-AnswersWithin most (Err (limited.Limit l)) d prefix rest left = Unit {0}
+-- an error that may come although this prefix encodes a document: that of a limit, that of the bytes only where the prefix has more, or
+-- one that says nothing of the bytes
+abbrev pub MayPass : Option ℕ → List ℕ → LimitedReadError → Type 0
+MayPass most prefix (limited.Read e) = SaysNothing e
+MayPass most prefix (limited.Limit limit.Bytes) = IsPast most (length prefix)
+MayPass most prefix (limited.Limit l) = Unit {0}
+
+-- the errors of reading within limits
+abbrev pub within : ReadLimits → Errors LimitedReadError
+within limits = record { told = λ e. limited.Read e; stop = limited_stop; MayCome = IsLimitedError limits; MayComeStill = MayPass limits.bytes }
+
+-- a document is read within limits
+abbrev pub ReadsWithin : Version → ReadLimits → {S : Type 0} (source : Ghosts S) (old new : S) (result : Result CompactDoc LimitedReadError) → Type 0
+ReadsWithin v limits source old new result = Reads (within limits) (documents v) source old new document_of result
+
+-- what was taken where a limit is passed, and that no more was than may be, whatever is returned
+pub record StopsWithin {S X : Type 0} (v : Version) (limits : ReadLimits) (source : Ghosts S) (old new : S) (result : Result X LimitedReadError) : Type 0 where
+  pub depth : source.is_known old → IsErrOf result (limited.Limit limit.Depth) → Begins (PassesDepth v limits.depth) (source.left old) (source.left new)
+  pub heap : source.is_known old → IsErrOf result (limited.Limit limit.HeapBytes) → Begins (IsLarge v limits.heap_bytes) (source.left old) (source.left new)
+  pub bytes : source.is_known old → IsErrOf result (limited.Limit limit.Bytes) → Begins (IsAll limits.bytes) (source.left old) (source.left new)
+  -- a document needs more
+  pub ends : source.is_known old → IsErrOf result (limited.Limit limit.Bytes) → EndsEarly (corrupted UnexpectedEnd) (NoDocument v) (source.left old) (source.left new)
+  pub most : source.is_known old → Begins (λ b. ¬ IsPast limits.bytes (length b)) (source.left old) (source.left new)

@@ -1,15 +1,11 @@
 -- What comes of a document that is read in one version and written in another.
 use Rattle.std.specs.Prelude.{◌≡◌, ℕ, List, ◌++◌, Result, Ok, Err}
-use Rattle.tv_base.specs.declared.cause.Cause.TheVariants.{TooLong}
-use Rattle.tv_base.specs.ReadsAs.{Known, TakesMost}
 use Rattle.tv_base.specs.Sink.{Begins}
 use Rattle.tv_base.specs.Stop.{Stop}
 use Rattle.tv_base.specs.Stop.Stop.{Short}
-use Rattle.tv_decoder.specs.Prefix.{HasNoRoom}
-use Rattle.tv_reader.specs.Error.{store_stop, IsRefusal}
-use Rattle.tv_reader.specs.declared.error.DeserializeError.{DeserializeError}
+use Rattle.tv_reader.specs.Error.{store_stop}
 use Rattle.tv_reader.specs.declared.error.DeserializeError.TheVariants as errors
-use Rattle.tv_store.specs.Documents.{BeginsWith, NoDocument, ShowsRefusal, IsReadingError}
+use Rattle.tv_store.specs.Documents.{BeginsWith, IsReadingError, SaysNothing}
 use Rattle.tv_store.specs.declared.migration.MigrateError.{MigrateError}
 use Rattle.tv_store.specs.declared.migration.MigrateError.TheVariants.{Read, Write}
 use Rattle.tv_format.specs.InputError.{Refusal}
@@ -33,16 +29,8 @@ abbrev pub AppendsMigrated : {T : Type 0} → Result T MigrateError → List ℕ
 AppendsMigrated (Ok x) text rest left old new = (left ≡ rest) × (new ≡ old ++ text)
 AppendsMigrated (Err (Write (writes.Io kind))) text rest left old new = (left ≡ rest) × Begins old new text
 AppendsMigrated (Err (Write writes.Memory)) text rest left old new = (left ≡ rest) × Begins old new text
-AppendsMigrated (Err (Read (errors.Io kind))) text rest left old new = Unit {0}
-AppendsMigrated (Err (Read errors.Memory)) text rest left old new = Unit {0}
-AppendsMigrated (Err _) text rest left old new = ⊥
-
--- a document can't be read for this reason, and the source is left so
-pub record IsUnread {S : Type 0} (version : Version) (is_known : S → Type 0) (left : S → List ℕ) (old new : S) (error : DeserializeError) : Type 0 where
-  pub refused : Known is_known left old → (r : Refusal) → IsRefusal error r → NoDocument version (left old) r
-  pub shows : Known is_known left old → (r : Refusal) → IsRefusal error r → ShowsRefusal version (left old) (left new) r
-  pub full : is_known old → error ≡ errors.HeapFull → HasNoRoom version (left old)
-  pub too_long : is_known old → error ≡ errors.CorruptedValue TooLong → TakesMost (left old) (left new)
+AppendsMigrated (Err (Write _)) text rest left old new = ⊥
+AppendsMigrated (Err (Read e)) text rest left old new = SaysNothing e
 
 -- the errors that a migration has
 abbrev pub IsMigrationError : MigrateError → Type 0

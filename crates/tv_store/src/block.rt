@@ -1,31 +1,17 @@
 //! Documents that stand one behind the other, read in the memory of one.
 
-ghost use Rattle.std.specs.Prelude.{◌≡◌, ◌≢◌, ◌≤◌, ◌<◌, ◌++◌, [], ℕ, List, length, true, false, Ok, Err, IfErr, IsErrOf, OnOk, OnErr};
-ghost use Rattle.tv_base.specs.declared.cause.Cause.TheVariants.{TooLong, UnexpectedEnd};
-ghost use Rattle.tv_base.specs.Parts.{Begins};
-ghost use Rattle.tv_base.specs.ReadsAs.{Known, TakesMost, EndsEarly};
-ghost use Rattle.tv_base.specs.Stop.{Counts};
+ghost use Rattle.std.specs.Prelude.{◌≡◌, ◌≢◌, ◌<◌, ◌++◌, [], ℕ, List, length, true, false, Ok, Err, IsErrOf, OnOk, OnErr};
+ghost use Rattle.tv_base.specs.declared.cause.Cause.TheVariants.{UnexpectedEnd};
 ghost use Rattle.tv_doc.specs.Document.{document_of, heap_of};
 ghost use Rattle.tv_doc.specs.declared.document.CompactDoc.{CompactDoc};
-ghost use Rattle.tv_format.specs.InputError.{Refusal, corrupted};
-ghost use Rattle.tv_format.specs.Encoding.{EncodesDocument};
-ghost use Rattle.tv_format.specs.Tree.{Document};
-ghost use Rattle.tv_heap.specs.Room.{document_room};
-ghost use Rattle.tv_legacy.specs.Legacy.{Legacy};
-ghost use Rattle.tv_reader.specs.Error.{store_stop, IsRefusal};
 ghost use Rattle.tv_reader.specs.Version.{version_of};
-ghost use Rattle.tv_reader.specs.declared.error.DeserializeError.{DeserializeError};
 ghost use Rattle.tv_reader.specs.declared.error.DeserializeError.TheVariants.{AlreadyFailed};
-ghost use Rattle.tv_reader.specs.declared.error.DeserializeError.TheVariants.{CorruptedValue};
-ghost use Rattle.tv_reader.specs.declared.error.DeserializeError.TheVariants.{HeapFull};
-ghost use Rattle.tv_store.specs.Blocks.{as_read, as_read_within, as_passed};
-ghost use Rattle.tv_store.specs.Blocks.{SaysEnd, SaysEndWithin};
-ghost use Rattle.tv_store.specs.Documents.{BeginsWith, Answers, NoDocument, HasNoRoom};
-ghost use Rattle.tv_store.specs.Documents.{ShowsRefusal, IsReadingError, in_place};
-ghost use Rattle.tv_store.specs.Limits.{AllNestWithinLimit, AnswersWithin, IsAll, IsLarge};
-ghost use Rattle.tv_store.specs.Limits.{IsLimitedError, IsPast, PassesDepth, limited_stop};
-ghost use Rattle.tv_store.specs.Skip.{PassesOver};
-ghost use Rattle.tv_store.specs.declared.limits.LimitedReadError.TheVariants.{Read, Limit};
+ghost use Rattle.tv_reader.specs.declared.error.DeserializeError.TheVariants.{CorruptedValue, HeapFull};
+ghost use Rattle.tv_store.specs.Blocks.{as_read, as_read_within, as_passed, SaysEnd, SaysEndWithin};
+ghost use Rattle.tv_store.specs.Documents.{in_place};
+ghost use Rattle.tv_store.specs.Limits.{AllNestWithinLimit, IsPast, ReadsWithin, StopsWithin};
+ghost use Rattle.tv_store.specs.Reading.{PassesDocument, ReadsDocument};
+ghost use Rattle.tv_store.specs.declared.limits.LimitedReadError.TheVariants.{Read};
 
 use crate::de::take_in_place;
 use crate::limits::{LimitedReadError, ReadLimit, ReadLimits, read_parts_in_place};
@@ -115,51 +101,24 @@ impl BlockReader {
         ensures live { OnOk result (self.new.failed ≡ false) }
         ensures mark { OnErr result (self.new.failed ≡ true) }
 
+        // a document is read, where the end is read as one that is cut off
+        ensures reads { self.old.failed ≡ false
+            → ReadsDocument (version_of self.old.version) S.ByteSource source.old source.new
+            document_of (as_read result self.new.document) }
+        ensures fewer { S.is_known source.old → result ≡ Ok true
+            → length (S.left source.new) < length (S.left source.old) }
+        ensures none { self.old.failed ≡ false → result ≢ Ok true
+            → document_of self.new.document ≡ [] }
+
         // the end is told where nothing is left, and only there
         ensures end { self.old.failed ≡ false → S.is_known source.old → result ≡ Ok false
             → S.left source.old ≡ [] }
         ensures ended { self.old.failed ≡ false → S.is_known source.old → S.left source.old ≡ []
             → SaysEnd result }
 
-        // a prefix of the bytes encodes what is read, and the rest is left
-        ensures found { S.is_known source.old → result ≡ Ok true
-            → BeginsWith (version_of self.old.version) (S.left source.old) (S.left source.new)
-            (document_of self.new.document) }
-
-        ensures fewer { S.is_known source.old → result ≡ Ok true
-            → length (S.left source.new) < length (S.left source.old) }
-
-        // wherever a prefix encodes a document that has room, that one is read
-        ensures only { self.old.failed ≡ false → Known S.is_known S.left source.old → (d : Document)
-            (prefix rest : List ℕ) → S.left source.old ≡ prefix ++ rest
-            → EncodesDocument Legacy (version_of self.old.version) prefix d
-            → document_room d ≤ 4294967295
-            → Answers (as_read result self.new.document) d rest (S.left source.new) }
-
-        // refusals of the bytes are true of them, and others don't come
-        ensures error { Known S.is_known S.left source.old → (e : DeserializeError) (r : Refusal)
-            → IsErrOf result e → IsRefusal e r
-            → NoDocument (version_of self.old.version) (S.left source.old) r }
-        ensures full { S.is_known source.old → IsErrOf result HeapFull
-            → HasNoRoom (version_of self.old.version) (S.left source.old) }
-        ensures errors { self.old.failed ≡ false → IfErr result IsReadingError }
-        ensures none { self.old.failed ≡ false → result ≢ Ok true
-            → document_of self.new.document ≡ [] }
-
-        // just the bytes that show the error were taken, and after every error a slice of what was left
-        ensures shows { Known S.is_known S.left source.old → (e : DeserializeError) (r : Refusal)
-            → IsErrOf result e → IsRefusal e r
-            → ShowsRefusal (version_of self.old.version) (S.left source.old) (S.left source.new) r }
+        // a slice of what was left is taken, and after a refusal none
         ensures taken { S.is_known source.old
             → (prefix : List ℕ) × (S.left source.old ≡ prefix ++ S.left source.new) }
-
-        // so many bytes that no more can be counted were taken
-        ensures too_long { S.is_known source.old → IsErrOf result (CorruptedValue TooLong)
-            → TakesMost (S.left source.old) (S.left source.new) }
-
-        // the source failed exactly where its count of failures rose, with the kind that it returned
-        ensures failures { self.old.failed ≡ false
-            → Counts store_stop result (S.failures source.old) (S.failures source.new) }
         ensures stays_known { S.is_known source.old → S.is_known source.new }
         ensures version { self.new.version ≡ self.old.version }
     {
@@ -213,71 +172,32 @@ impl BlockReader {
         ensures live { OnOk result (self.new.failed ≡ false) }
         ensures mark { OnErr result (self.new.failed ≡ true) }
 
-        // the end is told where nothing is left, and only there
-        ensures end { self.old.failed ≡ false → S.is_known source.old → result ≡ Ok false
-            → S.left source.old ≡ [] }
-        ensures ended { self.old.failed ≡ false → S.is_known source.old → S.left source.old ≡ []
-            → SaysEndWithin limits result }
-
-        // a prefix of the bytes encodes what is read, the rest is left, and each tree and the heap are within their limits
-        ensures found { S.is_known source.old → result ≡ Ok true
-            → BeginsWith (version_of self.old.version) (S.left source.old) (S.left source.new)
-            (document_of self.new.document) }
+        // a document is read, where the end is read as one that is cut off; each tree and the heap are within their limits
+        ensures reads { self.old.failed ≡ false
+            → ReadsWithin (version_of self.old.version) limits S.ByteSource source.old source.new
+            (as_read_within result self.new.document) }
         ensures fewer { S.is_known source.old → result ≡ Ok true
             → length (S.left source.new) < length (S.left source.old) }
         ensures shallow { result ≡ Ok true
             → AllNestWithinLimit limits.depth (document_of self.new.document) }
         ensures small { result ≡ Ok true
             → ¬ IsPast limits.heap_bytes (length (heap_of self.new.document)) }
-
-        // wherever a prefix encodes a document that has room, that one is read, unless a limit is passed
-        ensures only { self.old.failed ≡ false → Known S.is_known S.left source.old → (d : Document)
-            (prefix rest : List ℕ) → S.left source.old ≡ prefix ++ rest
-            → EncodesDocument Legacy (version_of self.old.version) prefix d
-            → document_room d ≤ 4294967295
-            → AnswersWithin limits.bytes (as_read_within result self.new.document) d prefix rest
-            (S.left source.new) }
-
-        // what was taken passes the limit
-        ensures depth { S.is_known source.old → IsErrOf result (Limit ReadLimit.Depth)
-            → Begins (PassesDepth (version_of self.old.version) limits.depth) (S.left source.old)
-            (S.left source.new) }
-        ensures heap { S.is_known source.old → IsErrOf result (Limit ReadLimit.HeapBytes)
-            → Begins (IsLarge (version_of self.old.version) limits.heap_bytes) (S.left source.old)
-            (S.left source.new) }
-        ensures bytes { S.is_known source.old → IsErrOf result (Limit ReadLimit.Bytes)
-            → Begins (IsAll limits.bytes) (S.left source.old) (S.left source.new) }
-
-        // and a document needs more
-        ensures ends { S.is_known source.old → IsErrOf result (Limit ReadLimit.Bytes)
-            → EndsEarly (corrupted UnexpectedEnd) (NoDocument (version_of self.old.version))
-            (S.left source.old) (S.left source.new) }
-
-        // no more bytes are taken than may be, whatever is returned
-        ensures most { S.is_known source.old
-            → Begins (λ b. ¬ IsPast limits.bytes (length b)) (S.left source.old)
-            (S.left source.new) }
-
-        // refusals of the bytes are true of them, and others don't come
-        ensures error { Known S.is_known S.left source.old → (e : DeserializeError) (r : Refusal)
-            → IsErrOf result (Read e) → IsRefusal e r
-            → NoDocument (version_of self.old.version) (S.left source.old) r }
-        ensures full { S.is_known source.old → IsErrOf result (Read HeapFull)
-            → HasNoRoom (version_of self.old.version) (S.left source.old) }
-        ensures errors { self.old.failed ≡ false → IfErr result (IsLimitedError limits) }
         ensures none { self.old.failed ≡ false → result ≢ Ok true
             → document_of self.new.document ≡ [] }
 
-        // just the bytes that show the error were taken, and after every error a slice of what was left
-        ensures shows { Known S.is_known S.left source.old → (e : DeserializeError) (r : Refusal)
-            → IsErrOf result (Read e) → IsRefusal e r
-            → ShowsRefusal (version_of self.old.version) (S.left source.old) (S.left source.new) r }
+        // what was taken passes the limit that is told
+        ensures stops { StopsWithin (version_of self.old.version) limits S.ByteSource source.old
+            source.new result }
+
+        // the end is told where nothing is left, and only there
+        ensures end { self.old.failed ≡ false → S.is_known source.old → result ≡ Ok false
+            → S.left source.old ≡ [] }
+        ensures ended { self.old.failed ≡ false → S.is_known source.old → S.left source.old ≡ []
+            → SaysEndWithin limits result }
+
+        // a slice of what was left is taken, and after a refusal none
         ensures taken { S.is_known source.old
             → (prefix : List ℕ) × (S.left source.old ≡ prefix ++ S.left source.new) }
-
-        // the source failed exactly where its count of failures rose, with the kind that it returned
-        ensures failures { self.old.failed ≡ false
-            → Counts limited_stop result (S.failures source.old) (S.failures source.new) }
         ensures stays_known { S.is_known source.old → S.is_known source.new }
         ensures version { self.new.version ≡ self.old.version }
     {
@@ -310,47 +230,25 @@ impl BlockReader {
         ensures live { OnOk result (self.new.failed ≡ false) }
         ensures mark { OnErr result (self.new.failed ≡ true) }
 
+        // a document is passed over, where the end is read as one that is cut off
+        ensures reads { self.old.failed ≡ false
+            → PassesDocument (version_of self.old.version) S.ByteSource source.old source.new
+            (as_passed result) }
+        ensures fewer { S.is_known source.old → result ≡ Ok true
+            → length (S.left source.new) < length (S.left source.old) }
+        ensures no_heap { ¬ IsErrOf result HeapFull }
+
         // the end is told where nothing is left, and only there
         ensures end { self.old.failed ≡ false → S.is_known source.old → result ≡ Ok false
             → S.left source.old ≡ [] }
         ensures ended { self.old.failed ≡ false → S.is_known source.old → S.left source.old ≡ []
             → SaysEnd result }
+        ensures document { self.new.document ≡ self.old.document }
 
-        // a prefix of the bytes encodes a document, and the rest is left
-        ensures found { S.is_known source.old → result ≡ Ok true → (d : Document)
-            × BeginsWith (version_of self.old.version) (S.left source.old) (S.left source.new) d }
-        ensures fewer { S.is_known source.old → result ≡ Ok true
-            → length (S.left source.new) < length (S.left source.old) }
-
-        // wherever a prefix encodes a document, that one is passed over
-        ensures only { self.old.failed ≡ false → Known S.is_known S.left source.old → (d : Document)
-            (prefix rest : List ℕ) → S.left source.old ≡ prefix ++ rest
-            → EncodesDocument Legacy (version_of self.old.version) prefix d
-            → PassesOver (as_passed result) rest (S.left source.new) }
-
-        // refusals of the bytes are true of them, and others don't come
-        ensures error { Known S.is_known S.left source.old → (e : DeserializeError) (r : Refusal)
-            → IsErrOf result e → IsRefusal e r
-            → NoDocument (version_of self.old.version) (S.left source.old) r }
-        ensures errors { self.old.failed ≡ false → IfErr result IsReadingError }
-        ensures no_heap { ¬ IsErrOf result HeapFull }
-
-        // just the bytes that show the error were taken, and after every error a slice of what was left
-        ensures shows { Known S.is_known S.left source.old → (e : DeserializeError) (r : Refusal)
-            → IsErrOf result e → IsRefusal e r
-            → ShowsRefusal (version_of self.old.version) (S.left source.old) (S.left source.new) r }
+        // a slice of what was left is taken, and after a refusal none
         ensures taken { S.is_known source.old
             → (prefix : List ℕ) × (S.left source.old ≡ prefix ++ S.left source.new) }
-
-        // so many bytes that no more can be counted were taken
-        ensures too_long { S.is_known source.old → IsErrOf result (CorruptedValue TooLong)
-            → TakesMost (S.left source.old) (S.left source.new) }
-
-        // the source failed exactly where its count of failures rose, with the kind that it returned
-        ensures failures { self.old.failed ≡ false
-            → Counts store_stop result (S.failures source.old) (S.failures source.new) }
         ensures stays_known { S.is_known source.old → S.is_known source.new }
-        ensures document { self.new.document ≡ self.old.document }
         ensures version { self.new.version ≡ self.old.version }
     {
         if self.failed {

@@ -1,26 +1,14 @@
 //! Reading documents out of the store.
 
-ghost use Rattle.std.specs.Prelude.{◌≡◌, ◌≤◌, ◌++◌, [], ℕ, List, IfOk, IfErr, IsErrOf, OnOk, OnErr};
-ghost use Rattle.tv_base.specs.declared.cause.Cause.TheVariants.{TooLong};
-ghost use Rattle.tv_base.specs.ReadsAs.{Known, TakesMost};
-ghost use Rattle.tv_base.specs.Stop.{Counts};
+ghost use Rattle.std.specs.Prelude.{◌≡◌, [], IsErrOf, OnErr};
 ghost use Rattle.tv_doc.specs.Document.{document_of};
 ghost use Rattle.tv_decoder.specs.Prefix.{HasNoRoom};
 ghost use Rattle.tv_builder.specs.HeldPairs.{document_of as pairs_of};
-ghost use Rattle.tv_heap.specs.Room.{document_room};
-ghost use Rattle.tv_legacy.specs.Legacy.{Legacy};
 ghost use Rattle.tv_reader.specs.Finds.{Finds};
-ghost use Rattle.tv_reader.specs.Error.{store_stop};
-ghost use Rattle.tv_reader.specs.Error.{IsRefusal};
 ghost use Rattle.tv_reader.specs.Version.{version_of};
-ghost use Rattle.tv_reader.specs.declared.error.DeserializeError.{DeserializeError};
-ghost use Rattle.tv_reader.specs.declared.error.DeserializeError.TheVariants.{CorruptedValue};
 ghost use Rattle.tv_reader.specs.declared.error.DeserializeError.TheVariants.{HeapFull};
-ghost use Rattle.tv_store.specs.Documents.{BeginsWith, Answers, NoDocument, ShowsRefusal, EncodesRead};
-ghost use Rattle.tv_store.specs.Documents.{IsReadingError, in_place};
-ghost use Rattle.tv_format.specs.InputError.{Refusal};
-ghost use Rattle.tv_format.specs.Encoding.{EncodesDocument};
-ghost use Rattle.tv_format.specs.Tree.{Document};
+ghost use Rattle.tv_store.specs.Documents.{NoDocument, EncodesRead, in_place};
+ghost use Rattle.tv_store.specs.Reading.{ReadsDocument};
 
 use crate::error::DeserializeError;
 use std::alloc::Global;
@@ -72,7 +60,7 @@ fn take_compact_into<S: ByteSource>(
 }
 
 // Puts what was read in the document's place. After an error the document stays.
-fn put_read(
+pub(crate) fn put_read(
     document: &mut CompactDoc,
     read: Result<CompactDoc, DeserializeError>,
 ) -> Result<(), DeserializeError>
@@ -129,38 +117,8 @@ pub fn read_document<S: ByteSource>(
     source: &mut S,
     version: DocStoreVersion,
 ) -> Result<CompactDoc, DeserializeError>
-    // a prefix of the bytes encodes what is returned, and the rest is left
-    ensures found { S.is_known source.old
-        → IfOk result
-        (λ d. BeginsWith (version_of version) (S.left source.old) (S.left source.new)
-        (document_of d)) }
-
-    // wherever a prefix encodes a document that has room, that one is returned
-    ensures only { Known S.is_known S.left source.old → (d : Document) (prefix rest : List ℕ)
-        → S.left source.old ≡ prefix ++ rest → EncodesDocument Legacy (version_of version) prefix d
-        → document_room d ≤ 4294967295 → Answers result d rest (S.left source.new) }
-
-    // refusals of the bytes are true of them, and others don't come
-    ensures error { Known S.is_known S.left source.old → (e : DeserializeError) (r : Refusal)
-        → IsErrOf result e → IsRefusal e r → NoDocument (version_of version) (S.left source.old) r }
-    ensures full { S.is_known source.old → IsErrOf result HeapFull
-        → HasNoRoom (version_of version) (S.left source.old) }
-    ensures errors { IfErr result IsReadingError }
-
-    // just the bytes that show the error were taken, and after every error a slice of what was left
-    ensures shows { Known S.is_known S.left source.old → (e : DeserializeError) (r : Refusal)
-        → IsErrOf result e → IsRefusal e r
-        → ShowsRefusal (version_of version) (S.left source.old) (S.left source.new) r }
-    ensures taken { S.is_known source.old
-        → (prefix : List ℕ) × (S.left source.old ≡ prefix ++ S.left source.new) }
-
-    // so many bytes that no more can be counted were taken
-    ensures too_long { S.is_known source.old → IsErrOf result (CorruptedValue TooLong)
-        → TakesMost (S.left source.old) (S.left source.new) }
-
-    // the source failed exactly where its count of failures rose, with the kind that it returned
-    ensures failures { Counts store_stop result (S.failures source.old) (S.failures source.new) }
-    ensures stays_known { S.is_known source.old → S.is_known source.new }
+    ensures { ReadsDocument (version_of version) S.ByteSource source.old source.new document_of
+        result }
 {
     let mut count = 0;
     take_compact(alloc, source, &mut count, version)
@@ -190,39 +148,10 @@ pub fn read_document_into<S: ByteSource>(
     source: &mut S,
     version: DocStoreVersion,
 ) -> Result<(), DeserializeError>
-    // a prefix of the bytes encodes what is read, and the rest is left
-    ensures found { S.is_known source.old
-        → OnOk result (BeginsWith (version_of version) (S.left source.old) (S.left source.new)
-        (document_of document.new)) }
-
-    // wherever a prefix encodes a document that has room, that one is read
-    ensures only { Known S.is_known S.left source.old → (d : Document) (prefix rest : List ℕ)
-        → S.left source.old ≡ prefix ++ rest → EncodesDocument Legacy (version_of version) prefix d
-        → document_room d ≤ 4294967295
-        → Answers (in_place result document.new) d rest (S.left source.new) }
-
-    // refusals of the bytes are true of them, and others don't come
-    ensures error { Known S.is_known S.left source.old → (e : DeserializeError) (r : Refusal)
-        → IsErrOf result e → IsRefusal e r → NoDocument (version_of version) (S.left source.old) r }
-    ensures full { S.is_known source.old → IsErrOf result HeapFull
-        → HasNoRoom (version_of version) (S.left source.old) }
-    ensures errors { IfErr result IsReadingError }
+    // what is read stands in the document
+    ensures reads { ReadsDocument (version_of version) S.ByteSource source.old source.new
+        (λ _. document_of document.new) result }
     ensures none { OnErr result (document_of document.new ≡ []) }
-
-    // just the bytes that show the error were taken, and after every error a slice of what was left
-    ensures shows { Known S.is_known S.left source.old → (e : DeserializeError) (r : Refusal)
-        → IsErrOf result e → IsRefusal e r
-        → ShowsRefusal (version_of version) (S.left source.old) (S.left source.new) r }
-    ensures taken { S.is_known source.old
-        → (prefix : List ℕ) × (S.left source.old ≡ prefix ++ S.left source.new) }
-
-    // so many bytes that no more can be counted were taken
-    ensures too_long { S.is_known source.old → IsErrOf result (CorruptedValue TooLong)
-        → TakesMost (S.left source.old) (S.left source.new) }
-
-    // the source failed exactly where its count of failures rose, with the kind that it returned
-    ensures failures { Counts store_stop result (S.failures source.old) (S.failures source.new) }
-    ensures stays_known { S.is_known source.old → S.is_known source.new }
 {
     let mut count = 0;
     take_in_place(alloc, document, source, &mut count, version)

@@ -1,28 +1,17 @@
 //! Reading chosen fields of documents out of the store.
 
-ghost use Rattle.std.specs.Prelude.{◌≡◌, ◌≤◌, ◌++◌, [], ℕ, List, IfOk, IfErr, IsErrOf, OnOk, OnErr};
-ghost use Rattle.tv_base.specs.declared.cause.Cause.TheVariants.{TooLong};
-ghost use Rattle.tv_base.specs.ReadsAs.{Known, TakesMost};
-ghost use Rattle.tv_base.specs.Stop.{Counts};
+ghost use Rattle.std.specs.Prelude.{◌≡◌, [], IsErrOf, OnErr};
 ghost use Rattle.tv_builder.specs.HeldPairs.{document_of as pairs_of};
-ghost use Rattle.tv_chosen.specs.ChosenFields.{chosen, HasNoRoomChosen};
+ghost use Rattle.tv_chosen.specs.ChosenFields.{HasNoRoomChosen};
 ghost use Rattle.tv_doc.specs.Document.{document_of};
-ghost use Rattle.tv_heap.specs.Room.{document_room};
-ghost use Rattle.tv_legacy.specs.Legacy.{Legacy};
 ghost use Rattle.tv_reader.specs.Finds.{Finds};
-ghost use Rattle.tv_reader.specs.Error.{store_stop};
-ghost use Rattle.tv_reader.specs.Error.{IsRefusal};
 ghost use Rattle.tv_reader.specs.Version.{version_of};
-ghost use Rattle.tv_reader.specs.declared.error.DeserializeError.{DeserializeError};
-ghost use Rattle.tv_reader.specs.declared.error.DeserializeError.TheVariants.{CorruptedValue};
 ghost use Rattle.tv_reader.specs.declared.error.DeserializeError.TheVariants.{HeapFull};
-ghost use Rattle.tv_store.specs.Chosen.{ReadsChosen, EncodesChosenRead};
-ghost use Rattle.tv_store.specs.Documents.{Answers, NoDocument, ShowsRefusal};
-ghost use Rattle.tv_store.specs.Documents.{IsReadingError, in_place};
-ghost use Rattle.tv_format.specs.InputError.{Refusal};
-ghost use Rattle.tv_format.specs.Encoding.{EncodesDocument};
-ghost use Rattle.tv_format.specs.Tree.{Document};
+ghost use Rattle.tv_store.specs.Chosen.{EncodesChosenRead};
+ghost use Rattle.tv_store.specs.Documents.{NoDocument, in_place};
+ghost use Rattle.tv_store.specs.Reading.{ReadsFields};
 
+use crate::de::put_read;
 use crate::error::DeserializeError;
 use std::alloc::Global;
 use std::mem::replace;
@@ -55,18 +44,6 @@ fn take_fields<S: ByteSource>(
     }
 }
 
-// Puts what was read in the document's place. After an error the document stays.
-fn put_fields(
-    document: &mut CompactDoc,
-    read: Result<CompactDoc, DeserializeError>,
-) -> Result<(), DeserializeError>
-    ensures put { in_place result document.new ≡ read }
-    ensures stays { OnErr result (document.new ≡ document.old) }
-{
-    *document = read?;
-    Ok(())
-}
-
 // Takes the chosen fields in place of a document that is there and in its memory, with the count of the bytes that were taken. After an
 // error the document has no pairs.
 fn take_fields_in_place<S: ByteSource>(
@@ -87,7 +64,7 @@ fn take_fields_in_place<S: ByteSource>(
     let mut empty = replace(document, CompactDoc::new(alloc)).into_pairs();
     empty.clear();
     let read = take_fields(alloc, empty, source, count, version, fields);
-    put_fields(document, read)
+    put_read(document, read)
 }
 
 /// Reads a document as `read_document` does, and keeps the values of these fields alone, in the order of the document. All others are tested as
@@ -117,39 +94,8 @@ pub fn read_fields<S: ByteSource>(
     version: DocStoreVersion,
     fields: &[Field],
 ) -> Result<CompactDoc, DeserializeError>
-    // a prefix of the bytes encodes a document, the rest is left, and its chosen pairs are returned
-    ensures found { S.is_known source.old
-        → IfOk result
-        (λ d. ReadsChosen (version_of version) fields.now (S.left source.old) (S.left source.new)
-        (document_of d)) }
-
-    // wherever a prefix encodes a document whose chosen pairs have room, these are returned
-    ensures only { Known S.is_known S.left source.old → (d : Document) (prefix rest : List ℕ)
-        → S.left source.old ≡ prefix ++ rest → EncodesDocument Legacy (version_of version) prefix d
-        → document_room (chosen fields.now d) ≤ 4294967295
-        → Answers result (chosen fields.now d) rest (S.left source.new) }
-
-    // refusals of the bytes are true of them, and others don't come
-    ensures error { Known S.is_known S.left source.old → (e : DeserializeError) (r : Refusal)
-        → IsErrOf result e → IsRefusal e r → NoDocument (version_of version) (S.left source.old) r }
-    ensures full { S.is_known source.old → IsErrOf result HeapFull
-        → HasNoRoomChosen (version_of version) fields.now (S.left source.old) }
-    ensures errors { IfErr result IsReadingError }
-
-    // just the bytes that show the error were taken, and after every error a slice of what was left
-    ensures shows { Known S.is_known S.left source.old → (e : DeserializeError) (r : Refusal)
-        → IsErrOf result e → IsRefusal e r
-        → ShowsRefusal (version_of version) (S.left source.old) (S.left source.new) r }
-    ensures taken { S.is_known source.old
-        → (prefix : List ℕ) × (S.left source.old ≡ prefix ++ S.left source.new) }
-
-    // so many bytes that no more can be counted were taken
-    ensures too_long { S.is_known source.old → IsErrOf result (CorruptedValue TooLong)
-        → TakesMost (S.left source.old) (S.left source.new) }
-
-    // the source failed exactly where its count of failures rose, with the kind that it returned
-    ensures failures { Counts store_stop result (S.failures source.old) (S.failures source.new) }
-    ensures stays_known { S.is_known source.old → S.is_known source.new }
+    ensures { ReadsFields (version_of version) fields.now S.ByteSource source.old source.new
+        document_of result }
 {
     let mut count = 0;
     let empty = HeapPairs::new(alloc);
@@ -167,39 +113,10 @@ pub fn read_fields_into<S: ByteSource>(
     version: DocStoreVersion,
     fields: &[Field],
 ) -> Result<(), DeserializeError>
-    // a prefix of the bytes encodes a document, the rest is left, and its chosen pairs are read
-    ensures found { S.is_known source.old
-        → OnOk result (ReadsChosen (version_of version) fields.now (S.left source.old)
-        (S.left source.new) (document_of document.new)) }
-
-    // wherever a prefix encodes a document whose chosen pairs have room, these are read
-    ensures only { Known S.is_known S.left source.old → (d : Document) (prefix rest : List ℕ)
-        → S.left source.old ≡ prefix ++ rest → EncodesDocument Legacy (version_of version) prefix d
-        → document_room (chosen fields.now d) ≤ 4294967295
-        → Answers (in_place result document.new) (chosen fields.now d) rest (S.left source.new) }
-
-    // refusals of the bytes are true of them, and others don't come
-    ensures error { Known S.is_known S.left source.old → (e : DeserializeError) (r : Refusal)
-        → IsErrOf result e → IsRefusal e r → NoDocument (version_of version) (S.left source.old) r }
-    ensures full { S.is_known source.old → IsErrOf result HeapFull
-        → HasNoRoomChosen (version_of version) fields.now (S.left source.old) }
-    ensures errors { IfErr result IsReadingError }
+    // what is read stands in the document
+    ensures reads { ReadsFields (version_of version) fields.now S.ByteSource source.old source.new
+        (λ _. document_of document.new) result }
     ensures none { OnErr result (document_of document.new ≡ []) }
-
-    // just the bytes that show the error were taken, and after every error a slice of what was left
-    ensures shows { Known S.is_known S.left source.old → (e : DeserializeError) (r : Refusal)
-        → IsErrOf result e → IsRefusal e r
-        → ShowsRefusal (version_of version) (S.left source.old) (S.left source.new) r }
-    ensures taken { S.is_known source.old
-        → (prefix : List ℕ) × (S.left source.old ≡ prefix ++ S.left source.new) }
-
-    // so many bytes that no more can be counted were taken
-    ensures too_long { S.is_known source.old → IsErrOf result (CorruptedValue TooLong)
-        → TakesMost (S.left source.old) (S.left source.new) }
-
-    // the source failed exactly where its count of failures rose, with the kind that it returned
-    ensures failures { Counts store_stop result (S.failures source.old) (S.failures source.new) }
-    ensures stays_known { S.is_known source.old → S.is_known source.new }
 {
     let mut count = 0;
     take_fields_in_place(alloc, document, source, &mut count, version, fields)

@@ -1,34 +1,29 @@
 //! Reading a document within limits.
 
-ghost use Rattle.std.specs.Prelude.{◌≡◌, ◌↔◌, ◌<◌, ◌≤◌, ◌++◌, ◌+◌, ◌-◌, ◌^◌, [], ℕ, List, None, length, IsTrue, OnOk, OnErr, Ok, Err, true, false};
+ghost use Rattle.std.specs.Prelude.{◌≡◌, ◌↔◌, ◌<◌, ◌+◌, ◌-◌, ◌^◌, [], ℕ, None, length, IsTrue, OnOk, OnErr, Ok, Err, true, false};
 ghost use Rattle.std.specs.Prelude.{IfOk, IfErr, IsErrOf, IsSome, Some};
-ghost use Rattle.tv_base.specs.Parts.{Begins};
 ghost use Rattle.tv_base.specs.declared.cause.Cause.TheVariants.{UnexpectedEnd, TooLong};
-ghost use Rattle.tv_base.specs.ReadsAs.{Known, EndsEarly};
+ghost use Rattle.tv_base.specs.ReadsAs.{EndsEarly};
 ghost use Rattle.tv_base.specs.Stop.{Counts, Taken};
 ghost use Rattle.tv_builder.specs.Builder.{state_of, heap_so_far};
 ghost use Rattle.tv_builder.specs.HeldPairs.{document_of as pairs_of};
 ghost use Rattle.tv_builder.specs.State.{lists_of};
 ghost use Rattle.tv_doc.specs.Document.{document_of, heap_of};
-ghost use Rattle.tv_decoder.specs.Prefix.{IsDone, NoPrefix, NoRoomBehind, HasNoRoom};
+ghost use Rattle.tv_decoder.specs.Prefix.{IsDone, NoPrefix, NoRoomBehind};
 ghost use Rattle.tv_decoder.specs.Steps.{Advances, Stepped};
 ghost use Rattle.tv_legacy.specs.Legacy.{Legacy};
-ghost use Rattle.tv_reader.specs.Error.{IsRefusal};
 ghost use Rattle.tv_reader.specs.declared.error.DeserializeError.{DeserializeError};
 ghost use Rattle.tv_reader.specs.Version.{version_of};
 ghost use Rattle.tv_reader.specs.declared.error.DeserializeError.TheVariants.{CorruptedValue, HeapFull, AlreadyFailed};
-ghost use Rattle.tv_format.specs.InputError.{Refusal, corrupted};
-ghost use Rattle.tv_format.specs.Encoding.{EncodesDocument};
-ghost use Rattle.tv_format.specs.Tree.{Document};
-ghost use Rattle.tv_heap.specs.Room.{document_room};
-ghost use Rattle.tv_store.specs.Limits.{Checks, FindsWithin, IsPast, PassesDepth, IsLarge, IsAll};
+ghost use Rattle.tv_format.specs.InputError.{corrupted};
+ghost use Rattle.tv_store.specs.Limits.{Checks, FindsWithin, IsPast};
 ghost use Rattle.tv_store.specs.Limits.{AllNestWithinLimit, TestsDepth};
-ghost use Rattle.tv_store.specs.Limits.{AnswersWithin, Comes, IsLimitedError, limited_stop};
+ghost use Rattle.tv_store.specs.Limits.{Comes, IsLimitedError, limited_stop};
 ghost use Rattle.tv_store.specs.Limits.{first_count, FindsPart, IsCapped, Leaves, TestsLimits};
-ghost use Rattle.tv_store.specs.Limits.{Told};
+ghost use Rattle.tv_store.specs.Limits.{ReadsWithin, StopsWithin, Told};
 ghost use Rattle.tv_store.specs.Decoder.{SaysDone, Rests};
 ghost use Rattle.tv_decoder.specs.Kept.{Grows, KeepsPairs};
-ghost use Rattle.tv_store.specs.Documents.{BeginsWith, NoDocument, ShowsRefusal, in_place};
+ghost use Rattle.tv_store.specs.Documents.{in_place};
 ghost use Rattle.tv_store.specs.declared.limits.LimitedReadError.{LimitedReadError};
 ghost use Rattle.tv_store.specs.declared.limits.LimitedReadError.TheVariants.{Read, Limit};
 
@@ -426,57 +421,16 @@ pub fn read_document_within<S: ByteSource>(
     version: DocStoreVersion,
     limits: ReadLimits,
 ) -> Result<CompactDoc, LimitedReadError>
-    // a prefix of the bytes encodes what is returned, the rest is left, and each tree and the heap are within their limits
-    ensures found { S.is_known source.old
-        → IfOk result
-        (λ d. BeginsWith (version_of version) (S.left source.old) (S.left source.new)
-        (document_of d)) }
+    ensures reads { ReadsWithin (version_of version) limits S.ByteSource source.old source.new
+        result }
+
+    // each tree and the heap are within their limits
     ensures shallow { IfOk result (λ d. AllNestWithinLimit limits.depth (document_of d)) }
     ensures small { IfOk result (λ d. ¬ IsPast limits.heap_bytes (length (heap_of d))) }
 
-    // wherever a prefix encodes a document that has room, that one is returned, unless a limit is passed
-    ensures only { Known S.is_known S.left source.old → (d : Document) (prefix rest : List ℕ)
-        → S.left source.old ≡ prefix ++ rest → EncodesDocument Legacy (version_of version) prefix d
-        → document_room d ≤ 4294967295
-        → AnswersWithin limits.bytes result d prefix rest (S.left source.new) }
-
-    // what was taken passes the limit
-    ensures depth { S.is_known source.old → IsErrOf result (Limit ReadLimit.Depth)
-        → Begins (PassesDepth (version_of version) limits.depth) (S.left source.old)
-        (S.left source.new) }
-    ensures heap { S.is_known source.old → IsErrOf result (Limit ReadLimit.HeapBytes)
-        → Begins (IsLarge (version_of version) limits.heap_bytes) (S.left source.old)
-        (S.left source.new) }
-    ensures bytes { S.is_known source.old → IsErrOf result (Limit ReadLimit.Bytes)
-        → Begins (IsAll limits.bytes) (S.left source.old) (S.left source.new) }
-
-    // and a document needs more
-    ensures ends { S.is_known source.old → IsErrOf result (Limit ReadLimit.Bytes)
-        → EndsEarly (corrupted UnexpectedEnd) (NoDocument (version_of version))
-        (S.left source.old) (S.left source.new) }
-
-    // no more bytes are taken than may be, whatever is returned
-    ensures most { S.is_known source.old
-        → Begins (λ b. ¬ IsPast limits.bytes (length b)) (S.left source.old) (S.left source.new) }
-
-    // refusals of the bytes are true of them, and others don't come
-    ensures error { Known S.is_known S.left source.old → (e : DeserializeError) (r : Refusal)
-        → IsErrOf result (Read e) → IsRefusal e r
-        → NoDocument (version_of version) (S.left source.old) r }
-    ensures full { S.is_known source.old → IsErrOf result (Read HeapFull)
-        → HasNoRoom (version_of version) (S.left source.old) }
-    ensures errors { IfErr result (IsLimitedError limits) }
-
-    // just the bytes that show the error were taken, and after every error a slice of what was left
-    ensures shows { Known S.is_known S.left source.old → (e : DeserializeError) (r : Refusal)
-        → IsErrOf result (Read e) → IsRefusal e r
-        → ShowsRefusal (version_of version) (S.left source.old) (S.left source.new) r }
-    ensures taken { S.is_known source.old
-        → (prefix : List ℕ) × (S.left source.old ≡ prefix ++ S.left source.new) }
-
-    // the source failed exactly where its count of failures rose, with the kind that it returned
-    ensures failures { Counts limited_stop result (S.failures source.old) (S.failures source.new) }
-    ensures stays_known { S.is_known source.old → S.is_known source.new }
+    // what was taken passes the limit that is told
+    ensures stops { StopsWithin (version_of version) limits S.ByteSource source.old source.new
+        result }
 {
     let mut count = 0;
     let empty = HeapPairs::new(alloc);

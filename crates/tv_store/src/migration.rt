@@ -1,9 +1,10 @@
 //! Documents that are read in one version of the store and written in another.
 
-ghost use Rattle.std.specs.Prelude.{◌≡◌, ◌≤◌, ◌++◌, ℕ, List, IfOk, IfErr, IsErrOf};
+ghost use Rattle.std.specs.Prelude.{◌≡◌, ◌≤◌, ◌++◌, ℕ, List, Err, IfOk, IfErr, IsErrOf};
 ghost use Rattle.tv_base.specs.ReadsAs.{Known};
 ghost use Rattle.tv_base.specs.Sink.{Begins};
 ghost use Rattle.tv_base.specs.Stop.{Counts};
+ghost use Rattle.tv_doc.specs.Document.{document_of};
 ghost use Rattle.tv_format.specs.Encoding.{EncodesDocument};
 ghost use Rattle.tv_format.specs.Short.{short_document};
 ghost use Rattle.tv_format.specs.Tree.{Document};
@@ -12,8 +13,9 @@ ghost use Rattle.tv_heap.specs.Room.{document_room};
 ghost use Rattle.tv_legacy.specs.Legacy.{Legacy};
 ghost use Rattle.tv_reader.specs.Version.{version_of};
 ghost use Rattle.tv_reader.specs.declared.error.DeserializeError.{DeserializeError};
-ghost use Rattle.tv_store.specs.Migrate.{AppendsMigrated, IsMigrationError, IsUnread, Transcribes};
+ghost use Rattle.tv_store.specs.Migrate.{AppendsMigrated, IsMigrationError, Transcribes};
 ghost use Rattle.tv_store.specs.Migrate.{sink_stop, source_stop};
+ghost use Rattle.tv_store.specs.Reading.{ReadsDocument};
 ghost use Rattle.tv_store.specs.declared.migration.MigrateError.{MigrateError};
 ghost use Rattle.tv_writer.specs.declared.error.SerializeError.{SerializeError};
 
@@ -90,7 +92,7 @@ pub fn migrate<S: ByteSource, K: ByteSink>(
 
     // what can't be read is refused as reading refuses it, and nothing is written
     ensures unread { (e : DeserializeError) → IsErrOf result (MigrateError.Read e)
-        → IsUnread (version_of from) S.is_known S.left source.old source.new e
+        → ReadsDocument (version_of from) S.ByteSource source.old source.new document_of (Err e)
         × (sink.new ≡ sink.old) }
 
     // where the sink failed or memory was refused in writing, the document was read, and a beginning of it is appended

@@ -1,12 +1,15 @@
 //! Calls that are given a schema.
 
+use std::alloc::Global;
 use std::test::Fail;
+use tv_blocks::status::error_answer;
 use tv_blocks::{
     BlockError, FoundField, Imported, LineAnswer, export_block_by, find_field_by, import_lines_by,
-    read_schema,
+    print_schema, read_schema,
 };
 use tv_doc::parse_buffers::ParseBuffers;
 use tv_field::SchemaError;
+use tv_schema::SchemaKey;
 use tv_store::DocStoreVersion;
 
 // A schema of a text and a JSON object.
@@ -45,6 +48,140 @@ const ANSWERS: [LineAnswer; 3] = [
     },
     NO_ANSWER,
 ];
+
+// The schema, printed, and two bytes that stay as they were.
+const PRINTED_SCHEMA: &[u8] =
+    b"[{\"name\":\"s\",\"options\":{\"fast\":false,\"stored\":true},\"type\":\"text\"},{\"name\":\"j\",\"options\":{\"expand_dots_enabled\":false,\"fast\":false,\"indexing\":null,\"stored\":true},\"type\":\"json_object\"}]\xa5\xa5";
+
+// Schemas of one entry, the key of it that is at fault, and the number of that key in an answer.
+const FAULTS: [(&[u8], SchemaKey, u32); 26] = [
+    (br#"[{"type":"text","options":{}}]"#, SchemaKey::Name, 6),
+    (
+        br#"[{"name":1,"type":"text","options":{}}]"#,
+        SchemaKey::Name,
+        6,
+    ),
+    (br#"[{"name":"a","options":{}}]"#, SchemaKey::Type, 7),
+    (
+        br#"[{"name":"a","type":"f32","options":{}}]"#,
+        SchemaKey::Type,
+        7,
+    ),
+    (br#"[{"name":"a","type":"text"}]"#, SchemaKey::Options, 8),
+    (
+        br#"[{"name":"a","type":"text","options":null}]"#,
+        SchemaKey::Options,
+        8,
+    ),
+    (
+        br#"[{"name":"a","type":"u64","options":{"stored":true}}]"#,
+        SchemaKey::Indexed,
+        9,
+    ),
+    (
+        br#"[{"name":"a","type":"date","options":{"indexed":1}}]"#,
+        SchemaKey::Indexed,
+        9,
+    ),
+    (
+        br#"[{"name":"a","type":"facet","options":{}}]"#,
+        SchemaKey::Stored,
+        10,
+    ),
+    (
+        br#"[{"name":"a","type":"text","options":{"stored":null}}]"#,
+        SchemaKey::Stored,
+        10,
+    ),
+    (
+        br#"[{"name":"a","type":"date","options":{"indexed":true,"stored":true}}]"#,
+        SchemaKey::Fieldnorms,
+        11,
+    ),
+    (
+        br#"[{"name":"a","type":"i64","options":{"indexed":true,"stored":true,"fieldnorms":1}}]"#,
+        SchemaKey::Fieldnorms,
+        11,
+    ),
+    (
+        br#"[{"name":"a","type":"ip_addr","options":{}}]"#,
+        SchemaKey::Fast,
+        12,
+    ),
+    (
+        br#"[{"name":"a","type":"bool","options":{"indexed":true,"stored":true,"fast":null}}]"#,
+        SchemaKey::Fast,
+        12,
+    ),
+    (
+        br#"[{"name":"a","type":"json_object","options":{"stored":true}}]"#,
+        SchemaKey::FastOfText,
+        13,
+    ),
+    (
+        br#"[{"name":"a","type":"text","options":{"fast":null}}]"#,
+        SchemaKey::FastOfText,
+        13,
+    ),
+    (
+        br#"[{"name":"a","type":"text","options":{"coerce":null}}]"#,
+        SchemaKey::Coerce,
+        14,
+    ),
+    (
+        br#"[{"name":"a","type":"u64","options":{"indexed":true,"stored":true,"coerce":0}}]"#,
+        SchemaKey::Coerce,
+        14,
+    ),
+    (
+        br#"[{"name":"a","type":"date","options":{"indexed":true,"fieldnorms":true,"stored":true,"precision":"days"}}]"#,
+        SchemaKey::Precision,
+        15,
+    ),
+    (
+        br#"[{"name":"a","type":"text","options":{"indexing":true}}]"#,
+        SchemaKey::Indexing,
+        16,
+    ),
+    (
+        br#"[{"name":"a","type":"text","options":{"indexing":{"record":"all"}}}]"#,
+        SchemaKey::Record,
+        17,
+    ),
+    (
+        br#"[{"name":"a","type":"text","options":{"indexing":{"record":null}}}]"#,
+        SchemaKey::Record,
+        17,
+    ),
+    (
+        br#"[{"name":"a","type":"text","options":{"indexing":{"fieldnorms":null}}}]"#,
+        SchemaKey::IndexingFieldnorms,
+        18,
+    ),
+    (
+        br#"[{"name":"a","type":"json_object","options":{"stored":true,"fast":true,"indexing":{"tokenizer":1}}}]"#,
+        SchemaKey::Tokenizer,
+        19,
+    ),
+    (
+        br#"[{"name":"a","type":"text","options":{"fast":{}}}]"#,
+        SchemaKey::WithTokenizer,
+        20,
+    ),
+    (
+        br#"[{"name":"a","type":"json_object","options":{"stored":true,"fast":true,"expand_dots_enabled":null}}]"#,
+        SchemaKey::ExpandDots,
+        21,
+    ),
+];
+
+// The error of a schema that is refused.
+fn refusal(alloc: Global, text: &[u8]) -> Option<BlockError> {
+    match read_schema(alloc, text) {
+        Ok(_) => None,
+        Err(error) => Some(error),
+    }
+}
 
 #[test]
 fn a_schema_serves_many_calls(rt: HostRuntime) -> Result<(), Fail> {
@@ -115,5 +252,61 @@ fn texts_that_describe_no_schema_are_refused(rt: HostRuntime) -> Result<(), Fail
     let object = read_schema(alloc, b"{}");
     let whole = SchemaError::BadJson { entry: None };
     assert!(rt; matches!(object, Err(BlockError::BadSchema(error)) if error == whole));
+    Ok(())
+}
+
+#[test]
+fn a_key_at_fault_is_named(rt: HostRuntime) -> Result<(), Fail> {
+    let alloc = rt.alloc();
+    for (text, key, number) in &FAULTS {
+        let fault = BlockError::BadSchemaKey {
+            entry: 0,
+            key: *key,
+        };
+        assert_eq!(rt; refusal(alloc, text), Some(fault));
+        assert_eq!(rt; error_answer(fault).detail, *number);
+    }
+    let later = br#"[{"name":"a","type":"facet","options":{"stored":true}},{"name":"a"}]"#;
+    let second = BlockError::BadSchemaKey {
+        entry: 1,
+        key: SchemaKey::Type,
+    };
+    assert_eq!(rt; refusal(alloc, later), Some(second));
+    assert_eq!(rt; error_answer(second).place, 2);
+    Ok(())
+}
+
+#[test]
+fn no_key_is_named_where_none_is_at_fault(rt: HostRuntime) -> Result<(), Fail> {
+    let alloc = rt.alloc();
+    let entry = SchemaError::BadJson { entry: Some(0) };
+    assert_eq!(rt;
+        refusal(alloc, b"[null]"),
+        Some(BlockError::BadSchema(entry))
+    );
+    let float = br#"[{"name":"a","type":"f64"}]"#;
+    let unread = SchemaError::FloatField { entry: 0 };
+    assert_eq!(rt; refusal(alloc, float), Some(BlockError::BadSchema(unread)));
+    let twice = br#"[{"name":"a","type":"facet","options":{"stored":true}},
+{"name":"a","type":"facet","options":{"stored":true}},{}]"#;
+    let double = SchemaError::DuplicateName;
+    assert_eq!(rt; refusal(alloc, twice), Some(BlockError::BadSchema(double)));
+    Ok(())
+}
+
+#[test]
+fn a_schema_is_printed(rt: HostRuntime) -> Result<(), Fail> {
+    let alloc = rt.alloc();
+    let schema = read_schema(alloc, SCHEMA).expect(&rt, "a schema");
+    let mut text = [KEPT; 186];
+    assert_eq!(rt; print_schema(alloc, &schema, &mut text), Ok(184));
+    assert_eq!(rt; text.as_slice(), PRINTED_SCHEMA);
+    let mut short = [KEPT; 183];
+    let longer = BlockError::TooSmall {
+        bytes: 184,
+        lines: 0,
+    };
+    assert_eq!(rt; print_schema(alloc, &schema, &mut short), Err(longer));
+    assert_eq!(rt; &short, &[KEPT; 183]);
     Ok(())
 }

@@ -1,6 +1,6 @@
 //! Options of fields out of the members of a JSON object.
 
-ghost use Rattle.std.specs.Prelude.{◌≡◌, IfOk};
+ghost use Rattle.std.specs.Prelude.{◌≡◌};
 ghost use Rattle.serde_json.specs.View.{view, members_view};
 ghost use Rattle.tv_schema.specs.SchemaJsonOptions.{options_of, text_options_of};
 ghost use Rattle.tv_schema.specs.SchemaJsonOptions.{numeric_options_of, date_options_of};
@@ -10,13 +10,16 @@ ghost use Rattle.tv_schema.specs.SchemaJsonOptions.{optional_indexing, indexing_
 ghost use Rattle.tv_schema.specs.SchemaJsonOptions.{fast_field_of, fast_field_or_none};
 ghost use Rattle.tv_schema.specs.SchemaJsonOptions.{required_fast_field, record_or_basic};
 ghost use Rattle.tv_schema.specs.SchemaJsonOptions.{precision_or_seconds};
+ghost use Rattle.tv_schema.specs.SchemaJsonReading.{Reads};
 
+use crate::json::error::EntryFault;
+use crate::json::key::SchemaKey;
 use crate::json::members::{
     Members, bool_or, member, present, required_bool, required_text, text_or,
 };
 use crate::json::words::{precision_of_word, record_of_word};
 use serde_json::Value;
-use std::alloc::{AllocError, Global};
+use std::alloc::Global;
 use tv_field::field_type::FieldType;
 use tv_options::{
     BytesOptions, DateOptions, DateTimePrecision, FacetOptions, FastFieldTextOptions,
@@ -24,237 +27,208 @@ use tv_options::{
     TextOptions, TokenizerName, Type,
 };
 
-// The type with the options that the members tell, or `None` where they are not the type's options.
+// The type with the options that the members tell; else the first key, in the order of reading, that is at fault.
 #[tactic(auto, unfolding(crate::specs::SchemaJsonOptions::options_of))]
 pub(super) fn options_of(
     alloc: Global,
     value_type: Type,
     members: &Members,
-) -> Result<Option<FieldType>, AllocError>
-    ensures { IfOk result
-        (λ found. found ≡ options_of value_type (members_view members.now.entries)) }
+) -> Result<FieldType, EntryFault>
+    ensures { Reads (options_of value_type (members_view members.now.entries)) result }
 {
     match value_type {
-        Type::Str => Ok(text_options_of(alloc, members)?.map(FieldType::Str)),
-        Type::U64 => Ok(numeric_options_of(members).map(FieldType::U64)),
-        Type::I64 => Ok(numeric_options_of(members).map(FieldType::I64)),
-        Type::Bool => Ok(numeric_options_of(members).map(FieldType::Bool)),
-        Type::Date => Ok(date_options_of(members).map(FieldType::Date)),
-        Type::Facet => Ok(facet_options_of(members).map(FieldType::Facet)),
-        Type::Bytes => Ok(bytes_options_of(members).map(FieldType::Bytes)),
-        Type::Json => Ok(json_object_options_of(alloc, members)?.map(FieldType::JsonObject)),
-        Type::IpAddr => Ok(ip_addr_options_of(members).map(FieldType::IpAddr)),
+        Type::Str => Ok(FieldType::Str(text_options_of(alloc, members)?)),
+        Type::U64 => Ok(FieldType::U64(numeric_options_of(members)?)),
+        Type::I64 => Ok(FieldType::I64(numeric_options_of(members)?)),
+        Type::Bool => Ok(FieldType::Bool(numeric_options_of(members)?)),
+        Type::Date => Ok(FieldType::Date(date_options_of(members)?)),
+        Type::Facet => Ok(FieldType::Facet(facet_options_of(members)?)),
+        Type::Bytes => Ok(FieldType::Bytes(bytes_options_of(members)?)),
+        Type::Json => Ok(FieldType::JsonObject(json_object_options_of(alloc, members)?)),
+        Type::IpAddr => Ok(FieldType::IpAddr(ip_addr_options_of(members)?)),
     }
 }
 
 #[tactic(auto, unfolding(crate::specs::SchemaJsonOptions::text_options_of))]
-fn text_options_of(alloc: Global, members: &Members) -> Result<Option<TextOptions>, AllocError>
-    ensures { IfOk result (λ found. found ≡ text_options_of (members_view members.now.entries)) }
+fn text_options_of(alloc: Global, members: &Members) -> Result<TextOptions, EntryFault>
+    ensures { Reads (text_options_of (members_view members.now.entries)) result }
 {
-    let Some(indexing) = optional_indexing(alloc, members)? else {
-        return Ok(None);
-    };
-    let Some(stored) = bool_or(members, "stored", false) else {
-        return Ok(None);
-    };
-    let Some(fast) = fast_field_or_none(alloc, members)? else {
-        return Ok(None);
-    };
-    let Some(coerce) = bool_or(members, "coerce", false) else {
-        return Ok(None);
-    };
-    Ok(Some(TextOptions::from_parts(indexing, stored, fast, coerce)))
+    let indexing = optional_indexing(alloc, members)?;
+    let stored = bool_or(members, SchemaKey::Stored, false)?;
+    let fast = fast_field_or_none(alloc, members)?;
+    let coerce = bool_or(members, SchemaKey::Coerce, false)?;
+    Ok(TextOptions::from_parts(indexing, stored, fast, coerce))
 }
 
 #[tactic(auto, unfolding(crate::specs::SchemaJsonOptions::numeric_options_of))]
-fn numeric_options_of(members: &Members) -> Option<NumericOptions>
+fn numeric_options_of(members: &Members) -> Result<NumericOptions, SchemaKey>
     ensures { result ≡ numeric_options_of (members_view members.now.entries) }
 {
-    let indexed = required_bool(members, "indexed")?;
-    let stored = required_bool(members, "stored")?;
+    let indexed = required_bool(members, SchemaKey::Indexed)?;
+    let stored = required_bool(members, SchemaKey::Stored)?;
     let fieldnorms = fieldnorms_or(members, indexed)?;
-    let fast = bool_or(members, "fast", false)?;
-    let coerce = bool_or(members, "coerce", false)?;
-    Some(NumericOptions::from_parts(indexed, fieldnorms, fast, stored, coerce))
+    let fast = bool_or(members, SchemaKey::Fast, false)?;
+    let coerce = bool_or(members, SchemaKey::Coerce, false)?;
+    Ok(NumericOptions::from_parts(indexed, fieldnorms, fast, stored, coerce))
 }
 
 #[tactic(auto, unfolding(crate::specs::SchemaJsonOptions::date_options_of))]
-fn date_options_of(members: &Members) -> Option<DateOptions>
+fn date_options_of(members: &Members) -> Result<DateOptions, SchemaKey>
     ensures { result ≡ date_options_of (members_view members.now.entries) }
 {
-    let indexed = required_bool(members, "indexed")?;
-    let fieldnorms = required_bool(members, "fieldnorms")?;
-    let stored = required_bool(members, "stored")?;
-    let fast = bool_or(members, "fast", false)?;
+    let indexed = required_bool(members, SchemaKey::Indexed)?;
+    let fieldnorms = required_bool(members, SchemaKey::Fieldnorms)?;
+    let stored = required_bool(members, SchemaKey::Stored)?;
+    let fast = bool_or(members, SchemaKey::Fast, false)?;
     let precision = precision_or_seconds(members)?;
-    Some(DateOptions::from_parts(indexed, fieldnorms, fast, stored, precision))
+    Ok(DateOptions::from_parts(indexed, fieldnorms, fast, stored, precision))
 }
 
 #[tactic(auto, unfolding(crate::specs::SchemaJsonOptions::facet_options_of))]
-fn facet_options_of(members: &Members) -> Option<FacetOptions>
+fn facet_options_of(members: &Members) -> Result<FacetOptions, SchemaKey>
     ensures { result ≡ facet_options_of (members_view members.now.entries) }
 {
-    let stored = required_bool(members, "stored")?;
-    Some(FacetOptions::from_parts(stored))
+    let stored = required_bool(members, SchemaKey::Stored)?;
+    Ok(FacetOptions::from_parts(stored))
 }
 
 #[tactic(auto, unfolding(crate::specs::SchemaJsonOptions::bytes_options_of))]
-fn bytes_options_of(members: &Members) -> Option<BytesOptions>
+fn bytes_options_of(members: &Members) -> Result<BytesOptions, SchemaKey>
     ensures { result ≡ bytes_options_of (members_view members.now.entries) }
 {
-    let indexed = required_bool(members, "indexed")?;
-    let fast = required_bool(members, "fast")?;
-    let stored = required_bool(members, "stored")?;
+    let indexed = required_bool(members, SchemaKey::Indexed)?;
+    let fast = required_bool(members, SchemaKey::Fast)?;
+    let stored = required_bool(members, SchemaKey::Stored)?;
     let fieldnorms = fieldnorms_or(members, indexed)?;
-    Some(BytesOptions::from_parts(indexed, fieldnorms, fast, stored))
+    Ok(BytesOptions::from_parts(indexed, fieldnorms, fast, stored))
 }
 
 #[tactic(auto, unfolding(crate::specs::SchemaJsonOptions::json_object_options_of))]
-fn json_object_options_of(
-    alloc: Global,
-    members: &Members,
-) -> Result<Option<JsonObjectOptions>, AllocError>
-    ensures { IfOk result
-        (λ found. found ≡ json_object_options_of (members_view members.now.entries)) }
+fn json_object_options_of(alloc: Global, members: &Members) -> Result<JsonObjectOptions, EntryFault>
+    ensures { Reads (json_object_options_of (members_view members.now.entries)) result }
 {
-    let Some(stored) = required_bool(members, "stored") else {
-        return Ok(None);
-    };
-    let Some(fast) = required_fast_field(alloc, members)? else {
-        return Ok(None);
-    };
-    let Some(indexing) = optional_indexing(alloc, members)? else {
-        return Ok(None);
-    };
-    let Some(expand_dots_enabled) = bool_or(members, "expand_dots_enabled", false) else {
-        return Ok(None);
-    };
-    Ok(Some(JsonObjectOptions::from_parts(stored, indexing, fast, expand_dots_enabled)))
+    let stored = required_bool(members, SchemaKey::Stored)?;
+    let fast = required_fast_field(alloc, members)?;
+    let indexing = optional_indexing(alloc, members)?;
+    let expand_dots_enabled = bool_or(members, SchemaKey::ExpandDots, false)?;
+    Ok(JsonObjectOptions::from_parts(stored, indexing, fast, expand_dots_enabled))
 }
 
 #[tactic(auto, unfolding(crate::specs::SchemaJsonOptions::ip_addr_options_of))]
-fn ip_addr_options_of(members: &Members) -> Option<IpAddrOptions>
+fn ip_addr_options_of(members: &Members) -> Result<IpAddrOptions, SchemaKey>
     ensures { result ≡ ip_addr_options_of (members_view members.now.entries) }
 {
-    let fast = required_bool(members, "fast")?;
-    let stored = required_bool(members, "stored")?;
-    let indexed = required_bool(members, "indexed")?;
-    let fieldnorms = required_bool(members, "fieldnorms")?;
-    Some(IpAddrOptions::from_parts(indexed, fieldnorms, fast, stored))
+    let fast = required_bool(members, SchemaKey::Fast)?;
+    let stored = required_bool(members, SchemaKey::Stored)?;
+    let indexed = required_bool(members, SchemaKey::Indexed)?;
+    let fieldnorms = required_bool(members, SchemaKey::Fieldnorms)?;
+    Ok(IpAddrOptions::from_parts(indexed, fieldnorms, fast, stored))
 }
 
 // The truth value at the key `fieldnorms`, as `indexed` where the key isn't there or null stands there.
 #[tactic(auto, unfolding(crate::specs::SchemaJsonOptions::fieldnorms_or))]
-fn fieldnorms_or(members: &Members, indexed: bool) -> Option<bool>
+fn fieldnorms_or(members: &Members, indexed: bool) -> Result<bool, SchemaKey>
     ensures { result ≡ fieldnorms_or indexed (members_view members.now.entries) }
 {
-    match present(members, "fieldnorms") {
-        Some(found) => found.as_bool(),
-        None => Some(indexed),
+    match present(members, SchemaKey::Fieldnorms) {
+        Some(found) => found.as_bool().ok_or(SchemaKey::Fieldnorms),
+        None => Ok(indexed),
     }
 }
 
-// The indexing at the key `indexing`, `Some(None)` where the key isn't there or null stands there.
+// The indexing at the key `indexing`, `None` where the key isn't there or null stands there.
 #[tactic(auto, unfolding(crate::specs::SchemaJsonOptions::optional_indexing))]
 fn optional_indexing(
     alloc: Global,
     members: &Members,
-) -> Result<Option<Option<TextFieldIndexing>>, AllocError>
-    ensures { IfOk result (λ found. found ≡ optional_indexing (members_view members.now.entries)) }
+) -> Result<Option<TextFieldIndexing>, EntryFault>
+    ensures { Reads (optional_indexing (members_view members.now.entries)) result }
 {
-    match present(members, "indexing") {
-        None => Ok(Some(None)),
-        Some(Value::Object(inner)) => match indexing_of(alloc, inner)? {
-            Some(indexing) => Ok(Some(Some(indexing))),
-            None => Ok(None),
-        },
-        Some(_) => Ok(None),
+    match present(members, SchemaKey::Indexing) {
+        Some(found) => {
+            let inner = found.as_object().ok_or(SchemaKey::Indexing)?;
+            Ok(Some(indexing_of(alloc, inner)?))
+        }
+        None => Ok(None),
     }
 }
 
 #[tactic(auto, unfolding(crate::specs::SchemaJsonOptions::indexing_of))]
-fn indexing_of(alloc: Global, members: &Members) -> Result<Option<TextFieldIndexing>, AllocError>
-    ensures { IfOk result (λ found. found ≡ indexing_of (members_view members.now.entries)) }
+fn indexing_of(alloc: Global, members: &Members) -> Result<TextFieldIndexing, EntryFault>
+    ensures { Reads (indexing_of (members_view members.now.entries)) result }
 {
-    let Some(record) = record_or_basic(members) else {
-        return Ok(None);
-    };
-    let Some(fieldnorms) = bool_or(members, "fieldnorms", true) else {
-        return Ok(None);
-    };
-    let Some(tokenizer) = text_or(members, "tokenizer", "default") else {
-        return Ok(None);
-    };
+    let record = record_or_basic(members)?;
+    let fieldnorms = bool_or(members, SchemaKey::IndexingFieldnorms, true)?;
+    let tokenizer = text_or(members, SchemaKey::Tokenizer, "default")?;
     let indexing = TextFieldIndexing::default()
         .set_index_option(record)
         .set_fieldnorms(fieldnorms)
         .set_tokenizer(alloc, tokenizer)?;
-    Ok(Some(indexing))
+    Ok(indexing)
 }
 
 // The fast field at the key `fast`, none where the key isn't there.
 #[tactic(auto, unfolding(crate::specs::SchemaJsonOptions::fast_field_or_none))]
-fn fast_field_or_none(
-    alloc: Global,
-    members: &Members,
-) -> Result<Option<FastFieldTextOptions>, AllocError>
-    ensures { IfOk result (λ found. found ≡ fast_field_or_none (members_view members.now.entries)) }
+fn fast_field_or_none(alloc: Global, members: &Members) -> Result<FastFieldTextOptions, EntryFault>
+    ensures { Reads (fast_field_or_none (members_view members.now.entries)) result }
 {
-    match member(members, "fast") {
+    match member(members, SchemaKey::FastOfText) {
         Some(found) => fast_field_of(alloc, found),
-        None => Ok(Some(FastFieldTextOptions::default())),
+        None => Ok(FastFieldTextOptions::default()),
     }
 }
 
 // The fast field at the key `fast`, which must be there.
 #[tactic(auto, unfolding(crate::specs::SchemaJsonOptions::required_fast_field))]
-fn required_fast_field(
-    alloc: Global,
-    members: &Members,
-) -> Result<Option<FastFieldTextOptions>, AllocError>
-    ensures { IfOk result
-        (λ found. found ≡ required_fast_field (members_view members.now.entries)) }
+fn required_fast_field(alloc: Global, members: &Members) -> Result<FastFieldTextOptions, EntryFault>
+    ensures { Reads (required_fast_field (members_view members.now.entries)) result }
 {
-    let Some(found) = member(members, "fast") else {
-        return Ok(None);
-    };
-    fast_field_of(alloc, found)
+    match member(members, SchemaKey::FastOfText) {
+        Some(found) => fast_field_of(alloc, found),
+        None => Err(EntryFault::Key(SchemaKey::FastOfText)),
+    }
 }
 
 #[tactic(auto, unfolding(crate::specs::SchemaJsonOptions::fast_field_of))]
-fn fast_field_of(alloc: Global, found: &Value) -> Result<Option<FastFieldTextOptions>, AllocError>
-    ensures { IfOk result (λ fast. fast ≡ fast_field_of (view found.now)) }
+fn fast_field_of(alloc: Global, found: &Value) -> Result<FastFieldTextOptions, EntryFault>
+    ensures { Reads (fast_field_of (view found.now)) result }
 {
     match found {
-        Value::Bool(enabled) => Ok(Some(FastFieldTextOptions::IsEnabled(*enabled))),
-        Value::Object(members) => match required_text(members, "with_tokenizer") {
-            Some(name) => Ok(Some(FastFieldTextOptions::EnabledWithTokenizer {
+        Value::Bool(enabled) => Ok(FastFieldTextOptions::IsEnabled(*enabled)),
+        Value::Object(members) => {
+            let name = required_text(members, SchemaKey::WithTokenizer)?;
+            Ok(FastFieldTextOptions::EnabledWithTokenizer {
                 with_tokenizer: TokenizerName::from_name(alloc, name)?,
-            })),
-            None => Ok(None),
-        },
-        _ => Ok(None),
+            })
+        }
+        _ => Err(EntryFault::Key(SchemaKey::FastOfText)),
     }
 }
 
 // What is kept of each term: the word at the key `record`, the least where the key isn't there.
 #[tactic(auto, unfolding(crate::specs::SchemaJsonOptions::record_or_basic))]
-fn record_or_basic(members: &Members) -> Option<IndexRecordOption>
+fn record_or_basic(members: &Members) -> Result<IndexRecordOption, SchemaKey>
     ensures { result ≡ record_or_basic (members_view members.now.entries) }
 {
-    match member(members, "record") {
-        Some(found) => record_of_word(found.as_str()?),
-        None => Some(IndexRecordOption::Basic),
+    match member(members, SchemaKey::Record) {
+        Some(found) => {
+            let word = found.as_str().ok_or(SchemaKey::Record)?;
+            record_of_word(word).ok_or(SchemaKey::Record)
+        }
+        None => Ok(IndexRecordOption::Basic),
     }
 }
 
 // The precision of dates: the word at the key `precision`, seconds where the key isn't there.
 #[tactic(auto, unfolding(crate::specs::SchemaJsonOptions::precision_or_seconds))]
-fn precision_or_seconds(members: &Members) -> Option<DateTimePrecision>
+fn precision_or_seconds(members: &Members) -> Result<DateTimePrecision, SchemaKey>
     ensures { result ≡ precision_or_seconds (members_view members.now.entries) }
 {
-    match member(members, "precision") {
-        Some(found) => precision_of_word(found.as_str()?),
-        None => Some(DateTimePrecision::Seconds),
+    match member(members, SchemaKey::Precision) {
+        Some(found) => {
+            let word = found.as_str().ok_or(SchemaKey::Precision)?;
+            precision_of_word(word).ok_or(SchemaKey::Precision)
+        }
+        None => Ok(DateTimePrecision::Seconds),
     }
 }

@@ -14,5 +14,5 @@ returns-in-Err-clause-err c =
     let known : length rest < 2 ^ 64 - 1 = no_more_left bytes [] rest (sym c.new-source.ensures) (omega arith) in
     subst (IsUnread v bytes) (sym c.unread.ensures)
     (unread_first v bytes c.in-Err.error
-    (λ r refusal. subst (λ (l : List ℕ). NoDocument v l r) c.new-source.ensures (c.in-Err.ensures.error (tt, known) c.in-Err.error r refl refusal))
-    (λ full. subst (λ (l : List ℕ). HasNoRoom v l) c.new-source.ensures (c.in-Err.ensures.full tt (ap Err full))) c.in-Err.ensures.errors)
+    (λ r refusal. subst (λ (l : List ℕ). NoDocument v l r) c.new-source.ensures (c.in-Err.ensures.reads.error (tt, known) c.in-Err.error r refl refusal))
+    (λ full. subst (λ (l : List ℕ). HasNoRoom v l) c.new-source.ensures (c.in-Err.ensures.reads.full tt (ap Err full))) c.in-Err.ensures.reads.errors)

@@ -18,22 +18,23 @@ loop-reader-init c = record {
 pub loop-reader-preserved : goal.loop-reader-preserved
 loop-reader-preserved c =
     let i = c.loop-reader.invariant in
-    let found = c.advance.ensures.found tt (c.in-Ok-true.is ∙ ap Ok c.in-Ok-true.field-0-test) in
+    let reads = rw c.in-Ok-true.field-0-test at (c.in-Ok-true.ensures.reads i.live) in
     record {
       live = c.in-Ok-true.ensures.live;
       version = c.advance.ensures.version ∙ i.version;
-      so_far = printed_more i.so_far (subst (λ (w : DocStoreVersion). BeginsWith (version_of w) c.loop-reader.source.rest.now c.advance.new.source.rest.now (document_of c.advance.new.self.document)) i.version found)
+      so_far = printed_more i.so_far (subst (λ (w : DocStoreVersion). BeginsWith (version_of w) c.loop-reader.source.rest.now c.advance.new.source.rest.now (document_of c.advance.new.self.document)) i.version (reads.found tt))
           (subst (λ d. AppendsLine c.args.schema.now (document_of d) c.loop-reader.text.items c.append_line.new.text.items) c.document.ensures c.in_ok-append_line-in-Ok-true.ensures);
     }
 
 pub returns-in-Err-clause-err : goal.returns-in-Err-clause-err
 returns-in-Err-clause-err c =
     let i = c.loop-reader.invariant in
+    let reads = c.in-Err.ensures.reads i.live in
     let m = i.so_far in
     let v = version_of c.args.version in
     let rest = c.loop-reader.source.rest.now in
     let known : length rest < 2 ^ 64 - 1 = no_more_left c.args.block.now m.before rest m.joined (omega arith) in
     subst (IsRefusedBlock v c.args.block.now) (sym c.unread.ensures)
     (breaks v c.args.block.now m.before rest m.documents _ c.in-Err.error m.joined (ap (λ n. length c.args.block.now - n) (ap length c.rest.ensures) ∙ rest_at c.args.block.now m.before rest m.joined) m.encoded
-    (λ r refusal. subst (λ (w : DocStoreVersion). NoDocument (version_of w) rest r) i.version (c.in-Err.ensures.error (tt, known) c.in-Err.error r refl refusal))
-    (λ full. subst (λ (w : DocStoreVersion). HasNoRoom (version_of w) rest) i.version (c.in-Err.ensures.full tt (ap Err full))) (c.in-Err.ensures.errors i.live))
+    (λ r refusal. subst (λ (w : DocStoreVersion). NoDocument (version_of w) rest r) i.version (reads.error (tt, known) c.in-Err.error r refl refusal))
+    (λ full. subst (λ (w : DocStoreVersion). HasNoRoom (version_of w) rest) i.version (reads.full tt (ap Err full))) reads.errors)

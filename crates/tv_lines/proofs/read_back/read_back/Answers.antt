@@ -15,12 +15,12 @@ unwritten-requires c =
     let left = c.new-source.ensures in
     let derives : Derives Legacy V2 _ d = record { prefix = short_document V2 d; rest = []; joined = left ∙ c.requires.1.1 ∙ sym (append-nil (short_document V2 d)); encoded = c.short_documents_encode.ensures V2 tt d c.requires.1.0 } in
     only_short c.in-Err.error _ _
-    (λ r is. c.malformed_documents_derive_none.ensures V2 _ r d (c.in-Err.ensures.error (tt, omega (arith, ap length left)) c.in-Err.error r refl is) derives)
-    c.in-Err.ensures.errors refl c.in-Err.ensures.failures
+    (λ r is. c.malformed_documents_derive_none.ensures V2 _ r d (c.in-Err.ensures.reads.error (tt, omega (arith, ap length left)) c.in-Err.error r refl is) derives)
+    c.in-Err.ensures.reads.errors refl c.in-Err.ensures.reads.failures
 
 pub returns-in-Ok-clause-ok : goal.returns-in-Ok-clause-ok
 returns-in-Ok-clause-ok c = λ d valid same.
-    let begins = c.in-Ok.ensures.found tt in
+    let begins = c.in-Ok.ensures.reads.found tt in
     let left = c.new-source.ensures in
     (c.documents_have_one_reading.ensures V2 begins.prefix (short_document V2 d) _ [] _ d begins.encoded (c.short_documents_encode.ensures V2 tt d valid)
     (sym begins.joined ∙ left ∙ same ∙ sym (append-nil (short_document V2 d)))).1
@@ -33,7 +33,7 @@ returns-in-Err-clause-err c = λ d valid same.
     let derives : Derives Legacy V2 _ d = record { prefix = short_document V2 d; rest = []; joined = joined; encoded = encoded } in
     unwritten_is c.in-Err.error d _
     (only_short c.in-Err.error _ _
-    (λ r is. c.malformed_documents_derive_none.ensures V2 _ r d (c.in-Err.ensures.error (tt, omega (arith, ap length left)) c.in-Err.error r refl is) derives)
-    c.in-Err.ensures.errors refl c.in-Err.ensures.failures) c.unwritten.ensures.memory c.unwritten.ensures.full
+    (λ r is. c.malformed_documents_derive_none.ensures V2 _ r d (c.in-Err.ensures.reads.error (tt, omega (arith, ap length left)) c.in-Err.error r refl is) derives)
+    c.in-Err.ensures.reads.errors refl c.in-Err.ensures.reads.failures) c.unwritten.ensures.memory c.unwritten.ensures.full
     (λ f. above (document_room d) 4294967295
-    (λ small. full_answers_none c.in-Err.error d [] _ f (c.in-Err.ensures.only (tt, omega (arith, ap length left)) d (short_document V2 d) [] joined encoded small)))
+    (λ small. full_answers_none c.in-Err.error f (c.in-Err.ensures.reads.only (tt, omega (arith, ap length left)) d (short_document V2 d) [] joined encoded small)))

@@ -14,8 +14,8 @@ returns-clause-finds g c =
     let s = g.S.ByteSource in
     let v = version_of c.args.version in
     subst (λ (r : Result CompactDoc DeserializeError). Finds s.is_known s.left s.failures c.args.source.now c.args.count.now c.take_fields-read.new.source c.take_fields-read.new.count r (EncodesChosenRead v c.args.fields.now) (NoDocument v))
-    (sym c.put_fields.ensures.put) c.take_fields-read.ensures.finds
+    (sym c.put_read.ensures.put) c.take_fields-read.ensures.finds
 
 pub returns-clause-full : goal.returns-clause-full
 returns-clause-full g c = λ told is.
-    c.take_fields-read.ensures.full told (sym c.put_fields.ensures.put ∙ placed_error c.put_fields.result c.put_fields.new.document HeapFull is)
+    c.take_fields-read.ensures.full told (sym c.put_read.ensures.put ∙ placed_error c.put_read.result c.put_read.new.document HeapFull is)

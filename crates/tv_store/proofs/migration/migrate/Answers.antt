@@ -1,12 +1,13 @@
-use Rattle.std.proofs.Common.{◌++◌, refl, ap, ◌∙◌, subst}
+use Rattle.std.proofs.Common.{◌++◌, Err, refl, ap, ◌∙◌, subst}
 use Rattle.std.proofs.lemmas.Result.{err_from_is_err_and}
 use Rattle.tv_base.specs.Sink.{Begins}
 use Rattle.tv_doc.specs.Document.{document_of}
 use Rattle.tv_reader.specs.Version.{version_of}
 use Rattle.tv_format.specs.Short.{short_document}
 use Rattle.tv_format.specs.WriteVersion.{written_version}
-use Rattle.tv_store.specs.Migrate.{IsUnread}
-use Rattle.tv_store.proofs.Migrations.{unread_appends, unread_of, read_of, unwritten_begins, unwritten_appends}
+use Rattle.tv_reader.specs.declared.error.DeserializeError.{DeserializeError}
+use Rattle.tv_store.specs.Reading.{ReadsDocument}
+use Rattle.tv_store.proofs.Migrations.{read_of, unwritten_begins, unwritten_appends}
 use Rattle.tv_store.proofs.migration.migrate.Goals as goal
 
 -- the document isn't read
@@ -15,18 +16,14 @@ pub returns-in_err-document-clause-only : goal.returns-in_err-document-clause-on
 returns-in_err-document-clause-only g c =
     let p = err_from_is_err_and c.from_residual.result c.from_residual.ensures.1 in
     λ known told d prefix rest joined encoded small.
-    rw (p.1, p.2) (unread_appends c.in_err-document.field-0.0 d _ rest _ _ _ (c.in_err-document.ensures.only known d prefix rest joined encoded small))
+    rw (p.1, p.2) (c.in_err-document.ensures.only known d prefix rest joined encoded small)
 
 pub returns-in_err-document-clause-unread : goal.returns-in_err-document-clause-unread
 returns-in_err-document-clause-unread g c =
     let p = err_from_is_err_and c.from_residual.result c.from_residual.ensures.1 in
-    let v = version_of c.args.from in
-    let S = g.S.ByteSource in
-    let old = c.args.source.now in
-    let new = c.read_document.new.source in
-    let h = c.in_err-document.ensures in
+    let reads = λ (e : DeserializeError). ReadsDocument (version_of c.args.from) g.S.ByteSource c.args.source.now c.read_document.new.source document_of (Err e) in
     λ e is.
-    (subst (IsUnread v S.is_known S.left old new) (read_of _ _ _ e p.1 p.2 is) (unread_of v S.is_known S.left old new c.in_err-document.field-0.0 h.error h.shows h.full h.too_long), refl)
+    (subst reads (read_of _ _ _ e p.1 p.2 is) c.in_err-document.ensures, refl)
 
 -- the document is read
 

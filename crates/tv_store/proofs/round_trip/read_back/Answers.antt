@@ -32,5 +32,5 @@ returns-in-Err-clause-full c = λ d rest valid same e.
     let v = version_of c.args.version in
     let left = c.new-source.ensures in
     above (document_room d) 4294967295
-    (λ small. full_answers_none c.in-Err.error d rest _ (c.reading_error.ensures (err_is _ _ _ refl e))
+    (λ small. full_answers_none c.in-Err.error (c.reading_error.ensures (err_is _ _ _ refl e))
     (c.in-Err.ensures.only (tt, omega (arith, ap length left)) d (short_document v d) rest (left ∙ same) (c.short_documents_encode.ensures v c.requires.written d valid) small))

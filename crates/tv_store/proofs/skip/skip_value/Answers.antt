@@ -1,45 +1,16 @@
-use Rattle.std.proofs.Common.{arith}
-use Rattle.std.proofs.lemmas.Result.{IfErr-at_err, IfOk-weaker}
-use Rattle.tv_base.proofs.ByGrammar.{few_taken}
+use Rattle.tv_reader.specs.Error.{StoreMayStopRoomy}
 use Rattle.tv_reader.specs.Version.{version_of}
 use Rattle.tv_skip.specs.Skip.{IsValue}
 use Rattle.tv_reader.specs.Trees.{NoValue}
-use Rattle.tv_store.proofs.Skips.{refused_of, errors_of, no_heap_full, found_of, only_of, values_once, value_of_found}
+use Rattle.tv_store.specs.Reading.{passed}
+use Rattle.tv_store.proofs.Promises.{no_heap_full, reads_of, single_values}
 use Rattle.tv_store.proofs.skip.skip_value.Goals as goal
 
-pub returns-clause-found : goal.returns-clause-found
-returns-clause-found g c = λ told.
+pub returns-clause-reads : goal.returns-clause-reads
+returns-clause-reads g c =
     let v = version_of c.args.version in
-    IfOk-weaker _ _ _ (λ _ h. value_of_found v _ _ h) (found_of (IsValue v) (NoValue v) _ _ _ _ (c.pass_value.ensures.finds.found told))
-
-pub returns-clause-only : goal.returns-clause-only
-returns-clause-only g c = λ known d prefix rest joined encodes.
-    let v = version_of c.args.version in
-    let p = c.pass_value.ensures.finds in
-    only_of (IsValue v) (NoValue v) _ _ _ _ (values_once v _) (p.found known.0) (errors_of _ _ _ p.counts) (no_heap_full _ _ p.may_stop) (few_taken known.1 (p.taken known.0)) prefix rest joined (d, encodes)
-
-pub returns-clause-error : goal.returns-clause-error
-returns-clause-error g c = λ known e r is refusal.
-    let v = version_of c.args.version in
-    let p = c.pass_value.ensures.finds in
-    (refused_of (λ b _. IsValue v b) (NoValue v) _ _ _ _ (few_taken known.1 (p.taken known.0)) (p.found known.0) e r is refusal).stands
-
-pub returns-clause-errors : goal.returns-clause-errors
-returns-clause-errors g c = errors_of _ _ _ c.pass_value.ensures.finds.counts
+    let read = c.pass_value in
+    reads_of (passed (IsValue v) (NoValue v)) (λ (x : Unit {0}). x) g.S.ByteSource read.result StoreMayStopRoomy (λ e may. may.0) (single_values v _) read.ensures.finds (λ known. no_heap_full read.result _ read.ensures.finds.may_stop)
 
 pub returns-clause-no_heap : goal.returns-clause-no_heap
 returns-clause-no_heap g c = no_heap_full _ _ c.pass_value.ensures.finds.may_stop
-
-pub returns-clause-shows : goal.returns-clause-shows
-returns-clause-shows g c = λ known e r is refusal.
-    let v = version_of c.args.version in
-    let p = c.pass_value.ensures.finds in
-    (refused_of (λ b _. IsValue v b) (NoValue v) _ _ _ _ (few_taken known.1 (p.taken known.0)) (p.found known.0) e r is refusal).shows
-
-pub returns-clause-taken : goal.returns-clause-taken
-returns-clause-taken g c = λ told. let t = c.pass_value.ensures.finds.taken told in (t.prefix, t.joined)
-
-pub returns-clause-too_long : goal.returns-clause-too_long
-returns-clause-too_long g c = λ told e.
-    let t = c.pass_value.ensures.finds.taken told in
-    (t.prefix, t.joined, omega (arith, t.counted, (IfErr-at_err _ e c.pass_value.ensures.finds.may_stop).0))

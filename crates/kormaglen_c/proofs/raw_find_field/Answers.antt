@@ -1,6 +1,6 @@
 use Rattle.tv_blocks.specs.Fields.{Finds, IsPathAnswer}
 use Rattle.kormaglen_c.proofs.Telling.{tells_found}
-use Rattle.kormaglen_c.proofs.kormaglen_find_field.Goals as goal
+use Rattle.kormaglen_c.proofs.raw_find_field.Goals as goal
 
 pub returns : goal.returns
 returns c =
