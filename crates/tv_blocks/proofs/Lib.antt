@@ -1,5 +1,4 @@
 pub mod Filling
-pub mod Schemas
 pub mod Suffixes
 pub mod Blocks
 pub mod BySchemas
