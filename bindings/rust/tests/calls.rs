@@ -1,8 +1,8 @@
 //! Each call once, and each refusal.
 
 use kormaglen::{
-    end_of_prefix, export_block, facet_of_text, find_field, import_lines, migrate_block, term_of_text, terms_of_block, text_of_facet,
-    Document, Line, Refusal, Schema, Term,
+    end_of_prefix, export_block, facet_of_text, find_field, import_lines, migrate_block,
+    term_of_text, terms_of_block, text_of_facet, Document, Line, Refusal, Schema, Term,
 };
 
 const SCHEMA: &[u8] = br#"[{"name":"s","type":"text","options":{"stored":true}},
@@ -34,10 +34,16 @@ fn lines_are_stored_and_answered() {
 #[test]
 fn a_block_is_printed() {
     let imported = import_lines(SCHEMA, b"{\"u\":[1,2],\"s\":\"a\"}\n{}\n").unwrap();
-    assert_eq!(export_block(SCHEMA, 2, &imported.block).unwrap(), b"{\"s\":[\"a\"],\"u\":[1,2]}\n{}\n");
+    assert_eq!(
+        export_block(SCHEMA, 2, &imported.block).unwrap(),
+        b"{\"s\":[\"a\"],\"u\":[1,2]}\n{}\n"
+    );
     assert_eq!(export_block(SCHEMA, 2, b"").unwrap(), b"");
     assert_eq!(export_block(SCHEMA, 4, b""), Err(Refusal::WrongVersion));
-    assert_eq!(export_block(SCHEMA, 2, b"\x80\x81"), Err(Refusal::BadDocument { detail: 1, start: 1 }));
+    assert_eq!(
+        export_block(SCHEMA, 2, b"\x80\x81"),
+        Err(Refusal::BadDocument { detail: 1, start: 1 })
+    );
 }
 
 #[test]
@@ -72,8 +78,14 @@ fn a_facet_is_encoded_and_printed() {
 #[test]
 fn terms_are_listed_and_have_ranges() {
     let imported = import_lines(SCHEMA, b"{\"u\":[1,2],\"s\":\"a\"}\n{}\n{\"u\":256}\n").unwrap();
-    let term = |document, number: u64| Term { document, bytes: [&[0, 0, 0, 1, b'u'][..], &number.to_be_bytes()].concat() };
-    assert_eq!(terms_of_block(1, 2, &imported.block).unwrap(), [term(0, 1), term(0, 2), term(2, 256)]);
+    let term = |document, number: u64| Term {
+        document,
+        bytes: [&[0, 0, 0, 1, b'u'][..], &number.to_be_bytes()].concat(),
+    };
+    assert_eq!(
+        terms_of_block(1, 2, &imported.block).unwrap(),
+        [term(0, 1), term(0, 2), term(2, 256)]
+    );
     assert_eq!(terms_of_block(3, 2, &imported.block).unwrap(), []);
     let start = term_of_text(0, "ab").unwrap();
     assert_eq!(start, b"\0\0\0\0sab");
@@ -88,13 +100,19 @@ fn a_schema_is_read_once() {
     for _ in 0..2 {
         let imported = schema.import_lines(b"{\"u\":[1,2],\"s\":\"a\"}\nnull\n").unwrap();
         assert_eq!(imported.lines[1], Line::InvalidJson);
-        assert_eq!(schema.export_block(2, &imported.block).unwrap(), b"{\"s\":[\"a\"],\"u\":[1,2]}\n");
+        assert_eq!(
+            schema.export_block(2, &imported.block).unwrap(),
+            b"{\"s\":[\"a\"],\"u\":[1,2]}\n"
+        );
         let field = schema.find_field("j.a.b").unwrap();
         assert_eq!((field.number, field.rest), (5, "a.b"));
     }
     assert_eq!(schema.find_field("none"), Err(Refusal::NoField));
     assert_eq!(schema.export_block(4, b""), Err(Refusal::WrongVersion));
-    assert_eq!(schema.export_block(2, b"\x80\x81"), Err(Refusal::BadDocument { detail: 1, start: 1 }));
+    assert_eq!(
+        schema.export_block(2, b"\x80\x81"),
+        Err(Refusal::BadDocument { detail: 1, start: 1 })
+    );
 }
 
 #[test]

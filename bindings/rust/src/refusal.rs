@@ -1,0 +1,226 @@
+//! Why a call was refused.
+
+use crate::calls::{self, Answer};
+use crate::reasons::{DocumentReason, LineReason, SchemaReason, BAD_DOCUMENT, BAD_SCHEMA};
+use std::error::Error;
+use std::fmt;
+
+const OK: u32 = 0;
+const TOO_SMALL: u32 = 1;
+const NO_MEMORY: u32 = 2;
+const NOT_UTF8: u32 = 3;
+const NOT_A_FACET: u32 = 4;
+const INVALID_JSON: u32 = 5;
+const NO_FIELD: u32 = 7;
+const WRONG_VERSION: u32 = 9;
+const NO_END: u32 = 10;
+const BAD_LINE: u32 = 11;
+const FOREIGN_FIELD: u32 = 12;
+const CLOSED: u32 = 15;
+
+/// Why a call was refused. It prints as the library's words for it, with the entry, the byte or the
+/// field.
+///
+/// ```
+/// use kormaglen::{LineRefusal, Refusal, Schema};
+///
+/// let json = br#"[{"name":"age","type":"u64","options":{"indexed":true,"stored":true}}]"#;
+/// let mut schema = Schema::open(json)?;
+/// assert_eq!(schema.find_field("name"), Err(Refusal::NoField));
+/// println!("{}", Refusal::NoField);
+/// # Ok::<(), Refusal>(())
+/// ```
+#[non_exhaustive]
+#[derive(Clone, Copy, Debug, PartialEq, Eq, Hash)]
+pub enum Refusal {
+    /// What is to be written takes more bytes than a buffer of this machine can have.
+    TooLarge {
+        /// How many bytes it takes.
+        bytes: u64,
+    },
+    /// Memory was refused.
+    Memory,
+    /// A text isn't UTF-8.
+    NotUtf8,
+    /// A facet's text doesn't begin with `/`.
+    NotAFacet,
+    /// The schema isn't JSON.
+    InvalidJson,
+    /// The JSON describes no schema.
+    BadSchema {
+        /// Why it doesn't.
+        reason: SchemaReason,
+        /// The number of the entry that is wrong, from 1, or 0 for the whole.
+        entry: u64,
+    },
+    /// The path names no field.
+    NoField,
+    /// A document is refused.
+    BadDocument {
+        /// Why it is.
+        reason: DocumentReason,
+        /// At which byte of the block it begins.
+        start: u64,
+    },
+    /// The call has no such version of the store: no version has this number, or the call doesn't
+    /// write this one.
+    WrongVersion,
+    /// No byte string is above all that begin with the prefix.
+    NoEnd,
+    /// There is no document of a line.
+    BadLine(LineRefusal),
+    /// The document has a field that the schema doesn't have.
+    ForeignField {
+        /// The field's number.
+        field: u32,
+    },
+    /// The document's value holds nothing.
+    Closed,
+    /// An answer that this crate has no name for.
+    Unknown {
+        /// The number of the answer.
+        status: u32,
+        /// The number of its reason.
+        detail: u32,
+        /// The place that it names.
+        place: u64,
+    },
+}
+
+impl Refusal {
+    /// The number that the C header has for this refusal.
+    ///
+    /// ```
+    /// assert_eq!(kormaglen::Refusal::Closed.status(), 15);
+    /// ```
+    pub fn status(&self) -> u32 {
+        match self {
+            Refusal::TooLarge { .. } => TOO_SMALL,
+            Refusal::Memory => NO_MEMORY,
+            Refusal::NotUtf8 => NOT_UTF8,
+            Refusal::NotAFacet => NOT_A_FACET,
+            Refusal::InvalidJson => INVALID_JSON,
+            Refusal::BadSchema { .. } => BAD_SCHEMA,
+            Refusal::NoField => NO_FIELD,
+            Refusal::BadDocument { .. } => BAD_DOCUMENT,
+            Refusal::WrongVersion => WRONG_VERSION,
+            Refusal::NoEnd => NO_END,
+            Refusal::BadLine(_) => BAD_LINE,
+            Refusal::ForeignField { .. } => FOREIGN_FIELD,
+            Refusal::Closed => CLOSED,
+            Refusal::Unknown { status, .. } => *status,
+        }
+    }
+
+    /// The same refusal of a document that the call had as the first of its block, whereas it
+    /// begins behind so many bytes.
+    pub(crate) fn behind(self, bytes: usize) -> Refusal {
+        match self {
+            Refusal::BadDocument { reason, start } => {
+                Refusal::BadDocument { reason, start: start.saturating_add(bytes as u64) }
+            }
+            other => other,
+        }
+    }
+}
+
+impl fmt::Display for Refusal {
+    fn fmt(&self, f: &mut fmt::Formatter<'_>) -> fmt::Result {
+        f.write_str(calls::status_text(self.status()))?;
+        match self {
+            Refusal::TooLarge { bytes } => write!(f, ": {bytes} bytes are needed"),
+            Refusal::BadSchema { reason, entry: 0 } => write!(f, ": {reason}"),
+            Refusal::BadSchema { reason, entry } => write!(f, ": {reason}, entry {entry}"),
+            Refusal::BadDocument { reason, start } => write!(f, ": {reason}, from byte {start}"),
+            Refusal::BadLine(line) => write!(f, ": {line}"),
+            Refusal::ForeignField { field } => write!(f, ": field {field}"),
+            Refusal::Unknown { status, detail, place } => {
+                write!(f, ": status {status}, detail {detail}, place {place}")
+            }
+            _ => Ok(()),
+        }
+    }
+}
+
+impl Error for Refusal {}
+
+/// Why a line has no document. It prints as the library's words for the reason, and the number of
+/// the field.
+///
+/// ```
+/// use kormaglen::{LineReason, Schema};
+///
+/// let json = br#"[{"name":"age","type":"u64","options":{"indexed":true,"stored":true}}]"#;
+/// let imported = Schema::open(json)?.import_lines(b"{\"age\":\"old\"}\n")?;
+/// let refusal = imported.lines[0].unwrap_err();
+/// assert_eq!(refusal.reason, LineReason::WrongType);
+/// assert_eq!(refusal.field, Some(0));
+/// assert!(refusal.to_string().ends_with("field 0"));
+/// # Ok::<(), kormaglen::Refusal>(())
+/// ```
+#[non_exhaustive]
+#[derive(Clone, Copy, Debug, PartialEq, Eq, Hash)]
+pub struct LineRefusal {
+    /// Why it hasn't.
+    pub reason: LineReason,
+    /// The number of the field whose value is refused, where it is one that is.
+    pub field: Option<u32>,
+}
+
+impl LineRefusal {
+    pub(crate) fn of_numbers(status: u32, field: u32) -> LineRefusal {
+        let reason = LineReason::of_number(status);
+        LineRefusal { reason, field: reason.has_field().then_some(field) }
+    }
+}
+
+impl fmt::Display for LineRefusal {
+    fn fmt(&self, f: &mut fmt::Formatter<'_>) -> fmt::Result {
+        match self.field {
+            Some(field) => write!(f, "{}, field {field}", self.reason),
+            None => write!(f, "{}", self.reason),
+        }
+    }
+}
+
+impl Error for LineRefusal {}
+
+impl Answer {
+    /// The answer itself, unless it is a refusal.
+    pub(crate) fn accepted(self) -> Result<Answer, Refusal> {
+        match self.status {
+            OK => Ok(self),
+            _ => Err(self.refusal()),
+        }
+    }
+
+    /// Whether a buffer was too small.
+    pub(crate) fn is_too_small(&self) -> bool {
+        self.status == TOO_SMALL
+    }
+
+    fn refusal(self) -> Refusal {
+        let Answer { status, detail, place, bytes, .. } = self;
+        let field = u32::try_from(place);
+        match (status, field) {
+            (TOO_SMALL, _) => Refusal::TooLarge { bytes },
+            (NO_MEMORY, _) => Refusal::Memory,
+            (NOT_UTF8, _) => Refusal::NotUtf8,
+            (NOT_A_FACET, _) => Refusal::NotAFacet,
+            (INVALID_JSON, _) => Refusal::InvalidJson,
+            (BAD_SCHEMA, _) => {
+                Refusal::BadSchema { reason: SchemaReason::of_number(detail), entry: place }
+            }
+            (NO_FIELD, _) => Refusal::NoField,
+            (BAD_DOCUMENT, _) => {
+                Refusal::BadDocument { reason: DocumentReason::of_number(detail), start: place }
+            }
+            (WRONG_VERSION, _) => Refusal::WrongVersion,
+            (NO_END, _) => Refusal::NoEnd,
+            (BAD_LINE, Ok(field)) => Refusal::BadLine(LineRefusal::of_numbers(detail, field)),
+            (FOREIGN_FIELD, Ok(field)) => Refusal::ForeignField { field },
+            (CLOSED, _) => Refusal::Closed,
+            _ => Refusal::Unknown { status, detail, place },
+        }
+    }
+}
