@@ -311,7 +311,7 @@ impl SchemaHandle {
         (schema, answer)
     }
 
-    pub(crate) fn to_json(&mut self, text: &mut [u8]) -> Answer {
+    pub(crate) fn write_json(&mut self, text: &mut [u8]) -> Answer {
         // SAFETY: the slice is written, and the handle is lent to this call alone.
         unsafe { c::kormaglen_schema_to_json(&mut self.0, text.as_mut_ptr(), text.len()) }
     }
@@ -389,7 +389,7 @@ impl DocumentHandle {
         unsafe { c::kormaglen_document_parse(schema, line.as_ptr(), line.len(), handle) }
     }
 
-    pub(crate) fn to_json(&mut self, schema: &mut SchemaHandle, text: &mut [u8]) -> Answer {
+    pub(crate) fn write_json(&mut self, schema: &mut SchemaHandle, text: &mut [u8]) -> Answer {
         let (schema, handle) = (&mut schema.0, &mut self.0);
         // SAFETY: the slice is written, and both handles are lent to this call alone.
         unsafe { c::kormaglen_document_to_json(handle, schema, text.as_mut_ptr(), text.len()) }

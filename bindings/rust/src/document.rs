@@ -152,7 +152,7 @@ impl Document {
     ///
     /// `Closed` where there is no document, `Memory`, `TooLarge`.
     pub fn to_json(&mut self, schema: &mut Schema) -> Result<String, Refusal> {
-        filled_text(FIRST_ROOM, |text| self.handle.to_json(schema.handle(), text))
+        filled_text(FIRST_ROOM, |text| self.handle.write_json(schema.handle(), text))
     }
 
     /// The values of stored fields, as version 2 or 3 has them.

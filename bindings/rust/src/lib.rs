@@ -59,7 +59,7 @@ pub use document::Document;
 pub use documents::{documents, Documents};
 pub use facets::{facet_of_text, text_of_facet};
 pub use reader::{ImportError, ImportedBlocks};
-pub use reasons::{DocumentReason, LineReason, SchemaReason};
+pub use reasons::{ArgumentReason, DocumentReason, LineReason, SchemaReason};
 pub use refusal::{LineRefusal, Refusal};
 pub use schema::{find_field, Field, Schema};
 pub use terms::{end_of_prefix, term_of_text, terms, terms_of_block, Term, Terms};

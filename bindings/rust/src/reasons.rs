@@ -7,6 +7,8 @@ use std::fmt;
 pub(crate) const BAD_SCHEMA: u32 = 6;
 /// The library's status of a document that is refused.
 pub(crate) const BAD_DOCUMENT: u32 = 8;
+/// The library's status of a pointer that is refused.
+pub(crate) const BAD_ARGUMENT: u32 = 16;
 
 /// Makes an enum of numbers, with a variant for every other number, so that a library that has more
 /// of them is no error.
@@ -191,6 +193,26 @@ reasons! {
     Float = 6,
     /// The values need more than 4294967295 bytes.
     NoRoom = 7,
+}
+
+reasons! {
+    /// Why a pointer of a call is refused. What this crate hands over is never refused so.
+    ///
+    /// ```
+    /// use kormaglen::ArgumentReason;
+    ///
+    /// assert_eq!(ArgumentReason::Overlap.number(), 4);
+    /// println!("{}", ArgumentReason::Overlap);
+    /// ```
+    ArgumentReason, |number| calls::detail_text(BAD_ARGUMENT, number);
+    /// It is null, and has a length.
+    Null = 1,
+    /// No buffer has this length.
+    TooLarge = 2,
+    /// It isn't aligned for what it points to.
+    Unaligned = 3,
+    /// The buffer overlaps one that stands before it in the call, and one of the two is written.
+    Overlap = 4,
 }
 
 impl LineReason {

@@ -1,7 +1,8 @@
 //! Why a call was refused.
 
 use crate::calls::{self, Answer};
-use crate::reasons::{DocumentReason, LineReason, SchemaReason, BAD_DOCUMENT, BAD_SCHEMA};
+use crate::reasons::{ArgumentReason, DocumentReason, LineReason, SchemaReason};
+use crate::reasons::{BAD_ARGUMENT, BAD_DOCUMENT, BAD_SCHEMA};
 use std::error::Error;
 use std::fmt;
 
@@ -18,8 +19,7 @@ const BAD_LINE: u32 = 11;
 const FOREIGN_FIELD: u32 = 12;
 const CLOSED: u32 = 15;
 
-/// Why a call was refused. It prints as the library's words for it, with the entry, the byte or the
-/// field.
+/// Why a call was refused. It prints as the library's words, with the entry, the byte or the field.
 ///
 /// ```
 /// use kormaglen::{LineRefusal, Refusal, Schema};
@@ -76,6 +76,13 @@ pub enum Refusal {
     },
     /// The document's value holds nothing.
     Closed,
+    /// A pointer of the call is refused. What this crate hands over is never refused so.
+    BadArgument {
+        /// Why it is.
+        reason: ArgumentReason,
+        /// The number of the pointer among those of the call, from 1.
+        pointer: u64,
+    },
     /// An answer that this crate has no name for.
     Unknown {
         /// The number of the answer.
@@ -108,6 +115,7 @@ impl Refusal {
             Refusal::BadLine(_) => BAD_LINE,
             Refusal::ForeignField { .. } => FOREIGN_FIELD,
             Refusal::Closed => CLOSED,
+            Refusal::BadArgument { .. } => BAD_ARGUMENT,
             Refusal::Unknown { status, .. } => *status,
         }
     }
@@ -130,10 +138,11 @@ impl fmt::Display for Refusal {
         match self {
             Refusal::TooLarge { bytes } => write!(f, ": {bytes} bytes are needed"),
             Refusal::BadSchema { reason, entry: 0 } => write!(f, ": {reason}"),
-            Refusal::BadSchema { reason, entry } => write!(f, ": {reason}, entry {entry}"),
-            Refusal::BadDocument { reason, start } => write!(f, ": {reason}, from byte {start}"),
+            Refusal::BadSchema { reason, entry } => write!(f, ": entry {entry}: {reason}"),
+            Refusal::BadDocument { reason, start } => write!(f, ": at byte {start}: {reason}"),
             Refusal::BadLine(line) => write!(f, ": {line}"),
             Refusal::ForeignField { field } => write!(f, ": field {field}"),
+            Refusal::BadArgument { reason, pointer } => write!(f, ": pointer {pointer}: {reason}"),
             Refusal::Unknown { status, detail, place } => {
                 write!(f, ": status {status}, detail {detail}, place {place}")
             }
@@ -144,8 +153,8 @@ impl fmt::Display for Refusal {
 
 impl Error for Refusal {}
 
-/// Why a line has no document. It prints as the library's words for the reason, and the number of
-/// the field.
+/// Why a line has no document. It prints as the number of the field, and the library's words for the
+/// reason.
 ///
 /// ```
 /// use kormaglen::{LineReason, Schema};
@@ -155,7 +164,7 @@ impl Error for Refusal {}
 /// let refusal = imported.lines[0].unwrap_err();
 /// assert_eq!(refusal.reason, LineReason::WrongType);
 /// assert_eq!(refusal.field, Some(0));
-/// assert!(refusal.to_string().ends_with("field 0"));
+/// assert!(refusal.to_string().starts_with("field 0: "));
 /// # Ok::<(), kormaglen::Refusal>(())
 /// ```
 #[non_exhaustive]
@@ -177,7 +186,7 @@ impl LineRefusal {
 impl fmt::Display for LineRefusal {
     fn fmt(&self, f: &mut fmt::Formatter<'_>) -> fmt::Result {
         match self.field {
-            Some(field) => write!(f, "{}, field {field}", self.reason),
+            Some(field) => write!(f, "field {field}: {}", self.reason),
             None => write!(f, "{}", self.reason),
         }
     }
@@ -220,6 +229,9 @@ impl Answer {
             (BAD_LINE, Ok(field)) => Refusal::BadLine(LineRefusal::of_numbers(detail, field)),
             (FOREIGN_FIELD, Ok(field)) => Refusal::ForeignField { field },
             (CLOSED, _) => Refusal::Closed,
+            (BAD_ARGUMENT, _) => {
+                Refusal::BadArgument { reason: ArgumentReason::of_number(detail), pointer: place }
+            }
             _ => Refusal::Unknown { status, detail, place },
         }
     }

@@ -87,7 +87,7 @@ impl Schema {
     ///
     /// `Memory`, `TooLarge`.
     pub fn to_json(&mut self) -> Result<String, Refusal> {
-        filled_text(FIRST_ROOM, |text| self.handle.to_json(text))
+        filled_text(FIRST_ROOM, |text| self.handle.write_json(text))
     }
 
     /// As [`import_lines`](crate::import_lines()), by this schema.
