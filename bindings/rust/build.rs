@@ -12,7 +12,7 @@ fn main() {
     if env::var_os("DOCS_RS").is_some() {
         return;
     }
-    let is_shared = env::var_os("KORMAGLEN_SHARED").is_some_and(|value| value != "0");
+    let is_shared = env::var_os("KORMAGLEN_SHARED").map_or(false, |value| value != "0");
     let file = match (is_shared, env::var("CARGO_CFG_TARGET_OS").as_deref()) {
         (false, _) => "libkormaglen.a",
         (true, Ok("macos")) => "libkormaglen.dylib",

@@ -19,11 +19,14 @@ use std::process::ExitCode;
 
 fn main() -> ExitCode {
     let arguments: Vec<OsString> = env::args_os().skip(1).collect();
-    let [file, schema, out] = &arguments[..] else {
-        eprintln!("usage: import_file FILE SCHEMA OUT");
-        return ExitCode::from(2);
+    let imported = match &arguments[..] {
+        [file, schema, out] => import(Path::new(file), Path::new(schema), Path::new(out)),
+        _ => {
+            eprintln!("usage: import_file FILE SCHEMA OUT");
+            return ExitCode::from(2);
+        }
     };
-    match import(Path::new(file), Path::new(schema), Path::new(out)) {
+    match imported {
         Ok(counts) => {
             println!("{} documents stored, {} lines refused", counts.stored, counts.refused);
             ExitCode::SUCCESS

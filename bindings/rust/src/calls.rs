@@ -4,7 +4,8 @@
 //! is long. A slice that is written is lent by `&mut`, so it overlaps no other one of the call. The
 //! library keeps no pointer behind a call.
 
-use std::ffi::{c_char, c_void, CStr};
+use std::ffi::CStr;
+use std::os::raw::{c_char, c_void};
 use std::ptr::null_mut;
 
 /// What a call answers.
@@ -47,11 +48,11 @@ mod c {
     use super::{c_char, Answer, FoundField, Handle, LineAnswer};
 
     extern "C" {
-        pub fn kormaglen_version() -> *const c_char;
-        pub fn kormaglen_status_text(status: u32) -> *const c_char;
-        pub fn kormaglen_detail_text(status: u32, detail: u32) -> *const c_char;
-        pub fn kormaglen_line_status_text(status: u32) -> *const c_char;
-        pub fn kormaglen_import_lines(
+        pub(super) fn kormaglen_version() -> *const c_char;
+        pub(super) fn kormaglen_status_text(status: u32) -> *const c_char;
+        pub(super) fn kormaglen_detail_text(status: u32, detail: u32) -> *const c_char;
+        pub(super) fn kormaglen_line_status_text(status: u32) -> *const c_char;
+        pub(super) fn kormaglen_import_lines(
             schema: *const u8,
             schema_len: usize,
             lines: *const u8,
@@ -61,7 +62,7 @@ mod c {
             answers: *mut LineAnswer,
             answers_len: usize,
         ) -> Answer;
-        pub fn kormaglen_export_block(
+        pub(super) fn kormaglen_export_block(
             schema: *const u8,
             schema_len: usize,
             version: u32,
@@ -70,7 +71,7 @@ mod c {
             lines: *mut u8,
             lines_len: usize,
         ) -> Answer;
-        pub fn kormaglen_migrate_block(
+        pub(super) fn kormaglen_migrate_block(
             from: u32,
             block: *const u8,
             block_len: usize,
@@ -78,26 +79,26 @@ mod c {
             migrated: *mut u8,
             migrated_len: usize,
         ) -> Answer;
-        pub fn kormaglen_find_field(
+        pub(super) fn kormaglen_find_field(
             schema: *const u8,
             schema_len: usize,
             path: *const u8,
             path_len: usize,
             found: *mut FoundField,
         ) -> Answer;
-        pub fn kormaglen_facet_of_text(
+        pub(super) fn kormaglen_facet_of_text(
             text: *const u8,
             text_len: usize,
             encoded: *mut u8,
             encoded_len: usize,
         ) -> Answer;
-        pub fn kormaglen_text_of_facet(
+        pub(super) fn kormaglen_text_of_facet(
             encoded: *const u8,
             encoded_len: usize,
             text: *mut u8,
             text_len: usize,
         ) -> Answer;
-        pub fn kormaglen_terms_of_block(
+        pub(super) fn kormaglen_terms_of_block(
             field: u32,
             version: u32,
             block: *const u8,
@@ -105,31 +106,31 @@ mod c {
             terms: *mut u8,
             terms_len: usize,
         ) -> Answer;
-        pub fn kormaglen_term_of_text(
+        pub(super) fn kormaglen_term_of_text(
             field: u32,
             text: *const u8,
             text_len: usize,
             term: *mut u8,
             term_len: usize,
         ) -> Answer;
-        pub fn kormaglen_end_of_prefix(
+        pub(super) fn kormaglen_end_of_prefix(
             prefix: *const u8,
             prefix_len: usize,
             end: *mut u8,
             end_len: usize,
         ) -> Answer;
-        pub fn kormaglen_schema_open(
+        pub(super) fn kormaglen_schema_open(
             json: *const u8,
             json_len: usize,
             schema: *mut Handle,
         ) -> Answer;
-        pub fn kormaglen_schema_close(schema: *mut Handle);
-        pub fn kormaglen_schema_to_json(
+        pub(super) fn kormaglen_schema_close(schema: *mut Handle);
+        pub(super) fn kormaglen_schema_to_json(
             schema: *mut Handle,
             text: *mut u8,
             text_len: usize,
         ) -> Answer;
-        pub fn kormaglen_schema_import_lines(
+        pub(super) fn kormaglen_schema_import_lines(
             schema: *mut Handle,
             lines: *const u8,
             lines_len: usize,
@@ -138,7 +139,7 @@ mod c {
             answers: *mut LineAnswer,
             answers_len: usize,
         ) -> Answer;
-        pub fn kormaglen_schema_export_block(
+        pub(super) fn kormaglen_schema_export_block(
             schema: *mut Handle,
             version: u32,
             block: *const u8,
@@ -146,38 +147,38 @@ mod c {
             lines: *mut u8,
             lines_len: usize,
         ) -> Answer;
-        pub fn kormaglen_schema_find_field(
+        pub(super) fn kormaglen_schema_find_field(
             schema: *mut Handle,
             path: *const u8,
             path_len: usize,
             found: *mut FoundField,
         ) -> Answer;
-        pub fn kormaglen_document_read(
+        pub(super) fn kormaglen_document_read(
             version: u32,
             bytes: *const u8,
             bytes_len: usize,
             document: *mut Handle,
         ) -> Answer;
-        pub fn kormaglen_document_parse(
+        pub(super) fn kormaglen_document_parse(
             schema: *mut Handle,
             line: *const u8,
             line_len: usize,
             document: *mut Handle,
         ) -> Answer;
-        pub fn kormaglen_document_to_json(
+        pub(super) fn kormaglen_document_to_json(
             document: *mut Handle,
             schema: *mut Handle,
             text: *mut u8,
             text_len: usize,
         ) -> Answer;
-        pub fn kormaglen_document_write(
+        pub(super) fn kormaglen_document_write(
             document: *mut Handle,
             schema: *mut Handle,
             version: u32,
             bytes: *mut u8,
             bytes_len: usize,
         ) -> Answer;
-        pub fn kormaglen_document_close(document: *mut Handle);
+        pub(super) fn kormaglen_document_close(document: *mut Handle);
     }
 }
 

@@ -50,6 +50,13 @@ fn a_schema_is_refused_alike_by_each_call() {
     }
 }
 
+fn schema_refusal(refusal: Refusal) -> (SchemaReason, u64) {
+    match refusal {
+        Refusal::BadSchema { reason, entry } => (reason, entry),
+        other => panic!("{other:?}"),
+    }
+}
+
 /// A good entry, and then one of this type with these options.
 fn second_entry(kind: &str, options: &str) -> String {
     let good = r#"{"name":"a","type":"facet","options":{"stored":true}}"#;
@@ -83,7 +90,7 @@ fn a_schema_is_refused_with_the_entry_and_the_key() {
     ];
     for (kind, options, number, word) in rows {
         let refusal = Schema::open(second_entry(kind, options).as_bytes()).unwrap_err();
-        let Refusal::BadSchema { reason, entry } = refusal else { panic!("{refusal:?}") };
+        let (reason, entry) = schema_refusal(refusal);
         assert_eq!((reason.number(), entry), (number, 2), "{kind} {options}");
         expect_words(refusal);
         let words = refusal.to_string();
@@ -104,7 +111,7 @@ fn an_entry_is_refused_as_a_whole() {
     ];
     for (json, wanted, place) in rows {
         let refusal = Schema::open(json.as_bytes()).unwrap_err();
-        let Refusal::BadSchema { reason, entry } = refusal else { panic!("{refusal:?}") };
+        let (reason, entry) = schema_refusal(refusal);
         assert_eq!((reason, entry), (wanted, place), "{json}");
         expect_words(refusal);
     }
