@@ -22,6 +22,8 @@ fn main() {
         eprintln!("{message}");
         exit(1)
     });
+    // The compiler runs in another folder than this script.
+    let folder = folder.canonicalize().unwrap_or(folder);
     println!("cargo:rerun-if-changed={}", folder.join(file).display());
     println!("cargo:rustc-link-search=native={}", folder.display());
     if is_shared {

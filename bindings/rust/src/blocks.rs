@@ -99,14 +99,17 @@ pub fn import_lines(schema: &[u8], lines: &[u8]) -> Result<Imported, Refusal> {
 
 /// What a call imports of lines.
 pub(crate) fn imported(
-    lines: &[u8],
+    text: &[u8],
     call: impl FnMut(&mut [u8], &mut [LineAnswer]) -> Answer,
 ) -> Result<Imported, Refusal> {
-    let line_feeds = lines.iter().filter(|byte| **byte == b'\n').count();
-    let room = Room { bytes: lines.len(), lines: line_feeds + 1 };
+    let line_feeds = text.iter().filter(|byte| **byte == b'\n').count();
+    let room = Room { bytes: text.len(), lines: line_feeds + 1 };
     let (mut block, mut answers) = (Vec::new(), Vec::new());
     append_with_lines(&mut block, &mut answers, room, call)?;
-    Ok(Imported { block, lines: answers.into_iter().map(line).collect() })
+    let mut lines = Vec::new();
+    lines.try_reserve_exact(answers.len()).map_err(|_| Refusal::Memory)?;
+    lines.extend(answers.into_iter().map(line));
+    Ok(Imported { block, lines })
 }
 
 fn line(answer: LineAnswer) -> Result<u64, LineRefusal> {

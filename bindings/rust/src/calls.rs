@@ -51,7 +51,6 @@ mod c {
         pub(super) fn kormaglen_version() -> *const c_char;
         pub(super) fn kormaglen_status_text(status: u32) -> *const c_char;
         pub(super) fn kormaglen_detail_text(status: u32, detail: u32) -> *const c_char;
-        pub(super) fn kormaglen_line_status_text(status: u32) -> *const c_char;
         pub(super) fn kormaglen_import_lines(
             schema: *const u8,
             schema_len: usize,
@@ -205,11 +204,6 @@ pub(crate) fn status_text(status: u32) -> &'static str {
 pub(crate) fn detail_text(status: u32, detail: u32) -> &'static str {
     // SAFETY: the text is a constant of the library's, for all numbers.
     unsafe { words(c::kormaglen_detail_text(status, detail)) }
-}
-
-pub(crate) fn line_status_text(status: u32) -> &'static str {
-    // SAFETY: the text is a constant of the library's, for every number.
-    unsafe { words(c::kormaglen_line_status_text(status)) }
 }
 
 pub(crate) fn import_lines(

@@ -3,6 +3,7 @@
 use crate::blocks::Version;
 use crate::document::Document;
 use crate::refusal::Refusal;
+use std::fmt;
 use std::iter::FusedIterator;
 
 /// The documents of a block, one behind the other. The block is read as far as documents are asked
@@ -40,7 +41,8 @@ pub fn documents(version: Version, block: &[u8]) -> Documents<'_> {
 /// assert_eq!(refusal, Refusal::BadDocument { reason, start: 1 });
 /// assert!(found.next().is_none());
 /// ```
-#[derive(Clone, Debug)]
+#[derive(Clone)]
+#[must_use = "documents are read as they are asked for"]
 pub struct Documents<'b> {
     version: Version,
     block: &'b [u8],
@@ -135,3 +137,13 @@ impl Iterator for Documents<'_> {
 }
 
 impl FusedIterator for Documents<'_> {}
+
+/// Prints the version and the offset. The block may be large.
+impl fmt::Debug for Documents<'_> {
+    fn fmt(&self, f: &mut fmt::Formatter<'_>) -> fmt::Result {
+        f.debug_struct("Documents")
+            .field("version", &self.version)
+            .field("offset", &self.offset)
+            .finish_non_exhaustive()
+    }
+}

@@ -68,6 +68,7 @@ impl Error for ImportError {
 /// assert_eq!(block, b"\x80\x80\x80");
 /// # Ok::<(), Box<dyn std::error::Error>>(())
 /// ```
+#[must_use = "lines are imported as blocks are asked for"]
 pub struct ImportedBlocks<'s, R> {
     schema: &'s mut Schema,
     reader: R,

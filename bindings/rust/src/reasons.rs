@@ -7,6 +7,8 @@ use std::fmt;
 pub(crate) const BAD_SCHEMA: u32 = 6;
 /// The library's status of a document that is refused.
 pub(crate) const BAD_DOCUMENT: u32 = 8;
+/// The library's status of a line that is refused.
+pub(crate) const BAD_LINE: u32 = 11;
 /// The library's status of a pointer that is refused.
 pub(crate) const BAD_ARGUMENT: u32 = 16;
 
@@ -15,7 +17,7 @@ pub(crate) const BAD_ARGUMENT: u32 = 16;
 macro_rules! reasons {
     (
         $(#[$about:meta])*
-        $name:ident, $text:expr;
+        $name:ident, of $status:ident;
         $($(#[$says:meta])* $variant:ident = $number:literal,)*
     ) => {
         $(#[$about])*
@@ -47,8 +49,7 @@ macro_rules! reasons {
         /// Prints the library's words for the reason.
         impl fmt::Display for $name {
             fn fmt(&self, f: &mut fmt::Formatter<'_>) -> fmt::Result {
-                let text: fn(u32) -> &'static str = $text;
-                match text(self.number()) {
+                match calls::detail_text($status, self.number()) {
                     "" => write!(f, "unknown reason {}", self.number()),
                     words => f.write_str(words),
                 }
@@ -73,7 +74,7 @@ reasons! {
     ///     other => panic!("{other:?}"),
     /// }
     /// ```
-    SchemaReason, |number| calls::detail_text(BAD_SCHEMA, number);
+    SchemaReason, of BAD_SCHEMA;
     /// A field's name is empty or begins with `-`.
     BadName = 1,
     /// Two fields have the same name.
@@ -134,7 +135,7 @@ reasons! {
     ///     other => panic!("{other:?}"),
     /// }
     /// ```
-    DocumentReason, |number| calls::detail_text(BAD_DOCUMENT, number);
+    DocumentReason, of BAD_DOCUMENT;
     /// The bytes end inside the document.
     UnexpectedEnd = 1,
     /// A value has a code that names no type.
@@ -178,7 +179,7 @@ reasons! {
     /// assert_eq!(reason.number(), 1);
     /// # Ok::<(), kormaglen::Refusal>(())
     /// ```
-    LineReason, calls::line_status_text;
+    LineReason, of BAD_LINE;
     /// The line is no JSON object.
     InvalidJson = 1,
     /// A number doesn't fit the field's type.
@@ -204,7 +205,7 @@ reasons! {
     /// assert_eq!(ArgumentReason::Overlap.number(), 4);
     /// println!("{}", ArgumentReason::Overlap);
     /// ```
-    ArgumentReason, |number| calls::detail_text(BAD_ARGUMENT, number);
+    ArgumentReason, of BAD_ARGUMENT;
     /// It is null, and has a length.
     Null = 1,
     /// No buffer has this length.

@@ -2,7 +2,7 @@
 
 use crate::calls::{self, Answer};
 use crate::reasons::{ArgumentReason, DocumentReason, LineReason, SchemaReason};
-use crate::reasons::{BAD_ARGUMENT, BAD_DOCUMENT, BAD_SCHEMA};
+use crate::reasons::{BAD_ARGUMENT, BAD_DOCUMENT, BAD_LINE, BAD_SCHEMA};
 use std::error::Error;
 use std::fmt;
 
@@ -15,14 +15,13 @@ const INVALID_JSON: u32 = 5;
 const NO_FIELD: u32 = 7;
 const WRONG_VERSION: u32 = 9;
 const NO_END: u32 = 10;
-const BAD_LINE: u32 = 11;
 const FOREIGN_FIELD: u32 = 12;
 const CLOSED: u32 = 15;
 
 /// Why a call was refused. It prints as the library's words, with the entry, the byte or the field.
 ///
 /// ```
-/// use kormaglen::{LineRefusal, Refusal, Schema};
+/// use kormaglen::{Refusal, Schema};
 ///
 /// let json = br#"[{"name":"age","type":"u64","options":{"indexed":true,"stored":true}}]"#;
 /// let mut schema = Schema::open(json)?;
@@ -38,7 +37,7 @@ pub enum Refusal {
         /// How many bytes it takes.
         bytes: u64,
     },
-    /// Memory was refused.
+    /// Memory was refused, to the library or for a buffer.
     Memory,
     /// A text isn't UTF-8.
     NotUtf8,
@@ -234,5 +233,65 @@ impl Answer {
             }
             _ => Refusal::Unknown { status, detail, place },
         }
+    }
+}
+
+#[cfg(test)]
+mod tests {
+    use super::{calls, Answer, Refusal};
+    use crate::reasons::{ArgumentReason, DocumentReason, LineReason, SchemaReason};
+
+    fn refused(status: u32, detail: u32, place: u64) -> Refusal {
+        Answer { status, detail, place, bytes: 7, lines: 0 }.accepted().unwrap_err()
+    }
+
+    #[test]
+    fn each_number_is_that_of_its_refusal_and_has_its_words() {
+        for status in (1..100).chain([u32::MAX]) {
+            let refusal = refused(status, 1, 2);
+            assert_eq!(refusal.status(), status);
+            assert!(refusal.to_string().starts_with(calls::status_text(status)));
+            let is_known = calls::status_text(status) != calls::status_text(u32::MAX);
+            assert_eq!(matches!(refusal, Refusal::Unknown { .. }), !is_known, "{status}");
+        }
+    }
+
+    #[test]
+    fn each_reason_has_a_name_where_the_library_has_words() {
+        for number in (1..100).chain([u32::MAX]) {
+            let names = [
+                (6, matches!(SchemaReason::of_number(number), SchemaReason::Unknown(_))),
+                (8, matches!(DocumentReason::of_number(number), DocumentReason::Unknown(_))),
+                (11, matches!(LineReason::of_number(number), LineReason::Unknown(_))),
+                (16, matches!(ArgumentReason::of_number(number), ArgumentReason::Unknown(_))),
+            ];
+            for (status, is_unknown) in names {
+                let has_words = !calls::detail_text(status, number).is_empty();
+                assert_eq!(has_words, !is_unknown, "{status} {number}");
+                let words = refused(status, number, 2).to_string();
+                assert_eq!(words.contains(&format!("unknown reason {number}")), is_unknown);
+            }
+        }
+    }
+
+    #[test]
+    fn places_are_kept_whole() {
+        let place = u64::from(u32::MAX) + 1;
+        let entry = Refusal::BadSchema { reason: SchemaReason::BadName, entry: place };
+        assert_eq!(refused(6, 1, place), entry);
+        let start = Refusal::BadDocument { reason: DocumentReason::Float, start: place };
+        assert_eq!(refused(8, 4, place), start);
+        assert_eq!(start.behind(usize::MAX).behind(1).status(), 8);
+        // A field's number has 32 bits.
+        let unknown = Refusal::Unknown { status: 12, detail: 0, place };
+        assert_eq!(refused(12, 0, place), unknown);
+        assert_eq!(refused(11, 3, place), Refusal::Unknown { status: 11, detail: 3, place });
+        assert_eq!(refused(12, 0, place - 1), Refusal::ForeignField { field: u32::MAX });
+    }
+
+    #[test]
+    fn the_whole_of_a_schema_has_no_entry() {
+        assert!(!refused(6, 4, 0).to_string().contains("entry 0"));
+        assert!(refused(6, 4, 1).to_string().contains("entry 1: "));
     }
 }

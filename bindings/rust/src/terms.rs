@@ -6,6 +6,7 @@ use crate::calls;
 use crate::document::Document;
 use crate::documents::{documents, Documents};
 use crate::refusal::Refusal;
+use std::fmt;
 use std::iter::FusedIterator;
 
 /// A term of a stored value.
@@ -92,7 +93,7 @@ pub fn terms(field: u32, version: Version, block: &[u8]) -> Terms<'_> {
 /// assert!(found.next().is_none());
 /// # Ok::<(), Refusal>(())
 /// ```
-#[derive(Debug)]
+#[must_use = "terms are listed as they are asked for"]
 pub struct Terms<'b> {
     field: u32,
     version: Version,
@@ -152,6 +153,16 @@ impl Iterator for Terms<'_> {
 }
 
 impl FusedIterator for Terms<'_> {}
+
+/// Prints the field, and how far the block was read. The block may be large.
+impl fmt::Debug for Terms<'_> {
+    fn fmt(&self, f: &mut fmt::Formatter<'_>) -> fmt::Result {
+        f.debug_struct("Terms")
+            .field("field", &self.field)
+            .field("documents", &self.documents)
+            .finish_non_exhaustive()
+    }
+}
 
 /// Takes the first term of a list of the library's, which has for each the number of its document
 /// and its length, both in eight bytes, the lowest first, and the term.
