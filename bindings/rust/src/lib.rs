@@ -35,8 +35,9 @@
 //! # Threads
 //!
 //! A [`Schema`] and a [`Document`] can be moved to another thread, and be used and dropped there.
-//! They are used by one call at a time, so their calls take them by `&mut`. Threads that import by
-//! the same schema open it once each. The functions that take no `Schema` are safe from any thread.
+//! Each call changes what it is given of them while it runs, so it takes them by `&mut`. Threads
+//! that import by the same schema open it once each. Calls that are given no `Schema` and no
+//! `Document` are safe from any thread.
 
 #![warn(missing_docs, missing_debug_implementations)]
 #![deny(unsafe_code, unsafe_op_in_unsafe_fn)]

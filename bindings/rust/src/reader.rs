@@ -34,11 +34,12 @@ pub enum ImportError {
     Refused(Refusal),
 }
 
+/// Prints what the reader's error or the refusal prints.
 impl fmt::Display for ImportError {
     fn fmt(&self, f: &mut fmt::Formatter<'_>) -> fmt::Result {
         match self {
-            ImportError::Read(error) => write!(f, "the lines can't be read: {error}"),
-            ImportError::Refused(refusal) => write!(f, "the lines can't be imported: {refusal}"),
+            ImportError::Read(error) => error.fmt(f),
+            ImportError::Refused(refusal) => refusal.fmt(f),
         }
     }
 }
@@ -46,8 +47,8 @@ impl fmt::Display for ImportError {
 impl Error for ImportError {
     fn source(&self) -> Option<&(dyn Error + 'static)> {
         match self {
-            ImportError::Read(error) => Some(error),
-            ImportError::Refused(refusal) => Some(refusal),
+            ImportError::Read(error) => error.source(),
+            ImportError::Refused(refusal) => refusal.source(),
         }
     }
 }

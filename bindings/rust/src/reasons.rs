@@ -38,6 +38,11 @@ macro_rules! reasons {
             }
 
             /// The number that the C header has for this reason.
+            ///
+            /// ```
+            #[doc = concat!("let reason = kormaglen::", stringify!($name), "::Unknown(99);")]
+            /// assert_eq!(reason.number(), 99);
+            /// ```
             pub fn number(self) -> u32 {
                 match self {
                     $($name::$variant => $number,)*
@@ -101,7 +106,7 @@ reasons! {
     Fast = 12,
     /// `fast` of a text or JSON field isn't true, false or an object with `with_tokenizer`, or is
     /// missing where it is required.
-    FastWithTokenizer = 13,
+    FastOfText = 13,
     /// `coerce` isn't true or false.
     Coerce = 14,
     /// `precision` isn't the word of a precision.

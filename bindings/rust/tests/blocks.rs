@@ -130,3 +130,29 @@ fn terms_of_a_date_are_cut_to_the_second() {
     let term = terms(3, Version::V2, &block).next().unwrap().unwrap();
     assert_eq!(term.bytes, [&b"\0\0\0\x03d"[..], &key].concat());
 }
+
+#[test]
+fn all_ways_to_read_a_block_agree_also_on_changed_ones() {
+    let mut schema = Schema::open(SCHEMA).unwrap();
+    let lines = b"{\"s\":\"a\",\"j\":{\"k\":[1,true,null]}}\n{\"u\":258,\"f\":\"/a/b\"}\n{}\n{\"s\":\"b\"}\n";
+    let whole = schema.import_lines(lines).unwrap().block;
+    let mut refused = 0;
+    for place in 0..whole.len() {
+        for byte in [0, 1, 9, 13, 14, 127, 128, 129, 255] {
+            let mut block = whole.clone();
+            block[place] = byte;
+            let one_by_one: Result<Vec<_>, _> = documents(Version::V2, &block).collect();
+            let printed = schema.export_block(Version::V2, &block);
+            assert_eq!(printed.as_ref().err(), one_by_one.as_ref().err(), "{place} {byte}");
+            if let (Ok(printed), Ok(documents)) = (&printed, one_by_one) {
+                let texts = documents.into_iter().map(|mut one| one.to_json(&mut schema));
+                let texts: Vec<String> = texts.map(Result::unwrap).collect();
+                assert!(texts.iter().map(String::as_str).eq(printed.lines()));
+            }
+            let listed: Result<Vec<_>, _> = terms(0, Version::V2, &block).collect();
+            assert_eq!(listed, terms_of_block(0, Version::V2, &block));
+            refused += usize::from(printed.is_err());
+        }
+    }
+    assert!(refused > 0);
+}

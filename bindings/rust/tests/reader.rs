@@ -3,7 +3,7 @@
 mod common;
 
 use common::{stored_text, SCHEMA};
-use kormaglen::{ImportError, Imported, Schema};
+use kormaglen::{ImportError, Imported, Refusal, Schema};
 use std::io::{self, Read};
 
 /// Gives so many bytes at a time, one interruption before each part, and an error behind them all,
@@ -104,11 +104,11 @@ fn lines_before_a_failure_come_and_then_the_failure() {
 }
 
 #[test]
-fn a_failure_has_words_and_a_source() {
-    use std::error::Error;
+fn a_failure_prints_as_that_of_the_reader() {
     let mut schema = Schema::open(SCHEMA).unwrap();
     let reader = Parts::new(b"", 1).failing(io::ErrorKind::TimedOut);
     let error = schema.import_reader(reader).next().unwrap().unwrap_err();
-    assert_eq!(error.to_string(), "the lines can't be read: timed out");
-    assert_eq!(error.source().unwrap().to_string(), "timed out");
+    assert_eq!(error.to_string(), "timed out");
+    let refused = ImportError::Refused(Refusal::Memory);
+    assert_eq!(refused.to_string(), Refusal::Memory.to_string());
 }
