@@ -1,6 +1,6 @@
 //! Blocks of stored documents: lines of JSON become one, and one becomes lines or another one.
 
-use crate::buffer::{append_with_lines, filled, filled_text, Room};
+use crate::buffer::{append_with_lines, filled, filled_text, reserve, Room};
 use crate::calls::{self, Answer, LineAnswer};
 use crate::refusal::{LineRefusal, Refusal};
 
@@ -107,7 +107,7 @@ pub(crate) fn imported(
     let (mut block, mut answers) = (Vec::new(), Vec::new());
     append_with_lines(&mut block, &mut answers, room, call)?;
     let mut lines = Vec::new();
-    lines.try_reserve_exact(answers.len()).map_err(|_| Refusal::Memory)?;
+    reserve(&mut lines, answers.len())?;
     lines.extend(answers.into_iter().map(line));
     Ok(Imported { block, lines })
 }

@@ -84,10 +84,15 @@ fn make_room<T: Clone + Default>(
 ) -> Result<(), Refusal> {
     let len = before.saturating_add(room);
     if items.len() < len {
-        items.try_reserve(len - items.len()).map_err(|_| Refusal::Memory)?;
+        reserve(items, len - items.len())?;
         items.resize(len, T::default());
     }
     Ok(())
+}
+
+/// Has the vector have memory for so many more items.
+pub(crate) fn reserve<T>(items: &mut Vec<T>, more: usize) -> Result<(), Refusal> {
+    items.try_reserve(more).map_err(|_| Refusal::Memory)
 }
 
 /// A size of the library's as one of this machine's.

@@ -1,7 +1,7 @@
 //! The terms of stored values, and where those of a prefix end.
 
 use crate::blocks::Version;
-use crate::buffer::{append, filled, size};
+use crate::buffer::{append, filled, reserve, size};
 use crate::calls;
 use crate::document::Document;
 use crate::documents::{documents, Documents};
@@ -49,8 +49,12 @@ pub fn terms_of_block(field: u32, version: Version, block: &[u8]) -> Result<Vec<
     let records = filled(block.len().saturating_mul(2), |terms| {
         calls::terms_of_block(field, version.number(), block, terms)
     })?;
-    let mut rest = records.as_slice();
-    Ok(std::iter::from_fn(|| first_term(&mut rest)).collect())
+    let (mut rest, mut terms) = (records.as_slice(), Vec::new());
+    while let Some(term) = first_term(&mut rest) {
+        reserve(&mut terms, 1)?;
+        terms.push(term?);
+    }
+    Ok(terms)
 }
 
 /// As [`terms_of_block`], but the terms of one document at a time, so that it takes no more memory
@@ -110,12 +114,12 @@ pub struct Terms<'b> {
 
 impl Terms<'_> {
     /// The next term of the last document that was read.
-    fn next_of_document(&mut self) -> Option<Term> {
+    fn next_of_document(&mut self) -> Option<Result<Term, Refusal>> {
         let mut rest = &self.records[self.given..];
         let term = first_term(&mut rest)?;
         self.given = self.records.len() - rest.len();
         // The library had this document alone.
-        Some(Term { document: self.number - 1, ..term })
+        Some(term.map(|term| Term { document: self.number - 1, ..term }))
     }
 
     /// Lists the terms of the next document, if there is one.
@@ -140,12 +144,13 @@ impl Iterator for Terms<'_> {
 
     fn next(&mut self) -> Option<Result<Term, Refusal>> {
         while !self.is_refused {
-            if let Some(term) = self.next_of_document() {
-                return Some(Ok(term));
-            }
-            if let Err(refusal) = self.list_next()? {
-                self.is_refused = true;
-                return Some(Err(refusal));
+            let given = match self.next_of_document() {
+                Some(term) => Some(term),
+                None => self.list_next()?.err().map(Err),
+            };
+            if let Some(result) = given {
+                self.is_refused = result.is_err();
+                return Some(result);
             }
         }
         None
@@ -166,13 +171,17 @@ impl fmt::Debug for Terms<'_> {
 
 /// Takes the first term of a list of the library's, which has for each the number of its document
 /// and its length, both in eight bytes, the lowest first, and the term.
-fn first_term(list: &mut &[u8]) -> Option<Term> {
+fn first_term(list: &mut &[u8]) -> Option<Result<Term, Refusal>> {
     let document = u64::from_le_bytes(list.get(..8)?.try_into().ok()?);
     let len = u64::from_le_bytes(list.get(8..16)?.try_into().ok()?);
     let end = size(len).ok()?.checked_add(16)?;
-    let bytes = list.get(16..end)?.to_vec();
+    let term = list.get(16..end)?;
     *list = &list[end..];
-    Some(Term { document, bytes })
+    let mut bytes = Vec::new();
+    Some(reserve(&mut bytes, term.len()).map(|()| {
+        bytes.extend_from_slice(term);
+        Term { document, bytes }
+    }))
 }
 
 /// The term of a text. The terms of all texts that begin with it begin with this term.
