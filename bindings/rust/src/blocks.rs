@@ -119,8 +119,8 @@ fn line(answer: LineAnswer) -> Result<u64, LineRefusal> {
     }
 }
 
-/// The documents of a block as lines of JSON with the names of the schema's fields, each with a line
-/// feed. Values of fields that the schema doesn't have are left out.
+/// The documents of a block as lines of JSON with the names of the schema's fields, each with a
+/// line feed. Values of fields that the schema doesn't have are left out.
 ///
 /// The schema is its JSON, which is read anew. [`Schema`](crate::Schema) reads it once for many
 /// calls.

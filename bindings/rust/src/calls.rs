@@ -1,4 +1,5 @@
-//! The calls of the library, each with slices and handles. This is the one module with `unsafe` code.
+//! The calls of the library, each with slices and handles. This is the one module with `unsafe`
+//! code.
 //!
 //! What every call below relies on: the pointer of a slice has as many bytes behind it as the slice
 //! is long. A slice that is written is lent by `&mut`, so it overlaps no other one of the call. The
@@ -360,7 +361,8 @@ impl Drop for SchemaHandle {
     }
 }
 
-/// A document that the library holds, or none. As a `SchemaHandle` it is used by one call at a time.
+/// A document that the library holds, or none. As a `SchemaHandle` it is used by one call at a
+/// time.
 pub(crate) struct DocumentHandle(Handle);
 
 // SAFETY: the library lets a handle be used and closed on any thread, by one call at a time.

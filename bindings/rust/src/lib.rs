@@ -1,5 +1,5 @@
-//! Schemas, stored documents, terms and facets of tantivy 0.26.2, by the calls of the proved library
-//! Kormaglen.
+//! Schemas, stored documents, terms and facets of tantivy 0.26.2, by the calls of the proved
+//! library Kormaglen.
 //!
 //! ```
 //! use kormaglen::{Schema, Version};

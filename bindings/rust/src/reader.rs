@@ -16,14 +16,22 @@ const CHUNK: usize = 1 << 20;
 ///
 /// ```
 /// use kormaglen::{ImportError, Schema};
+/// use std::io::{self, Read};
+///
+/// struct Slow;
+///
+/// impl Read for Slow {
+///     fn read(&mut self, _: &mut [u8]) -> io::Result<usize> {
+///         Err(io::ErrorKind::TimedOut.into())
+///     }
+/// }
 ///
 /// let mut schema = Schema::open(b"[]")?;
-/// let folder = std::fs::File::open(".")?;
-/// match schema.import_reader(folder).next() {
-///     Some(Err(ImportError::Read(error))) => println!("{error}"),
+/// match schema.import_reader(Slow).next() {
+///     Some(Err(ImportError::Read(error))) => assert_eq!(error.kind(), io::ErrorKind::TimedOut),
 ///     other => panic!("{other:?}"),
 /// }
-/// # Ok::<(), Box<dyn std::error::Error>>(())
+/// # Ok::<(), kormaglen::Refusal>(())
 /// ```
 #[non_exhaustive]
 #[derive(Debug)]
@@ -32,14 +40,17 @@ pub enum ImportError {
     Read(io::Error),
     /// The library refused the lines: `Memory` or `TooLarge`.
     Refused(Refusal),
+    /// A line is longer than [`ImportedBlocks::with_line_limit`] allows.
+    LongLine,
 }
 
-/// Prints what the reader's error or the refusal prints.
+/// Prints what the reader's error or the refusal prints, or that a line is too long.
 impl fmt::Display for ImportError {
     fn fmt(&self, f: &mut fmt::Formatter<'_>) -> fmt::Result {
         match self {
             ImportError::Read(error) => error.fmt(f),
             ImportError::Refused(refusal) => refusal.fmt(f),
+            ImportError::LongLine => f.write_str("a line is longer than allowed"),
         }
     }
 }
@@ -49,16 +60,17 @@ impl Error for ImportError {
         match self {
             ImportError::Read(error) => error.source(),
             ImportError::Refused(refusal) => refusal.source(),
+            ImportError::LongLine => None,
         }
     }
 }
 
-/// An iterator over the blocks of a reader's lines, see [`Schema::import_reader`]. Each block has the
-/// documents of whole lines, in order, and answers them as
+/// An iterator over the blocks of a reader's lines, see [`Schema::import_reader`]. Each block has
+/// the documents of whole lines, in order, and answers them as
 /// [`import_lines`](crate::import_lines()) does. Together the blocks are the block of all lines.
 ///
-/// Where the reader fails, the whole lines before that come first, then the error. After an error it
-/// gives nothing more.
+/// Where the reader fails, or a line is longer than allowed, the whole lines before that come
+/// first, then the error. After an error it gives nothing more.
 ///
 /// ```
 /// let mut schema = kormaglen::Schema::open(b"[]")?;
@@ -74,6 +86,7 @@ pub struct ImportedBlocks<'s, R> {
     schema: &'s mut Schema,
     reader: R,
     chunk: usize,
+    line_limit: usize,
     // Bytes that were read, but not yet imported. They are the start of a line.
     pending: Vec<u8>,
     state: State,
@@ -82,14 +95,20 @@ pub struct ImportedBlocks<'s, R> {
 /// What is to be done behind the bytes that were read.
 enum State {
     Reads,
-    Failed(io::Error),
+    Failed(ImportError),
     Ended,
 }
 
 impl<'s, R: Read> ImportedBlocks<'s, R> {
     pub(crate) fn new(schema: &'s mut Schema, reader: R) -> ImportedBlocks<'s, R> {
-        let pending = Vec::new();
-        ImportedBlocks { schema, reader, chunk: CHUNK, pending, state: State::Reads }
+        ImportedBlocks {
+            schema,
+            reader,
+            chunk: CHUNK,
+            line_limit: usize::MAX,
+            pending: Vec::new(),
+            state: State::Reads,
+        }
     }
 
     /// Has about so many bytes of lines be read and imported at a time, in place of 1 MiB; 0 is
@@ -107,22 +126,45 @@ impl<'s, R: Read> ImportedBlocks<'s, R> {
         self
     }
 
-    /// Reads a chunk, and on until it has a line feed, or until the reader ends or fails. It returns
-    /// how many of the pending bytes are whole lines.
+    /// Has a line of more than so many bytes, and of more than a chunk, be an error, so that no
+    /// input takes more memory than that. Without this call there is no limit.
+    ///
+    /// ```
+    /// use kormaglen::{ImportError, Schema};
+    ///
+    /// let mut schema = Schema::open(b"[]")?;
+    /// let lines = [b"{}\n".to_vec(), vec![b' '; 5000]].concat();
+    /// let mut blocks = schema.import_reader(&lines[..]).with_chunk(100).with_line_limit(1000);
+    /// assert_eq!(blocks.next().unwrap()?.lines.len(), 1);
+    /// assert!(matches!(blocks.next(), Some(Err(ImportError::LongLine))));
+    /// assert!(blocks.next().is_none());
+    /// # Ok::<(), Box<dyn std::error::Error>>(())
+    /// ```
+    pub fn with_line_limit(mut self, bytes: usize) -> Self {
+        self.line_limit = bytes;
+        self
+    }
+
+    /// Reads a chunk, and on until it has a line feed, or until the reader ends or fails. It
+    /// returns how many of the pending bytes are whole lines.
     fn read_lines(&mut self) -> usize {
+        let most = self.chunk.max(self.line_limit.saturating_add(1));
         while let State::Reads = self.state {
             let before = self.pending.len();
             // A long line is read in parts that double, so that it is moved but a few times.
-            let missing = self.chunk.max(before.saturating_mul(2)) - before;
-            let mut part = self.reader.by_ref().take(missing as u64);
+            let wanted = self.chunk.max(before.saturating_mul(2)).min(most);
+            let mut part = self.reader.by_ref().take((wanted - before) as u64);
             match part.read_to_end(&mut self.pending) {
-                Ok(read) if read == missing => {}
-                Ok(_) => self.state = State::Ended,
-                Err(error) => self.state = State::Failed(error),
+                Ok(read) if before + read < wanted => self.state = State::Ended,
+                Ok(_) => {}
+                Err(error) => self.state = State::Failed(ImportError::Read(error)),
             }
             let line_feed = self.pending[before..].iter().rposition(|byte| *byte == b'\n');
             if let Some(place) = line_feed {
                 return before + place + 1;
+            }
+            if matches!(self.state, State::Reads) && self.pending.len() >= most {
+                self.state = State::Failed(ImportError::LongLine);
             }
         }
         match self.state {
@@ -141,7 +183,7 @@ impl<R: Read> Iterator for ImportedBlocks<'_, R> {
         if whole == 0 {
             self.pending.clear();
             return match mem::replace(&mut self.state, State::Ended) {
-                State::Failed(error) => Some(Err(ImportError::Read(error))),
+                State::Failed(error) => Some(Err(error)),
                 _ => None,
             };
         }

@@ -152,8 +152,8 @@ impl fmt::Display for Refusal {
 
 impl Error for Refusal {}
 
-/// Why a line has no document. It prints as the number of the field, and the library's words for the
-/// reason.
+/// Why a line has no document. It prints as the number of the field, and the library's words for
+/// the reason.
 ///
 /// ```
 /// use kormaglen::{LineReason, Schema};

@@ -186,8 +186,11 @@ impl fmt::Debug for Schema {
 /// The field that a path names.
 ///
 /// ```
-/// let schema = br#"[{"name":"more","type":"json_object","options":{"stored":true,"fast":false}}]"#;
-/// let field = kormaglen::find_field(schema, "more.tags.first")?;
+/// use kormaglen::find_field;
+///
+/// let options = r#"{"stored":true,"fast":false}"#;
+/// let schema = format!(r#"[{{"name":"more","type":"json_object","options":{options}}}]"#);
+/// let field = find_field(schema.as_bytes(), "more.tags.first")?;
 /// assert_eq!(field.number, 0);
 /// assert_eq!(field.rest, "tags.first");
 /// # Ok::<(), kormaglen::Refusal>(())

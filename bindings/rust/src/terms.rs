@@ -29,8 +29,9 @@ pub struct Term {
     pub bytes: Vec<u8>,
 }
 
-/// The terms of a field's values in the documents of a block, in their order, all at once. A date is
-/// cut to the second, as it is indexed, and a text is whole. Null, arrays and objects have no term.
+/// The terms of a field's values in the documents of a block, in their order, all at once. A date
+/// is cut to the second, as it is indexed, and a text is whole. Null, arrays and objects have no
+/// term.
 ///
 /// ```
 /// use kormaglen::{terms_of_block, Version};
@@ -83,8 +84,8 @@ pub fn terms(field: u32, version: Version, block: &[u8]) -> Terms<'_> {
     }
 }
 
-/// An iterator over the terms of a field's values in a block, see [`terms`]. After an error it gives
-/// nothing more.
+/// An iterator over the terms of a field's values in a block, see [`terms`]. After an error it
+/// gives nothing more.
 ///
 /// ```
 /// use kormaglen::{terms, DocumentReason, Refusal, Version};

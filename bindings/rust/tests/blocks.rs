@@ -134,7 +134,10 @@ fn terms_of_a_date_are_cut_to_the_second() {
 #[test]
 fn all_ways_to_read_a_block_agree_also_on_changed_ones() {
     let mut schema = Schema::open(SCHEMA).unwrap();
-    let lines = b"{\"s\":\"a\",\"j\":{\"k\":[1,true,null]}}\n{\"u\":258,\"f\":\"/a/b\"}\n{}\n{\"s\":\"b\"}\n";
+    let lines = br#"{"s":"a","j":{"k":[1,true,null]}}
+{"u":258,"f":"/a/b"}
+{}
+{"s":"b"}"#;
     let whole = schema.import_lines(lines).unwrap().block;
     let mut refused = 0;
     for place in 0..whole.len() {

@@ -112,3 +112,23 @@ fn a_failure_prints_as_that_of_the_reader() {
     let refused = ImportError::Refused(Refusal::Memory);
     assert_eq!(refused.to_string(), Refusal::Memory.to_string());
 }
+
+#[test]
+fn a_line_may_be_as_long_as_the_limit() {
+    let mut schema = Schema::open(SCHEMA).unwrap();
+    let line = b"{\"s\":\"of 20 bytes.\"}";
+    assert_eq!(line.len(), 20);
+    let lines = [&line[..], b"\n{}\n", line].concat();
+    for chunk in 1..60 {
+        for limit in 0..30 {
+            let blocks = schema.import_reader(Parts::new(&lines, 7)).with_chunk(chunk);
+            let parts: Vec<_> = blocks.with_line_limit(limit).collect();
+            let is_long = parts.iter().any(|part| matches!(part, Err(ImportError::LongLine)));
+            // Both long lines have 20 bytes. A chunk of more holds one with its line feed.
+            assert!(limit < 20 || !is_long, "{chunk} {limit}");
+            assert!(limit >= 20 || chunk > 20 || is_long, "{chunk} {limit}");
+            let imported: Vec<_> = parts.into_iter().filter_map(Result::ok).collect();
+            assert!(is_long || joined(imported).1 == 3);
+        }
+    }
+}

@@ -19,8 +19,8 @@ pub fn stored_text(text: &str) -> Vec<u8> {
     [&head, text.as_bytes()].concat()
 }
 
-/// A stored document with a number in field 1, of version 2: the code 1 of numbers, and eight bytes,
-/// the lowest first.
+/// A stored document with a number in field 1, of version 2: the code 1 of numbers, and eight
+/// bytes, the lowest first.
 #[allow(dead_code)]
 pub fn stored_number(number: u64) -> Vec<u8> {
     [&[0x81, 1, 0, 0, 0, 1][..], &number.to_le_bytes()].concat()
