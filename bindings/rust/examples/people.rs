@@ -22,12 +22,9 @@ fn main() -> Result<(), Refusal> {
     let mut schema = Schema::open(SCHEMA)?;
     let imported = schema.import_lines(LINES)?;
     for (line, number) in imported.lines.iter().zip(1..) {
-        // The other examples print the numbers of the C header, too; a refusal itself prints words.
         match line {
-            Ok(bytes) => println!("line {number}: status 0, {bytes} bytes"),
-            Err(refusal) => {
-                println!("line {number}: status {}, 0 bytes", refusal.reason.number());
-            }
+            Ok(bytes) => println!("line {number}: stored, {bytes} bytes"),
+            Err(refusal) => println!("line {number}: {}, 0 bytes", refusal.reason),
         }
     }
     print!("{}", schema.export_block(Version::V2, &imported.block)?);
@@ -65,10 +62,9 @@ fn print_one(schema: &mut Schema) -> Result<(), Refusal> {
     let len = document.read_again(Version::V3, &bytes)?;
     println!("{} takes {len} bytes", document.to_json(schema)?);
     match document.parse_again(schema, br#"{"age":"old"}"#) {
-        Err(Refusal::BadLine(line)) => {
-            let status = Refusal::BadLine(line).status();
-            let field = line.field.unwrap_or_default();
-            println!("status {status}, refusal {} of field {field}", line.reason.number());
+        Err(Refusal::BadLine(refusal)) => {
+            // It prints the field and the reason.
+            println!("{refusal}");
             Ok(())
         }
         other => other,

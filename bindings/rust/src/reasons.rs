@@ -149,7 +149,7 @@ reasons! {
     UnknownExtension = 3,
     /// A value is a floating-point number, which the library doesn't have.
     Float = 4,
-    /// A number of variable length is more than 64 bits have.
+    /// A number of variable length is 2^64 or more, or has more than ten bytes.
     BadNumber = 5,
     /// A truth value is neither 0 nor 1.
     BadBool = 6,
@@ -167,7 +167,7 @@ reasons! {
     KeyNoText = 12,
     /// The document needs more memory than 4294967295 bytes.
     NoRoom = 13,
-    /// A length is more than this machine can address.
+    /// More than 2^64 - 1 bytes were read.
     TooLong = 14,
 }
 
