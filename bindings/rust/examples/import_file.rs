@@ -1,12 +1,14 @@
 //! Imports a file of lines of JSON, of any size, into a file of stored documents, by a file with a
-//! schema's JSON. Each line that is refused is printed with the reason:
+//! schema's JSON:
 //!
 //! ```text
 //! cargo run --release --example import_file -- FILE SCHEMA OUT
 //! ```
 //!
-//! It takes the memory of a chunk of lines. Where the reader or the library fails, what was
-//! imported before that is in the output.
+//! Each line that is refused is told on standard error, as `FILE:3: field 1: a value is of another
+//! kind than the field's`. The program ends with 1 where a line was refused, and with 2 where a
+//! file or the schema can't be used; what was imported before that is in the output then. It takes
+//! the memory of a chunk of lines, and of the longest line.
 
 use kormaglen::Schema;
 use std::env;
@@ -21,26 +23,23 @@ fn main() -> ExitCode {
     let arguments: Vec<OsString> = env::args_os().skip(1).collect();
     let imported = match &arguments[..] {
         [file, schema, out] => import(Path::new(file), Path::new(schema), Path::new(out)),
-        _ => {
-            eprintln!("usage: import_file FILE SCHEMA OUT");
-            return ExitCode::from(2);
-        }
+        _ => Err("usage: import_file FILE SCHEMA OUT".into()),
     };
     match imported {
-        Ok(counts) => {
-            println!("{} documents stored, {} lines refused", counts.stored, counts.refused);
-            ExitCode::SUCCESS
+        Ok(Counts { lines, refused }) => {
+            println!("{lines} lines, {refused} refused");
+            ExitCode::from(u8::from(refused > 0))
         }
         Err(error) => {
             eprintln!("{error}");
-            ExitCode::FAILURE
+            ExitCode::from(2)
         }
     }
 }
 
 #[derive(Default)]
 struct Counts {
-    stored: u64,
+    lines: u64,
     refused: u64,
 }
 
@@ -54,13 +53,10 @@ fn import(file: &Path, schema: &Path, out: &Path) -> Result<Counts, Box<dyn Erro
         let imported = imported.map_err(|error| said_of(file, &error))?;
         block.write_all(&imported.block).map_err(|error| said_of(out, &error))?;
         for line in imported.lines {
-            match line {
-                Ok(_) => counts.stored += 1,
-                Err(refusal) => {
-                    counts.refused += 1;
-                    let number = counts.stored + counts.refused;
-                    eprintln!("{}:{number}: {refusal}", file.display());
-                }
+            counts.lines += 1;
+            if let Err(refusal) = line {
+                counts.refused += 1;
+                eprintln!("{}:{}: {refusal}", file.display(), counts.lines);
             }
         }
     }
