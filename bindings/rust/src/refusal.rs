@@ -49,7 +49,7 @@ pub enum Refusal {
     BadSchema {
         /// Why it doesn't.
         reason: SchemaReason,
-        /// The number of the entry that is wrong, from 1, or 0 for the whole.
+        /// The number of the entry that is wrong, from 1, or 0 where none is named.
         entry: u64,
     },
     /// The path names no field.

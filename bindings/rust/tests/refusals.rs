@@ -106,8 +106,6 @@ fn an_entry_is_refused_as_a_whole() {
         (r#"[{"name":7,"type":"facet","options":{"stored":true}}]"#, SchemaReason::Name, 1),
         (r#"[{"name":"a","options":{"stored":true}}]"#, SchemaReason::Type, 1),
         (r#"[{"name":"a","type":"facet"}]"#, SchemaReason::Options, 1),
-        (r#"[{"name":"","type":"facet","options":{"stored":true}}]"#, SchemaReason::BadName, 1),
-        (r#"[{"name":"-a","type":"facet","options":{"stored":true}}]"#, SchemaReason::BadName, 1),
     ];
     for (json, wanted, place) in rows {
         let refusal = Schema::open(json.as_bytes()).unwrap_err();
@@ -115,9 +113,21 @@ fn an_entry_is_refused_as_a_whole() {
         assert_eq!((reason, entry), (wanted, place), "{json}");
         expect_words(refusal);
     }
-    let twice = second_entry("facet", r#""stored":true"#).replace("\"b\"", "\"a\"");
-    let refusal = Schema::open(twice.as_bytes()).unwrap_err();
-    assert_eq!(refusal, Refusal::BadSchema { reason: SchemaReason::SameName, entry: 2 });
+}
+
+#[test]
+fn a_name_is_refused() {
+    let entry = |name: &str| second_entry("facet", r#""stored":true"#).replace("\"b\"", name);
+    for (name, wanted, number) in [
+        (r#""""#, SchemaReason::BadName, 1),
+        (r#""-b""#, SchemaReason::BadName, 1),
+        (r#""a""#, SchemaReason::SameName, 2),
+    ] {
+        let refusal = Schema::open(entry(name).as_bytes()).unwrap_err();
+        let (reason, _) = schema_refusal(refusal);
+        assert_eq!((reason, reason.number()), (wanted, number), "{name}");
+        expect_words(refusal);
+    }
 }
 
 #[test]
