@@ -86,16 +86,29 @@ fn a_schema_is_used_many_times() {
 
 #[test]
 fn a_schema_is_printed_with_all_options() {
-    let json = br#"[ {"options":{"stored":true}, "type":"facet", "name":"f"} ]"#;
-    let mut schema = Schema::open(json).unwrap();
-    let text = schema.to_json().unwrap();
-    // Keys are written in byte order.
-    assert_eq!(text, r#"[{"name":"f","options":{"stored":true},"type":"facet"}]"#);
-    let mut all = Schema::open(SCHEMA).unwrap();
-    let printed = all.to_json().unwrap();
-    let mut again = Schema::open(printed.as_bytes()).unwrap();
-    assert_eq!(again.to_json().unwrap(), printed);
-    assert_eq!(again.find_field("j.a").unwrap().number, 5);
+    // What isn't given has its default, and keys are written in byte order.
+    let rows = [
+        (r#"{"name":"a","type":"facet","options":{"stored":true}}"#, r#"{"stored":true}"#),
+        (
+            r#"{"type":"u64", "name":"a", "options":{"stored":true,"indexed":true}}"#,
+            r#"{"fast":false,"fieldnorms":true,"indexed":true,"stored":true}"#,
+        ),
+        (
+            r#"{"name":"a","other":7,"type":"json_object","options":{"stored":true,"fast":true}}"#,
+            r#"{"expand_dots_enabled":false,"fast":true,"indexing":null,"stored":true}"#,
+        ),
+    ];
+    for (entry, options) in rows {
+        let mut schema = Schema::open(format!("[ {entry} ]").as_bytes()).unwrap();
+        let text = schema.to_json().unwrap();
+        assert!(text.starts_with(&format!(r#"[{{"name":"a","options":{options},"type":""#)));
+        assert_eq!(Schema::open(text.as_bytes()).unwrap().to_json().unwrap(), text);
+    }
+    // This needs more room than the first buffer has.
+    let name = "n".repeat(5000);
+    let entry = format!(r#"{{"name":"{name}","options":{{"stored":true}},"type":"facet"}}"#);
+    let json = format!("[{entry}]");
+    assert_eq!(Schema::open(json.as_bytes()).unwrap().to_json().unwrap(), json);
 }
 
 #[test]
