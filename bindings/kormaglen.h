@@ -1,21 +1,24 @@
-/* Kormaglen for C: schemas, stored documents and facets of tantivy 0.26.2, as calls over blocks of bytes.
+/* Kormaglen for C: schemas, stored documents, terms and facets of tantivy 0.26.2, as calls over blocks of bytes.
  *
  * Each call is given its input as bytes and writes into buffers of the caller's. It keeps nothing of the input, and nothing from one call
- * to the next but what a handle holds. What it needs meanwhile it takes by malloc, and gives back before it returns. A call without a
- * handle is safe from any thread.
+ * to the next but what a handle holds. What it needs meanwhile it takes by malloc, and gives back before it returns.
  *
- * Who owns what: every buffer is the caller's. A pointer is never NULL, also where its length is 0, and two buffers of one call do not
- * overlap, unless both are only read.
+ * Buffers. Every buffer is the caller's. A pointer may be NULL where its length is 0. A buffer that is written overlaps no other buffer and
+ * no handle of the same call; what is only read may overlap. A pointer that is NULL and has a length, a buffer that overlaps, and a length
+ * that no buffer has are refused as KORMAGLEN_BAD_ARGUMENT.
  *
- * Where a buffer is too small, nothing is written, and the answer says how many bytes are needed. So a call with a buffer of length 0 only
- * asks for the size. After every other refusal the buffers are as they were, too.
+ * Refusals. Where a buffer is too small, nothing is written, and the answer says how many bytes are needed. So a call with a buffer of
+ * length 0 only asks for the size. After every other refusal the buffers are as they were, too. Each call below names its refusals; each may
+ * also refuse a pointer as KORMAGLEN_BAD_ARGUMENT, and then buffers and handles are as they were.
  *
  * A block has documents one behind the other, as a block of a document store has them. A schema is its JSON, as tantivy writes it, or a
  * handle that holds one, so that its JSON is read once.
  *
  * A handle is the caller's struct, and what it holds is the library's: a schema, or a document. One that is all zeros is closed. Whoever
- * opens it closes it, and it is used by one call at a time, on the thread that opened it. It may be moved, but a copy of it is never used
- * beside it, nor after it was closed.
+ * opens it closes it. It may be moved, but a copy of it is never used beside it, nor after it was closed.
+ *
+ * Threads. A handle is used by one call at a time, by any thread: a call changes the handle of a schema, too, while it runs. Calls with
+ * different handles, and calls without one, run at the same time on any threads. A buffer is not changed while a call reads it.
  */
 #ifndef KORMAGLEN_H
 #define KORMAGLEN_H
@@ -26,6 +29,9 @@
 #ifdef __cplusplus
 extern "C" {
 #endif
+
+/* The version of this header. */
+#define KORMAGLEN_VERSION "0.1.0"
 
 /* What a call answers: kormaglen_answer.status. */
 enum kormaglen_status {
@@ -41,17 +47,35 @@ enum kormaglen_status {
     KORMAGLEN_WRONG_VERSION = 9, /* there is no such version of the store */
     KORMAGLEN_NO_END = 10,       /* no byte string is above all that begin with the prefix */
     KORMAGLEN_BAD_LINE = 11,     /* a line has no document; detail is of kormaglen_line_status, place is the field whose value is refused */
-    KORMAGLEN_FOREIGN_FIELD = 12, /* a document has a field that the schema does not have; place is its number */
-    KORMAGLEN_CLOSED = 15        /* a handle holds nothing */
+    KORMAGLEN_FOREIGN_FIELD = 12,/* a document has a field that the schema does not have; place is its number */
+    KORMAGLEN_CLOSED = 15,       /* a handle holds nothing */
+    KORMAGLEN_BAD_ARGUMENT = 16  /* a pointer can't be used; detail says why, place is its number among the call's pointers, from 1 */
 };
 
-/* With KORMAGLEN_BAD_SCHEMA: kormaglen_answer.detail. */
+/* With KORMAGLEN_BAD_SCHEMA: kormaglen_answer.detail. From 6 on it is the key of the entry whose value is missing or is not what it has to
+ * be; kormaglen_detail_text says what is wanted. */
 enum kormaglen_schema_detail {
     KORMAGLEN_SCHEMA_BAD_NAME = 1,
     KORMAGLEN_SCHEMA_SAME_NAME = 2,
     KORMAGLEN_SCHEMA_TOO_MANY_FIELDS = 3,
-    KORMAGLEN_SCHEMA_BAD_ENTRY = 4,
-    KORMAGLEN_SCHEMA_FLOAT_FIELD = 5
+    KORMAGLEN_SCHEMA_BAD_ENTRY = 4, /* the entry is not an object; with place 0, the whole is not an array */
+    KORMAGLEN_SCHEMA_FLOAT_FIELD = 5,
+    KORMAGLEN_SCHEMA_NAME = 6,
+    KORMAGLEN_SCHEMA_TYPE = 7,
+    KORMAGLEN_SCHEMA_OPTIONS = 8,
+    KORMAGLEN_SCHEMA_INDEXED = 9,
+    KORMAGLEN_SCHEMA_STORED = 10,
+    KORMAGLEN_SCHEMA_FIELDNORMS = 11,
+    KORMAGLEN_SCHEMA_FAST = 12,
+    KORMAGLEN_SCHEMA_FAST_OF_TEXT = 13, /* "fast" of a text or JSON field */
+    KORMAGLEN_SCHEMA_COERCE = 14,
+    KORMAGLEN_SCHEMA_PRECISION = 15,
+    KORMAGLEN_SCHEMA_INDEXING = 16,
+    KORMAGLEN_SCHEMA_RECORD = 17,              /* "record" of "indexing" */
+    KORMAGLEN_SCHEMA_INDEXING_FIELDNORMS = 18, /* "fieldnorms" of "indexing" */
+    KORMAGLEN_SCHEMA_TOKENIZER = 19,           /* "tokenizer" of "indexing" */
+    KORMAGLEN_SCHEMA_WITH_TOKENIZER = 20,      /* "with_tokenizer" of "fast" */
+    KORMAGLEN_SCHEMA_EXPAND_DOTS = 21          /* "expand_dots_enabled" */
 };
 
 /* With KORMAGLEN_BAD_DOCUMENT: kormaglen_answer.detail. */
@@ -84,6 +108,14 @@ enum kormaglen_line_status {
     KORMAGLEN_LINE_NO_ROOM = 7       /* the values need more than 4294967295 bytes */
 };
 
+/* With KORMAGLEN_BAD_ARGUMENT: kormaglen_answer.detail. */
+enum kormaglen_argument_detail {
+    KORMAGLEN_ARGUMENT_NULL = 1,      /* the pointer is NULL, and its length is not 0 */
+    KORMAGLEN_ARGUMENT_TOO_LARGE = 2, /* no buffer has this length */
+    KORMAGLEN_ARGUMENT_UNALIGNED = 3, /* the pointer is not aligned for what it points to */
+    KORMAGLEN_ARGUMENT_OVERLAP = 4    /* the buffer overlaps one that stands before it in the call, and one of the two is written */
+};
+
 typedef struct kormaglen_answer {
     uint32_t status; /* of kormaglen_status */
     uint32_t detail;
@@ -113,6 +145,14 @@ typedef struct kormaglen_schema {
 typedef struct kormaglen_document {
     void *at;
 } kormaglen_document;
+
+/* The library's version, as "0.1.0". A library that was built without its proofs says so: "0.1.0 (unproved)". */
+const char *kormaglen_version(void);
+
+/* The words of a status, of a detail (an empty text where the status has none), and of a line's status. None is NULL, and none is freed. */
+const char *kormaglen_status_text(uint32_t status);
+const char *kormaglen_detail_text(uint32_t status, uint32_t detail);
+const char *kormaglen_line_status_text(uint32_t status);
 
 /* Stores the documents of lines of JSON, one behind the other in version 2, and answers each line. A line ends at a line feed, and the last
  * may lack it. A line that is refused stores nothing, and the next line follows. bytes is the block's size, lines the number of answers.
@@ -189,8 +229,14 @@ kormaglen_answer kormaglen_schema_open(
     const uint8_t *json, size_t json_len,
     kormaglen_schema *schema);
 
-/* Gives up the schema. A handle that is closed stays closed. */
+/* Gives up the schema. A handle that is closed stays closed, and NULL is passed over. */
 void kormaglen_schema_close(kormaglen_schema *schema);
+
+/* Writes the schema as JSON: each option is written out, and the keys of an object stand in the order of their bytes.
+ * Refusals: TOO_SMALL, NO_MEMORY, CLOSED. */
+kormaglen_answer kormaglen_schema_to_json(
+    kormaglen_schema *schema,
+    uint8_t *text, size_t text_len);
 
 /* As kormaglen_import_lines, by the handle's schema.
  * Refusals: TOO_SMALL, NO_MEMORY, CLOSED. */
@@ -247,7 +293,7 @@ kormaglen_answer kormaglen_document_write(
     uint32_t version,
     uint8_t *bytes, size_t bytes_len);
 
-/* Gives up the document. A handle that is closed stays closed. */
+/* Gives up the document. A handle that is closed stays closed, and NULL is passed over. */
 void kormaglen_document_close(kormaglen_document *document);
 
 #ifdef __cplusplus

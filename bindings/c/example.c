@@ -25,8 +25,8 @@ static const uint8_t *bytes_of(const char *text) {
 /* Ends the program where a call was refused. */
 static void expect_ok(const char *call, kormaglen_answer answer) {
     if (answer.status != KORMAGLEN_OK) {
-        fprintf(stderr, "%s: status %u, detail %u, place %llu\n", call, (unsigned)answer.status, (unsigned)answer.detail,
-                (unsigned long long)answer.place);
+        fprintf(stderr, "%s: %s, at %llu: %s\n", call, kormaglen_status_text(answer.status), (unsigned long long)answer.place,
+                kormaglen_detail_text(answer.status, answer.detail));
         exit(1);
     }
 }
@@ -68,13 +68,13 @@ static uint64_t number_at(const uint8_t *bytes) {
 
 /* Prints in order the documents whose text in field 0 begins with a prefix. */
 static void print_range(const uint8_t *block, size_t block_len, const char *prefix) {
-    uint8_t none[1], start[64], end[64];
+    uint8_t start[64], end[64];
     kormaglen_answer from = kormaglen_term_of_text(0, bytes_of(prefix), strlen(prefix), start, sizeof start);
     expect_ok("term", from);
     kormaglen_answer to = kormaglen_end_of_prefix(start, (size_t)from.bytes, end, sizeof end);
     expect_ok("end", to);
 
-    kormaglen_answer size = kormaglen_terms_of_block(0, 2, block, block_len, none, 0);
+    kormaglen_answer size = kormaglen_terms_of_block(0, 2, block, block_len, NULL, 0);
     uint8_t *terms = buffer_of(size.bytes);
     kormaglen_answer listed = kormaglen_terms_of_block(0, 2, block, block_len, terms, (size_t)size.bytes);
     expect_ok("terms", listed);
@@ -97,84 +97,90 @@ static void print_range(const uint8_t *block, size_t block_len, const char *pref
     free(terms);
 }
 
-int main(void) {
-    const uint8_t *schema = bytes_of(SCHEMA);
-    const size_t schema_len = strlen(SCHEMA);
-    uint8_t none[1];
-    kormaglen_line_answer no_answer[1];
-
-    /* A first call with empty buffers asks for the sizes. */
-    kormaglen_answer size =
-        kormaglen_import_lines(schema, schema_len, bytes_of(LINES), strlen(LINES), none, 0, no_answer, 0);
+/* Imports the lines: a first call without buffers asks for the sizes. Returns the block, and its size by `stored`. */
+static uint8_t *import_block(kormaglen_schema *schema, size_t *stored) {
+    kormaglen_answer size = kormaglen_schema_import_lines(schema, bytes_of(LINES), strlen(LINES), NULL, 0, NULL, 0);
     uint8_t *block = buffer_of(size.bytes);
-    kormaglen_line_answer *answers = malloc((size.lines + 1) * sizeof *answers);
-    if (answers == NULL) {
-        return 1;
-    }
-    kormaglen_answer stored = kormaglen_import_lines(schema, schema_len, bytes_of(LINES), strlen(LINES), block,
-                                                     (size_t)size.bytes, answers, (size_t)size.lines);
-    expect_ok("import", stored);
-    for (uint64_t line = 0; line < stored.lines; line++) {
-        printf("line %llu: status %u, %llu bytes\n", (unsigned long long)line + 1, (unsigned)answers[line].status,
+    kormaglen_line_answer *answers = (kormaglen_line_answer *)(void *)buffer_of(size.lines * sizeof *answers);
+    kormaglen_answer answer = kormaglen_schema_import_lines(schema, bytes_of(LINES), strlen(LINES), block, (size_t)size.bytes,
+                                                            answers, (size_t)size.lines);
+    expect_ok("import", answer);
+    for (uint64_t line = 0; line < answer.lines; line++) {
+        printf("line %llu: %s, %llu bytes\n", (unsigned long long)line + 1, kormaglen_line_status_text(answers[line].status),
                (unsigned long long)answers[line].bytes);
     }
+    free(answers);
+    *stored = (size_t)answer.bytes;
+    return block;
+}
 
-    size = kormaglen_export_block(schema, schema_len, 2, block, (size_t)stored.bytes, none, 0);
+static void print_block(kormaglen_schema *schema, const uint8_t *block, size_t len) {
+    kormaglen_answer size = kormaglen_schema_export_block(schema, 2, block, len, NULL, 0);
     uint8_t *lines = buffer_of(size.bytes);
-    kormaglen_answer printed =
-        kormaglen_export_block(schema, schema_len, 2, block, (size_t)stored.bytes, lines, (size_t)size.bytes);
-    expect_ok("export", printed);
-    fwrite(lines, 1, (size_t)printed.bytes, stdout);
+    kormaglen_answer answer = kormaglen_schema_export_block(schema, 2, block, len, lines, (size_t)size.bytes);
+    expect_ok("export", answer);
+    fwrite(lines, 1, (size_t)answer.bytes, stdout);
+    free(lines);
+}
 
-    print_range(block, (size_t)stored.bytes, "Ad");
-
-    size = kormaglen_migrate_block(2, block, (size_t)stored.bytes, 3, none, 0);
-    uint8_t *migrated = buffer_of(size.bytes);
-    kormaglen_answer moved =
-        kormaglen_migrate_block(2, block, (size_t)stored.bytes, 3, migrated, (size_t)size.bytes);
-    expect_ok("migrate", moved);
-    printf("version 2 takes %llu bytes, version 3 %llu\n", (unsigned long long)stored.bytes,
-           (unsigned long long)moved.bytes);
-
-    /* A handle reads the schema once. */
-    kormaglen_schema handle = {0};
-    expect_ok("open", kormaglen_schema_open(schema, schema_len, &handle));
+static void find_paths(kormaglen_schema *schema) {
     const char *const paths[] = {"more.tags", "age"};
     for (size_t i = 0; i < sizeof paths / sizeof *paths; i++) {
         kormaglen_found_field found;
-        expect_ok("find", kormaglen_schema_find_field(&handle, bytes_of(paths[i]), strlen(paths[i]), &found));
+        expect_ok("find", kormaglen_schema_find_field(schema, bytes_of(paths[i]), strlen(paths[i]), &found));
         printf("field %u, path '%s'\n", (unsigned)found.field, paths[i] + found.rest);
     }
+}
 
-    /* One document at a time: of a line, written in version 3, and read back. */
+/* One document at a time: of a line, written in version 3, and read back. */
+static void handle_one(kormaglen_schema *schema) {
     kormaglen_document document = {0};
     const char *const line = "{\"name\":\"Dora\",\"age\":41}";
-    expect_ok("parse", kormaglen_document_parse(&handle, bytes_of(line), strlen(line), &document));
+    expect_ok("parse", kormaglen_document_parse(schema, bytes_of(line), strlen(line), &document));
     uint8_t bytes[64], json[64];
-    kormaglen_answer written = kormaglen_document_write(&document, &handle, 3, bytes, sizeof bytes);
+    kormaglen_answer written = kormaglen_document_write(&document, schema, 3, bytes, sizeof bytes);
     expect_ok("write", written);
     expect_ok("read", kormaglen_document_read(3, bytes, (size_t)written.bytes, &document));
-    kormaglen_answer shown = kormaglen_document_to_json(&document, &handle, json, sizeof json);
+    kormaglen_answer shown = kormaglen_document_to_json(&document, schema, json, sizeof json);
     expect_ok("to_json", shown);
     printf("%.*s takes %llu bytes\n", (int)shown.bytes, (const char *)json, (unsigned long long)written.bytes);
-    const char *const bad = "{\"age\":\"old\"}";
-    kormaglen_answer refused = kormaglen_document_parse(&handle, bytes_of(bad), strlen(bad), &document);
-    printf("status %u, refusal %u of field %llu\n", (unsigned)refused.status, (unsigned)refused.detail, (unsigned long long)refused.place);
-    kormaglen_document_close(&document);
-    kormaglen_schema_close(&handle);
 
-    uint8_t facet[64];
+    const char *const bad = "{\"age\":\"old\"}";
+    kormaglen_answer refused = kormaglen_document_parse(schema, bytes_of(bad), strlen(bad), &document);
+    printf("field %llu: %s\n", (unsigned long long)refused.place, kormaglen_detail_text(refused.status, refused.detail));
+    kormaglen_document_close(&document);
+}
+
+static void print_facet(void) {
+    uint8_t facet[64], back[64];
     const char text[] = "/staff/research";
     kormaglen_answer encoded = kormaglen_facet_of_text(bytes_of(text), strlen(text), facet, sizeof facet);
     expect_ok("facet", encoded);
-    uint8_t back[64];
     kormaglen_answer named = kormaglen_text_of_facet(facet, (size_t)encoded.bytes, back, sizeof back);
     expect_ok("text", named);
     printf("%.*s takes %llu bytes\n", (int)named.bytes, (const char *)back, (unsigned long long)encoded.bytes);
+}
 
+int main(void) {
+    /* A handle reads the schema once. */
+    kormaglen_schema schema = {0};
+    expect_ok("open", kormaglen_schema_open(bytes_of(SCHEMA), strlen(SCHEMA), &schema));
+    size_t stored = 0;
+    uint8_t *block = import_block(&schema, &stored);
+    print_block(&schema, block, stored);
+    print_range(block, stored, "Ad");
+
+    kormaglen_answer size = kormaglen_migrate_block(2, block, stored, 3, NULL, 0);
+    uint8_t *migrated = buffer_of(size.bytes);
+    kormaglen_answer moved = kormaglen_migrate_block(2, block, stored, 3, migrated, (size_t)size.bytes);
+    expect_ok("migrate", moved);
+    printf("version 2 takes %llu bytes, version 3 %llu\n", (unsigned long long)stored, (unsigned long long)moved.bytes);
+
+    find_paths(&schema);
+    handle_one(&schema);
+    print_facet();
+    kormaglen_schema_close(&schema);
     free(block);
-    free(answers);
-    free(lines);
     free(migrated);
     return 0;
 }

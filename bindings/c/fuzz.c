@@ -28,7 +28,7 @@ static const char *const LINES[] = {
 };
 
 static uint64_t state = 0x9E3779B97F4A7C15u;
-enum { CALLS = 17 };
+enum { CALLS = 19 };
 
 static uint64_t calls[CALLS];
 static uint64_t accepted[CALLS];
@@ -94,8 +94,13 @@ static size_t changed(uint8_t *bytes, size_t len) {
 /* What was written stands within the buffer, and after a refusal the buffer is as it was. */
 static void check(int call, kormaglen_answer answer, const uint8_t *buffer, size_t len) {
     calls[call] += 1;
-    if (answer.status > KORMAGLEN_FOREIGN_FIELD && answer.status != KORMAGLEN_CLOSED) {
+    if (strcmp(kormaglen_status_text(answer.status), "unknown status") == 0) {
         fail("an unknown status");
+    }
+    int has_detail = answer.status == KORMAGLEN_BAD_SCHEMA || answer.status == KORMAGLEN_BAD_DOCUMENT || answer.status == KORMAGLEN_BAD_LINE
+        || answer.status == KORMAGLEN_BAD_ARGUMENT;
+    if (has_detail != (kormaglen_detail_text(answer.status, answer.detail)[0] != 0) || (!has_detail && answer.detail != 0)) {
+        fail("a detail without words, or words without a detail");
     }
     size_t from = 0;
     if (answer.status == KORMAGLEN_OK) {
@@ -262,6 +267,59 @@ static void expect_closed(int closed, kormaglen_answer answer) {
     }
 }
 
+/* Prints the schema of a handle, and opens another one by what was printed, which prints the same. */
+static void print_schema(kormaglen_schema *handle) {
+    size_t room = below(4 * LARGEST);
+    uint8_t *text = fresh(room), *again = fresh(room);
+    kormaglen_answer answer = kormaglen_schema_to_json(handle, text, room);
+    check(17, answer, text, room);
+    expect_closed(handle->at == NULL, answer);
+    if (answer.status == KORMAGLEN_OK) {
+        kormaglen_schema same = {0};
+        if (kormaglen_schema_open(text, (size_t)answer.bytes, &same).status != KORMAGLEN_OK) {
+            fail("what was printed of a schema is refused");
+        }
+        kormaglen_answer printed = kormaglen_schema_to_json(&same, again, room);
+        if (printed.bytes != answer.bytes || memcmp(text, again, room) != 0) {
+            fail("what was printed of a schema is another one");
+        }
+        kormaglen_schema_close(&same);
+    }
+    free(text);
+    free(again);
+}
+
+/* A place in a buffer or NULL, and a length that stays in the buffer, or that no buffer has where is_wrong. */
+static uint8_t *place_in(uint8_t *buffer, size_t len, size_t *taken, int is_wrong) {
+    size_t at = below(len);
+    *taken = is_wrong ? SIZE_MAX - below(64) : below(len - at + 1);
+    return below(4) == 0 ? NULL : buffer + at;
+}
+
+/* A call whose buffers are NULL, overlap or have lengths that no buffer has. What the header refuses is refused, and nothing else is. */
+static void arguments_once(void) {
+    uint8_t buffer[64], before[64];
+    for (size_t i = 0; i < sizeof buffer; i++) {
+        buffer[i] = (uint8_t)(below(4) == 0 ? '/' : KEPT);
+    }
+    memcpy(before, buffer, sizeof buffer);
+    size_t from_len, to_len;
+    uint8_t *from = place_in(buffer, sizeof buffer, &from_len, below(8) == 0);
+    uint8_t *to = place_in(buffer, sizeof buffer, &to_len, below(8) == 0);
+    int is_null = (from == NULL && from_len > 0) || (to == NULL && to_len > 0);
+    int is_long = from_len > sizeof buffer || to_len > sizeof buffer;
+    int overlaps = from_len > 0 && to_len > 0 && !is_null && !is_long && from < to + to_len && to < from + from_len;
+    kormaglen_answer answer = kormaglen_text_of_facet(from, from_len, to, to_len);
+    calls[18] += 1;
+    accepted[18] += answer.status == KORMAGLEN_OK;
+    if ((answer.status == KORMAGLEN_BAD_ARGUMENT) != (is_null || is_long || overlaps)) {
+        fail("an argument is refused that can be used, or the other way round");
+    }
+    if (answer.status != KORMAGLEN_OK && memcmp(buffer, before, sizeof buffer) != 0) {
+        fail("a buffer changed where a call was refused");
+    }
+}
+
 /* Opens a handle, also one that is open, and makes each call by it, whether or not it was opened. */
 static void handle_once(void) {
     static kormaglen_schema handle;
@@ -281,6 +339,7 @@ static void handle_once(void) {
     if (below(8) == 0) {
         kormaglen_schema_close(&handle);
     }
+    print_schema(&handle);
 
     uint8_t text[2 * LARGEST];
     const char *line = LINES[below(sizeof LINES / sizeof *LINES)];
@@ -436,12 +495,13 @@ int main(int count, char **words) {
             term_once(8);
             handle_once();
             documents_once();
+            arguments_once();
         }
     }
     static const char *const NAMES[] = {"import_lines", "export_block", "migrate_block", "find_field", "facet_of_text", "text_of_facet",
                                          "terms_of_block", "term_of_text", "end_of_prefix", "schema_open", "schema_import_lines",
                                          "schema_export_block", "schema_find_field", "document_read", "document_parse",
-                                         "document_to_json", "document_write"};
+                                         "document_to_json", "document_write", "schema_to_json", "arguments"};
     for (int i = 0; i < CALLS; i++) {
         printf("%-19s %10llu calls, %10llu accepted\n", NAMES[i], (unsigned long long)calls[i], (unsigned long long)accepted[i]);
     }

@@ -1,9 +1,9 @@
-//! Imports lines of JSON into a block of stored documents, reads them back, sorts the terms of a field and finds those of a range, finds a
-//! field and a facet, and handles one document alone.
+//! Imports lines of JSON into a block of stored documents, reads them back, sorts the terms of a
+//! field and finds those of a range, finds a field and a facet, and handles one document alone.
 
 use kormaglen::{
-    end_of_prefix, export_block, facet_of_text, import_lines, migrate_block, term_of_text, terms_of_block, text_of_facet, Document, Refusal,
-    Schema,
+    end_of_prefix, facet_of_text, migrate_block, term_of_text, terms, text_of_facet, Document,
+    Refusal, Schema, Version,
 };
 
 const SCHEMA: &[u8] = br#"[{"name":"name","type":"text","options":{"stored":true}},
@@ -18,34 +18,55 @@ const LINES: &[u8] = br#"{"name":"Ada","age":36,"group":"/staff/research"}
 "#;
 
 fn main() -> Result<(), Refusal> {
-    let imported = import_lines(SCHEMA, LINES)?;
+    // A schema is read once. As each call takes it by `&mut`, it is used by one at a time.
+    let mut schema = Schema::open(SCHEMA)?;
+    let imported = schema.import_lines(LINES)?;
     for (line, number) in imported.lines.iter().zip(1..) {
-        println!("line {number}: {line:?}");
+        match line {
+            Ok(bytes) => println!("line {number}: stored, {bytes} bytes"),
+            Err(refusal) => println!("line {number}: {}, 0 bytes", refusal.reason),
+        }
     }
-    let lines = export_block(SCHEMA, 2, &imported.block)?;
-    print!("{}", String::from_utf8_lossy(&lines));
-    let start = term_of_text(0, "Ad")?;
-    let end = end_of_prefix(&start)?;
-    let mut terms = terms_of_block(0, 2, &imported.block)?;
-    terms.sort_by(|one, other| one.bytes.cmp(&other.bytes));
-    for term in terms.iter().filter(|term| start <= term.bytes && term.bytes < end) {
-        println!("document {}: {}", term.document, String::from_utf8_lossy(&term.bytes[5..]));
-    }
-    let migrated = migrate_block(2, &imported.block, 3)?;
+    print!("{}", schema.export_block(Version::V2, &imported.block)?);
+    print_range(&imported.block, "Ad")?;
+    let migrated = migrate_block(Version::V2, &imported.block, Version::V3)?;
     println!("version 2 takes {} bytes, version 3 {}", imported.block.len(), migrated.len());
-    let schema = Schema::open(SCHEMA)?;
     for path in ["more.tags", "age"] {
         let field = schema.find_field(path)?;
         println!("field {}, path '{}'", field.number, field.rest);
     }
-    let document = Document::parse(&schema, br#"{"name":"Dora","age":41}"#)?;
-    let bytes = document.write(&schema, 3)?;
-    let (read, len) = Document::read(3, &bytes)?;
-    println!("{} takes {len} bytes", String::from_utf8_lossy(&read.to_json(&schema)?));
-    if let Err(refusal) = Document::parse(&schema, br#"{"age":"old"}"#) {
-        println!("{refusal}");
-    }
+    print_one(&mut schema)?;
     let encoded = facet_of_text("/staff/research")?;
     println!("{} takes {} bytes", text_of_facet(&encoded)?, encoded.len());
     Ok(())
+}
+
+/// Prints in order the documents whose text in field 0 begins with a prefix.
+fn print_range(block: &[u8], prefix: &str) -> Result<(), Refusal> {
+    let start = term_of_text(0, prefix)?;
+    let end = end_of_prefix(&start)?;
+    let mut found = terms(0, Version::V2, block).collect::<Result<Vec<_>, _>>()?;
+    found.retain(|term| start <= term.bytes && term.bytes < end);
+    found.sort_by(|one, other| one.bytes.cmp(&other.bytes));
+    for term in found {
+        // The text stands behind the field's number and the code of texts.
+        println!("document {}: {}", term.document, String::from_utf8_lossy(&term.bytes[5..]));
+    }
+    Ok(())
+}
+
+/// One document at a time: of a line, written in version 3, and read back.
+fn print_one(schema: &mut Schema) -> Result<(), Refusal> {
+    let mut document = Document::parse(schema, br#"{"name":"Dora","age":41}"#)?;
+    let bytes = document.write(schema, Version::V3)?;
+    let len = document.read_again(Version::V3, &bytes)?;
+    println!("{} takes {len} bytes", document.to_json(schema)?);
+    match document.parse_again(schema, br#"{"age":"old"}"#) {
+        Err(Refusal::BadLine(refusal)) => {
+            // It prints the field and the reason.
+            println!("{refusal}");
+            Ok(())
+        }
+        other => other,
+    }
 }

@@ -1,43 +1,58 @@
-//! The calls of the library, each with slices. This is the one module with `unsafe` code: a slice's pointer is never null, and two that are
-//! lent to one call don't overlap where one of them is written.
+//! The calls of the library, each with slices and handles. This is the one module with `unsafe`
+//! code.
+//!
+//! What every call below relies on: the pointer of a slice has as many bytes behind it as the slice
+//! is long. A slice that is written is lent by `&mut`, so it overlaps no other one of the call. The
+//! library keeps no pointer behind a call.
 
-use std::cell::UnsafeCell;
-use std::ffi::c_void;
+use std::ffi::CStr;
+use std::os::raw::{c_char, c_void};
 use std::ptr::null_mut;
 
 /// What a call answers.
 #[repr(C)]
 #[derive(Clone, Copy, Debug)]
-pub struct Answer {
-    pub status: u32,
-    pub detail: u32,
-    pub place: u64,
-    pub bytes: u64,
-    pub lines: u64,
+pub(crate) struct Answer {
+    pub(crate) status: u32,
+    pub(crate) detail: u32,
+    pub(crate) place: u64,
+    pub(crate) bytes: u64,
+    pub(crate) lines: u64,
 }
 
 /// What became of a line.
 #[repr(C)]
 #[derive(Clone, Copy, Debug, Default)]
-pub struct LineAnswer {
-    pub status: u32,
-    pub field: u32,
-    pub bytes: u64,
+pub(crate) struct LineAnswer {
+    pub(crate) status: u32,
+    pub(crate) field: u32,
+    pub(crate) bytes: u64,
 }
 
 /// What was found of a path.
 #[repr(C)]
 #[derive(Clone, Copy, Debug, Default)]
-pub struct FoundField {
-    pub field: u32,
-    pub rest: u64,
+pub(crate) struct FoundField {
+    pub(crate) field: u32,
+    pub(crate) rest: u64,
 }
 
+/// A handle as the library has it. One with a null pointer is closed.
+#[repr(C)]
+struct Handle {
+    at: *mut c_void,
+}
+
+const CLOSED: Handle = Handle { at: null_mut() };
+
 mod c {
-    use super::{Answer, FoundField, Handle, LineAnswer};
+    use super::{c_char, Answer, FoundField, Handle, LineAnswer};
 
     extern "C" {
-        pub fn kormaglen_import_lines(
+        pub(super) fn kormaglen_version() -> *const c_char;
+        pub(super) fn kormaglen_status_text(status: u32) -> *const c_char;
+        pub(super) fn kormaglen_detail_text(status: u32, detail: u32) -> *const c_char;
+        pub(super) fn kormaglen_import_lines(
             schema: *const u8,
             schema_len: usize,
             lines: *const u8,
@@ -47,7 +62,7 @@ mod c {
             answers: *mut LineAnswer,
             answers_len: usize,
         ) -> Answer;
-        pub fn kormaglen_export_block(
+        pub(super) fn kormaglen_export_block(
             schema: *const u8,
             schema_len: usize,
             version: u32,
@@ -56,7 +71,7 @@ mod c {
             lines: *mut u8,
             lines_len: usize,
         ) -> Answer;
-        pub fn kormaglen_migrate_block(
+        pub(super) fn kormaglen_migrate_block(
             from: u32,
             block: *const u8,
             block_len: usize,
@@ -64,16 +79,26 @@ mod c {
             migrated: *mut u8,
             migrated_len: usize,
         ) -> Answer;
-        pub fn kormaglen_find_field(
+        pub(super) fn kormaglen_find_field(
             schema: *const u8,
             schema_len: usize,
             path: *const u8,
             path_len: usize,
             found: *mut FoundField,
         ) -> Answer;
-        pub fn kormaglen_facet_of_text(text: *const u8, text_len: usize, encoded: *mut u8, encoded_len: usize) -> Answer;
-        pub fn kormaglen_text_of_facet(encoded: *const u8, encoded_len: usize, text: *mut u8, text_len: usize) -> Answer;
-        pub fn kormaglen_terms_of_block(
+        pub(super) fn kormaglen_facet_of_text(
+            text: *const u8,
+            text_len: usize,
+            encoded: *mut u8,
+            encoded_len: usize,
+        ) -> Answer;
+        pub(super) fn kormaglen_text_of_facet(
+            encoded: *const u8,
+            encoded_len: usize,
+            text: *mut u8,
+            text_len: usize,
+        ) -> Answer;
+        pub(super) fn kormaglen_terms_of_block(
             field: u32,
             version: u32,
             block: *const u8,
@@ -81,11 +106,31 @@ mod c {
             terms: *mut u8,
             terms_len: usize,
         ) -> Answer;
-        pub fn kormaglen_term_of_text(field: u32, text: *const u8, text_len: usize, term: *mut u8, term_len: usize) -> Answer;
-        pub fn kormaglen_end_of_prefix(prefix: *const u8, prefix_len: usize, end: *mut u8, end_len: usize) -> Answer;
-        pub fn kormaglen_schema_open(json: *const u8, json_len: usize, schema: *mut Handle) -> Answer;
-        pub fn kormaglen_schema_close(schema: *mut Handle);
-        pub fn kormaglen_schema_import_lines(
+        pub(super) fn kormaglen_term_of_text(
+            field: u32,
+            text: *const u8,
+            text_len: usize,
+            term: *mut u8,
+            term_len: usize,
+        ) -> Answer;
+        pub(super) fn kormaglen_end_of_prefix(
+            prefix: *const u8,
+            prefix_len: usize,
+            end: *mut u8,
+            end_len: usize,
+        ) -> Answer;
+        pub(super) fn kormaglen_schema_open(
+            json: *const u8,
+            json_len: usize,
+            schema: *mut Handle,
+        ) -> Answer;
+        pub(super) fn kormaglen_schema_close(schema: *mut Handle);
+        pub(super) fn kormaglen_schema_to_json(
+            schema: *mut Handle,
+            text: *mut u8,
+            text_len: usize,
+        ) -> Answer;
+        pub(super) fn kormaglen_schema_import_lines(
             schema: *mut Handle,
             lines: *const u8,
             lines_len: usize,
@@ -94,7 +139,7 @@ mod c {
             answers: *mut LineAnswer,
             answers_len: usize,
         ) -> Answer;
-        pub fn kormaglen_schema_export_block(
+        pub(super) fn kormaglen_schema_export_block(
             schema: *mut Handle,
             version: u32,
             block: *const u8,
@@ -102,22 +147,72 @@ mod c {
             lines: *mut u8,
             lines_len: usize,
         ) -> Answer;
-        pub fn kormaglen_schema_find_field(schema: *mut Handle, path: *const u8, path_len: usize, found: *mut FoundField) -> Answer;
-        pub fn kormaglen_document_read(version: u32, bytes: *const u8, bytes_len: usize, document: *mut Handle) -> Answer;
-        pub fn kormaglen_document_parse(schema: *mut Handle, line: *const u8, line_len: usize, document: *mut Handle) -> Answer;
-        pub fn kormaglen_document_to_json(document: *mut Handle, schema: *mut Handle, text: *mut u8, text_len: usize) -> Answer;
-        pub fn kormaglen_document_write(
+        pub(super) fn kormaglen_schema_find_field(
+            schema: *mut Handle,
+            path: *const u8,
+            path_len: usize,
+            found: *mut FoundField,
+        ) -> Answer;
+        pub(super) fn kormaglen_document_read(
+            version: u32,
+            bytes: *const u8,
+            bytes_len: usize,
+            document: *mut Handle,
+        ) -> Answer;
+        pub(super) fn kormaglen_document_parse(
+            schema: *mut Handle,
+            line: *const u8,
+            line_len: usize,
+            document: *mut Handle,
+        ) -> Answer;
+        pub(super) fn kormaglen_document_to_json(
+            document: *mut Handle,
+            schema: *mut Handle,
+            text: *mut u8,
+            text_len: usize,
+        ) -> Answer;
+        pub(super) fn kormaglen_document_write(
             document: *mut Handle,
             schema: *mut Handle,
             version: u32,
             bytes: *mut u8,
             bytes_len: usize,
         ) -> Answer;
-        pub fn kormaglen_document_close(document: *mut Handle);
+        pub(super) fn kormaglen_document_close(document: *mut Handle);
     }
 }
 
-pub fn import_lines(schema: &[u8], lines: &[u8], block: &mut [u8], answers: &mut [LineAnswer]) -> Answer {
+/// The words at a pointer of the library's. They are empty where they aren't UTF-8.
+///
+/// # Safety
+///
+/// The pointer is of a text that ends with a zero byte, and that nobody writes or frees.
+unsafe fn words(text: *const c_char) -> &'static str {
+    // SAFETY: the caller says so.
+    unsafe { CStr::from_ptr(text) }.to_str().unwrap_or_default()
+}
+
+pub(crate) fn version() -> &'static str {
+    // SAFETY: the text is a constant of the library's.
+    unsafe { words(c::kormaglen_version()) }
+}
+
+pub(crate) fn status_text(status: u32) -> &'static str {
+    // SAFETY: the text is a constant of the library's, for every number.
+    unsafe { words(c::kormaglen_status_text(status)) }
+}
+
+pub(crate) fn detail_text(status: u32, detail: u32) -> &'static str {
+    // SAFETY: the text is a constant of the library's, for all numbers.
+    unsafe { words(c::kormaglen_detail_text(status, detail)) }
+}
+
+pub(crate) fn import_lines(
+    schema: &[u8],
+    lines: &[u8],
+    block: &mut [u8],
+    answers: &mut [LineAnswer],
+) -> Answer {
     // SAFETY: all four are slices, and those that are written overlap no other.
     unsafe {
         c::kormaglen_import_lines(
@@ -133,7 +228,7 @@ pub fn import_lines(schema: &[u8], lines: &[u8], block: &mut [u8], answers: &mut
     }
 }
 
-pub fn export_block(schema: &[u8], version: u32, block: &[u8], lines: &mut [u8]) -> Answer {
+pub(crate) fn export_block(schema: &[u8], version: u32, block: &[u8], lines: &mut [u8]) -> Answer {
     // SAFETY: all three are slices, and the one that is written overlaps no other.
     unsafe {
         c::kormaglen_export_block(
@@ -148,67 +243,86 @@ pub fn export_block(schema: &[u8], version: u32, block: &[u8], lines: &mut [u8])
     }
 }
 
-pub fn migrate_block(from: u32, block: &[u8], to: u32, migrated: &mut [u8]) -> Answer {
+pub(crate) fn migrate_block(from: u32, block: &[u8], to: u32, migrated: &mut [u8]) -> Answer {
+    let (bytes, len) = (block.as_ptr(), block.len());
     // SAFETY: both are slices, and they don't overlap.
-    unsafe { c::kormaglen_migrate_block(from, block.as_ptr(), block.len(), to, migrated.as_mut_ptr(), migrated.len()) }
+    unsafe {
+        c::kormaglen_migrate_block(from, bytes, len, to, migrated.as_mut_ptr(), migrated.len())
+    }
 }
 
-pub fn find_field(schema: &[u8], path: &[u8], found: &mut FoundField) -> Answer {
+pub(crate) fn find_field(schema: &[u8], path: &[u8], found: &mut FoundField) -> Answer {
+    let (json, json_len) = (schema.as_ptr(), schema.len());
     // SAFETY: the slices are read, and `found` is written.
-    unsafe { c::kormaglen_find_field(schema.as_ptr(), schema.len(), path.as_ptr(), path.len(), found) }
+    unsafe { c::kormaglen_find_field(json, json_len, path.as_ptr(), path.len(), found) }
 }
 
-pub fn facet_of_text(text: &[u8], encoded: &mut [u8]) -> Answer {
+pub(crate) fn facet_of_text(text: &[u8], encoded: &mut [u8]) -> Answer {
+    let (room, room_len) = (encoded.as_mut_ptr(), encoded.len());
     // SAFETY: both are slices, and they don't overlap.
-    unsafe { c::kormaglen_facet_of_text(text.as_ptr(), text.len(), encoded.as_mut_ptr(), encoded.len()) }
+    unsafe { c::kormaglen_facet_of_text(text.as_ptr(), text.len(), room, room_len) }
 }
 
-pub fn text_of_facet(encoded: &[u8], text: &mut [u8]) -> Answer {
+pub(crate) fn text_of_facet(encoded: &[u8], text: &mut [u8]) -> Answer {
+    let (room, room_len) = (text.as_mut_ptr(), text.len());
     // SAFETY: both are slices, and they don't overlap.
-    unsafe { c::kormaglen_text_of_facet(encoded.as_ptr(), encoded.len(), text.as_mut_ptr(), text.len()) }
+    unsafe { c::kormaglen_text_of_facet(encoded.as_ptr(), encoded.len(), room, room_len) }
 }
 
-pub fn terms_of_block(field: u32, version: u32, block: &[u8], terms: &mut [u8]) -> Answer {
+pub(crate) fn terms_of_block(field: u32, version: u32, block: &[u8], terms: &mut [u8]) -> Answer {
+    let (room, room_len) = (terms.as_mut_ptr(), terms.len());
     // SAFETY: both are slices, and they don't overlap.
-    unsafe { c::kormaglen_terms_of_block(field, version, block.as_ptr(), block.len(), terms.as_mut_ptr(), terms.len()) }
+    unsafe {
+        c::kormaglen_terms_of_block(field, version, block.as_ptr(), block.len(), room, room_len)
+    }
 }
 
-pub fn term_of_text(field: u32, text: &[u8], term: &mut [u8]) -> Answer {
+pub(crate) fn term_of_text(field: u32, text: &[u8], term: &mut [u8]) -> Answer {
+    let (room, room_len) = (term.as_mut_ptr(), term.len());
     // SAFETY: both are slices, and they don't overlap.
-    unsafe { c::kormaglen_term_of_text(field, text.as_ptr(), text.len(), term.as_mut_ptr(), term.len()) }
+    unsafe { c::kormaglen_term_of_text(field, text.as_ptr(), text.len(), room, room_len) }
 }
 
-pub fn end_of_prefix(prefix: &[u8], end: &mut [u8]) -> Answer {
+pub(crate) fn end_of_prefix(prefix: &[u8], end: &mut [u8]) -> Answer {
+    let (room, room_len) = (end.as_mut_ptr(), end.len());
     // SAFETY: both are slices, and they don't overlap.
-    unsafe { c::kormaglen_end_of_prefix(prefix.as_ptr(), prefix.len(), end.as_mut_ptr(), end.len()) }
+    unsafe { c::kormaglen_end_of_prefix(prefix.as_ptr(), prefix.len(), room, room_len) }
 }
 
-/// A handle as the library has it. Null is a closed one.
-#[repr(C)]
-struct Handle {
-    at: *mut c_void,
-}
+/// A schema that the library holds. As it has a pointer it isn't `Sync`, and every call takes it by
+/// `&mut`: so it is used by one call at a time.
+pub(crate) struct SchemaHandle(Handle);
 
-/// A schema that the library holds. It is neither `Send` nor `Sync`, as it holds a pointer: so one call at a time is given the handle, on the
-/// thread that opened it.
-pub struct SchemaHandle {
-    handle: UnsafeCell<Handle>,
-}
+// SAFETY: the library lets a handle be used and closed on any thread, by one call at a time.
+unsafe impl Send for SchemaHandle {}
 
 impl SchemaHandle {
-    /// A handle of the schema that a text of JSON describes, and what the call answered. After a refusal the handle is closed.
-    pub fn open(json: &[u8]) -> (SchemaHandle, Answer) {
-        let schema = SchemaHandle { handle: UnsafeCell::new(Handle { at: null_mut() }) };
+    /// A handle of the schema that a text of JSON describes, and what the call answered. After a
+    /// refusal the handle is closed.
+    pub(crate) fn open(json: &[u8]) -> (SchemaHandle, Answer) {
+        let mut schema = SchemaHandle(CLOSED);
+        let handle = &mut schema.0;
         // SAFETY: the slice is read, and the handle is closed and lent to this call alone.
-        let answer = unsafe { c::kormaglen_schema_open(json.as_ptr(), json.len(), schema.handle.get()) };
+        let answer = unsafe { c::kormaglen_schema_open(json.as_ptr(), json.len(), handle) };
         (schema, answer)
     }
 
-    pub fn import_lines(&self, lines: &[u8], block: &mut [u8], answers: &mut [LineAnswer]) -> Answer {
-        // SAFETY: all three are slices, and those that are written overlap no other. The handle is lent to this call alone.
+    pub(crate) fn write_json(&mut self, text: &mut [u8]) -> Answer {
+        // SAFETY: the slice is written, and the handle is lent to this call alone.
+        unsafe { c::kormaglen_schema_to_json(&mut self.0, text.as_mut_ptr(), text.len()) }
+    }
+
+    pub(crate) fn import_lines(
+        &mut self,
+        lines: &[u8],
+        block: &mut [u8],
+        answers: &mut [LineAnswer],
+    ) -> Answer {
+        // SAFETY: all three are slices, and those that are written overlap no other. The handle is
+        // lent to this call alone.
         unsafe {
             c::kormaglen_schema_import_lines(
-                self.handle.get(),
+                &mut self.0,
                 lines.as_ptr(),
                 lines.len(),
                 block.as_mut_ptr(),
@@ -219,11 +333,11 @@ impl SchemaHandle {
         }
     }
 
-    pub fn export_block(&self, version: u32, block: &[u8], lines: &mut [u8]) -> Answer {
+    pub(crate) fn export_block(&mut self, version: u32, block: &[u8], lines: &mut [u8]) -> Answer {
         // SAFETY: both are slices, and they don't overlap. The handle is lent to this call alone.
         unsafe {
             c::kormaglen_schema_export_block(
-                self.handle.get(),
+                &mut self.0,
                 version,
                 block.as_ptr(),
                 block.len(),
@@ -233,56 +347,67 @@ impl SchemaHandle {
         }
     }
 
-    pub fn find_field(&self, path: &[u8], found: &mut FoundField) -> Answer {
+    pub(crate) fn find_field(&mut self, path: &[u8], found: &mut FoundField) -> Answer {
+        let handle = &mut self.0;
         // SAFETY: the slice is read, and `found` is written. The handle is lent to this call alone.
-        unsafe { c::kormaglen_schema_find_field(self.handle.get(), path.as_ptr(), path.len(), found) }
+        unsafe { c::kormaglen_schema_find_field(handle, path.as_ptr(), path.len(), found) }
     }
 }
 
 impl Drop for SchemaHandle {
     fn drop(&mut self) {
         // SAFETY: the handle is this value's own, and nothing uses it afterwards.
-        unsafe { c::kormaglen_schema_close(self.handle.get()) }
+        unsafe { c::kormaglen_schema_close(&mut self.0) }
     }
 }
 
-/// A document that the library holds, or none. As a `SchemaHandle` it is neither `Send` nor `Sync`.
-pub struct DocumentHandle {
-    handle: UnsafeCell<Handle>,
-}
+/// A document that the library holds, or none. As a `SchemaHandle` it is used by one call at a
+/// time.
+pub(crate) struct DocumentHandle(Handle);
+
+// SAFETY: the library lets a handle be used and closed on any thread, by one call at a time.
+unsafe impl Send for DocumentHandle {}
 
 impl DocumentHandle {
     /// A handle that holds no document.
-    pub fn closed() -> DocumentHandle {
-        DocumentHandle { handle: UnsafeCell::new(Handle { at: null_mut() }) }
+    pub(crate) const fn closed() -> DocumentHandle {
+        DocumentHandle(CLOSED)
     }
 
-    pub fn read(&mut self, version: u32, bytes: &[u8]) -> Answer {
+    pub(crate) fn read(&mut self, version: u32, bytes: &[u8]) -> Answer {
+        let handle = &mut self.0;
         // SAFETY: the slice is read, and the handle is lent to this call alone.
-        unsafe { c::kormaglen_document_read(version, bytes.as_ptr(), bytes.len(), self.handle.get()) }
+        unsafe { c::kormaglen_document_read(version, bytes.as_ptr(), bytes.len(), handle) }
     }
 
-    pub fn parse(&mut self, schema: &SchemaHandle, line: &[u8]) -> Answer {
+    pub(crate) fn parse(&mut self, schema: &mut SchemaHandle, line: &[u8]) -> Answer {
+        let (schema, handle) = (&mut schema.0, &mut self.0);
         // SAFETY: the slice is read, and both handles are lent to this call alone.
-        unsafe { c::kormaglen_document_parse(schema.handle.get(), line.as_ptr(), line.len(), self.handle.get()) }
+        unsafe { c::kormaglen_document_parse(schema, line.as_ptr(), line.len(), handle) }
     }
 
-    pub fn to_json(&self, schema: &SchemaHandle, text: &mut [u8]) -> Answer {
+    pub(crate) fn write_json(&mut self, schema: &mut SchemaHandle, text: &mut [u8]) -> Answer {
+        let (schema, handle) = (&mut schema.0, &mut self.0);
         // SAFETY: the slice is written, and both handles are lent to this call alone.
-        unsafe { c::kormaglen_document_to_json(self.handle.get(), schema.handle.get(), text.as_mut_ptr(), text.len()) }
+        unsafe { c::kormaglen_document_to_json(handle, schema, text.as_mut_ptr(), text.len()) }
     }
 
-    pub fn write(&self, schema: &SchemaHandle, version: u32, bytes: &mut [u8]) -> Answer {
+    pub(crate) fn write(
+        &mut self,
+        schema: &mut SchemaHandle,
+        version: u32,
+        bytes: &mut [u8],
+    ) -> Answer {
+        let (schema, handle) = (&mut schema.0, &mut self.0);
+        let (room, room_len) = (bytes.as_mut_ptr(), bytes.len());
         // SAFETY: the slice is written, and both handles are lent to this call alone.
-        unsafe {
-            c::kormaglen_document_write(self.handle.get(), schema.handle.get(), version, bytes.as_mut_ptr(), bytes.len())
-        }
+        unsafe { c::kormaglen_document_write(handle, schema, version, room, room_len) }
     }
 }
 
 impl Drop for DocumentHandle {
     fn drop(&mut self) {
         // SAFETY: the handle is this value's own, and nothing uses it afterwards.
-        unsafe { c::kormaglen_document_close(self.handle.get()) }
+        unsafe { c::kormaglen_document_close(&mut self.0) }
     }
 }

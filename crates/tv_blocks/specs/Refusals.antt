@@ -18,7 +18,7 @@ use Rattle.tv_reader.specs.declared.error.DeserializeError.{DeserializeError}
 use Rattle.tv_reader.specs.declared.error.DeserializeError.TheVariants as reads
 use Rattle.tv_schema.specs.Path.{find}
 use Rattle.tv_schema.specs.SchemaJsonReading.{schema_by_key}
-use Rattle.tv_schema.specs.declared.json.error.SchemaJsonError.TheVariants.{BadKey, Other}
+use Rattle.tv_schema.specs.declared.json.error.SchemaJsonError.TheVariants.{BadKey, Refused, Other}
 use Rattle.tv_store.specs.Documents.{NoDocument, HasNoRoom}
 use Rattle.tv_store.specs.declared.migration.MigrateError.{MigrateError}
 use Rattle.tv_store.specs.declared.migration.MigrateError.TheVariants.{Read, Write}
@@ -41,6 +41,7 @@ IsFacetRefusal text e = IsTextRefusal text e
 abbrev pub IsSchemaRefusal : List ℕ → BlockError → Type 0
 IsSchemaRefusal text errors.InvalidJson = (value : Data) → ¬ IsJson text value
 IsSchemaRefusal text (errors.BadSchemaKey entry key) = (value : Data) × IsJson text value × (schema_by_key value ≡ Err (BadKey entry key))
+IsSchemaRefusal text (errors.BadSchemaEntry entry e) = (value : Data) × IsJson text value × (schema_by_key value ≡ Err (Refused entry e))
 IsSchemaRefusal text (errors.BadSchema e) = (value : Data) × IsJson text value × (schema_by_key value ≡ Err (Other e))
 IsSchemaRefusal text e = ⊥
 

@@ -8,7 +8,7 @@ use Rattle.tv_field.specs.Entry.{Entry}
 use Rattle.tv_field.specs.declared.schema_error.SchemaError.TheVariants.{Memory}
 use Rattle.tv_schema.specs.SchemaJson.{schema_json}
 use Rattle.tv_schema.specs.declared.json.error.SchemaJsonError.{SchemaJsonError}
-use Rattle.tv_schema.specs.declared.json.error.SchemaJsonError.TheVariants.{BadKey, Other}
+use Rattle.tv_schema.specs.declared.json.error.SchemaJsonError.TheVariants.{BadKey, Refused, Other}
 
 -- the text describes no schema, or memory was refused
 abbrev pub IsRefusedSchema : List ℕ → BlockError → Type 0
@@ -24,5 +24,6 @@ IsSchemaText schema text = text ≡ compact_text (schema_json schema)
 -- what is said where reading a schema returns an error
 abbrev pub schema_refusal : SchemaJsonError → BlockError
 schema_refusal (BadKey entry key) = errors.BadSchemaKey entry key
+schema_refusal (Refused entry error) = errors.BadSchemaEntry entry error
 schema_refusal (Other Memory) = errors.Memory
 schema_refusal (Other error) = errors.BadSchema error

@@ -71,6 +71,10 @@ schema_answer (schemas.FloatField entry) = nothing_written 6 5 (entry_place (Som
 schema_answer schemas.Memory = nothing_written 2 0 0
 schema_answer schemas.FieldNotFound = nothing_written 7 0 0
 
+-- the answer with the place of an entry
+abbrev pub placed : ℕ → Answer → Answer
+placed entry answer = nothing_written answer.status answer.detail (entry_place (Some entry))
+
 abbrev pub error_answer : BlockError → Answer
 error_answer (errors.TooSmall bytes lines) = record { status = 1; detail = 0; place = 0; bytes = bytes; lines = lines }
 error_answer errors.Memory = nothing_written 2 0 0
@@ -78,6 +82,7 @@ error_answer errors.NotUtf8 = nothing_written 3 0 0
 error_answer errors.NotFacet = nothing_written 4 0 0
 error_answer errors.InvalidJson = nothing_written 5 0 0
 error_answer (errors.BadSchema e) = schema_answer e
+error_answer (errors.BadSchemaEntry entry e) = placed entry (schema_answer e)
 error_answer (errors.BadSchemaKey entry key) = nothing_written 6 (key_number key) (entry_place (Some entry))
 error_answer errors.NoField = nothing_written 7 0 0
 error_answer errors.NoEnd = nothing_written 10 0 0

@@ -50,9 +50,17 @@ pub enum BlockError {
     /// The schema's text isn't JSON.
     #[error("the schema is not JSON")]
     InvalidJson,
-    /// The JSON describes no schema, and that isn't for a key of an entry.
+    /// The JSON describes no schema: the whole is no array, an entry is no object, or it has the type `f64`.
     #[error("{0}")]
     BadSchema(SchemaError),
+    /// The JSON describes no schema: an entry is refused as a field, for its name or because there are too many.
+    #[error("at entry {entry} of the schema: {error}")]
+    BadSchemaEntry {
+        /// The place of the entry, from 0.
+        entry: usize,
+        /// Why it is refused: `InvalidName`, `DuplicateName` or `TooManyFields`.
+        error: SchemaError,
+    },
     /// The JSON describes no schema: a key's value in an entry is not as it has to be, or is missing.
     #[error("at entry {entry} of the schema: {key}")]
     BadSchemaKey {

@@ -183,7 +183,7 @@ pub fn import_lines_by(
 
 /// Stores the documents of lines of JSON and answers each line, see `import_lines_by`.
 ///
-/// Errors: `InvalidJson`, `BadSchemaKey` and `BadSchema` where the schema is refused; `TooSmall` with the bytes of the block and the number of
+/// Errors: `InvalidJson`, `BadSchemaKey`, `BadSchemaEntry` and `BadSchema` where the schema is refused; `TooSmall` with the bytes of the block and the number of
 /// lines, where one of the buffers is too small; `Memory`. Both buffers then stay as they are.
 pub fn import_lines(
     alloc: Global,

@@ -18,6 +18,7 @@ fn refused(error: SchemaJsonError) -> BlockError
 {
     match error {
         SchemaJsonError::BadKey { entry, key } => BlockError::BadSchemaKey { entry, key },
+        SchemaJsonError::Refused { entry, error } => BlockError::BadSchemaEntry { entry, error },
         SchemaJsonError::Other(SchemaError::Memory) => BlockError::Memory,
         SchemaJsonError::Other(error) => BlockError::BadSchema(error),
     }
@@ -27,7 +28,7 @@ fn refused(error: SchemaJsonError) -> BlockError
 /// those of one document.
 ///
 /// Errors: `InvalidJson` where the text isn't JSON, `BadSchemaKey` where a key of an entry is at fault, see `Schema::from_json_value_by_key`,
-/// `BadSchema` where the JSON describes no schema for another reason, `Memory`.
+/// `BadSchemaEntry` where one is refused as a field, `BadSchema` where the JSON describes no schema for another reason, `Memory`.
 pub fn read_schema(alloc: Global, text: &[u8]) -> Result<Schema, BlockError>
     ensures ok { IfOk result (λ schema. ReadsSchema text.now schema) }
     ensures err { IfErr result (IsRefusedSchema text.now) }

@@ -2,7 +2,7 @@
 
 ghost use Rattle.std.specs.Prelude.{◌≡◌};
 ghost use Rattle.tv_blocks.specs.Status.{answer_of, cause_number, error_answer, import_answer};
-ghost use Rattle.tv_blocks.specs.Status.{key_number, nothing_written, refusal_number};
+ghost use Rattle.tv_blocks.specs.Status.{key_number, nothing_written, placed, refusal_number};
 ghost use Rattle.tv_blocks.specs.Status.{schema_answer, wrong_version};
 
 use crate::block_error::{BlockError, DocumentRefusal};
@@ -89,6 +89,17 @@ fn refusal_number(refusal: DocumentRefusal) -> u32
     }
 }
 
+// The answer with the place of an entry.
+fn placed(entry: usize, answer: Answer) -> Answer
+    ensures { result ≡ placed entry answer }
+{
+    refusal(
+        answer.status,
+        answer.detail,
+        (entry as u64).saturating_add(1),
+    )
+}
+
 // The number of a key of a schema's entry.
 fn key_number(key: SchemaKey) -> u32
     ensures { result ≡ key_number key }
@@ -150,6 +161,7 @@ pub fn error_answer(error: BlockError) -> Answer
         BlockError::NotFacet => refusal(4, 0, 0),
         BlockError::InvalidJson => refusal(5, 0, 0),
         BlockError::BadSchema(error) => schema_answer(error),
+        BlockError::BadSchemaEntry { entry, error } => placed(entry, schema_answer(error)),
         BlockError::BadSchemaKey { entry, key } => refusal(
             6,
             key_number(key),

@@ -12,7 +12,7 @@ use Rattle.tv_schema.specs.SchemaJsonOptions.{type_of_word, required_text, requi
 use Rattle.tv_schema.specs.declared.json.error.EntryFault.{EntryFault}
 use Rattle.tv_schema.specs.declared.json.error.EntryFault.TheVariants.{NoObject, Key, FloatField, Memory}
 use Rattle.tv_schema.specs.declared.json.error.SchemaJsonError.{SchemaJsonError}
-use Rattle.tv_schema.specs.declared.json.error.SchemaJsonError.TheVariants.{BadKey, Other}
+use Rattle.tv_schema.specs.declared.json.error.SchemaJsonError.TheVariants.{BadKey, Refused, Other}
 use Rattle.tv_schema.specs.declared.json.key.SchemaKey.{SchemaKey}
 use Rattle.tv_schema.specs.declared.json.key.SchemaKey.TheVariants as keys
 
@@ -52,10 +52,15 @@ at_entry place (Key key) = BadKey place key
 at_entry place FloatField = Other (schemas.FloatField place)
 at_entry place Memory = Other schemas.Memory
 
+-- the error, where a schema doesn't take the entry of this place
+abbrev pub refused_at : ℕ → SchemaError → SchemaJsonError
+refused_at place schemas.Memory = Other schemas.Memory
+refused_at place error = Refused place error
+
 -- the schema with the entry behind the others, unless it is refused
 abbrev pub accepted : List Entry → Entry → Option SchemaError → Result (List Entry) SchemaJsonError
 accepted schema entry None = Ok (schema ++ entry ∷ [])
-accepted schema entry (Some error) = Err (Other error)
+accepted schema entry (Some error) = Err (refused_at (length schema) error)
 
 -- the schema with the entry that was read
 abbrev pub with_read : List Entry → Result Entry EntryFault → Result (List Entry) SchemaJsonError
@@ -88,6 +93,7 @@ schema_by_key description = of_items (as_array description)
 
 abbrev pub plain_error : SchemaJsonError → SchemaError
 plain_error (BadKey entry key) = schemas.BadJson (Some entry)
+plain_error (Refused entry error) = error
 plain_error (Other error) = error
 
 abbrev pub plain : Result (List Entry) SchemaJsonError → Result (List Entry) SchemaError

@@ -53,6 +53,7 @@ impl Schema {
     ///
     /// Errors: `BadKey` with the entry's place and the key where `from_json_value` returns `BadJson` with this place for one of
     /// the entry's keys, the first in the order in which they are read: `name`, `type`, `options`, and then those of the type.
+    /// `Refused` with the entry's place where that returns `InvalidName`, `DuplicateName` or `TooManyFields`.
     /// Else `Other` with the error of `from_json_value`: its `BadJson` is then a value that is no array, or an entry that is no
     /// object. Memory is taken and refused as there.
     pub fn from_json_value_by_key(alloc: Global, value: &Value) -> Result<Schema, SchemaJsonError>

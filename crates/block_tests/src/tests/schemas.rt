@@ -289,8 +289,20 @@ fn no_key_is_named_where_none_is_at_fault(rt: HostRuntime) -> Result<(), Fail> {
     assert_eq!(rt; refusal(alloc, float), Some(BlockError::BadSchema(unread)));
     let twice = br#"[{"name":"a","type":"facet","options":{"stored":true}},
 {"name":"a","type":"facet","options":{"stored":true}},{}]"#;
-    let double = SchemaError::DuplicateName;
-    assert_eq!(rt; refusal(alloc, twice), Some(BlockError::BadSchema(double)));
+    let double = BlockError::BadSchemaEntry {
+        entry: 1,
+        error: SchemaError::DuplicateName,
+    };
+    assert_eq!(rt; refusal(alloc, twice), Some(double));
+    assert_eq!(rt; error_answer(double).place, 2);
+    assert_eq!(rt; error_answer(double).detail, 2);
+    let hyphen = br#"[{"name":"-a","type":"facet","options":{"stored":true}}]"#;
+    let name = BlockError::BadSchemaEntry {
+        entry: 0,
+        error: SchemaError::InvalidName,
+    };
+    assert_eq!(rt; refusal(alloc, hyphen), Some(name));
+    assert_eq!(rt; error_answer(name).place, 1);
     Ok(())
 }
 

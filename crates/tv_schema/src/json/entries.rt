@@ -4,10 +4,11 @@ ghost use Rattle.std.specs.Prelude.{◌≡◌, ◌+◌, [], length, Err, IfSome,
 ghost use Rattle.serde_json.specs.View.{view, items_view};
 ghost use Rattle.tv_field.specs.Entry.{Entry};
 ghost use Rattle.tv_schema.specs.SchemaJsonEarly.{fault_in, first_error, head_error, opened};
-ghost use Rattle.tv_schema.specs.SchemaJsonReading.{Describes, Gives, entry_of};
+ghost use Rattle.tv_schema.specs.Schema.{refusal};
+ghost use Rattle.tv_schema.specs.SchemaJsonReading.{Describes, Gives, accepted, entry_of};
 ghost use Rattle.tv_schema.specs.SchemaJsonReading.{with_entry, with_entries, type_named};
 
-use crate::json::error::{EntryFault, SchemaJsonError};
+use crate::json::error::{EntryFault, SchemaJsonError, refused_at};
 use crate::json::key::SchemaKey;
 use crate::json::members::{required_object, required_text};
 use crate::json::options::options_of;
@@ -31,6 +32,23 @@ pub(super) fn builder_of(alloc: Global, items: &[Value]) -> Result<SchemaBuilder
     Ok(builder)
 }
 
+// Adds an entry. Its place is the number of the entries before it.
+fn take_entry(
+    builder: &mut SchemaBuilder,
+    place: usize,
+    entry: FieldEntry,
+) -> Result<(), SchemaJsonError>
+    requires { place ≡ length builder.old }
+    ensures added { Gives (λ _. builder.new)
+        (accepted builder.old entry (refusal builder.old entry.name)) result }
+    ensures one_more { OnOk result (length builder.new ≡ place + 1) }
+{
+    match builder.add_field(entry) {
+        Ok(_) => Ok(()),
+        Err(error) => Err(refused_at(place, error)),
+    }
+}
+
 // Adds the entry that the JSON value describes. Its place is the number of the entries before it.
 #[tactic(auto, unfolding(crate::specs::SchemaJsonReading::with_entry))]
 fn add_entry(
@@ -46,10 +64,10 @@ fn add_entry(
     ensures one_more { OnOk result (length builder.new ≡ place + 1) }
 {
     match entry_of(alloc, description) {
-        Ok((name, field_type)) => {
-            builder.add_field(FieldEntry::new(name, field_type)?)?;
-            Ok(())
-        }
+        Ok((name, field_type)) => match FieldEntry::new(name, field_type) {
+            Ok(entry) => take_entry(builder, place, entry),
+            Err(error) => Err(refused_at(place, error)),
+        },
         Err(fault) => Err(fault.at_entry(place)),
     }
 }

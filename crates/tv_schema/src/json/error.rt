@@ -1,7 +1,7 @@
 //! Why a JSON value describes no schema.
 
 ghost use Rattle.std.specs.Prelude.{◌≡◌};
-ghost use Rattle.tv_schema.specs.SchemaJsonReading.{at_entry, plain_error};
+ghost use Rattle.tv_schema.specs.SchemaJsonReading.{at_entry, plain_error, refused_at};
 ghost use Rattle.tv_schema.specs.declared.json.error.EntryFault.TheVariants.{Key, Memory};
 ghost use Rattle.tv_schema.specs.declared.json.error.SchemaJsonError.TheVariants.{Other};
 ghost use Rattle.tv_field.specs.declared.schema_error.SchemaError.TheVariants as schemas;
@@ -24,6 +24,13 @@ pub enum SchemaJsonError {
         /// The first such key, in the order in which the keys are read.
         key: SchemaKey,
     },
+    /// The entry of this place, from 0, is refused as a field: `InvalidName`, `DuplicateName` or `TooManyFields`.
+    Refused {
+        /// The place of the entry.
+        entry: usize,
+        /// Why it is refused, as `SchemaBuilder::add_field` has it.
+        error: SchemaError,
+    },
     /// Anything else: `BadJson` is then a whole that is no array, or an entry that is no object.
     Other(SchemaError),
 }
@@ -32,6 +39,7 @@ impl Display for SchemaJsonError {
     fn fmt<W: Write>(&self, f: &mut Formatter<W>) -> fmt::Result {
         match self {
             SchemaJsonError::BadKey { entry, key } => write!(f, "at entry {entry}: {key}"),
+            SchemaJsonError::Refused { entry, error } => write!(f, "at entry {entry}: {error}"),
             SchemaJsonError::Other(error) => write!(f, "{error}"),
         }
     }
@@ -55,6 +63,16 @@ impl From<AllocError> for SchemaJsonError {
     }
 }
 
+// Why a schema doesn't take the entry of this place.
+pub(super) fn refused_at(entry: usize, error: SchemaError) -> SchemaJsonError
+    ensures { result ≡ refused_at entry error }
+{
+    match error {
+        SchemaError::Memory => SchemaJsonError::Other(SchemaError::Memory),
+        error => SchemaJsonError::Refused { entry, error },
+    }
+}
+
 /// The same, without the key.
 impl From<SchemaJsonError> for SchemaError {
     ghost from_gives = { λ error told. told ≡ plain_error error };
@@ -62,7 +80,7 @@ impl From<SchemaJsonError> for SchemaError {
     fn from(error: SchemaJsonError) -> SchemaError {
         match error {
             SchemaJsonError::BadKey { entry, .. } => SchemaError::BadJson { entry: Some(entry) },
-            SchemaJsonError::Other(error) => error,
+            SchemaJsonError::Refused { error, .. } | SchemaJsonError::Other(error) => error,
         }
     }
 }

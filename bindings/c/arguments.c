@@ -1,0 +1,183 @@
+/* Calls each function with arguments that can't be used, and with those that can: NULL pointers, overlapping and unaligned buffers, lengths that
+ * no buffer has, closed handles, numbers that name nothing. Ends with 1 where an answer is another than the header says. */
+#include "kormaglen.h"
+
+#include <stdio.h>
+#include <stdlib.h>
+#include <string.h>
+
+static const char SCHEMA[] = "[{\"name\":\"age\",\"type\":\"u64\",\"options\":{\"indexed\":true,\"stored\":true}}]";
+static int failures;
+
+static const uint8_t *bytes_of(const char *text) {
+    return (const uint8_t *)text;
+}
+
+static void expect(const char *what, int holds) {
+    if (!holds) {
+        fprintf(stderr, "wrong: %s\n", what);
+        failures += 1;
+    }
+}
+
+static void expect_refused(const char *what, kormaglen_answer answer, uint32_t detail, uint64_t place) {
+    int holds = answer.status == KORMAGLEN_BAD_ARGUMENT && answer.detail == detail && answer.place == place && answer.bytes == 0;
+    if (!holds) {
+        fprintf(stderr, "%s: status %u, detail %u, place %llu\n", what, (unsigned)answer.status, (unsigned)answer.detail,
+            (unsigned long long)answer.place);
+        failures += 1;
+    }
+}
+
+static void test_null(void) {
+    kormaglen_found_field found = {7, 7};
+    kormaglen_line_answer answers[2];
+    uint8_t buffer[64];
+    expect_refused("text", kormaglen_facet_of_text(NULL, 1, buffer, sizeof buffer), KORMAGLEN_ARGUMENT_NULL, 1);
+    expect_refused("encoded", kormaglen_facet_of_text(bytes_of("/a"), 2, NULL, 9), KORMAGLEN_ARGUMENT_NULL, 2);
+    expect_refused("facet", kormaglen_text_of_facet(NULL, 1, buffer, sizeof buffer), KORMAGLEN_ARGUMENT_NULL, 1);
+    expect_refused("found", kormaglen_find_field(bytes_of(SCHEMA), strlen(SCHEMA), bytes_of("age"), 3, NULL), KORMAGLEN_ARGUMENT_NULL, 3);
+    expect_refused("path", kormaglen_find_field(bytes_of(SCHEMA), strlen(SCHEMA), NULL, 3, &found), KORMAGLEN_ARGUMENT_NULL, 2);
+    expect("found stays as it was", found.field == 7 && found.rest == 7);
+    expect_refused("answers", kormaglen_import_lines(bytes_of(SCHEMA), strlen(SCHEMA), NULL, 0, buffer, 64, NULL, 1), KORMAGLEN_ARGUMENT_NULL, 4);
+    expect_refused("lines", kormaglen_import_lines(bytes_of(SCHEMA), strlen(SCHEMA), NULL, 1, buffer, 64, answers, 2), KORMAGLEN_ARGUMENT_NULL, 2);
+    expect_refused("block", kormaglen_export_block(bytes_of(SCHEMA), strlen(SCHEMA), 2, NULL, 1, buffer, 64), KORMAGLEN_ARGUMENT_NULL, 2);
+    expect_refused("migrated", kormaglen_migrate_block(2, buffer, 1, 3, NULL, 1), KORMAGLEN_ARGUMENT_NULL, 2);
+    expect_refused("terms", kormaglen_terms_of_block(0, 2, buffer, 1, NULL, 1), KORMAGLEN_ARGUMENT_NULL, 2);
+    expect_refused("term", kormaglen_term_of_text(0, NULL, 1, buffer, 64), KORMAGLEN_ARGUMENT_NULL, 1);
+    expect_refused("prefix", kormaglen_end_of_prefix(NULL, 1, buffer, 64), KORMAGLEN_ARGUMENT_NULL, 1);
+    expect_refused("schema", kormaglen_schema_open(bytes_of(SCHEMA), strlen(SCHEMA), NULL), KORMAGLEN_ARGUMENT_NULL, 2);
+    expect_refused("schema", kormaglen_schema_to_json(NULL, buffer, 64), KORMAGLEN_ARGUMENT_NULL, 1);
+    expect_refused("schema", kormaglen_schema_find_field(NULL, bytes_of("a"), 1, &found), KORMAGLEN_ARGUMENT_NULL, 1);
+    expect_refused("schema", kormaglen_schema_import_lines(NULL, NULL, 0, NULL, 0, NULL, 0), KORMAGLEN_ARGUMENT_NULL, 1);
+    expect_refused("schema", kormaglen_schema_export_block(NULL, 2, NULL, 0, NULL, 0), KORMAGLEN_ARGUMENT_NULL, 1);
+    expect_refused("document", kormaglen_document_read(2, buffer, 1, NULL), KORMAGLEN_ARGUMENT_NULL, 2);
+    kormaglen_schema schema = {0};
+    kormaglen_document document = {0};
+    expect_refused("document", kormaglen_document_parse(&schema, bytes_of("{}"), 2, NULL), KORMAGLEN_ARGUMENT_NULL, 3);
+    expect_refused("schema", kormaglen_document_to_json(&document, NULL, buffer, 64), KORMAGLEN_ARGUMENT_NULL, 2);
+    expect_refused("bytes", kormaglen_document_write(&document, &schema, 2, NULL, 1), KORMAGLEN_ARGUMENT_NULL, 3);
+    kormaglen_schema_close(NULL);
+    kormaglen_document_close(NULL);
+}
+
+/* A pointer may be NULL where its length is 0: each call answers as for an empty buffer. */
+static void test_empty(void) {
+    kormaglen_found_field found = {7, 7};
+    kormaglen_schema schema = {0};
+    kormaglen_document document = {0};
+    expect("no facet", kormaglen_facet_of_text(NULL, 0, NULL, 0).status == KORMAGLEN_NOT_A_FACET);
+    kormaglen_answer root = kormaglen_text_of_facet(NULL, 0, NULL, 0);
+    expect("the root takes a byte", root.status == KORMAGLEN_TOO_SMALL && root.bytes == 1);
+    expect("no JSON", kormaglen_find_field(NULL, 0, NULL, 0, &found).status == KORMAGLEN_INVALID_JSON);
+    expect("nothing found", found.field == 0 && found.rest == 0);
+    expect("no JSON", kormaglen_import_lines(NULL, 0, NULL, 0, NULL, 0, NULL, 0).status == KORMAGLEN_INVALID_JSON);
+    expect("no line", kormaglen_import_lines(bytes_of(SCHEMA), strlen(SCHEMA), NULL, 0, NULL, 0, NULL, 0).status == KORMAGLEN_OK);
+    expect("no document", kormaglen_export_block(bytes_of(SCHEMA), strlen(SCHEMA), 2, NULL, 0, NULL, 0).status == KORMAGLEN_OK);
+    expect("no document", kormaglen_migrate_block(2, NULL, 0, 3, NULL, 0).status == KORMAGLEN_OK);
+    expect("no term", kormaglen_terms_of_block(0, 2, NULL, 0, NULL, 0).status == KORMAGLEN_OK);
+    kormaglen_answer term = kormaglen_term_of_text(0, NULL, 0, NULL, 0);
+    expect("the term of an empty text has field and type", term.status == KORMAGLEN_TOO_SMALL && term.bytes == 5);
+    expect("no end", kormaglen_end_of_prefix(NULL, 0, NULL, 0).status == KORMAGLEN_NO_END);
+    expect("no JSON", kormaglen_schema_open(NULL, 0, &schema).status == KORMAGLEN_INVALID_JSON);
+    expect("no bytes", kormaglen_document_read(2, NULL, 0, &document).status == KORMAGLEN_BAD_DOCUMENT);
+    expect("open", kormaglen_schema_open(bytes_of(SCHEMA), strlen(SCHEMA), &schema).status == KORMAGLEN_OK);
+    expect("no path", kormaglen_schema_find_field(&schema, NULL, 0, &found).status == KORMAGLEN_NO_FIELD);
+    expect("no line", kormaglen_document_parse(&schema, NULL, 0, &document).status == KORMAGLEN_BAD_LINE);
+    kormaglen_schema_close(&schema);
+}
+
+static void test_overlap(void) {
+    uint8_t both[64] = "/a/b";
+    expect_refused("the same buffer", kormaglen_facet_of_text(both, 4, both, 64), KORMAGLEN_ARGUMENT_OVERLAP, 2);
+    expect_refused("one byte", kormaglen_facet_of_text(both, 4, both + 3, 60), KORMAGLEN_ARGUMENT_OVERLAP, 2);
+    expect("the next byte", kormaglen_facet_of_text(both, 4, both + 4, 60).status == KORMAGLEN_OK);
+    expect("the input stays", memcmp(both, "/a/b", 4) == 0);
+    expect("an empty one", kormaglen_facet_of_text(both, 4, both, 0).status == KORMAGLEN_TOO_SMALL);
+    kormaglen_found_field found;
+    expect("inputs may", kormaglen_find_field(bytes_of(SCHEMA), strlen(SCHEMA), bytes_of(SCHEMA), 3, &found).status == KORMAGLEN_NO_FIELD);
+    union {
+        kormaglen_schema schema;
+        uint8_t bytes[64];
+    } shared = {{0}};
+    expect_refused("a handle", kormaglen_schema_to_json(&shared.schema, shared.bytes, 64), KORMAGLEN_ARGUMENT_OVERLAP, 2);
+    expect_refused("a handle", kormaglen_schema_open(shared.bytes, 64, &shared.schema), KORMAGLEN_ARGUMENT_OVERLAP, 2);
+    kormaglen_line_answer answers[4];
+    expect_refused("block and answers",
+        kormaglen_import_lines(bytes_of(SCHEMA), strlen(SCHEMA), bytes_of("{}"), 2, (uint8_t *)answers, sizeof answers, answers, 4),
+        KORMAGLEN_ARGUMENT_OVERLAP, 4);
+}
+
+static void test_size(void) {
+    uint8_t buffer[64] = {0};
+    expect_refused("too long", kormaglen_facet_of_text(buffer, SIZE_MAX, NULL, 0), KORMAGLEN_ARGUMENT_TOO_LARGE, 1);
+    expect_refused("too long", kormaglen_facet_of_text(buffer, (size_t)PTRDIFF_MAX + 1, NULL, 0), KORMAGLEN_ARGUMENT_TOO_LARGE, 1);
+    kormaglen_line_answer answers[2];
+    expect_refused("too many", kormaglen_import_lines(NULL, 0, NULL, 0, NULL, 0, answers, SIZE_MAX / 8), KORMAGLEN_ARGUMENT_TOO_LARGE, 4);
+    uint64_t words[8];
+    kormaglen_line_answer *odd = (kormaglen_line_answer *)(void *)((uint8_t *)words + 1);
+    expect_refused("unaligned", kormaglen_import_lines(NULL, 0, NULL, 0, NULL, 0, odd, 1), KORMAGLEN_ARGUMENT_UNALIGNED, 4);
+}
+
+static void test_numbers(void) {
+    static const uint32_t none[] = {0, 4, 5, 0x7FFFFFFF, 0x80000000, 0xFFFFFFFF};
+    for (size_t i = 0; i < sizeof none / sizeof *none; i++) {
+        expect("no such version", kormaglen_migrate_block(none[i], NULL, 0, 3, NULL, 0).status == KORMAGLEN_WRONG_VERSION);
+        expect("no such version", kormaglen_migrate_block(2, NULL, 0, none[i], NULL, 0).status == KORMAGLEN_WRONG_VERSION);
+        expect("no such version", kormaglen_terms_of_block(0, none[i], NULL, 0, NULL, 0).status == KORMAGLEN_WRONG_VERSION);
+    }
+    expect("version 1 isn't written", kormaglen_migrate_block(1, NULL, 0, 1, NULL, 0).status == KORMAGLEN_WRONG_VERSION);
+    uint8_t term[5];
+    kormaglen_answer answer = kormaglen_term_of_text(0xFFFFFFFF, NULL, 0, term, sizeof term);
+    expect("the largest field", answer.status == KORMAGLEN_OK && memcmp(term, "\xFF\xFF\xFF\xFFs", 5) == 0);
+}
+
+static void test_closed(void) {
+    kormaglen_schema schema = {0};
+    kormaglen_document document = {0};
+    kormaglen_found_field found = {7, 7};
+    uint8_t buffer[64];
+    kormaglen_schema_close(&schema);
+    kormaglen_document_close(&document);
+    expect("closed", kormaglen_schema_to_json(&schema, buffer, 64).status == KORMAGLEN_CLOSED);
+    expect("closed", kormaglen_schema_find_field(&schema, bytes_of("age"), 3, &found).status == KORMAGLEN_CLOSED);
+    expect("closed", kormaglen_schema_import_lines(&schema, NULL, 0, NULL, 0, NULL, 0).status == KORMAGLEN_CLOSED);
+    expect("closed", kormaglen_schema_export_block(&schema, 2, NULL, 0, NULL, 0).status == KORMAGLEN_CLOSED);
+    expect("closed", kormaglen_document_parse(&schema, bytes_of("{}"), 2, &document).status == KORMAGLEN_CLOSED);
+    expect("open", kormaglen_schema_open(bytes_of(SCHEMA), strlen(SCHEMA), &schema).status == KORMAGLEN_OK);
+    expect("closed", kormaglen_document_to_json(&document, &schema, buffer, 64).status == KORMAGLEN_CLOSED);
+    expect("closed", kormaglen_document_write(&document, &schema, 2, buffer, 64).status == KORMAGLEN_CLOSED);
+    kormaglen_schema_close(&schema);
+}
+
+/* Each number of the header has words of its own, and no other number has. */
+static void test_texts(void) {
+    expect("version", strncmp(kormaglen_version(), KORMAGLEN_VERSION, strlen(KORMAGLEN_VERSION)) == 0);
+    for (uint32_t status = 0; status < 20; status++) {
+        int is_known = (status <= KORMAGLEN_FOREIGN_FIELD) || status == KORMAGLEN_CLOSED || status == KORMAGLEN_BAD_ARGUMENT;
+        expect("status", is_known != (strcmp(kormaglen_status_text(status), "unknown status") == 0));
+        expect("line", (status <= KORMAGLEN_LINE_NO_ROOM) != (strcmp(kormaglen_line_status_text(status), "unknown status of a line") == 0));
+    }
+    static const uint32_t last[] = {0, 0, 0, 0, 0, 0, KORMAGLEN_SCHEMA_EXPAND_DOTS, 0, KORMAGLEN_DOCUMENT_TOO_LONG, 0, 0, KORMAGLEN_LINE_NO_ROOM,
+        0, 0, 0, 0, KORMAGLEN_ARGUMENT_OVERLAP};
+    for (uint32_t status = 0; status < sizeof last / sizeof *last; status++) {
+        for (uint32_t detail = 0; detail < 30; detail++) {
+            int is_known = detail >= 1 && detail <= last[status];
+            expect("detail", is_known == (kormaglen_detail_text(status, detail)[0] != 0));
+        }
+    }
+}
+
+int main(void) {
+    test_null();
+    test_empty();
+    test_overlap();
+    test_size();
+    test_numbers();
+    test_closed();
+    test_texts();
+    if (failures == 0) {
+        printf("arguments: as the header says\n");
+    }
+    return failures == 0 ? 0 : 1;
+}

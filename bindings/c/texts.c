@@ -1,0 +1,115 @@
+/* The library's version, and the words of its numbers. */
+#include "kormaglen.h"
+
+const char *kormaglen_version(void) {
+#ifdef KORMAGLEN_UNPROVED
+    return KORMAGLEN_VERSION " (unproved)";
+#else
+    return KORMAGLEN_VERSION;
+#endif
+}
+
+const char *kormaglen_status_text(uint32_t status) {
+    switch (status) {
+    case KORMAGLEN_OK: return "done";
+    case KORMAGLEN_TOO_SMALL: return "a buffer is too small";
+    case KORMAGLEN_NO_MEMORY: return "memory was refused";
+    case KORMAGLEN_NOT_UTF8: return "a text is not UTF-8";
+    case KORMAGLEN_NOT_A_FACET: return "a facet's text begins with /";
+    case KORMAGLEN_INVALID_JSON: return "the schema is not JSON";
+    case KORMAGLEN_BAD_SCHEMA: return "the JSON describes no schema";
+    case KORMAGLEN_NO_FIELD: return "the path names no field";
+    case KORMAGLEN_BAD_DOCUMENT: return "a document can't be read";
+    case KORMAGLEN_WRONG_VERSION: return "there is no such version of the store";
+    case KORMAGLEN_NO_END: return "no byte string is above all that begin with the prefix";
+    case KORMAGLEN_BAD_LINE: return "a line has no document";
+    case KORMAGLEN_FOREIGN_FIELD: return "a document has a field that the schema does not have";
+    case KORMAGLEN_CLOSED: return "a handle is closed";
+    case KORMAGLEN_BAD_ARGUMENT: return "an argument can't be used";
+    default: return "unknown status";
+    }
+}
+
+static const char *schema_text(uint32_t detail) {
+    switch (detail) {
+    case KORMAGLEN_SCHEMA_BAD_NAME: return "a name is empty or begins with -";
+    case KORMAGLEN_SCHEMA_SAME_NAME: return "a field has this name already";
+    case KORMAGLEN_SCHEMA_TOO_MANY_FIELDS: return "there are 4294967295 fields already";
+    case KORMAGLEN_SCHEMA_BAD_ENTRY: return "a schema is an array of objects, one for each field";
+    case KORMAGLEN_SCHEMA_FLOAT_FIELD: return "the type f64 is not supported";
+    case KORMAGLEN_SCHEMA_NAME: return "\"name\": a text is wanted";
+    case KORMAGLEN_SCHEMA_TYPE:
+        return "\"type\": one of text, u64, i64, bool, date, facet, bytes, json_object and ip_addr is wanted";
+    case KORMAGLEN_SCHEMA_OPTIONS: return "\"options\": an object is wanted";
+    case KORMAGLEN_SCHEMA_INDEXED: return "\"indexed\": true or false is wanted";
+    case KORMAGLEN_SCHEMA_STORED: return "\"stored\": true or false is wanted";
+    case KORMAGLEN_SCHEMA_FIELDNORMS: return "\"fieldnorms\": true or false is wanted";
+    case KORMAGLEN_SCHEMA_FAST: return "\"fast\": true or false is wanted";
+    case KORMAGLEN_SCHEMA_FAST_OF_TEXT: return "\"fast\": true, false or an object with \"with_tokenizer\" is wanted";
+    case KORMAGLEN_SCHEMA_COERCE: return "\"coerce\": true or false is wanted";
+    case KORMAGLEN_SCHEMA_PRECISION:
+        return "\"precision\": one of seconds, milliseconds, microseconds and nanoseconds is wanted";
+    case KORMAGLEN_SCHEMA_INDEXING: return "\"indexing\": an object or null is wanted";
+    case KORMAGLEN_SCHEMA_RECORD: return "\"record\" of \"indexing\": one of basic, freq and position is wanted";
+    case KORMAGLEN_SCHEMA_INDEXING_FIELDNORMS: return "\"fieldnorms\" of \"indexing\": true or false is wanted";
+    case KORMAGLEN_SCHEMA_TOKENIZER: return "\"tokenizer\" of \"indexing\": a text is wanted";
+    case KORMAGLEN_SCHEMA_WITH_TOKENIZER: return "\"with_tokenizer\" of \"fast\": a text is wanted";
+    case KORMAGLEN_SCHEMA_EXPAND_DOTS: return "\"expand_dots_enabled\": true or false is wanted";
+    default: return "";
+    }
+}
+
+static const char *document_text(uint32_t detail) {
+    switch (detail) {
+    case KORMAGLEN_DOCUMENT_UNEXPECTED_END: return "the bytes end too early";
+    case KORMAGLEN_DOCUMENT_UNKNOWN_TYPE: return "a type's code is unknown";
+    case KORMAGLEN_DOCUMENT_UNKNOWN_EXTENSION: return "an extension's code is unknown";
+    case KORMAGLEN_DOCUMENT_FLOAT: return "a value is a float, which is not supported";
+    case KORMAGLEN_DOCUMENT_BAD_NUMBER: return "a number of variable length is 2^64 or more, or has more than ten bytes";
+    case KORMAGLEN_DOCUMENT_BAD_BOOL: return "a truth value is neither 0 nor 1";
+    case KORMAGLEN_DOCUMENT_NOT_UTF8: return "a text is not UTF-8";
+    case KORMAGLEN_DOCUMENT_ODD_OBJECT: return "the number of an object's keys and values is odd";
+    case KORMAGLEN_DOCUMENT_DATE_RANGE: return "a date's nanoseconds do not fit 64 bits";
+    case KORMAGLEN_DOCUMENT_OLD_JSON: return "an object of an older store is not JSON";
+    case KORMAGLEN_DOCUMENT_OLD_FLOAT: return "an object of an older store has a number that is not a whole 64-bit number";
+    case KORMAGLEN_DOCUMENT_KEY_NO_TEXT: return "a key is not a text";
+    case KORMAGLEN_DOCUMENT_NO_ROOM: return "the document needs more than 4294967295 bytes";
+    case KORMAGLEN_DOCUMENT_TOO_LONG: return "more than 2^64 - 1 bytes were read";
+    default: return "";
+    }
+}
+
+static const char *argument_text(uint32_t detail) {
+    switch (detail) {
+    case KORMAGLEN_ARGUMENT_NULL: return "a pointer is NULL";
+    case KORMAGLEN_ARGUMENT_TOO_LARGE: return "a length is too large";
+    case KORMAGLEN_ARGUMENT_UNALIGNED: return "a pointer is not aligned";
+    case KORMAGLEN_ARGUMENT_OVERLAP: return "a buffer overlaps another one";
+    default: return "";
+    }
+}
+
+const char *kormaglen_line_status_text(uint32_t status) {
+    switch (status) {
+    case KORMAGLEN_LINE_STORED: return "stored";
+    case KORMAGLEN_LINE_INVALID_JSON: return "the line is not a JSON object";
+    case KORMAGLEN_LINE_OVERFLOW: return "a number does not fit the field's type";
+    case KORMAGLEN_LINE_WRONG_TYPE: return "a value is of another kind than the field's";
+    case KORMAGLEN_LINE_BAD_TEXT: return "a text is not a date, an address or a facet, as the field wants";
+    case KORMAGLEN_LINE_BAD_BASE64: return "a text is not base64";
+    case KORMAGLEN_LINE_FLOAT: return "a number is not whole, or does not fit 64 bits";
+    case KORMAGLEN_LINE_NO_ROOM: return "the values need more than 4294967295 bytes";
+    default: return "unknown status of a line";
+    }
+}
+
+const char *kormaglen_detail_text(uint32_t status, uint32_t detail) {
+    switch (status) {
+    case KORMAGLEN_BAD_SCHEMA: return schema_text(detail);
+    case KORMAGLEN_BAD_DOCUMENT: return document_text(detail);
+    case KORMAGLEN_BAD_LINE:
+        return detail >= KORMAGLEN_LINE_INVALID_JSON && detail <= KORMAGLEN_LINE_NO_ROOM ? kormaglen_line_status_text(detail) : "";
+    case KORMAGLEN_BAD_ARGUMENT: return argument_text(detail);
+    default: return "";
+    }
+}

@@ -1,0 +1,229 @@
+//! The numbers of reasons, by name. Their words are the library's.
+
+use crate::calls;
+use std::fmt;
+
+/// The library's status of a schema that is refused.
+pub(crate) const BAD_SCHEMA: u32 = 6;
+/// The library's status of a document that is refused.
+pub(crate) const BAD_DOCUMENT: u32 = 8;
+/// The library's status of a line that is refused.
+pub(crate) const BAD_LINE: u32 = 11;
+/// The library's status of a pointer that is refused.
+pub(crate) const BAD_ARGUMENT: u32 = 16;
+
+/// Makes an enum of numbers, with a variant for every other number, so that a library that has more
+/// of them is no error.
+macro_rules! reasons {
+    (
+        $(#[$about:meta])*
+        $name:ident, of $status:ident;
+        $($(#[$says:meta])* $variant:ident = $number:literal,)*
+    ) => {
+        $(#[$about])*
+        #[non_exhaustive]
+        #[derive(Clone, Copy, Debug, PartialEq, Eq, Hash)]
+        pub enum $name {
+            $($(#[$says])* $variant,)*
+            /// A number that this crate has no name for.
+            Unknown(u32),
+        }
+
+        impl $name {
+            pub(crate) fn of_number(number: u32) -> $name {
+                match number {
+                    $($number => $name::$variant,)*
+                    other => $name::Unknown(other),
+                }
+            }
+
+            /// The number that the C header has for this reason.
+            ///
+            /// ```
+            #[doc = concat!("let reason = kormaglen::", stringify!($name), "::Unknown(99);")]
+            /// assert_eq!(reason.number(), 99);
+            /// ```
+            pub fn number(self) -> u32 {
+                match self {
+                    $($name::$variant => $number,)*
+                    $name::Unknown(number) => number,
+                }
+            }
+        }
+
+        /// Prints the library's words for the reason.
+        impl fmt::Display for $name {
+            fn fmt(&self, f: &mut fmt::Formatter<'_>) -> fmt::Result {
+                match calls::detail_text($status, self.number()) {
+                    "" => write!(f, "unknown reason {}", self.number()),
+                    words => f.write_str(words),
+                }
+            }
+        }
+    };
+}
+
+reasons! {
+    /// Why a text of JSON describes no schema.
+    ///
+    /// ```
+    /// use kormaglen::{Refusal, Schema, SchemaReason};
+    ///
+    /// let twice = br#"[{"name":"a","type":"facet","options":{"stored":true}},
+    ///     {"name":"a","type":"facet","options":{"stored":true}}]"#;
+    /// match Schema::open(twice) {
+    ///     Err(Refusal::BadSchema { reason, .. }) => {
+    ///         assert_eq!(reason, SchemaReason::SameName);
+    ///         assert_eq!(reason.number(), 2);
+    ///     }
+    ///     other => panic!("{other:?}"),
+    /// }
+    /// ```
+    SchemaReason, of BAD_SCHEMA;
+    /// A field's name is empty or begins with `-`.
+    BadName = 1,
+    /// Two fields have the same name.
+    SameName = 2,
+    /// There are more fields than numbers for them.
+    TooManyFields = 3,
+    /// An entry isn't an object; at entry 0, the whole isn't an array.
+    BadEntry = 4,
+    /// The type of a field is `f64`, which the library doesn't have.
+    FloatField = 5,
+    /// `name` isn't a text, or is missing.
+    Name = 6,
+    /// `type` isn't the word of a type, or is missing.
+    Type = 7,
+    /// `options` isn't an object, or is missing.
+    Options = 8,
+    /// `indexed` isn't true or false, or is missing where it is required.
+    Indexed = 9,
+    /// `stored` isn't true or false, or is missing where it is required.
+    Stored = 10,
+    /// `fieldnorms` isn't true or false, or is missing where it is required.
+    Fieldnorms = 11,
+    /// `fast` isn't true or false, or is missing where it is required.
+    Fast = 12,
+    /// `fast` of a text or JSON field isn't true, false or an object with `with_tokenizer`, or is
+    /// missing where it is required.
+    FastOfText = 13,
+    /// `coerce` isn't true or false.
+    Coerce = 14,
+    /// `precision` isn't the word of a precision.
+    Precision = 15,
+    /// `indexing` isn't an object.
+    Indexing = 16,
+    /// `record` isn't the word of what an index keeps.
+    Record = 17,
+    /// `fieldnorms` of `indexing` isn't true or false.
+    IndexingFieldnorms = 18,
+    /// `tokenizer` isn't a text.
+    Tokenizer = 19,
+    /// `with_tokenizer` isn't a text.
+    WithTokenizer = 20,
+    /// `expand_dots_enabled` isn't true or false.
+    ExpandDots = 21,
+}
+
+reasons! {
+    /// Why a document of a block is refused.
+    ///
+    /// ```
+    /// use kormaglen::{Document, DocumentReason, Refusal, Version};
+    ///
+    /// // The byte says that one pair follows, but nothing does.
+    /// match Document::read(Version::V2, b"\x81") {
+    ///     Err(Refusal::BadDocument { reason, .. }) => {
+    ///         assert_eq!(reason, DocumentReason::UnexpectedEnd);
+    ///         assert_eq!(reason.number(), 1);
+    ///     }
+    ///     other => panic!("{other:?}"),
+    /// }
+    /// ```
+    DocumentReason, of BAD_DOCUMENT;
+    /// The bytes end inside the document.
+    UnexpectedEnd = 1,
+    /// A value has a code that names no type.
+    UnknownType = 2,
+    /// The code of an extension is followed by a byte that names none.
+    UnknownExtension = 3,
+    /// A value is a floating-point number, which the library doesn't have.
+    Float = 4,
+    /// A number of variable length is 2^64 or more, or has more than ten bytes.
+    BadNumber = 5,
+    /// A truth value is neither 0 nor 1.
+    BadBool = 6,
+    /// A text or a facet isn't UTF-8.
+    NotUtf8 = 7,
+    /// An object has an odd number of keys and values.
+    OddObject = 8,
+    /// The nanoseconds of a date of version 1 don't fit 64 bits.
+    DateRange = 9,
+    /// An object in the old form isn't JSON.
+    OldJson = 10,
+    /// An object in the old form has a number that isn't a whole one of 64 bits.
+    OldFloat = 11,
+    /// A key of an object isn't a text.
+    KeyNoText = 12,
+    /// The document needs more memory than 4294967295 bytes.
+    NoRoom = 13,
+    /// More than 2^64 - 1 bytes were read.
+    TooLong = 14,
+}
+
+reasons! {
+    /// Why a line has no document.
+    ///
+    /// ```
+    /// use kormaglen::{LineReason, Schema};
+    ///
+    /// let mut schema = Schema::open(b"[]")?;
+    /// let imported = schema.import_lines(b"null\n")?;
+    /// let reason = imported.lines[0].unwrap_err().reason;
+    /// assert_eq!(reason, LineReason::InvalidJson);
+    /// assert_eq!(reason.number(), 1);
+    /// # Ok::<(), kormaglen::Refusal>(())
+    /// ```
+    LineReason, of BAD_LINE;
+    /// The line is no JSON object.
+    InvalidJson = 1,
+    /// A number doesn't fit the field's type.
+    Overflow = 2,
+    /// A value is of another kind than the field's.
+    WrongType = 3,
+    /// A text is no date, address or facet.
+    BadText = 4,
+    /// A text isn't the standard base64 of any bytes.
+    BadBase64 = 5,
+    /// A number isn't whole, or doesn't fit 64 bits.
+    Float = 6,
+    /// The values need more than 4294967295 bytes.
+    NoRoom = 7,
+}
+
+reasons! {
+    /// Why a pointer of a call is refused. What this crate hands over is never refused so.
+    ///
+    /// ```
+    /// use kormaglen::ArgumentReason;
+    ///
+    /// assert_eq!(ArgumentReason::Overlap.number(), 4);
+    /// println!("{}", ArgumentReason::Overlap);
+    /// ```
+    ArgumentReason, of BAD_ARGUMENT;
+    /// It is null, and has a length.
+    Null = 1,
+    /// No buffer has this length.
+    TooLarge = 2,
+    /// It isn't aligned for what it points to.
+    Unaligned = 3,
+    /// The buffer overlaps one that stands before it in the call, and one of the two is written.
+    Overlap = 4,
+}
+
+impl LineReason {
+    /// Whether the reason is about the value of one field.
+    pub(crate) fn has_field(self) -> bool {
+        !matches!(self, LineReason::InvalidJson | LineReason::NoRoom)
+    }
+}

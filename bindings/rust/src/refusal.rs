@@ -1,0 +1,297 @@
+//! Why a call was refused.
+
+use crate::calls::{self, Answer};
+use crate::reasons::{ArgumentReason, DocumentReason, LineReason, SchemaReason};
+use crate::reasons::{BAD_ARGUMENT, BAD_DOCUMENT, BAD_LINE, BAD_SCHEMA};
+use std::error::Error;
+use std::fmt;
+
+const OK: u32 = 0;
+const TOO_SMALL: u32 = 1;
+const NO_MEMORY: u32 = 2;
+const NOT_UTF8: u32 = 3;
+const NOT_A_FACET: u32 = 4;
+const INVALID_JSON: u32 = 5;
+const NO_FIELD: u32 = 7;
+const WRONG_VERSION: u32 = 9;
+const NO_END: u32 = 10;
+const FOREIGN_FIELD: u32 = 12;
+const CLOSED: u32 = 15;
+
+/// Why a call was refused. It prints as the library's words, with the entry, the byte or the field.
+///
+/// ```
+/// use kormaglen::{Refusal, Schema};
+///
+/// let json = br#"[{"name":"age","type":"u64","options":{"indexed":true,"stored":true}}]"#;
+/// let mut schema = Schema::open(json)?;
+/// assert_eq!(schema.find_field("name"), Err(Refusal::NoField));
+/// println!("{}", Refusal::NoField);
+/// # Ok::<(), Refusal>(())
+/// ```
+#[non_exhaustive]
+#[derive(Clone, Copy, Debug, PartialEq, Eq, Hash)]
+pub enum Refusal {
+    /// What is to be written takes more bytes than a buffer of this machine can have.
+    TooLarge {
+        /// How many bytes it takes.
+        bytes: u64,
+    },
+    /// Memory was refused, to the library or for a buffer.
+    Memory,
+    /// A text isn't UTF-8.
+    NotUtf8,
+    /// A facet's text doesn't begin with `/`.
+    NotAFacet,
+    /// The schema isn't JSON.
+    InvalidJson,
+    /// The JSON describes no schema.
+    BadSchema {
+        /// Why it doesn't.
+        reason: SchemaReason,
+        /// The number of the entry that is wrong, from 1, or 0 where none is named.
+        entry: u64,
+    },
+    /// The path names no field.
+    NoField,
+    /// A document is refused.
+    BadDocument {
+        /// Why it is.
+        reason: DocumentReason,
+        /// At which byte of the block it begins.
+        start: u64,
+    },
+    /// The call has no such version of the store: no version has this number, or the call doesn't
+    /// write this one.
+    WrongVersion,
+    /// No byte string is above all that begin with the prefix.
+    NoEnd,
+    /// There is no document of a line.
+    BadLine(LineRefusal),
+    /// The document has a field that the schema doesn't have.
+    ForeignField {
+        /// The field's number.
+        field: u32,
+    },
+    /// The document's value holds nothing.
+    Closed,
+    /// A pointer of the call is refused. What this crate hands over is never refused so.
+    BadArgument {
+        /// Why it is.
+        reason: ArgumentReason,
+        /// The number of the pointer among those of the call, from 1.
+        pointer: u64,
+    },
+    /// An answer that this crate has no name for.
+    Unknown {
+        /// The number of the answer.
+        status: u32,
+        /// The number of its reason.
+        detail: u32,
+        /// The place that it names.
+        place: u64,
+    },
+}
+
+impl Refusal {
+    /// The number that the C header has for this refusal.
+    ///
+    /// ```
+    /// assert_eq!(kormaglen::Refusal::Closed.status(), 15);
+    /// ```
+    pub fn status(&self) -> u32 {
+        match self {
+            Refusal::TooLarge { .. } => TOO_SMALL,
+            Refusal::Memory => NO_MEMORY,
+            Refusal::NotUtf8 => NOT_UTF8,
+            Refusal::NotAFacet => NOT_A_FACET,
+            Refusal::InvalidJson => INVALID_JSON,
+            Refusal::BadSchema { .. } => BAD_SCHEMA,
+            Refusal::NoField => NO_FIELD,
+            Refusal::BadDocument { .. } => BAD_DOCUMENT,
+            Refusal::WrongVersion => WRONG_VERSION,
+            Refusal::NoEnd => NO_END,
+            Refusal::BadLine(_) => BAD_LINE,
+            Refusal::ForeignField { .. } => FOREIGN_FIELD,
+            Refusal::Closed => CLOSED,
+            Refusal::BadArgument { .. } => BAD_ARGUMENT,
+            Refusal::Unknown { status, .. } => *status,
+        }
+    }
+
+    /// The same refusal of a document that the call had as the first of its block, whereas it
+    /// begins behind so many bytes.
+    pub(crate) fn behind(self, bytes: usize) -> Refusal {
+        match self {
+            Refusal::BadDocument { reason, start } => {
+                Refusal::BadDocument { reason, start: start.saturating_add(bytes as u64) }
+            }
+            other => other,
+        }
+    }
+}
+
+impl fmt::Display for Refusal {
+    fn fmt(&self, f: &mut fmt::Formatter<'_>) -> fmt::Result {
+        f.write_str(calls::status_text(self.status()))?;
+        match self {
+            Refusal::TooLarge { bytes } => write!(f, ": {bytes} bytes are needed"),
+            Refusal::BadSchema { reason, entry: 0 } => write!(f, ": {reason}"),
+            Refusal::BadSchema { reason, entry } => write!(f, ": entry {entry}: {reason}"),
+            Refusal::BadDocument { reason, start } => write!(f, ": at byte {start}: {reason}"),
+            Refusal::BadLine(line) => write!(f, ": {line}"),
+            Refusal::ForeignField { field } => write!(f, ": field {field}"),
+            Refusal::BadArgument { reason, pointer } => write!(f, ": pointer {pointer}: {reason}"),
+            Refusal::Unknown { status, detail, place } => {
+                write!(f, ": status {status}, detail {detail}, place {place}")
+            }
+            _ => Ok(()),
+        }
+    }
+}
+
+impl Error for Refusal {}
+
+/// Why a line has no document. It prints as the number of the field, and the library's words for
+/// the reason.
+///
+/// ```
+/// use kormaglen::{LineReason, Schema};
+///
+/// let json = br#"[{"name":"age","type":"u64","options":{"indexed":true,"stored":true}}]"#;
+/// let imported = Schema::open(json)?.import_lines(b"{\"age\":\"old\"}\n")?;
+/// let refusal = imported.lines[0].unwrap_err();
+/// assert_eq!(refusal.reason, LineReason::WrongType);
+/// assert_eq!(refusal.field, Some(0));
+/// assert!(refusal.to_string().starts_with("field 0: "));
+/// # Ok::<(), kormaglen::Refusal>(())
+/// ```
+#[non_exhaustive]
+#[derive(Clone, Copy, Debug, PartialEq, Eq, Hash)]
+pub struct LineRefusal {
+    /// Why it hasn't.
+    pub reason: LineReason,
+    /// The number of the field whose value is refused, where it is one that is.
+    pub field: Option<u32>,
+}
+
+impl LineRefusal {
+    pub(crate) fn of_numbers(status: u32, field: u32) -> LineRefusal {
+        let reason = LineReason::of_number(status);
+        LineRefusal { reason, field: reason.has_field().then_some(field) }
+    }
+}
+
+impl fmt::Display for LineRefusal {
+    fn fmt(&self, f: &mut fmt::Formatter<'_>) -> fmt::Result {
+        match self.field {
+            Some(field) => write!(f, "field {field}: {}", self.reason),
+            None => write!(f, "{}", self.reason),
+        }
+    }
+}
+
+impl Error for LineRefusal {}
+
+impl Answer {
+    /// The answer itself, unless it is a refusal.
+    pub(crate) fn accepted(self) -> Result<Answer, Refusal> {
+        match self.status {
+            OK => Ok(self),
+            _ => Err(self.refusal()),
+        }
+    }
+
+    /// Whether a buffer was too small.
+    pub(crate) fn is_too_small(&self) -> bool {
+        self.status == TOO_SMALL
+    }
+
+    fn refusal(self) -> Refusal {
+        let Answer { status, detail, place, bytes, .. } = self;
+        let field = u32::try_from(place);
+        match (status, field) {
+            (TOO_SMALL, _) => Refusal::TooLarge { bytes },
+            (NO_MEMORY, _) => Refusal::Memory,
+            (NOT_UTF8, _) => Refusal::NotUtf8,
+            (NOT_A_FACET, _) => Refusal::NotAFacet,
+            (INVALID_JSON, _) => Refusal::InvalidJson,
+            (BAD_SCHEMA, _) => {
+                Refusal::BadSchema { reason: SchemaReason::of_number(detail), entry: place }
+            }
+            (NO_FIELD, _) => Refusal::NoField,
+            (BAD_DOCUMENT, _) => {
+                Refusal::BadDocument { reason: DocumentReason::of_number(detail), start: place }
+            }
+            (WRONG_VERSION, _) => Refusal::WrongVersion,
+            (NO_END, _) => Refusal::NoEnd,
+            (BAD_LINE, Ok(field)) => Refusal::BadLine(LineRefusal::of_numbers(detail, field)),
+            (FOREIGN_FIELD, Ok(field)) => Refusal::ForeignField { field },
+            (CLOSED, _) => Refusal::Closed,
+            (BAD_ARGUMENT, _) => {
+                Refusal::BadArgument { reason: ArgumentReason::of_number(detail), pointer: place }
+            }
+            _ => Refusal::Unknown { status, detail, place },
+        }
+    }
+}
+
+#[cfg(test)]
+mod tests {
+    use super::{calls, Answer, Refusal};
+    use crate::reasons::{ArgumentReason, DocumentReason, LineReason, SchemaReason};
+
+    fn refused(status: u32, detail: u32, place: u64) -> Refusal {
+        Answer { status, detail, place, bytes: 7, lines: 0 }.accepted().unwrap_err()
+    }
+
+    #[test]
+    fn each_number_is_that_of_its_refusal_and_has_its_words() {
+        for status in (1..100).chain([u32::MAX]) {
+            let refusal = refused(status, 1, 2);
+            assert_eq!(refusal.status(), status);
+            assert!(refusal.to_string().starts_with(calls::status_text(status)));
+            let is_known = calls::status_text(status) != calls::status_text(u32::MAX);
+            assert_eq!(matches!(refusal, Refusal::Unknown { .. }), !is_known, "{status}");
+        }
+    }
+
+    #[test]
+    fn each_reason_has_a_name_where_the_library_has_words() {
+        for number in (1..100).chain([u32::MAX]) {
+            let names = [
+                (6, matches!(SchemaReason::of_number(number), SchemaReason::Unknown(_))),
+                (8, matches!(DocumentReason::of_number(number), DocumentReason::Unknown(_))),
+                (11, matches!(LineReason::of_number(number), LineReason::Unknown(_))),
+                (16, matches!(ArgumentReason::of_number(number), ArgumentReason::Unknown(_))),
+            ];
+            for (status, is_unknown) in names {
+                let has_words = !calls::detail_text(status, number).is_empty();
+                assert_eq!(has_words, !is_unknown, "{status} {number}");
+                let words = refused(status, number, 2).to_string();
+                assert_eq!(words.contains(&format!("unknown reason {number}")), is_unknown);
+            }
+        }
+    }
+
+    #[test]
+    fn places_are_kept_whole() {
+        let place = u64::from(u32::MAX) + 1;
+        let entry = Refusal::BadSchema { reason: SchemaReason::BadName, entry: place };
+        assert_eq!(refused(6, 1, place), entry);
+        let start = Refusal::BadDocument { reason: DocumentReason::Float, start: place };
+        assert_eq!(refused(8, 4, place), start);
+        assert_eq!(start.behind(usize::MAX).behind(1).status(), 8);
+        // A field's number has 32 bits.
+        let unknown = Refusal::Unknown { status: 12, detail: 0, place };
+        assert_eq!(refused(12, 0, place), unknown);
+        assert_eq!(refused(11, 3, place), Refusal::Unknown { status: 11, detail: 3, place });
+        assert_eq!(refused(12, 0, place - 1), Refusal::ForeignField { field: u32::MAX });
+    }
+
+    #[test]
+    fn the_whole_of_a_schema_has_no_entry() {
+        assert!(!refused(6, 4, 0).to_string().contains("entry 0"));
+        assert!(refused(6, 4, 1).to_string().contains("entry 1: "));
+    }
+}

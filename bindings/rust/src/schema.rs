@@ -1,0 +1,233 @@
+//! A schema that is read once, and the field that a path names.
+
+use crate::blocks::{exported, imported, Imported, Version};
+use crate::buffer::{filled_text, size};
+use crate::calls::{self, Answer, FoundField, SchemaHandle};
+use crate::reader::ImportedBlocks;
+use crate::refusal::Refusal;
+use std::fmt;
+use std::io::Read;
+
+/// So many bytes of a schema's JSON are asked for at first.
+const FIRST_ROOM: usize = 4096;
+
+/// A schema whose JSON is read once, for any number of calls, and the memory that reading lines
+/// needs. It is given up where its value ends.
+///
+/// ```
+/// use kormaglen::{Schema, Version};
+///
+/// let mut schema = Schema::open(
+///     br#"[{"name":"age","type":"u64","options":{"indexed":true,"stored":true}}]"#,
+/// )?;
+/// let imported = schema.import_lines(b"{\"age\":36}\n")?;
+/// assert_eq!(schema.export_block(Version::V2, &imported.block)?, "{\"age\":[36]}\n");
+/// # Ok::<(), kormaglen::Refusal>(())
+/// ```
+///
+/// A schema can be moved to another thread:
+///
+/// ```
+/// let mut schema = kormaglen::Schema::open(b"[]")?;
+/// let thread = std::thread::spawn(move || schema.import_lines(b"{}\n"));
+/// assert_eq!(thread.join().unwrap()?.block, b"\x80");
+/// # Ok::<(), kormaglen::Refusal>(())
+/// ```
+///
+/// Two threads can't use the same one, since each call takes it by `&mut`:
+///
+/// ```compile_fail,E0499
+/// let mut schema = kormaglen::Schema::open(b"[]").unwrap();
+/// std::thread::scope(|scope| {
+///     scope.spawn(|| schema.import_lines(b"{}\n"));
+///     scope.spawn(|| schema.import_lines(b"{}\n"));
+/// });
+/// ```
+///
+/// Nor can they have references to the same one, as a `Schema` isn't `Sync`:
+///
+/// ```compile_fail,E0277
+/// fn share<T: Sync>(_: &T) {}
+/// share(&kormaglen::Schema::open(b"[]").unwrap());
+/// ```
+pub struct Schema {
+    handle: SchemaHandle,
+}
+
+impl Schema {
+    /// The schema that a text of JSON describes, as tantivy writes it.
+    ///
+    /// ```
+    /// use kormaglen::{Refusal, Schema, SchemaReason};
+    ///
+    /// assert!(Schema::open(b"[]").is_ok());
+    /// assert_eq!(Schema::open(b"[").unwrap_err(), Refusal::InvalidJson);
+    /// let refusal = Schema::open(br#"[{"name":"age"}]"#).unwrap_err();
+    /// assert_eq!(refusal, Refusal::BadSchema { reason: SchemaReason::Type, entry: 1 });
+    /// ```
+    ///
+    /// # Errors
+    ///
+    /// `InvalidJson`, `BadSchema`, `Memory`.
+    pub fn open(json: &[u8]) -> Result<Schema, Refusal> {
+        let (handle, answer) = SchemaHandle::open(json);
+        answer.accepted()?;
+        Ok(Schema { handle })
+    }
+
+    /// The schema as JSON, with all options written out. [`Schema::open`] reads it again.
+    ///
+    /// ```
+    /// let mut schema = kormaglen::Schema::open(b" [ ] ")?;
+    /// assert_eq!(schema.to_json()?, "[]");
+    /// # Ok::<(), kormaglen::Refusal>(())
+    /// ```
+    ///
+    /// # Errors
+    ///
+    /// `Memory`, `TooLarge`.
+    pub fn to_json(&mut self) -> Result<String, Refusal> {
+        filled_text(FIRST_ROOM, |text| self.handle.write_json(text))
+    }
+
+    /// As [`import_lines`](crate::import_lines()), by this schema.
+    ///
+    /// ```
+    /// let mut schema = kormaglen::Schema::open(b"[]")?;
+    /// // A document without a pair takes one byte.
+    /// let imported = schema.import_lines(b"{}\nnull\n{}")?;
+    /// assert_eq!(imported.block, b"\x80\x80");
+    /// assert_eq!(imported.lines.len(), 3);
+    /// # Ok::<(), kormaglen::Refusal>(())
+    /// ```
+    ///
+    /// # Errors
+    ///
+    /// `Memory`, `TooLarge`.
+    pub fn import_lines(&mut self, lines: &[u8]) -> Result<Imported, Refusal> {
+        imported(lines, |block, answers| self.handle.import_lines(lines, block, answers))
+    }
+
+    /// Imports the lines of a reader, a block of them at a time. It takes the memory of a chunk, of
+    /// what is stored of it, and of the longest line.
+    ///
+    /// ```
+    /// let mut schema = kormaglen::Schema::open(b"[]")?;
+    /// let mut line = 0;
+    /// for imported in schema.import_reader(&b"{}\n{}\nnull\n"[..]) {
+    ///     let imported = imported?;
+    ///     // Here the block is written somewhere.
+    ///     for answer in &imported.lines {
+    ///         line += 1;
+    ///         if let Err(refusal) = answer {
+    ///             println!("line {line}: {refusal}");
+    ///         }
+    ///     }
+    /// }
+    /// assert_eq!(line, 3);
+    /// # Ok::<(), Box<dyn std::error::Error>>(())
+    /// ```
+    pub fn import_reader<R: Read>(&mut self, reader: R) -> ImportedBlocks<'_, R> {
+        ImportedBlocks::new(self, reader)
+    }
+
+    /// As [`export_block`](crate::export_block()), by this schema.
+    ///
+    /// ```
+    /// use kormaglen::{DocumentReason, Refusal, Schema, Version};
+    ///
+    /// let mut schema = Schema::open(b"[]")?;
+    /// assert_eq!(schema.export_block(Version::V2, b"\x80\x80")?, "{}\n{}\n");
+    /// let refusal = schema.export_block(Version::V2, b"\x80\x81").unwrap_err();
+    /// let reason = DocumentReason::UnexpectedEnd;
+    /// assert_eq!(refusal, Refusal::BadDocument { reason, start: 1 });
+    /// # Ok::<(), Refusal>(())
+    /// ```
+    ///
+    /// # Errors
+    ///
+    /// `BadDocument` of the first document that can't be read, `Memory`, `TooLarge`.
+    pub fn export_block(&mut self, version: Version, block: &[u8]) -> Result<String, Refusal> {
+        exported(block, |lines| self.handle.export_block(version.number(), block, lines))
+    }
+
+    /// As [`find_field`](crate::find_field()), by this schema.
+    ///
+    /// ```
+    /// use kormaglen::{Refusal, Schema};
+    ///
+    /// let mut schema = Schema::open(
+    ///     br#"[{"name":"more","type":"json_object","options":{"stored":true,"fast":false}}]"#,
+    /// )?;
+    /// let field = schema.find_field("more.tags")?;
+    /// assert_eq!((field.number, field.rest), (0, "tags"));
+    /// assert_eq!(schema.find_field("less"), Err(Refusal::NoField));
+    /// # Ok::<(), Refusal>(())
+    /// ```
+    ///
+    /// # Errors
+    ///
+    /// `NoField` where the path names none.
+    pub fn find_field<'p>(&mut self, path: &'p str) -> Result<Field<'p>, Refusal> {
+        found(path, |found| self.handle.find_field(path.as_bytes(), found))
+    }
+
+    pub(crate) fn handle(&mut self) -> &mut SchemaHandle {
+        &mut self.handle
+    }
+}
+
+impl fmt::Debug for Schema {
+    fn fmt(&self, f: &mut fmt::Formatter<'_>) -> fmt::Result {
+        f.debug_struct("Schema").finish_non_exhaustive()
+    }
+}
+
+/// The field that a path names.
+///
+/// ```
+/// use kormaglen::find_field;
+///
+/// let options = r#"{"stored":true,"fast":false}"#;
+/// let schema = format!(r#"[{{"name":"more","type":"json_object","options":{options}}}]"#);
+/// let field = find_field(schema.as_bytes(), "more.tags.first")?;
+/// assert_eq!(field.number, 0);
+/// assert_eq!(field.rest, "tags.first");
+/// # Ok::<(), kormaglen::Refusal>(())
+/// ```
+#[non_exhaustive]
+#[derive(Clone, Copy, Debug, PartialEq, Eq, Hash)]
+pub struct Field<'p> {
+    /// The field's number.
+    pub number: u32,
+    /// The rest of the path: the path into the field's JSON objects. It is empty where the whole
+    /// path names the field.
+    pub rest: &'p str,
+}
+
+/// The field that a path of a query names, as `author.name`: the field of the whole path, or of the
+/// part before the last dot that names one.
+///
+/// The schema is its JSON, which is read anew. [`Schema`] reads it once for many calls.
+///
+/// ```
+/// let schema = br#"[{"name":"age","type":"u64","options":{"indexed":true,"stored":true}}]"#;
+/// assert_eq!(kormaglen::find_field(schema, "age")?.number, 0);
+/// # Ok::<(), kormaglen::Refusal>(())
+/// ```
+///
+/// # Errors
+///
+/// `InvalidJson` and `BadSchema` of the schema, `NoField` where the path names none, `Memory`.
+pub fn find_field<'p>(schema: &[u8], path: &'p str) -> Result<Field<'p>, Refusal> {
+    found(path, |found| calls::find_field(schema, path.as_bytes(), found))
+}
+
+/// What a call finds of a path.
+fn found(path: &str, call: impl FnOnce(&mut FoundField) -> Answer) -> Result<Field<'_>, Refusal> {
+    let mut found = FoundField::default();
+    call(&mut found).accepted()?;
+    // The rest begins behind a dot or at the path's end, so it is there.
+    let rest = path.get(size(found.rest)?..).unwrap_or_default();
+    Ok(Field { number: found.field, rest })
+}

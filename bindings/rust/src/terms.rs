@@ -1,0 +1,218 @@
+//! The terms of stored values, and where those of a prefix end.
+
+use crate::blocks::Version;
+use crate::buffer::{append, filled, reserve, size};
+use crate::calls;
+use crate::document::Document;
+use crate::documents::{documents, Documents};
+use crate::refusal::Refusal;
+use std::fmt;
+use std::iter::FusedIterator;
+
+/// A term of a stored value.
+///
+/// ```
+/// use kormaglen::{terms_of_block, Version};
+///
+/// let terms = terms_of_block(0, Version::V2, b"\x81\0\0\0\0\0\x83Ada")?;
+/// assert_eq!(terms[0].document, 0);
+/// // The number of the field, the code of texts, and the text.
+/// assert_eq!(terms[0].bytes, b"\0\0\0\0sAda");
+/// # Ok::<(), kormaglen::Refusal>(())
+/// ```
+#[non_exhaustive]
+#[derive(Clone, Debug, PartialEq, Eq, Hash)]
+pub struct Term {
+    /// The number of its document in the block, from 0.
+    pub document: u64,
+    /// Its bytes. Terms are compared as these, and so by field, then by type, then by value.
+    pub bytes: Vec<u8>,
+}
+
+/// The terms of a field's values in the documents of a block, in their order, all at once. A date
+/// is cut to the second, as it is indexed, and a text is whole. Null, arrays and objects have no
+/// term.
+///
+/// ```
+/// use kormaglen::{terms_of_block, Version};
+///
+/// let block = b"\x81\0\0\0\0\0\x81a\x80\x81\0\0\0\0\0\x81b";
+/// let terms = terms_of_block(0, Version::V2, block)?;
+/// assert_eq!((terms[0].document, &terms[0].bytes[..]), (0, &b"\0\0\0\0sa"[..]));
+/// assert_eq!((terms[1].document, &terms[1].bytes[..]), (2, &b"\0\0\0\0sb"[..]));
+/// # Ok::<(), kormaglen::Refusal>(())
+/// ```
+///
+/// # Errors
+///
+/// `BadDocument` of the first document that can't be read, `Memory`, `TooLarge`.
+pub fn terms_of_block(field: u32, version: Version, block: &[u8]) -> Result<Vec<Term>, Refusal> {
+    let records = filled(block.len().saturating_mul(2), |terms| {
+        calls::terms_of_block(field, version.number(), block, terms)
+    })?;
+    let (mut rest, mut terms) = (records.as_slice(), Vec::new());
+    while let Some(term) = first_term(&mut rest) {
+        reserve(&mut terms, 1)?;
+        terms.push(term?);
+    }
+    Ok(terms)
+}
+
+/// As [`terms_of_block`], but the terms of one document at a time, so that it takes no more memory
+/// than these.
+///
+/// ```
+/// use kormaglen::{terms, Version};
+///
+/// let block = b"\x81\0\0\0\0\0\x81a\x80\x81\0\0\0\0\0\x81b";
+/// for term in terms(0, Version::V2, block) {
+///     let term = term?;
+///     println!("document {}: {:?}", term.document, term.bytes);
+/// }
+/// # Ok::<(), kormaglen::Refusal>(())
+/// ```
+pub fn terms(field: u32, version: Version, block: &[u8]) -> Terms<'_> {
+    Terms {
+        field,
+        version,
+        documents: documents(version, block),
+        document: Document::new(),
+        number: 0,
+        records: Vec::new(),
+        given: 0,
+        is_refused: false,
+    }
+}
+
+/// An iterator over the terms of a field's values in a block, see [`terms`]. After an error it
+/// gives nothing more.
+///
+/// ```
+/// use kormaglen::{terms, DocumentReason, Refusal, Version};
+///
+/// let mut found = terms(0, Version::V2, b"\x81\0\0\0\0\0\x81a\x81");
+/// assert_eq!(found.next().unwrap()?.bytes, b"\0\0\0\0sa");
+/// let reason = DocumentReason::UnexpectedEnd;
+/// let refusal = found.next().unwrap().unwrap_err();
+/// assert_eq!(refusal, Refusal::BadDocument { reason, start: 8 });
+/// assert!(found.next().is_none());
+/// # Ok::<(), Refusal>(())
+/// ```
+#[must_use = "terms are listed as they are asked for"]
+pub struct Terms<'b> {
+    field: u32,
+    version: Version,
+    documents: Documents<'b>,
+    // The document that is being read; its memory serves them all.
+    document: Document,
+    // How many documents were read.
+    number: u64,
+    // The terms of the last document, and how many bytes of them were given.
+    records: Vec<u8>,
+    given: usize,
+    is_refused: bool,
+}
+
+impl Terms<'_> {
+    /// The next term of the last document that was read.
+    fn next_of_document(&mut self) -> Option<Result<Term, Refusal>> {
+        let mut rest = &self.records[self.given..];
+        let term = first_term(&mut rest)?;
+        self.given = self.records.len() - rest.len();
+        // The library had this document alone.
+        Some(term.map(|term| Term { document: self.number - 1, ..term }))
+    }
+
+    /// Lists the terms of the next document, if there is one.
+    fn list_next(&mut self) -> Option<Result<(), Refusal>> {
+        let start = self.documents.offset();
+        let bytes = match self.documents.read_into(&mut self.document)? {
+            Ok(bytes) => bytes,
+            Err(refusal) => return Some(Err(refusal)),
+        };
+        self.number += 1;
+        self.given = 0;
+        self.records.clear();
+        let listed = append(&mut self.records, bytes.len().saturating_mul(2), |terms| {
+            calls::terms_of_block(self.field, self.version.number(), bytes, terms)
+        });
+        Some(listed.map(|_| ()).map_err(|refusal| refusal.behind(start)))
+    }
+}
+
+impl Iterator for Terms<'_> {
+    type Item = Result<Term, Refusal>;
+
+    fn next(&mut self) -> Option<Result<Term, Refusal>> {
+        while !self.is_refused {
+            let given = match self.next_of_document() {
+                Some(term) => Some(term),
+                None => self.list_next()?.err().map(Err),
+            };
+            if let Some(result) = given {
+                self.is_refused = result.is_err();
+                return Some(result);
+            }
+        }
+        None
+    }
+}
+
+impl FusedIterator for Terms<'_> {}
+
+/// Prints the field, and how far the block was read. The block may be large.
+impl fmt::Debug for Terms<'_> {
+    fn fmt(&self, f: &mut fmt::Formatter<'_>) -> fmt::Result {
+        f.debug_struct("Terms")
+            .field("field", &self.field)
+            .field("documents", &self.documents)
+            .finish_non_exhaustive()
+    }
+}
+
+/// Takes the first term of a list of the library's, which has for each the number of its document
+/// and its length, both in eight bytes, the lowest first, and the term.
+fn first_term(list: &mut &[u8]) -> Option<Result<Term, Refusal>> {
+    let document = u64::from_le_bytes(list.get(..8)?.try_into().ok()?);
+    let len = u64::from_le_bytes(list.get(8..16)?.try_into().ok()?);
+    let end = size(len).ok()?.checked_add(16)?;
+    let term = list.get(16..end)?;
+    *list = &list[end..];
+    let mut bytes = Vec::new();
+    Some(reserve(&mut bytes, term.len()).map(|()| {
+        bytes.extend_from_slice(term);
+        Term { document, bytes }
+    }))
+}
+
+/// The term of a text. The terms of all texts that begin with it begin with this term.
+///
+/// ```
+/// assert_eq!(kormaglen::term_of_text(1, "Ad")?, b"\0\0\0\x01sAd");
+/// # Ok::<(), kormaglen::Refusal>(())
+/// ```
+///
+/// # Errors
+///
+/// `Memory`, `TooLarge`.
+pub fn term_of_text(field: u32, text: &str) -> Result<Vec<u8>, Refusal> {
+    filled(text.len() + 5, |term| calls::term_of_text(field, text.as_bytes(), term))
+}
+
+/// The least byte string above all that begin with a prefix: the terms that begin with it are those
+/// from the prefix on and below this.
+///
+/// ```
+/// use kormaglen::{end_of_prefix, Refusal};
+///
+/// assert_eq!(end_of_prefix(b"\0\0\0\x01sAd")?, b"\0\0\0\x01sAe");
+/// assert_eq!(end_of_prefix(b"\xff"), Err(Refusal::NoEnd));
+/// # Ok::<(), Refusal>(())
+/// ```
+///
+/// # Errors
+///
+/// `NoEnd` where the prefix is empty or has no byte but 255, `Memory`.
+pub fn end_of_prefix(prefix: &[u8]) -> Result<Vec<u8>, Refusal> {
+    filled(prefix.len(), |end| calls::end_of_prefix(prefix, end))
+}

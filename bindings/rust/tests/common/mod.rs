@@ -1,0 +1,27 @@
+//! What several tests need.
+
+/// A field of each kind that refuses values in its own way: 0 of texts, 1 of numbers, 2 of facets,
+/// 3 of dates, 4 of bytes, 5 of JSON objects.
+pub const SCHEMA: &[u8] = br#"[{"name":"s","type":"text","options":{"stored":true}},
+{"name":"u","type":"u64","options":{"indexed":false,"stored":true}},
+{"name":"f","type":"facet","options":{"stored":true}},
+{"name":"d","type":"date","options":{"indexed":false,"fieldnorms":false,"stored":true}},
+{"name":"y","type":"bytes","options":{"indexed":false,"fast":false,"stored":true}},
+{"name":"j","type":"json_object","options":{"stored":true,"fast":false}}]"#;
+
+/// A stored document with a text in field 0, of version 2: one pair, the field's number in four
+/// bytes, the code 0 of texts, and the length. Numbers of variable length below 128 are one byte
+/// with its high bit set.
+#[allow(dead_code)]
+pub fn stored_text(text: &str) -> Vec<u8> {
+    assert!(text.len() < 128);
+    let head = [0x81, 0, 0, 0, 0, 0, 0x80 | text.len() as u8];
+    [&head, text.as_bytes()].concat()
+}
+
+/// A stored document with a number in field 1, of version 2: the code 1 of numbers, and eight
+/// bytes, the lowest first.
+#[allow(dead_code)]
+pub fn stored_number(number: u64) -> Vec<u8> {
+    [&[0x81, 1, 0, 0, 0, 1][..], &number.to_le_bytes()].concat()
+}
