@@ -23,9 +23,10 @@ pub struct Answer {
     /// With status 6 why there is no schema: 1 for a bad name, 2 for a name that comes twice, 3 for too many fields, 4 for an entry that is no
     /// object, or with `place` 0 a whole that is no array, 5 for a field of type `f64`; or the key whose value in the entry is not as it has to
     /// be, or is missing: 6 `name`, 7 `type`, 8 `options`, 9 `indexed`, 10 `stored`, 11 `fieldnorms`, 12 `fast`, 13 `fast` of a text or a JSON
-    /// object, 14 `coerce`, 15 `precision`, 16 `indexing`, of `indexing` 17 `record`, 18 `fieldnorms` and 19 `tokenizer`, 20 `with_tokenizer` of
-    /// `fast`, 21 `expand_dots_enabled`; see `SchemaKey`. With status 8 why the document is refused: 1 to 11 and 14 for the variants of `Cause` in their order, 12
-    /// where a key is no text, 13 where the document has no room. With status 11 the number of the `LineRefusal`. Else 0.
+    /// object, 14 `coerce`, 15 `precision`, 16 `indexing`, of `indexing` 17 `record`, 18 `fieldnorms` and 19 `tokenizer`, 20 `with_tokenizer`
+    /// of `fast`, 21 `expand_dots_enabled`; see `SchemaKey`. With status 8 why the document is refused: 1 to 11 and 14 for the variants of
+    /// `Cause` in their order, 12 where a key is no text, 13 where the document has no room. With status 11 the number of the `LineRefusal`.
+    /// Else 0.
     pub detail: u32,
     /// With status 6 the place of the entry, from 1, and 0 where the whole is meant; with status 8 where in the block the document begins;
     /// with status 11 the number of the field whose value is refused, 0 where it isn't a value that is; with status 12 the number of the
