@@ -18,7 +18,8 @@
  * opens it closes it. It may be moved, but a copy of it is never used beside it, nor after it was closed.
  *
  * Threads. A handle is used by one call at a time, by any thread: a call changes the handle of a schema, too, while it runs. Calls with
- * different handles, and calls without one, run at the same time on any threads. A buffer is not changed while a call reads it.
+ * different handles, and calls without one, run at the same time on any threads. The bytes that a call
+ * reads stay as they are until it returns: the library relies on that.
  */
 #ifndef KORMAGLEN_H
 #define KORMAGLEN_H
