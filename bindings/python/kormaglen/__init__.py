@@ -8,7 +8,7 @@ A `Schema` holds a schema, a `Document` one document. A block has documents one 
 >>> document["age"]
 [36]
 >>> imported = schema.import_lines('{"name":"Ada","age":36}\\n{"name":"Bob","age":"old"}\\n')
->>> print(imported.refused[0])
+>>> print(imported.refused[0])  # doctest: +ELLIPSIS
 line 2: field "age": ...
 >>> [each.to_dict() for each in schema.documents(imported.block)]
 [{'age': [36], 'name': ['Ada']}]

@@ -7,8 +7,8 @@ from typing import Any, Callable, Dict, ItemsView, Iterator, KeysView, List, Map
 
 import kormaglen._schema as _schema
 from kormaglen._arguments import Lent, TextOrBuffer, filled, number, type_name
-from kormaglen._handles import Handle, Held, opened, wanted
-from kormaglen._library import CALLS, Answer, DocumentStruct
+from kormaglen._handles import Handle, Held, opened
+from kormaglen._library import CALLS, DocumentStruct
 from kormaglen._refusals import SHOWN, Closed, FieldRefused, Refused, Status, closed, field_refused, line_refused, refused
 from kormaglen._values import parsed, printed, read_values, written_values
 
@@ -55,7 +55,7 @@ class Document(Held, Mapping[str, List[Any]]):
         >>> Document.from_dict(Schema(SCHEMA), {"age": [1, 2**64 - 1]})["age"]
         [1, 18446744073709551615]
         """
-        wanted(schema, _schema.Schema, "schema")
+        opened(schema, _schema.Schema, "schema")
         if not isinstance(values, Mapping):
             raise TypeError(f"values: a mapping is wanted, not {type_name(values)}")
         kinds = schema._kinds()
@@ -78,7 +78,7 @@ class Document(Held, Mapping[str, List[Any]]):
         >>> Document.parse(Schema(SCHEMA), b'{"age":[7,8],"other":1}')["age"]
         [7, 8]
         """
-        wanted(schema, _schema.Schema, "schema")
+        opened(schema, _schema.Schema, "schema")
         with Lent(line, "line", texts=True) as given:
             document, answer = cls._made(schema, lambda own, by: CALLS.kormaglen_document_parse(by, given.at, given.size, own))
             if answer.status == Status.BAD_LINE:
@@ -99,7 +99,7 @@ class Document(Held, Mapping[str, List[Any]]):
         >>> document["age"], size
         ([36], 14)
         """
-        wanted(schema, _schema.Schema, "schema")
+        opened(schema, _schema.Schema, "schema")
         stored = number(version, "version")
         with Lent(data, "data") as given:
             return cls._read_at(schema, given.at, given.size, stored)
@@ -113,9 +113,9 @@ class Document(Held, Mapping[str, List[Any]]):
         return document, answer.bytes
 
     @classmethod
-    def _made(cls: Type[_D], schema: _schema.Schema, call: Callable[[Any, Any], Any]) -> Tuple[_D, Answer]:
+    def _made(cls: Type[_D], schema: _schema.Schema, call: Callable[[Any, Any], Any]) -> Tuple[_D, Any]:
         """A new document that a call opens, and what the call answers. Locks are taken in this order everywhere: the document's, the schema's."""
-        by, own = opened(schema), Handle(DocumentStruct())
+        by, own = opened(schema, _schema.Schema, "schema"), Handle(DocumentStruct())
         with own.lock, by.lock:
             answer = call(own.ref, by.ref)
         document = cls.__new__(cls)
@@ -142,7 +142,7 @@ class Document(Held, Mapping[str, List[Any]]):
         >>> Schema(SCHEMA).parse('{"age":36}').to_json()
         '{"age":[36]}'
         """
-        own, by = opened(self), opened(self.schema)
+        own, by = opened(self, Document), opened(self._by, _schema.Schema, "schema")
         with own.lock, by.lock:
             return filled(_FIRST_SIZE, lambda at, size: CALLS.kormaglen_document_to_json(own.ref, by.ref, at, size)).decode()
 
@@ -156,7 +156,7 @@ class Document(Held, Mapping[str, List[Any]]):
         '8100000000012400000000000000'
         """
         stored = number(version, "version")
-        own, by = opened(self), opened(self.schema)
+        own, by = opened(self, Document), opened(self._by, _schema.Schema, "schema")
         with own.lock, by.lock:
             return filled(_FIRST_SIZE, lambda at, size: CALLS.kormaglen_document_write(own.ref, by.ref, stored, at, size))
 
@@ -168,11 +168,13 @@ class Document(Held, Mapping[str, List[Any]]):
         >>> Schema(SCHEMA).parse('{"age":36}').to_dict()
         {'age': [36]}
         """
-        kinds, values = self.schema._kinds(), parsed(self.to_json())
+        values = parsed(self.to_json())
+        kinds = self.schema._kinds()
         return {name: read_values(kinds[name], of_field) for name, of_field in values.items()}
 
     def __getitem__(self, name: str) -> List[Any]:
-        return read_values(self.schema._kinds().get(name, ""), parsed(self.to_json())[name])
+        values = parsed(self.to_json())[name]
+        return read_values(self.schema._kinds()[name], values)
 
     def __iter__(self) -> Iterator[str]:
         return iter(parsed(self.to_json()))

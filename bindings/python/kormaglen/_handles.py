@@ -80,23 +80,19 @@ class Held:
             self._handle.close()
 
     def __enter__(self: _H) -> _H:
-        opened(self)
+        opened(self, Held)
         return self
 
     def __exit__(self, kind: Optional[Type[BaseException]], error: Optional[BaseException], trace: Optional[TracebackType]) -> None:
         self.close()
 
 
-def opened(value: Held) -> Handle:
-    """The handle of a value that isn't closed. Closed where it is."""
+def opened(value: object, kind: Type[Held], name: str = "self") -> Handle:
+    """The handle of a value of that class that isn't closed. TypeError where it is of another class: a handle of another kind must not reach the
+    library. Closed where it is closed."""
+    if not isinstance(value, kind):
+        raise TypeError(f"{name}: a {kind.__name__} is wanted, not {type_name(value)}")
     handle = value._handle
     if handle is None or handle.closed:
         raise closed(value._what)
     return handle
-
-
-def wanted(value: object, kind: Type[_H], name: str) -> _H:
-    """The value, where it is of that class. TypeError where it isn't: a handle of another kind must not reach the library."""
-    if not isinstance(value, kind):
-        raise TypeError(f"{name}: a {kind.__name__} is wanted, not {type_name(value)}")
-    return value

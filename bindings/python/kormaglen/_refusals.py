@@ -32,6 +32,7 @@ class Status(enum.IntEnum):
     BAD_LINE = 11
     FOREIGN_FIELD = 12
     CLOSED = 15
+    BAD_ARGUMENT = 16
 
 
 class SchemaFault(enum.IntEnum):
@@ -58,10 +59,10 @@ class SchemaFault(enum.IntEnum):
     PRECISION = 15
     INDEXING = 16
     RECORD = 17
-    FIELDNORMS_OF_INDEXING = 18
+    INDEXING_FIELDNORMS = 18
     TOKENIZER = 19
     WITH_TOKENIZER = 20
-    EXPAND_DOTS_ENABLED = 21
+    EXPAND_DOTS = 21
 
 
 class DocumentFault(enum.IntEnum):

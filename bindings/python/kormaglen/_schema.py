@@ -61,8 +61,8 @@ class Schema(Held):
     _names: Optional[Dict[str, str]] = None
 
     def __init__(self, json: Json) -> None:
-        if not self.closed:
-            raise ValueError("the schema is open already")
+        if self._handle is not None:
+            raise ValueError("a schema is opened once")
         given = printed(list(json), "json") if isinstance(json, (list, tuple)) else json
         handle = Handle(SchemaStruct())
         with Lent(given, "json", texts=True) as lent, handle.lock:
@@ -80,7 +80,7 @@ class Schema(Held):
         >>> Schema("[]").to_json()
         '[]'
         """
-        handle = opened(self)
+        handle = opened(self, Schema)
         with handle.lock:
             return filled(1024, lambda at, size: CALLS.kormaglen_schema_to_json(handle.ref, at, size)).decode()
 
@@ -116,7 +116,7 @@ class Schema(Held):
         """
         given = text(path, "path")
         found = FoundField()
-        handle = opened(self)
+        handle = opened(self, Schema)
         with Lent(given, "path") as lent, handle.lock:
             answer = CALLS.kormaglen_schema_find_field(handle.ref, lent.at, lent.size, found)
         if answer.status == Status.NO_FIELD:
@@ -164,7 +164,7 @@ class Schema(Held):
         >>> [line.status.name for line in imported.lines]
         ['STORED', 'WRONG_TYPE']
         """
-        parts = list(self.import_chunks(lines))
+        parts = list(_streams.imports(self, lines, 1 << 20))
         return joined(parts) if parts else imported(b"", b"", b"", 1, ())
 
     def import_chunks(self, lines: Any, chunk_size: int = 1 << 20) -> Iterator[Imported]:
@@ -205,7 +205,7 @@ class Schema(Held):
         """
         stored = number(version, "version")
         with Lent(block, "block") as given:
-            return self._export_at(given.at, given.size, stored)
+            return _streams.exported_at(self, given.at, given.size, stored)
 
     def export_chunks(self, block: Any, version: int = 2, chunk_size: int = 1 << 20) -> Iterator[bytes]:
         """`export_block` in bounded memory: gives the lines of about so many bytes of the block each. The block is anything with the buffer
@@ -230,7 +230,7 @@ class Schema(Held):
     def _import_piece(self, piece: bytes, first: int) -> Imported:
         """What a piece of whole lines gives. Nobody changes the piece, so the number of its lines stays right."""
         packed = bytearray(LINE_ANSWER_SIZE * (piece.count(b"\n") + 1))
-        handle, lines = opened(self), 0
+        handle, lines = opened(self, Schema), 0
 
         def call(at: int, size: int) -> Any:
             nonlocal lines
@@ -241,12 +241,6 @@ class Schema(Held):
         with Lent(piece, "lines") as given, Lent(packed, "answers", writable=True) as rows, handle.lock:
             block = filled(len(piece), call)
         return imported(piece, block, bytes(packed[: lines * LINE_ANSWER_SIZE]), first, list(self._kinds()))
-
-    def _export_at(self, at: int, size: int, version: int) -> bytes:
-        """`export_block`, of bytes at an address."""
-        handle = opened(self)
-        with handle.lock:
-            return filled(2 * size, lambda out, out_size: CALLS.kormaglen_schema_export_block(handle.ref, version, at, size, out, out_size))
 
     def _kinds(self) -> Dict[str, str]:
         """The names of the fields in order, each with the name of its type. They are kept, since a schema doesn't change."""

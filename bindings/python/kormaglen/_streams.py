@@ -3,20 +3,19 @@
 from __future__ import annotations
 
 import contextlib
+import io
 import os
 import struct
-from typing import IO, TYPE_CHECKING, Any, Callable, ContextManager, Iterator, List, NamedTuple, Optional, Tuple, TypeVar
+from typing import IO, Any, Callable, ContextManager, Iterator, List, NamedTuple, Optional, Tuple, TypeVar
 
-from kormaglen._arguments import Lent, chunk_size as tested_chunk_size, filled, number
+import kormaglen._document as _document
+import kormaglen._schema as _schema
+from kormaglen._arguments import Lent, chunk_size as tested_chunk_size, filled, number, within
 from kormaglen._handles import opened
 from kormaglen._import import ImportCounts, Imported
 from kormaglen._library import CALLS
 from kormaglen._refusals import DocumentFault, DocumentRefused, LineRefused, Status, document_refused, refused
 from kormaglen._sources import Carry, Read, reader_of_block, reader_of_lines, whole_lines
-
-if TYPE_CHECKING:
-    from kormaglen._document import Document
-    from kormaglen._schema import Schema
 
 _T = TypeVar("_T")
 
@@ -27,14 +26,14 @@ _KEPT = 100
 _Call = Callable[[int, int], _T]
 
 
-def imports(schema: Schema, lines: Any, chunk_size: int) -> Iterator[Imported]:
+def imports(schema: _schema.Schema, lines: Any, chunk_size: int) -> Iterator[Imported]:
     """Schema.import_chunks."""
     size = tested_chunk_size(chunk_size)
-    opened(schema)
+    opened(schema, _schema.Schema, "schema")
     return _imports(schema, reader_of_lines(lines, "lines"), size)
 
 
-def _imports(schema: Schema, read: Read, size: int) -> Iterator[Imported]:
+def _imports(schema: _schema.Schema, read: Read, size: int) -> Iterator[Imported]:
     first = 1
     for piece in whole_lines(read, size):
         part = schema._import_piece(piece, first)
@@ -43,7 +42,7 @@ def _imports(schema: Schema, read: Read, size: int) -> Iterator[Imported]:
 
 
 def import_file(
-    schema: Schema, lines: Any, block: Any, on_refused: Optional[Callable[[LineRefused], object]], chunk_size: int
+    schema: _schema.Schema, lines: Any, block: Any, on_refused: Optional[Callable[[LineRefused], object]], chunk_size: int
 ) -> ImportCounts:
     """Schema.import_file."""
     if on_refused is not None and not callable(on_refused):
@@ -74,35 +73,42 @@ def _file(source: Any, mode: str) -> ContextManager[Any]:
 
 
 def _write(target: IO[bytes], block: bytes) -> None:
-    """Writes all of it: a file without a buffer may take a part only."""
+    """Writes all of it: a file without a buffer may take a part only. What gives no count has taken all, but such a file nothing."""
     rest = memoryview(block)
     while rest:
-        count = target.write(rest)
-        rest = rest[len(rest) if count is None else count :]
+        count: Any = target.write(rest)
+        if count == 0 or count is None and isinstance(target, io.RawIOBase):
+            raise BlockingIOError("block: the file takes no more bytes")
+        rest = rest[len(rest) if count is None else within(count, "block: what write() gives", 1, len(rest)) :]
 
 
-def exports(schema: Schema, block: Any, version: int, chunk_size: int) -> Iterator[bytes]:
+def exports(schema: _schema.Schema, block: Any, version: int, chunk_size: int) -> Iterator[bytes]:
     """Schema.export_chunks."""
     stored, size = number(version, "version"), tested_chunk_size(chunk_size)
-    opened(schema)
+    opened(schema, _schema.Schema, "schema")
     carry = Carry(reader_of_block(block, "block"), size)
-    return (lines for lines, _ in _runs(carry, size, lambda at, length: schema._export_at(at, length, stored)))
+    return (lines for lines, _ in _runs(carry, size, lambda at, length: exported_at(schema, at, length, stored)))
 
 
-def documents(schema: Schema, block: Any, version: int, chunk_size: int) -> Iterator[Document]:
+def exported_at(schema: _schema.Schema, at: int, size: int, version: int) -> bytes:
+    """Schema.export_block, of bytes at an address."""
+    handle = opened(schema, _schema.Schema)
+    with handle.lock:
+        return filled(2 * size, lambda out, out_size: CALLS.kormaglen_schema_export_block(handle.ref, version, at, size, out, out_size))
+
+
+def documents(schema: _schema.Schema, block: Any, version: int, chunk_size: int) -> Iterator[_document.Document]:
     """Schema.documents."""
     stored, size = number(version, "version"), tested_chunk_size(chunk_size)
-    opened(schema)
+    opened(schema, _schema.Schema, "schema")
     return _documents(schema, Carry(reader_of_block(block, "block"), size), stored)
 
 
-def _documents(schema: Schema, carry: Carry, version: int) -> Iterator[Document]:
-    from kormaglen._document import Document  # (that module needs this one)
-
+def _documents(schema: _schema.Schema, carry: Carry, version: int) -> Iterator[_document.Document]:
     while carry.fill(1):
         try:
             with Lent(carry.held, "block") as held:
-                document, size = Document._read_at(schema, held.at + carry.at, carry.left, version)
+                document, size = _document.Document._read_at(schema, held.at + carry.at, carry.left, version)
         except DocumentRefused as fault:
             if fault.reason == DocumentFault.UNEXPECTED_END and carry.grow():
                 continue

@@ -126,11 +126,15 @@ class DateTime:
 
     def __eq__(self, other: object) -> bool:
         moment = self._exact(other)
-        return NotImplemented if moment is None else self._nanoseconds == moment
+        if moment is None:
+            return NotImplemented
+        return self._nanoseconds == moment
 
     def __lt__(self, other: object) -> bool:
         moment = self._exact(other)
-        return NotImplemented if moment is None else self._nanoseconds < moment
+        if moment is None:
+            return NotImplemented
+        return self._nanoseconds < moment
 
     def __hash__(self) -> int:
         # What is equal has the same hash, also a datetime.
