@@ -20,23 +20,21 @@ class Handle:
     The lock can be taken again on the same thread, since a finalizer or a signal's handler may run in the midst of a method there.
     """
 
-    __slots__ = ("_close", "_struct", "lock", "ref")
+    __slots__ = ("_close", "_struct", "closed", "lock", "ref")
 
     def __init__(self, struct: Union[SchemaStruct, DocumentStruct]) -> None:
         # What the finalizer needs is kept here: the module's names may be gone when it runs.
         self._close = CALLS.kormaglen_schema_close if isinstance(struct, SchemaStruct) else CALLS.kormaglen_document_close
         self._struct = struct
+        # (what the struct has may change while a call on another thread runs, so it doesn't tell)
+        self.closed = False
         self.lock = threading.RLock()
         self.ref: Any = ctypes.byref(struct)
-
-    @property
-    def closed(self) -> bool:
-        """Whether nothing is held."""
-        return not self._struct.at
 
     def close(self) -> None:
         """Gives up what is held. It waits for a call on another thread."""
         with self.lock:
+            self.closed = True
             self._close(self.ref)
 
     def __del__(self) -> None:
