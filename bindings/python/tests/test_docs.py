@@ -1,0 +1,85 @@
+"""The docstrings: each public name has one, with an example that runs."""
+
+from __future__ import annotations
+
+import datetime
+import doctest
+import inspect
+import io
+import importlib
+import pkgutil
+import subprocess
+import sys
+import unittest
+import os
+from typing import Any, Dict, Iterator, Tuple
+
+import kormaglen as K
+from tests.common import PACKAGE
+
+SMALL = '[{"name":"age","type":"u64","options":{"indexed":true,"stored":true}}]'
+NAMES: Dict[str, Any] = {**vars(K), "SCHEMA": SMALL, "io": io, "datetime": datetime}
+
+
+def public() -> Iterator[Tuple[str, Any]]:
+    """Every public name, and those of the classes' methods and properties that are the package's own."""
+    for name in K.__all__:
+        value = getattr(K, name)
+        yield name, value
+        if inspect.isclass(value):
+            for member in sorted(set(dir(value))):
+                if not member.startswith("_") and _is_own(value, member):
+                    yield f"{name}.{member}", inspect.getattr_static(value, member)
+
+
+def _is_own(kind: type, member: str) -> bool:
+    """Whether a member is a method or a property that a class of the package defines."""
+    owner = next(base for base in kind.__mro__ if member in vars(base))
+    value = inspect.getattr_static(kind, member)
+    return owner.__module__.startswith("kormaglen") and isinstance(value, (staticmethod, classmethod, property)) or inspect.isfunction(value)
+
+
+class Docs(unittest.TestCase):
+    """Docstrings and their examples."""
+
+    def test_each_name_has_an_example(self) -> None:
+        for name, value in public():
+            if isinstance(value, K.Indexing) or _of_python(value):
+                continue
+            with self.subTest(name):
+                self.assertIn(">>>", value.__doc__ or "")
+
+    def test_examples(self) -> None:
+        for module in pkgutil.iter_modules(K.__path__):
+            done = doctest.testmod(importlib.import_module(f"kormaglen.{module.name}"), extraglobs=NAMES)
+            self.assertEqual(done.failed, 0, module.name)
+        self.assertEqual(doctest.testmod(K).failed, 0)
+
+    def test_the_example(self) -> None:
+        program = os.path.join(PACKAGE, "examples", "people.py")
+        done = subprocess.run(
+            [sys.executable, program], env={**os.environ, "PYTHONPATH": PACKAGE}, capture_output=True, text=True, check=True
+        )
+        # The lines that the examples in C and Rust print, too: the sizes by docs/FORMATS.md.
+        for line in (
+            '{"age":[36],"group":["/staff/research"],"name":["Ada"]}',
+            '{"name":["Alan","Adam"]}',
+            '{"age":[7],"more":[{"tags":["new",true]}],"name":["Cleo"]}',
+            "document 1: Adam",
+            "document 0: Ada",
+            "field 3, path 'tags'",
+            "field 1, path ''",
+            '{"age":[41],"name":["Dora"]} takes 24 bytes',
+            "/staff/research takes 14 bytes",
+        ):
+            self.assertIn(line, done.stdout.split("\n"))
+
+
+def _of_python(value: Any) -> bool:
+    """Whether a member comes from a class of Python's, as those of a NamedTuple or of a Mapping."""
+    inner = value.fget if isinstance(value, property) else getattr(value, "__func__", value)
+    return not str(getattr(inner, "__module__", "")).startswith("kormaglen")
+
+
+if __name__ == "__main__":
+    unittest.main()
