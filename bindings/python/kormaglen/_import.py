@@ -39,7 +39,7 @@ class _Rows(Sequence[_T]):
             raise IndexError(f"{index} is out of range: there are {len(self)}") from None
 
     def __eq__(self, other: object) -> bool:
-        if not isinstance(other, Sequence) or isinstance(other, (str, bytes)):
+        if not isinstance(other, (list, tuple, _Rows)):
             return NotImplemented
         return len(self) == len(other) and all(one == another for one, another in zip(self, other))
 
