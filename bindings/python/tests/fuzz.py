@@ -264,7 +264,8 @@ def run(seconds: float, seed: int) -> int:
     print(f"{calls} calls, {calls - middle} of them in the second half; resident {samples[0]} bytes, then {samples[-1]}")
     uncalled = {name for name, _, _ in fuzzer.targets} - set(fuzzer.counts)
     assert not uncalled or calls < 20_000, f"never called: {sorted(uncalled)}"
-    assert samples[-1] <= samples[0] * 1.05, f"memory grew: {samples}"
+    # The address sanitizer keeps what was freed, so its memory grows.
+    assert "ASAN_OPTIONS" in os.environ or samples[-1] <= samples[0] * 1.05, f"memory grew: {samples}"
     return calls
 
 
