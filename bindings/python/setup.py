@@ -1,4 +1,5 @@
-"""Puts the shared library beside the modules, and tags the wheel with the platform for which that library is. All else is in pyproject.toml."""
+"""Puts the shared library beside the modules, and tags the wheel with the platform for which that library
+is. All else is in pyproject.toml."""
 
 import os
 import shutil
@@ -21,14 +22,17 @@ NAME = "libkormaglen.so"
 def _of_pkg_config():
     """Where pkg-config knows the library, if it does."""
     try:
-        said = subprocess.run(["pkg-config", "--variable=libdir", "kormaglen"], capture_output=True, text=True, check=True)
+        said = subprocess.run(
+            ["pkg-config", "--variable=libdir", "kormaglen"], capture_output=True, text=True, check=True
+        )
     except (OSError, subprocess.CalledProcessError):
         return []
     return [os.path.join(said.stdout.strip(), NAME)]
 
 
 def library():
-    """The shared library to put into the wheel. KORMAGLEN_SO names the one and only place where it may be."""
+    """The shared library to put into the wheel. KORMAGLEN_SO names the one and only place where it may
+    be."""
     named = os.environ.get("KORMAGLEN_SO")
     places = [named] if named else [os.path.join(HERE, os.pardir, "out", NAME), *_of_pkg_config()]
     for place in places:
@@ -41,7 +45,8 @@ def library():
 
 
 class BuildPy(build_py):
-    """Copies the modules, and the shared library with them. An editable install finds the library where it was built."""
+    """Copies the modules, and the shared library with them. An editable install finds the library where it
+    was built."""
 
     def run(self):
         place = library()
@@ -51,11 +56,14 @@ class BuildPy(build_py):
 
     def get_outputs(self, include_bytecode=1):
         outputs = super().get_outputs(include_bytecode)
-        return outputs if self.editable_mode else [*outputs, os.path.join(self.build_lib, "kormaglen", NAME)]
+        return (
+            outputs if self.editable_mode else [*outputs, os.path.join(self.build_lib, "kormaglen", NAME)]
+        )
 
 
 class PlatformWheel(bdist_wheel):
-    """A wheel for any Python 3 and one platform: the modules are Python's, and the library is no extension of it."""
+    """A wheel for any Python 3 and one platform: the modules are Python's, and the library is no extension
+    of it."""
 
     def finalize_options(self):
         super().finalize_options()

@@ -1,5 +1,5 @@
-"""Imports lines of JSON into a block of stored documents, reads them back, sorts the terms of a field and finds those of a range, finds a
-field and a facet, and handles one document alone."""
+"""Imports lines of JSON into a block of stored documents, reads them back, sorts the terms of a field and
+finds those of a range, finds a field and a facet, and handles one document alone."""
 
 import kormaglen
 

@@ -1,4 +1,5 @@
-"""What every call's arguments pass on their way in: numbers, texts and buffers are tested here and nowhere else."""
+"""What every call's arguments pass on their way in: numbers, texts and buffers are tested here and nowhere
+else."""
 
 from __future__ import annotations
 
@@ -11,7 +12,8 @@ from typing import Any, Callable, Optional, Type, Union
 
 from kormaglen._refusals import Status, refused
 
-# A call of the library that writes into the buffer of this address and size, and answers. (ctypes has no types for its functions' results.)
+# A call of the library that writes into the buffer of this address and size, and answers. (ctypes has no
+# types for its functions' results.)
 Call = Callable[[int, int], Any]
 
 # Anything with the buffer protocol. (typing has no name for it before Python 3.12.)
@@ -40,7 +42,8 @@ def integer(value: object, name: str) -> int:
 
 
 def within(value: object, name: str, least: int, most: int) -> int:
-    """The value as an integer of a range. Errors as of `integer`, and OverflowError where it is out of the range."""
+    """The value as an integer of a range. Errors as of `integer`, and OverflowError where it is out of the
+    range."""
     given = integer(value, name)
     if not least <= given <= most:
         # Python refuses to print a number of more than some thousand digits.
@@ -50,7 +53,8 @@ def within(value: object, name: str, least: int, most: int) -> int:
 
 
 def number(value: object, name: str) -> int:
-    """The value as a number of 32 bits, as C takes it. It is tested before it crosses, because ctypes cuts it silently. Errors as of `within`."""
+    """The value as a number of 32 bits, as C takes it. It is tested before it crosses, because ctypes cuts
+    it silently. Errors as of `within`."""
     return within(value, name, 0, (1 << 32) - 1)
 
 
@@ -65,7 +69,9 @@ def utf8(value: str, name: str) -> bytes:
         # (by the type, since a subclass may have another `encode`)
         return str.encode(value, "utf-8")
     except UnicodeEncodeError as error:
-        raise ValueError(f"{name}: the text has no UTF-8: character {error.start} is a lone surrogate") from None
+        raise ValueError(
+            f"{name}: the text has no UTF-8: character {error.start} is a lone surrogate"
+        ) from None
 
 
 def text(value: object, name: str) -> bytes:
@@ -113,10 +119,11 @@ def is_buffer(value: object) -> bool:
 
 
 class Lent:
-    """The bytes of a buffer, where they lie and without a copy, for the time of a `with`. While they are lent, a bytearray can't be resized.
+    """The bytes of a buffer, where they lie and without a copy, for the time of a `with`. While they are
+    lent, a bytearray can't be resized.
 
-    A `str` is its UTF-8 where `texts` is set. TypeError where the value has no bytes, ValueError for a lone surrogate or a memoryview that was
-    released, BufferError where the bytes don't lie one behind the other.
+    A `str` is its UTF-8 where `texts` is set. TypeError where the value has no bytes, ValueError for a lone
+    surrogate or a memoryview that was released, BufferError where the bytes don't lie one behind the other.
     """
 
     __slots__ = ("_view", "at", "size")
@@ -139,7 +146,12 @@ class Lent:
     def __enter__(self) -> Lent:
         return self
 
-    def __exit__(self, kind: Optional[Type[BaseException]], error: Optional[BaseException], trace: Optional[TracebackType]) -> None:
+    def __exit__(
+        self,
+        kind: Optional[Type[BaseException]],
+        error: Optional[BaseException],
+        trace: Optional[TracebackType],
+    ) -> None:
         _release_buffer(ctypes.byref(self._view))
 
 
@@ -156,9 +168,11 @@ def room(wanted: int) -> Union[bytearray, mmap.mmap]:
 
 
 def filled(first: int, call: Call) -> bytes:
-    """What a call writes. It is called with a buffer of the first size, and where that is too small with one of the size that the answer says.
+    """What a call writes. It is called with a buffer of the first size, and where that is too small with
+    one of the size that the answer says.
 
-    One more try is enough, unless another thread changes the input meanwhile. BufferError where it does so again and again.
+    One more try is enough, unless another thread changes the input meanwhile. BufferError where it does so
+    again and again.
     """
     wanted = first
     for _ in range(_MOST_TRIES):

@@ -14,8 +14,8 @@ Fast = Union[bool, str]
 
 
 class Indexing(NamedTuple):
-    """How a text is indexed: by which tokenizer, whether field norms are kept, and what is kept of each term: `basic` (the documents), `freq`
-    (how often it stands there, too) or `position` (and where).
+    """How a text is indexed: by which tokenizer, whether field norms are kept, and what is kept of each
+    term: `basic` (the documents), `freq` (how often it stands there, too) or `position` (and where).
 
     >>> Indexing(tokenizer="en_stem").record
     'basic'
@@ -45,10 +45,11 @@ def _fast(given: Fast) -> Any:
 
 
 class SchemaBuilder:
-    """The fields of a schema, one by one. Each call adds a field and returns the builder. The options have tantivy's names and defaults;
-    whether they describe a field is said by `build`.
+    """The fields of a schema, one by one. Each call adds a field and returns the builder. The options have
+    tantivy's names and defaults; whether they describe a field is said by `build`.
 
-    >>> schema = SchemaBuilder().text("name", indexing=TEXT, stored=True).u64("age", indexed=True, stored=True).build()
+    >>> builder = SchemaBuilder().text("name", indexing=TEXT, stored=True).u64("age", stored=True)
+    >>> schema = builder.build()
     >>> [field.name for field in schema.fields]
     ['name', 'age']
     """
@@ -63,15 +64,24 @@ class SchemaBuilder:
         return self
 
     def text(
-        self, name: str, *, indexing: Optional[Indexing] = None, stored: Flag = False, fast: Fast = False, coerce: Flag = False
+        self,
+        name: str,
+        *,
+        indexing: Optional[Indexing] = None,
+        stored: Flag = False,
+        fast: Fast = False,
+        coerce: Flag = False,
     ) -> SchemaBuilder:
-        """Adds a field of texts. Without `indexing` it isn't indexed. `fast` may be the name of a tokenizer. TypeError where `indexing` is
-        another type.
+        """Adds a field of texts. Without `indexing` it isn't indexed. `fast` may be the name of a
+        tokenizer. TypeError where `indexing` is another type.
 
-        >>> SchemaBuilder().text("name", indexing=STRING).build().field("name").options["indexing"]["tokenizer"]
+        >>> schema = SchemaBuilder().text("name", indexing=STRING).build()
+        >>> schema.field("name").options["indexing"]["tokenizer"]
         'raw'
         """
-        return self._add(name, "text", indexing=_indexing(indexing), stored=stored, fast=_fast(fast), coerce=coerce)
+        return self._add(
+            name, "text", indexing=_indexing(indexing), stored=stored, fast=_fast(fast), coerce=coerce
+        )
 
     def u64(
         self,
@@ -83,12 +93,15 @@ class SchemaBuilder:
         fieldnorms: Optional[Flag] = None,
         coerce: Flag = False,
     ) -> SchemaBuilder:
-        """Adds a field of whole numbers from 0 to 2^64 - 1. `fieldnorms` are as `indexed` where they aren't given; `coerce` reads them from texts, too.
+        """Adds a field of whole numbers from 0 to 2^64 - 1. `fieldnorms` are as `indexed` where they aren't
+        given; `coerce` reads them from texts, too.
 
         >>> SchemaBuilder().u64("age", indexed=True).build().field("age").options["fieldnorms"]
         True
         """
-        return self._add(name, "u64", indexed=indexed, stored=stored, fast=fast, fieldnorms=fieldnorms, coerce=coerce)
+        return self._add(
+            name, "u64", indexed=indexed, stored=stored, fast=fast, fieldnorms=fieldnorms, coerce=coerce
+        )
 
     def i64(
         self,
@@ -100,12 +113,15 @@ class SchemaBuilder:
         fieldnorms: Optional[Flag] = None,
         coerce: Flag = False,
     ) -> SchemaBuilder:
-        """Adds a field of whole numbers from -2^63 to 2^63 - 1. `fieldnorms` are as `indexed` where they aren't given; `coerce` reads them from texts, too.
+        """Adds a field of whole numbers from -2^63 to 2^63 - 1. `fieldnorms` are as `indexed` where they
+        aren't given; `coerce` reads them from texts, too.
 
         >>> SchemaBuilder().i64("height", stored=True).build().field("height").type
         'i64'
         """
-        return self._add(name, "i64", indexed=indexed, stored=stored, fast=fast, fieldnorms=fieldnorms, coerce=coerce)
+        return self._add(
+            name, "i64", indexed=indexed, stored=stored, fast=fast, fieldnorms=fieldnorms, coerce=coerce
+        )
 
     def bool(
         self,
@@ -117,12 +133,15 @@ class SchemaBuilder:
         fieldnorms: Optional[Flag] = None,
         coerce: Flag = False,
     ) -> SchemaBuilder:
-        """Adds a field of truth values. `fieldnorms` are as `indexed` where they aren't given; `coerce` reads them from texts, too.
+        """Adds a field of truth values. `fieldnorms` are as `indexed` where they aren't given; `coerce`
+        reads them from texts, too.
 
         >>> SchemaBuilder().bool("sold", stored=True).build().field("sold").type
         'bool'
         """
-        return self._add(name, "bool", indexed=indexed, stored=stored, fast=fast, fieldnorms=fieldnorms, coerce=coerce)
+        return self._add(
+            name, "bool", indexed=indexed, stored=stored, fast=fast, fieldnorms=fieldnorms, coerce=coerce
+        )
 
     def date(
         self,
@@ -134,14 +153,16 @@ class SchemaBuilder:
         fieldnorms: Optional[Flag] = None,
         precision: str = "seconds",
     ) -> SchemaBuilder:
-        """Adds a field of moments. `precision` is that of the fast field: `seconds`, `milliseconds`, `microseconds` or `nanoseconds`. `fieldnorms`
-        are as `indexed` where they aren't given.
+        """Adds a field of moments. `precision` is that of the fast field: `seconds`, `milliseconds`,
+        `microseconds` or `nanoseconds`. `fieldnorms` are as `indexed` where they aren't given.
 
         >>> SchemaBuilder().date("born", stored=True).build().field("born").options["precision"]
         'seconds'
         """
         norms = indexed if fieldnorms is None else fieldnorms
-        return self._add(name, "date", indexed=indexed, stored=stored, fast=fast, fieldnorms=norms, precision=precision)
+        return self._add(
+            name, "date", indexed=indexed, stored=stored, fast=fast, fieldnorms=norms, precision=precision
+        )
 
     def facet(self, name: str, *, stored: Flag = False) -> SchemaBuilder:
         """Adds a field of facets. It is always indexed, and fast.
@@ -152,7 +173,13 @@ class SchemaBuilder:
         return self._add(name, "facet", stored=stored)
 
     def bytes(
-        self, name: str, *, indexed: Flag = False, stored: Flag = False, fast: Flag = False, fieldnorms: Optional[Flag] = None
+        self,
+        name: str,
+        *,
+        indexed: Flag = False,
+        stored: Flag = False,
+        fast: Flag = False,
+        fieldnorms: Optional[Flag] = None,
     ) -> SchemaBuilder:
         """Adds a field of bytes. `fieldnorms` are as `indexed` where they aren't given.
 
@@ -170,19 +197,34 @@ class SchemaBuilder:
         fast: Fast = False,
         expand_dots_enabled: Flag = False,
     ) -> SchemaBuilder:
-        """Adds a field of JSON objects. Without `indexing` its texts aren't indexed. `fast` may be the name of a tokenizer. TypeError where
-        `indexing` is another type.
+        """Adds a field of JSON objects. Without `indexing` its texts aren't indexed. `fast` may be the name
+        of a tokenizer. TypeError where `indexing` is another type.
 
-        >>> SchemaBuilder().json_object("more", stored=True).build().field("more").options["expand_dots_enabled"]
+        >>> schema = SchemaBuilder().json_object("more", stored=True).build()
+        >>> schema.field("more").options["expand_dots_enabled"]
         False
         """
         index, quick = _indexing(indexing), _fast(fast)
-        return self._add(name, "json_object", indexing=index, stored=stored, fast=quick, expand_dots_enabled=expand_dots_enabled)
+        return self._add(
+            name,
+            "json_object",
+            indexing=index,
+            stored=stored,
+            fast=quick,
+            expand_dots_enabled=expand_dots_enabled,
+        )
 
     def ip_addr(
-        self, name: str, *, indexed: Flag = False, stored: Flag = False, fast: Flag = False, fieldnorms: Optional[Flag] = None
+        self,
+        name: str,
+        *,
+        indexed: Flag = False,
+        stored: Flag = False,
+        fast: Flag = False,
+        fieldnorms: Optional[Flag] = None,
     ) -> SchemaBuilder:
-        """Adds a field of IP addresses of both versions. `fieldnorms` are as `indexed` where they aren't given.
+        """Adds a field of IP addresses of both versions. `fieldnorms` are as `indexed` where they aren't
+        given.
 
         >>> SchemaBuilder().ip_addr("host", stored=True).build().field("host").type
         'ip_addr'
@@ -191,7 +233,8 @@ class SchemaBuilder:
         return self._add(name, "ip_addr", indexed=indexed, stored=stored, fast=fast, fieldnorms=norms)
 
     def to_json(self) -> str:
-        """The JSON of the fields so far, as `build` hands it to the library. TypeError where an option has no JSON.
+        """The JSON of the fields so far, as `build` hands it to the library. TypeError where an option has
+        no JSON.
 
         >>> SchemaBuilder().facet("group").to_json()
         '[{"name":"group","type":"facet","options":{"stored":false}}]'
@@ -201,10 +244,11 @@ class SchemaBuilder:
     def build(self) -> Schema:
         """The schema of the fields so far. The builder stays as it is, and can be used further.
 
-        SchemaRefused where the fields make none, as with two of one name or an option that is no truth value, TypeError where an option has no
-        JSON, ValueError for a lone surrogate, MemoryError.
+        SchemaRefused where the fields make none, as with two of one name or an option that is no truth
+        value, TypeError where an option has no JSON, ValueError for a lone surrogate, MemoryError.
 
-        >>> SchemaBuilder().facet("group").build() == Schema('[{"name":"group","type":"facet","options":{"stored":false}}]')
+        >>> schema = SchemaBuilder().facet("group").build()
+        >>> schema == Schema('[{"name":"group","type":"facet","options":{"stored":false}}]')
         True
         """
         return Schema(self.to_json())

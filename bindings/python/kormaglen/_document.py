@@ -3,13 +3,37 @@
 from __future__ import annotations
 
 import ctypes
-from typing import Any, Callable, Dict, ItemsView, Iterator, KeysView, List, Mapping, Optional, Tuple, Type, TypeVar, ValuesView
+from typing import (
+    Any,
+    Callable,
+    Dict,
+    ItemsView,
+    Iterator,
+    KeysView,
+    List,
+    Mapping,
+    Optional,
+    Tuple,
+    Type,
+    TypeVar,
+    ValuesView,
+)
 
 import kormaglen._schema as _schema
 from kormaglen._arguments import Lent, TextOrBuffer, filled, number, type_name
 from kormaglen._handles import Handle, Held, opened
 from kormaglen._library import CALLS, DocumentStruct
-from kormaglen._refusals import SHOWN, Closed, FieldRefused, Refused, Status, closed, field_refused, line_refused, refused
+from kormaglen._refusals import (
+    SHOWN,
+    Closed,
+    FieldRefused,
+    Refused,
+    Status,
+    closed,
+    field_refused,
+    line_refused,
+    refused,
+)
 from kormaglen._values import parsed, printed, read_values, written_values
 
 # So many bytes of a document are asked for at first.
@@ -19,16 +43,19 @@ _D = TypeVar("_D", bound="Document")
 
 
 class Document(Held, Mapping[str, List[Any]]):
-    """A document of a schema: a mapping of the names of fields to the lists of their values. It is made by `from_dict`, `parse` and `read`, or
-    by the calls of a `Schema` that have nearly the same names, and doesn't change.
+    """A document of a schema: a mapping of the names of fields to the lists of their values. It is made by
+    `from_dict`, `parse` and `read`, or by the calls of a `Schema` that have nearly the same names, and
+    doesn't change.
 
-    A value is in Python, by the type of its field: text a `str`, or a `dict` where it has its tokens; u64 and i64 an `int`; bool a `bool`;
-    date a `DateTime`; facet its text as `/first/second`; bytes `bytes`; json_object a `dict`; ip_addr an `IPv4Address` or `IPv6Address`. Of a
-    value that isn't of its field's type, as a document that was read may have it, it is what its JSON is.
+    A value is in Python, by the type of its field: text a `str`, or a `dict` where it has its tokens; u64
+    and i64 an `int`; bool a `bool`; date a `DateTime`; facet its text as `/first/second`; bytes `bytes`;
+    json_object a `dict`; ip_addr an `IPv4Address` or `IPv6Address`. Of a value that isn't of its field's
+    type, as a document that was read may have it, it is what its JSON is.
 
-    Each access reads the document anew, so `to_dict()` is the faster way to many fields. Any thread may use and close it: there is one
-    call at a time. Two documents are equal if their schemas, their values and the bytes that are stored of them are, and a document is
-    equal to a mapping of the same values. It can be copied and pickled if all its values are stored; else that is a ValueError.
+    Each access reads the document anew, so `to_dict()` is the faster way to many fields. Any thread may use
+    and close it: there is one call at a time. Two documents are equal if their schemas, their values and
+    the bytes that are stored of them are, and a document is equal to a mapping of the same values. It can
+    be copied and pickled if all its values are stored; else that is a ValueError.
 
     >>> document = Schema(SCHEMA).parse('{"age":36}')
     >>> document["age"]
@@ -45,12 +72,14 @@ class Document(Held, Mapping[str, List[Any]]):
 
     @classmethod
     def from_dict(cls: Type[_D], schema: _schema.Schema, values: Mapping[str, Any]) -> _D:
-        """The document of a mapping of names to a value each, or to a list or a tuple of values. Values are as a document gives them, and as
-        their JSON: a date may be a `datetime` with a time zone or a text of RFC 3339, bytes anything with the buffer protocol or base64.
+        """The document of a mapping of names to a value each, or to a list or a tuple of values. Values are
+        as a document gives them, and as their JSON: a date may be a `datetime` with a time zone or a text
+        of RFC 3339, bytes anything with the buffer protocol or base64.
 
-        LineRefused where the library refuses a value, as a number that doesn't fit its field or any float. FieldRefused where a name is no
-        field's. TypeError where a value has no JSON, ValueError for a datetime without a time zone, NaN, a lone surrogate or values nested
-        too deeply. Closed where the schema is.
+        LineRefused where the library refuses a value, as a number that doesn't fit its field or any float.
+        FieldRefused where a name is no field's. TypeError where a value has no JSON, ValueError for a
+        datetime without a time zone, NaN, a lone surrogate or values nested too deeply. Closed where the
+        schema is.
 
         >>> Document.from_dict(Schema(SCHEMA), {"age": [1, 2**64 - 1]})["age"]
         [1, 18446744073709551615]
@@ -72,15 +101,17 @@ class Document(Held, Mapping[str, List[Any]]):
     def parse(cls: Type[_D], schema: _schema.Schema, line: TextOrBuffer) -> _D:
         """The document of a JSON object. Keys that name no field are passed over.
 
-        LineRefused where it is no JSON object or a value is refused, Closed where the schema is, TypeError where an argument is of another
-        type, ValueError for a lone surrogate, MemoryError.
+        LineRefused where it is no JSON object or a value is refused, Closed where the schema is, TypeError
+        where an argument is of another type, ValueError for a lone surrogate, MemoryError.
 
         >>> Document.parse(Schema(SCHEMA), b'{"age":[7,8],"other":1}')["age"]
         [7, 8]
         """
         opened(schema, _schema.Schema, "schema")
         with Lent(line, "line", texts=True) as given:
-            document, answer = cls._made(schema, lambda own, by: CALLS.kormaglen_document_parse(by, given.at, given.size, own))
+            document, answer = cls._made(
+                schema, lambda own, by: CALLS.kormaglen_document_parse(by, given.at, given.size, own)
+            )
             if answer.status == Status.BAD_LINE:
                 text = ctypes.string_at(given.at, min(given.size, 4 * SHOWN))
                 raise line_refused(answer.detail, text, None, *schema._about(answer.detail, answer.place))
@@ -90,10 +121,12 @@ class Document(Held, Mapping[str, List[Any]]):
 
     @classmethod
     def read(cls: Type[_D], schema: _schema.Schema, data: Any, version: int = 2) -> Tuple[_D, int]:
-        """The document with which the bytes begin, of version 1, 2 or 3, and how many bytes it takes. Whatever follows is not looked at.
+        """The document with which the bytes begin, of version 1, 2 or 3, and how many bytes it takes.
+        Whatever follows is not looked at.
 
-        DocumentRefused where none begins there, VersionRefused, Closed where the schema is, TypeError where an argument is of another type,
-        OverflowError where the version doesn't fit 32 bits, BufferError where the bytes don't lie one behind the other, MemoryError.
+        DocumentRefused where none begins there, VersionRefused, Closed where the schema is, TypeError where
+        an argument is of another type, OverflowError where the version doesn't fit 32 bits, BufferError
+        where the bytes don't lie one behind the other, MemoryError.
 
         >>> document, size = Document.read(Schema(SCHEMA), bytes.fromhex("8100000000012400000000000000ff"))
         >>> document["age"], size
@@ -107,14 +140,17 @@ class Document(Held, Mapping[str, List[Any]]):
     @classmethod
     def _read_at(cls: Type[_D], schema: _schema.Schema, at: int, size: int, version: int) -> Tuple[_D, int]:
         """`read`, of bytes at an address."""
-        document, answer = cls._made(schema, lambda own, by: CALLS.kormaglen_document_read(version, at, size, own))
+        document, answer = cls._made(
+            schema, lambda own, by: CALLS.kormaglen_document_read(version, at, size, own)
+        )
         if answer.status != Status.OK:
             raise refused(answer)
         return document, answer.bytes
 
     @classmethod
     def _made(cls: Type[_D], schema: _schema.Schema, call: Callable[[Any, Any], Any]) -> Tuple[_D, Any]:
-        """A new document that a call opens, and what the call answers. Locks are taken in this order everywhere: the document's, the schema's."""
+        """A new document that a call opens, and what the call answers. Locks are taken in this order
+        everywhere: the document's, the schema's."""
         by, own = opened(schema, _schema.Schema, "schema"), Handle(DocumentStruct())
         with own.lock, by.lock:
             answer = call(own.ref, by.ref)
@@ -124,7 +160,8 @@ class Document(Held, Mapping[str, List[Any]]):
 
     @property
     def schema(self) -> _schema.Schema:
-        """The schema by which the document was made. Closed where the document has none, since it was never made.
+        """The schema by which the document was made. Closed where the document has none, since it was never
+        made.
 
         >>> Schema(SCHEMA).parse("{}").schema == Schema(SCHEMA)
         True
@@ -134,8 +171,8 @@ class Document(Held, Mapping[str, List[Any]]):
         return self._by
 
     def to_json(self) -> str:
-        """The document as JSON: the names of the fields in byte order, each with an array of its values. Values of fields that the schema
-        doesn't have are left out. It is in one line, without a line feed.
+        """The document as JSON: the names of the fields in byte order, each with an array of its values.
+        Values of fields that the schema doesn't have are left out. It is in one line, without a line feed.
 
         Closed where the document or its schema is, MemoryError.
 
@@ -144,13 +181,16 @@ class Document(Held, Mapping[str, List[Any]]):
         """
         own, by = opened(self, Document), opened(self._by, _schema.Schema, "schema")
         with own.lock, by.lock:
-            return filled(_FIRST_SIZE, lambda at, size: CALLS.kormaglen_document_to_json(own.ref, by.ref, at, size)).decode()
+            return filled(
+                _FIRST_SIZE, lambda at, size: CALLS.kormaglen_document_to_json(own.ref, by.ref, at, size)
+            ).decode()
 
     def write(self, version: int = 2) -> bytes:
         """The bytes of the document in version 2 or 3: the values of stored fields.
 
-        FieldRefused where the document has a value of a field that the schema doesn't have, VersionRefused, Closed where the document or its
-        schema is, TypeError or OverflowError where the version is no number of 32 bits, MemoryError.
+        FieldRefused where the document has a value of a field that the schema doesn't have, VersionRefused,
+        Closed where the document or its schema is, TypeError or OverflowError where the version is no
+        number of 32 bits, MemoryError.
 
         >>> Schema(SCHEMA).parse('{"age":36}').write().hex()
         '8100000000012400000000000000'
@@ -158,12 +198,16 @@ class Document(Held, Mapping[str, List[Any]]):
         stored = number(version, "version")
         own, by = opened(self, Document), opened(self._by, _schema.Schema, "schema")
         with own.lock, by.lock:
-            return filled(_FIRST_SIZE, lambda at, size: CALLS.kormaglen_document_write(own.ref, by.ref, stored, at, size))
+            return filled(
+                _FIRST_SIZE,
+                lambda at, size: CALLS.kormaglen_document_write(own.ref, by.ref, stored, at, size),
+            )
 
     def to_dict(self) -> Dict[str, List[Any]]:
         """The values of all fields that have some. Changing it doesn't change the document.
 
-        Closed where the document or its schema is, ValueError where values are nested more deeply than Python reads, MemoryError.
+        Closed where the document or its schema is, ValueError where values are nested more deeply than
+        Python reads, MemoryError.
 
         >>> Schema(SCHEMA).parse('{"age":36}').to_dict()
         {'age': [36]}
@@ -227,7 +271,9 @@ class Document(Held, Mapping[str, List[Any]]):
         schema, text, stored = self._parts()
         read, _ = Document.read(schema, stored, 3)
         if read.to_json() != text:
-            raise ValueError("the document is not copied or pickled: values of it are not stored, and would be lost")
+            raise ValueError(
+                "the document is not copied or pickled: values of it are not stored, and would be lost"
+            )
         state = {name: value for name, value in vars(self).items() if name not in ("_handle", "_by")}
         return _restored, (type(self), schema, stored), state or None
 

@@ -125,8 +125,9 @@ def named(kind: Type[_Named], value: int) -> Union[_Named, int]:
 class Refused(ValueError):
     """A call was refused. What it was given stays as it was, and so does what its handles hold.
 
-    `reason` is the most precise name that there is: of `Status`, or of `SchemaFault`, `DocumentFault` or `LineStatus` in the classes below. A
-    number that this package has no name for stays a number. `place` is the number that the library says where; each class says what it is.
+    `reason` is the most precise name that there is: of `Status`, or of `SchemaFault`, `DocumentFault` or
+    `LineStatus` in the classes below. A number that this package has no name for stays a number. `place` is
+    the number that the library says where; each class says what it is.
 
     >>> try:
     ...     facet_of_text("no slash")
@@ -142,7 +143,8 @@ class Refused(ValueError):
 
 
 class SchemaRefused(Refused):
-    """A JSON describes no schema. `place` is the number of the entry, from 1, or 0 for the whole, and `field` its name where it has one.
+    """A JSON describes no schema. `place` is the number of the entry, from 1, or 0 for the whole, and
+    `field` its name where it has one.
 
     >>> try:
     ...     Schema('[{"name":"age","type":"u65","options":{}}]')
@@ -166,8 +168,9 @@ class DocumentRefused(Refused):
 
 
 class LineRefused(Refused):
-    """A line of JSON has no document. `line` is its number, from 1, or None where there is one alone; `field` and `field_number` are the field
-    whose value is refused, or None; `text` is how the line begins: 60 characters at most.
+    """A line of JSON has no document. `line` is its number, from 1, or None where there is one alone;
+    `field` and `field_number` are the field whose value is refused, or None; `text` is how the line begins:
+    60 characters at most.
 
     >>> schema = Schema('[{"name":"age","type":"u64","options":{"indexed":true,"stored":true}}]')
     >>> try:
@@ -184,7 +187,8 @@ class LineRefused(Refused):
 
 
 class FieldRefused(Refused, LookupError):
-    """A path or a name names no field of the schema, or a document has a field that its schema doesn't have; `place` is then its number.
+    """A path or a name names no field of the schema, or a document has a field that its schema doesn't
+    have; `place` is then its number.
 
     >>> schema = Schema('[{"name":"age","type":"u64","options":{"indexed":true,"stored":true}}]')
     >>> try:
@@ -261,7 +265,9 @@ def document_refused(detail: int, place: int) -> DocumentRefused:
 def schema_refused(answer: Answer, field: Optional[str]) -> SchemaRefused:
     """That a JSON describes no schema."""
     words = detail_text(answer.status, answer.detail)
-    entry = f"entry {answer.place}" + ("" if field is None else f' ("{field}")') + ": " if answer.place else ""
+    entry = (
+        f"entry {answer.place}" + ("" if field is None else f' ("{field}")') + ": " if answer.place else ""
+    )
     bad = answer.status == Status.BAD_SCHEMA
     reason: Reason = named(SchemaFault, answer.detail) if bad else Status.INVALID_JSON
     error = SchemaRefused(f"schema: {entry}{words}", reason, answer.place)
@@ -270,13 +276,19 @@ def schema_refused(answer: Answer, field: Optional[str]) -> SchemaRefused:
 
 
 def line_refused(
-    status: int, text: bytes, line: Optional[int] = None, field_number: Optional[int] = None, field: Optional[str] = None
+    status: int,
+    text: bytes,
+    line: Optional[int] = None,
+    field_number: Optional[int] = None,
+    field: Optional[str] = None,
 ) -> LineRefused:
     """That a line has no document. The text is the line, or as much of it as is shown."""
     shown = beginning(text)
     head = "" if line is None else f"line {line}: "
     about = "" if field is None else f'field "{field}": '
-    error = LineRefused(f"{head}{about}{line_text(status)}: {shown}", named(LineStatus, status), field_number or 0)
+    error = LineRefused(
+        f"{head}{about}{line_text(status)}: {shown}", named(LineStatus, status), field_number or 0
+    )
     error.line, error.field, error.field_number, error.text = line, field, field_number, shown
     return error
 
@@ -297,7 +309,8 @@ def closed(what: str) -> Closed:
 
 
 def refused(answer: Answer) -> Exception:
-    """The exception of an answer that isn't OK. What is known besides (a line, a name) has constructors of its own above."""
+    """The exception of an answer that isn't OK. What is known besides (a line, a name) has constructors of
+    its own above."""
     if answer.status == Status.NO_MEMORY:
         return MemoryError(status_text(answer.status))
     if answer.status == Status.BAD_DOCUMENT:

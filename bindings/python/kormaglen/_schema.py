@@ -11,7 +11,15 @@ from kormaglen._arguments import Lent, TextOrBuffer, filled, number, text, type_
 from kormaglen._handles import Handle, Held, opened
 from kormaglen._import import ImportCounts, Imported, imported, joined
 from kormaglen._library import CALLS, LINE_ANSWER_SIZE, FoundField, SchemaStruct
-from kormaglen._refusals import Closed, LineRefused, LineStatus, Status, field_refused, refused, schema_refused
+from kormaglen._refusals import (
+    Closed,
+    LineRefused,
+    LineStatus,
+    Status,
+    field_refused,
+    refused,
+    schema_refused,
+)
 from kormaglen._sources import copied
 from kormaglen._values import printed
 
@@ -19,7 +27,8 @@ Json = Union[str, Any, List[Mapping[str, Any]]]
 
 
 class Field(NamedTuple):
-    """A field of a schema: its number from 0, its name, the name of its type as the schema's JSON has it, and its options, all of them.
+    """A field of a schema: its number from 0, its name, the name of its type as the schema's JSON has it,
+    and its options, all of them.
 
     >>> Schema(SCHEMA).field("age")[:3]
     (0, 'age', 'u64')
@@ -32,7 +41,8 @@ class Field(NamedTuple):
 
 
 class Found(NamedTuple):
-    """The field that a path names: its number, and the rest of the path, which leads into the field's JSON objects.
+    """The field that a path names: its number, and the rest of the path, which leads into the field's JSON
+    objects.
 
     >>> Schema(SCHEMA).find_field("age")
     Found(field=0, rest='')
@@ -45,12 +55,14 @@ class Found(NamedTuple):
 class Schema(Held):
     """A schema: its JSON is read once, and serves any number of calls. It doesn't change.
 
-    It is made of its JSON, as tantivy writes it: a `str`, anything with the buffer protocol, or the list of the entries. Any thread may use
-    and close it: there is one call at a time, and others wait. `copy.copy` makes one of its own for another thread. Two schemas are equal
-    if their fields are. It is pickled as its JSON.
+    It is made of its JSON, as tantivy writes it: a `str`, anything with the buffer protocol, or the list of
+    the entries. Any thread may use and close it: there is one call at a time, and others wait. `copy.copy`
+    makes one of its own for another thread. Two schemas are equal if their fields are. It is pickled as its
+    JSON.
 
-    SchemaRefused where the JSON describes no schema, TypeError where an argument is of another type, ValueError for a lone surrogate or a list
-    nested too deeply, MemoryError. A call of one that is closed raises Closed.
+    SchemaRefused where the JSON describes no schema, TypeError where an argument is of another type,
+    ValueError for a lone surrogate or a list nested too deeply, MemoryError. A call of one that is closed
+    raises Closed.
 
     >>> with Schema('[{"name":"age","type":"u64","options":{"indexed":true,"stored":true}}]') as schema:
     ...     schema.parse('{"age":36}')["age"]
@@ -75,14 +87,17 @@ class Schema(Held):
         self._handle = handle
 
     def to_json(self) -> str:
-        """The schema's JSON with all options written out. Of equal schemas it is the same. Closed, MemoryError.
+        """The schema's JSON with all options written out. Of equal schemas it is the same. Closed,
+        MemoryError.
 
         >>> Schema("[]").to_json()
         '[]'
         """
         handle = opened(self, Schema)
         with handle.lock:
-            return filled(1024, lambda at, size: CALLS.kormaglen_schema_to_json(handle.ref, at, size)).decode()
+            return filled(
+                1024, lambda at, size: CALLS.kormaglen_schema_to_json(handle.ref, at, size)
+            ).decode()
 
     @property
     def fields(self) -> Tuple[Field, ...]:
@@ -92,10 +107,13 @@ class Schema(Held):
         ['age']
         """
         entries = _json.loads(self.to_json())
-        return tuple(Field(at, entry["name"], entry["type"], entry["options"]) for at, entry in enumerate(entries))
+        return tuple(
+            Field(at, entry["name"], entry["type"], entry["options"]) for at, entry in enumerate(entries)
+        )
 
     def field(self, name: str) -> Field:
-        """The field of a name. FieldRefused where none has it, TypeError where it is no `str`, Closed, MemoryError.
+        """The field of a name. FieldRefused where none has it, TypeError where it is no `str`, Closed,
+        MemoryError.
 
         >>> Schema(SCHEMA).field("age").options["stored"]
         True
@@ -107,9 +125,11 @@ class Schema(Held):
         raise field_refused(name)
 
     def find_field(self, path: str) -> Found:
-        """The field that a path of a query names, as `author.name`: that of the whole path, or of the part before the last dot that names one.
+        """The field that a path of a query names, as `author.name`: that of the whole path, or of the part
+        before the last dot that names one.
 
-        FieldRefused where there is none, TypeError where the path is no `str`, ValueError for a lone surrogate, Closed.
+        FieldRefused where there is none, TypeError where the path is no `str`, ValueError for a lone
+        surrogate, Closed.
 
         >>> Schema(SCHEMA).find_field("age").field
         0
@@ -150,15 +170,17 @@ class Schema(Held):
         return _document.Document.read(self, data, version)
 
     def import_lines(self, lines: Any) -> Imported:
-        """Stores the documents of lines of JSON, one behind the other in version 2, and answers each line. A line ends at a line feed, and
-        the last may lack it. A line that is refused stores nothing, and the next line follows.
+        """Stores the documents of lines of JSON, one behind the other in version 2, and answers each line.
+        A line ends at a line feed, and the last may lack it. A line that is refused stores nothing, and the
+        next line follows.
 
-        `lines` are a text, anything with the buffer protocol, a file object of bytes or texts, or an iterable of texts and buffers, of which
-        each item is one line or several. The block and 16 bytes for each line are held, and while it runs the block twice. Of lines
-        that change meanwhile, what is stored is that of a mixture.
+        `lines` are a text, anything with the buffer protocol, a file object of bytes or texts, or an
+        iterable of texts and buffers, of which each item is one line or several. The block and 16 bytes for
+        each line are held, and while it runs the block twice. Of lines that change meanwhile, what is
+        stored is that of a mixture.
 
-        Closed, TypeError where an argument is of another type, ValueError for a lone surrogate, BufferError where bytes don't lie one behind
-        the other, MemoryError, and what a file or an iterable raises.
+        Closed, TypeError where an argument is of another type, ValueError for a lone surrogate, BufferError
+        where bytes don't lie one behind the other, MemoryError, and what a file or an iterable raises.
 
         >>> imported = Schema(SCHEMA).import_lines('{"age":36}\\n{"age":"x"}\\n')
         >>> [line.status.name for line in imported.lines]
@@ -168,11 +190,13 @@ class Schema(Held):
         return joined(parts) if parts else imported(b"", b"", b"", 1, ())
 
     def import_chunks(self, lines: Any, chunk_size: int = 1 << 20) -> Iterator[Imported]:
-        """`import_lines` in bounded memory: gives a part for about so many bytes of lines each, which holds whole lines. The blocks one behind
-        the other are the block of all lines. A line larger than `chunk_size` makes a larger part.
+        """`import_lines` in bounded memory: gives a part for about so many bytes of lines each, which holds
+        whole lines. The blocks one behind the other are the block of all lines. A line larger than
+        `chunk_size` makes a larger part.
 
-        Arguments are tested at once. What the lines raise comes when the part is asked for: then the parts before stay good. Errors are those
-        of `import_lines`, and OverflowError where `chunk_size` is not within 1 and 2^30.
+        Arguments are tested at once. What the lines raise comes when the part is asked for: then the parts
+        before stay good. Errors are those of `import_lines`, and OverflowError where `chunk_size` is not
+        within 1 and 2^30.
 
         >>> parts = Schema(SCHEMA).import_chunks(['{"age":1}', '{"age":2}'], chunk_size=1)
         >>> [(part.first, len(part.block)) for part in parts]
@@ -181,12 +205,18 @@ class Schema(Held):
         return _streams.imports(self, lines, chunk_size)
 
     def import_file(
-        self, lines: Any, block: Any, on_refused: Optional[Callable[[LineRefused], object]] = None, chunk_size: int = 1 << 20
+        self,
+        lines: Any,
+        block: Any,
+        on_refused: Optional[Callable[[LineRefused], object]] = None,
+        chunk_size: int = 1 << 20,
     ) -> ImportCounts:
-        """`import_chunks` from one file into another. Each is a path, or a file object; `lines` may also be what `import_lines` takes, but a
-        `str` is a path. `on_refused` is called with each line that is refused.
+        """`import_chunks` from one file into another. Each is a path, or a file object; `lines` may also be
+        what `import_lines` takes, but a `str` is a path. `on_refused` is called with each line that is
+        refused.
 
-        Errors are those of `import_chunks` and of the files. After one, the file has the documents that were written before.
+        Errors are those of `import_chunks` and of the files. After one, the file has the documents that
+        were written before.
 
         >>> out = io.BytesIO()
         >>> Schema(SCHEMA).import_file([b'{"age":36}'], out).size == len(out.getvalue())
@@ -195,10 +225,12 @@ class Schema(Held):
         return _streams.import_file(self, lines, block, on_refused, chunk_size)
 
     def export_block(self, block: Any, version: int = 2) -> bytes:
-        """The documents of a block, of version 1, 2 or 3, as lines of JSON with the names of the schema's fields, each with a line feed.
+        """The documents of a block, of version 1, 2 or 3, as lines of JSON with the names of the schema's
+        fields, each with a line feed.
 
-        DocumentRefused where bytes hold none, VersionRefused, Closed, TypeError where an argument is of another type, OverflowError where the
-        version doesn't fit 32 bits, BufferError where the bytes don't lie one behind the other, MemoryError.
+        DocumentRefused where bytes hold none, VersionRefused, Closed, TypeError where an argument is of
+        another type, OverflowError where the version doesn't fit 32 bits, BufferError where the bytes don't
+        lie one behind the other, MemoryError.
 
         >>> Schema(SCHEMA).export_block(bytes.fromhex("8100000000012400000000000000"))
         b'{"age":[36]}\\n'
@@ -208,18 +240,22 @@ class Schema(Held):
             return _streams.exported_at(self, given.at, given.size, stored)
 
     def export_chunks(self, block: Any, version: int = 2, chunk_size: int = 1 << 20) -> Iterator[bytes]:
-        """`export_block` in bounded memory: gives the lines of about so many bytes of the block each. The block is anything with the buffer
-        protocol, or a file object of bytes. A document larger than `chunk_size` makes a larger part.
+        """`export_block` in bounded memory: gives the lines of about so many bytes of the block each. The
+        block is anything with the buffer protocol, or a file object of bytes. A document larger than
+        `chunk_size` makes a larger part.
 
-        Arguments are tested at once. A document that is refused is reported when it is reached: then the parts before stay good. Errors are
-        those of `export_block`, OverflowError where `chunk_size` is not within 1 and 2^30, and what a file raises.
+        Arguments are tested at once. A document that is refused is reported when it is reached: then the
+        parts before stay good. Errors are those of `export_block`, OverflowError where `chunk_size` is not
+        within 1 and 2^30, and what a file raises.
 
         >>> list(Schema(SCHEMA).export_chunks(b"\\x80\\x80", chunk_size=1))
         [b'{}\\n', b'{}\\n']
         """
         return _streams.exports(self, block, version, chunk_size)
 
-    def documents(self, block: Any, version: int = 2, chunk_size: int = 1 << 16) -> Iterator[_document.Document]:
+    def documents(
+        self, block: Any, version: int = 2, chunk_size: int = 1 << 16
+    ) -> Iterator[_document.Document]:
         """The documents of a block, one at a time. Arguments and errors are those of `export_chunks`.
 
         >>> [document.to_dict() for document in Schema(SCHEMA).documents(b"\\x80\\x80")]
@@ -228,13 +264,16 @@ class Schema(Held):
         return _streams.documents(self, block, version, chunk_size)
 
     def _import_piece(self, piece: bytes, first: int) -> Imported:
-        """What a piece of whole lines gives. Nobody changes the piece, so the number of its lines stays right."""
+        """What a piece of whole lines gives. Nobody changes the piece, so the number of its lines stays
+        right."""
         packed = bytearray(LINE_ANSWER_SIZE * (piece.count(b"\n") + 1))
         handle, lines = opened(self, Schema), 0
 
         def call(at: int, size: int) -> Any:
             nonlocal lines
-            answer = CALLS.kormaglen_schema_import_lines(handle.ref, given.at, given.size, at, size, rows.at, len(packed) // LINE_ANSWER_SIZE)
+            answer = CALLS.kormaglen_schema_import_lines(
+                handle.ref, given.at, given.size, at, size, rows.at, len(packed) // LINE_ANSWER_SIZE
+            )
             lines = answer.lines
             return answer
 
@@ -243,7 +282,8 @@ class Schema(Held):
         return imported(piece, block, bytes(packed[: lines * LINE_ANSWER_SIZE]), first, list(self._kinds()))
 
     def _kinds(self) -> Dict[str, str]:
-        """The names of the fields in order, each with the name of its type. They are kept, since a schema doesn't change."""
+        """The names of the fields in order, each with the name of its type. They are kept, since a schema
+        doesn't change."""
         kinds = self._names
         if kinds is None or self.closed:
             kinds = {field.name: field.type for field in self.fields}

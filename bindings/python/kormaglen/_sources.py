@@ -20,7 +20,8 @@ def copied(value: Any, name: str, texts: bool = True) -> bytes:
 
 
 def _of_buffer(value: Any, name: str) -> Read:
-    """Reads a buffer. It is lent for each part anew, so that between two parts it may be resized or closed."""
+    """Reads a buffer. It is lent for each part anew, so that between two parts it may be resized or
+    closed."""
     if isinstance(value, str):
         value = utf8(value, name)
     with Lent(value, name):
@@ -47,7 +48,8 @@ def _of_file(file: Any, name: str, texts: bool) -> Read:
 
 
 def _of_items(items: Iterable[Any], name: str) -> Read:
-    """Reads an iterable of lines: each item is one line or several, and ends a line, with a line feed or without."""
+    """Reads an iterable of lines: each item is one line or several, and ends a line, with a line feed or
+    without."""
     iterator = iter(items)
 
     def read(size: int) -> bytes:
@@ -69,7 +71,8 @@ def _is_file(source: object) -> bool:
 
 
 def reader_of_lines(source: Any, name: str) -> Read:
-    """Reads a text, a buffer, a file object or an iterable of texts and buffers. TypeError where it is something else."""
+    """Reads a text, a buffer, a file object or an iterable of texts and buffers. TypeError where it is
+    something else."""
     if isinstance(source, str) or is_buffer(source):
         return _of_buffer(source, name)
     if _is_file(source):
@@ -77,7 +80,10 @@ def reader_of_lines(source: Any, name: str) -> Read:
     try:
         return _of_items(source, name)
     except TypeError:
-        raise TypeError(f"{name}: a text, a bytes-like object, a file or an iterable of lines is wanted, not {type_name(source)}") from None
+        raise TypeError(
+            f"{name}: a text, a bytes-like object, a file or an iterable of lines is wanted, "
+            f"not {type_name(source)}"
+        ) from None
 
 
 def reader_of_block(source: Any, name: str) -> Read:
@@ -108,7 +114,8 @@ def whole_lines(read: Read, size: int) -> Iterator[bytes]:
 
 
 class Carry:
-    """The bytes that were read and not yet used: those of `held` from `at` on. `place` is where these are in the whole."""
+    """The bytes that were read and not yet used: those of `held` from `at` on. `place` is where these are
+    in the whole."""
 
     def __init__(self, read: Read, size: int) -> None:
         self._read = read

@@ -14,7 +14,14 @@ from kormaglen._arguments import Lent, chunk_size as tested_chunk_size, filled, 
 from kormaglen._handles import opened
 from kormaglen._import import ImportCounts, Imported
 from kormaglen._library import CALLS
-from kormaglen._refusals import DocumentFault, DocumentRefused, LineRefused, Status, document_refused, refused
+from kormaglen._refusals import (
+    DocumentFault,
+    DocumentRefused,
+    LineRefused,
+    Status,
+    document_refused,
+    refused,
+)
 from kormaglen._sources import Carry, Read, reader_of_block, reader_of_lines, whole_lines
 
 _T = TypeVar("_T")
@@ -42,7 +49,11 @@ def _imports(schema: _schema.Schema, read: Read, size: int) -> Iterator[Imported
 
 
 def import_file(
-    schema: _schema.Schema, lines: Any, block: Any, on_refused: Optional[Callable[[LineRefused], object]], chunk_size: int
+    schema: _schema.Schema,
+    lines: Any,
+    block: Any,
+    on_refused: Optional[Callable[[LineRefused], object]],
+    chunk_size: int,
 ) -> ImportCounts:
     """Schema.import_file."""
     if on_refused is not None and not callable(on_refused):
@@ -73,13 +84,16 @@ def _file(source: Any, mode: str) -> ContextManager[Any]:
 
 
 def _write(target: IO[bytes], block: bytes) -> None:
-    """Writes all of it: a file without a buffer may take a part only. What gives no count has taken all, but such a file nothing."""
+    """Writes all of it: a file without a buffer may take a part only. What gives no count has taken all,
+    but such a file nothing."""
     rest = memoryview(block)
     while rest:
         count: Any = target.write(rest)
         if count == 0 or count is None and isinstance(target, io.RawIOBase):
             raise BlockingIOError("block: the file takes no more bytes")
-        rest = rest[len(rest) if count is None else within(count, "block: what write() gives", 1, len(rest)) :]
+        rest = rest[
+            len(rest) if count is None else within(count, "block: what write() gives", 1, len(rest)) :
+        ]
 
 
 def exports(schema: _schema.Schema, block: Any, version: int, chunk_size: int) -> Iterator[bytes]:
@@ -87,17 +101,26 @@ def exports(schema: _schema.Schema, block: Any, version: int, chunk_size: int) -
     stored, size = number(version, "version"), tested_chunk_size(chunk_size)
     opened(schema, _schema.Schema, "schema")
     carry = Carry(reader_of_block(block, "block"), size)
-    return (lines for lines, _ in _runs(carry, size, lambda at, length: exported_at(schema, at, length, stored)))
+    return (
+        lines for lines, _ in _runs(carry, size, lambda at, length: exported_at(schema, at, length, stored))
+    )
 
 
 def exported_at(schema: _schema.Schema, at: int, size: int, version: int) -> bytes:
     """Schema.export_block, of bytes at an address."""
     handle = opened(schema, _schema.Schema)
     with handle.lock:
-        return filled(2 * size, lambda out, out_size: CALLS.kormaglen_schema_export_block(handle.ref, version, at, size, out, out_size))
+        return filled(
+            2 * size,
+            lambda out, out_size: CALLS.kormaglen_schema_export_block(
+                handle.ref, version, at, size, out, out_size
+            ),
+        )
 
 
-def documents(schema: _schema.Schema, block: Any, version: int, chunk_size: int) -> Iterator[_document.Document]:
+def documents(
+    schema: _schema.Schema, block: Any, version: int, chunk_size: int
+) -> Iterator[_document.Document]:
     """Schema.documents."""
     stored, size = number(version, "version"), tested_chunk_size(chunk_size)
     opened(schema, _schema.Schema, "schema")
@@ -108,7 +131,9 @@ def _documents(schema: _schema.Schema, carry: Carry, version: int) -> Iterator[_
     while carry.fill(1):
         try:
             with Lent(carry.held, "block") as held:
-                document, size = _document.Document._read_at(schema, held.at + carry.at, carry.left, version)
+                document, size = _document.Document._read_at(
+                    schema, held.at + carry.at, carry.left, version
+                )
         except DocumentRefused as fault:
             if fault.reason == DocumentFault.UNEXPECTED_END and carry.grow():
                 continue
@@ -120,7 +145,8 @@ def _documents(schema: _schema.Schema, carry: Carry, version: int) -> Iterator[_
 def _runs(carry: Carry, size: int, call: _Call[_T]) -> Iterator[Tuple[_T, bytes]]:
     """What the call gives for the documents of a block, so many bytes of them at once, and these bytes.
 
-    Where the bytes end inside a document, or hold none, the call is refused with the place where that one begins. Those before are whole.
+    Where the bytes end inside a document, or hold none, the call is refused with the place where that one
+    begins. Those before are whole.
     """
     while carry.fill(size):
         piece = carry.held[carry.at :]
@@ -146,12 +172,16 @@ def migrations(source: int, block: Any, target: int, chunk_size: int) -> Iterato
     """migrate_chunks."""
     before, after, size = number(source, "source"), number(target, "target"), tested_chunk_size(chunk_size)
     carry = Carry(reader_of_block(block, "block"), size)
-    return (moved for moved, _ in _runs(carry, size, lambda at, length: migrated_at(before, at, length, after)))
+    return (
+        moved for moved, _ in _runs(carry, size, lambda at, length: migrated_at(before, at, length, after))
+    )
 
 
 def migrated_at(source: int, at: int, size: int, target: int) -> bytes:
     """migrate_block, of bytes at an address."""
-    return filled(size, lambda out, out_size: CALLS.kormaglen_migrate_block(source, at, size, target, out, out_size))
+    return filled(
+        size, lambda out, out_size: CALLS.kormaglen_migrate_block(source, at, size, target, out, out_size)
+    )
 
 
 class Term(NamedTuple):
@@ -181,7 +211,10 @@ def _terms(field: int, carry: Carry, version: int, size: int) -> Iterator[Term]:
 
 def terms_at(field: int, version: int, at: int, size: int) -> bytes:
     """The records of terms_of_block, of bytes at an address."""
-    return filled(4 * size, lambda out, out_size: CALLS.kormaglen_terms_of_block(field, version, at, size, out, out_size))
+    return filled(
+        4 * size,
+        lambda out, out_size: CALLS.kormaglen_terms_of_block(field, version, at, size, out, out_size),
+    )
 
 
 def records_of(records: bytes) -> Iterator[Tuple[int, bytes]]:
@@ -198,7 +231,8 @@ _LINE_OF_NONE = 3
 
 
 def _count(piece: bytes, version: int) -> int:
-    """How many whole documents a piece has: by a schema without fields, each of them is a line of two braces and a line feed."""
+    """How many whole documents a piece has: by a schema without fields, each of them is a line of two
+    braces and a line feed."""
     with Lent(piece, "block") as given, Lent(_NONE, "json") as json:
         answer = CALLS.kormaglen_export_block(json.at, json.size, version, given.at, given.size, None, 0)
     if answer.status not in (Status.OK, Status.TOO_SMALL):

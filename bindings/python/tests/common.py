@@ -21,7 +21,11 @@ ENTRIES: List[Dict[str, Any]] = [
     {"name": "group", "type": "facet", "options": {"stored": True}},
     {"name": "hash", "type": "bytes", "options": {"indexed": False, "fast": False, "stored": True}},
     {"name": "more", "type": "json_object", "options": {"stored": True, "fast": False}},
-    {"name": "host", "type": "ip_addr", "options": {"indexed": False, "fieldnorms": False, "fast": False, "stored": True}},
+    {
+        "name": "host",
+        "type": "ip_addr",
+        "options": {"indexed": False, "fieldnorms": False, "fast": False, "stored": True},
+    },
     {"name": "secret", "type": "u64", "options": {"indexed": True, "stored": False}},
     {"name": "word", "type": "text", "options": {"stored": True, "coerce": True}},
 ]
@@ -30,6 +34,16 @@ SCHEMA = json.dumps(ENTRIES).encode()
 # One document in version 2, by docs/FORMATS.md: one pair, field 1 in 4 bytes, code 1 (u64), 36 in 8 bytes.
 AGE_36 = bytes.fromhex("81" "01000000" "01" "2400000000000000")
 EMPTY = b"\x80"
+
+# A text with its one token.
+TOKENS = json.dumps(
+    {
+        "name": {
+            "text": "a b",
+            "tokens": [{"offset_from": 0, "offset_to": 1, "position": 0, "text": "a", "position_length": 1}],
+        }
+    }
+)
 
 
 def run(code: str, *arguments: str, timeout: int = 300) -> "subprocess.CompletedProcess[str]":

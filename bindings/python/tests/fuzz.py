@@ -1,13 +1,16 @@
-"""Calls every public name of the package with arguments of every type and state, for some seconds, and prints how often each was called.
+"""Calls every public name of the package with arguments of every type and state, for some seconds, and
+prints how often each was called.
 
     python tests/fuzz.py --seconds 60 --seed 1
 
 Under the address sanitizer:
 
-    LD_PRELOAD=$(gcc -print-file-name=libasan.so) ASAN_OPTIONS=detect_leaks=0 PYTHONMALLOC=malloc python tests/fuzz.py --seconds 60
+    export LD_PRELOAD=$(gcc -print-file-name=libasan.so) ASAN_OPTIONS=detect_leaks=0 PYTHONMALLOC=malloc
+    python tests/fuzz.py --seconds 60
 
-The names come from `kormaglen.__all__` and the classes, so that a new one is called, too. What is tested: only exceptions that are documented
-come; the input stays as it was; a number is taken as it is or refused; and memory stays within 5 percent over the second half.
+The names come from `kormaglen.__all__` and the classes, so that a new one is called, too. What is tested:
+only exceptions that are documented come; the input stays as it was; a number is taken as it is or refused;
+and memory stays within 5 percent over the second half.
 """
 
 from __future__ import annotations
@@ -85,7 +88,11 @@ def targets() -> Iterator[Tuple[str, Callable[..., Any], Any]]:
             continue
         yield name, value, None
         for member in dir(value):
-            if member in SPECIAL and not issubclass(value, (enum.Enum, tuple)) and (member != "__lt__" or is_own(value, member)):
+            if (
+                member in SPECIAL
+                and not issubclass(value, (enum.Enum, tuple))
+                and (member != "__lt__" or is_own(value, member))
+            ):
                 yield f"{name}.{member}", SPECIAL[member], value
             elif not member.startswith("_") and is_own(value, member):
                 static = inspect.getattr_static(value, member)
@@ -120,7 +127,11 @@ class Fuzzer:
         self.counts: Dict[str, List[int]] = collections.defaultdict(lambda: [0, 0])
         self.targets = list(targets())
         # Those that reach the library are called more often.
-        library = [each for each in self.targets if each[2] in (K.Schema, K.Document) or inspect.isfunction(each[1]) and each[2] is None]
+        library = [
+            each
+            for each in self.targets
+            if each[2] in (K.Schema, K.Document) or inspect.isfunction(each[1]) and each[2] is None
+        ]
         self.drawn = self.targets + library * 5
 
     def instance(self, kind: type) -> Any:
@@ -130,9 +141,13 @@ class Fuzzer:
             return values.schema()
         if kind is K.Document:
             return values.document()
-        imported = K.import_lines(K.Schema('[{"name":"age","type":"text","options":{"stored":true}}]'), b'{"age":5}\n{}\n')
+        imported = K.import_lines(
+            K.Schema('[{"name":"age","type":"text","options":{"stored":true}}]'), b'{"age":5}\n{}\n'
+        )
         ready: Dict[type, Callable[[], Any]] = {
-            K.DateTime: lambda: values.rng.choice([K.DateTime(values.rng.randrange(-(2**63), 2**63)), object.__new__(K.DateTime)]),
+            K.DateTime: lambda: values.rng.choice(
+                [K.DateTime(values.rng.randrange(-(2**63), 2**63)), object.__new__(K.DateTime)]
+            ),
             K.SchemaBuilder: lambda: K.SchemaBuilder().text("name"),
             K.LineAnswers: lambda: imported.lines,
             K.LineRefusals: lambda: imported.refused,
@@ -150,13 +165,29 @@ class Fuzzer:
         values = self.values
         by_name: Dict[str, Callable[[], Any]] = {
             "schema": lambda: values.schema() if values.chance(0.7) else values.buffer(values.of([SCHEMA])),
-            "version": values.number, "source": values.number, "target": values.number, "field": values.number, "chunk_size": values.number,
-            "nanoseconds": values.number, "block": lambda: values.source(BLOCKS, 30), "lines": lambda: values.source([LINES[0], b"\n".join(LINES)], 1),
-            "data": lambda: values.buffer(values.of(BLOCKS, 3)), "line": lambda: values.buffer(values.of(LINES)),
-            "json": lambda: values.buffer(values.of([SCHEMA, b"[]"])), "encoded": values.buffer, "prefix": values.buffer, "values": values.mapping, "path": values.text,
-            "name": values.text, "value": values.text, "text": values.text,
-            "moment": lambda: datetime.datetime(values.rng.choice([1, 1677, 2024, 9999]), 1, 1, tzinfo=datetime.timezone.utc),
-            "indexing": lambda: values.rng.choice([None, K.TEXT]), "on_refused": lambda: values.rng.choice([None, lambda _: None]),
+            "version": values.number,
+            "source": values.number,
+            "target": values.number,
+            "field": values.number,
+            "chunk_size": values.number,
+            "nanoseconds": values.number,
+            "block": lambda: values.source(BLOCKS, 30),
+            "lines": lambda: values.source([LINES[0], b"\n".join(LINES)], 1),
+            "data": lambda: values.buffer(values.of(BLOCKS, 3)),
+            "line": lambda: values.buffer(values.of(LINES)),
+            "json": lambda: values.buffer(values.of([SCHEMA, b"[]"])),
+            "encoded": values.buffer,
+            "prefix": values.buffer,
+            "values": values.mapping,
+            "path": values.text,
+            "name": values.text,
+            "value": values.text,
+            "text": values.text,
+            "moment": lambda: datetime.datetime(
+                values.rng.choice([1, 1677, 2024, 9999]), 1, 1, tzinfo=datetime.timezone.utc
+            ),
+            "indexing": lambda: values.rng.choice([None, K.TEXT]),
+            "on_refused": lambda: values.rng.choice([None, lambda _: None]),
         }
         if name not in by_name or values.chance(0.12):
             return values.anything()
@@ -165,7 +196,9 @@ class Fuzzer:
     def arguments(self, call: Callable[..., Any], given: int) -> List[Any]:
         """Arguments for a call, behind those that are given; now and then one too few or too many."""
         try:
-            names = [p.name for p in inspect.signature(call).parameters.values() if p.kind is not p.VAR_KEYWORD][given:]
+            names = [
+                p.name for p in inspect.signature(call).parameters.values() if p.kind is not p.VAR_KEYWORD
+            ][given:]
         except (TypeError, ValueError):
             names = ["value"]
         if self.values.chance(0.3):
@@ -198,7 +231,11 @@ class Fuzzer:
         else:
             check_numbers(name, rest, result)
         for each, had in zip(rest, before):
-            if had is not None and not any(each is racing for racing in self.racing.arrays) and snapshot(each) not in (had, None):
+            if (
+                had is not None
+                and not any(each is racing for racing in self.racing.arrays)
+                and snapshot(each) not in (had, None)
+            ):
                 raise AssertionError(f"{name}: the input {each!r:.100} is another one after the call")
 
 
@@ -219,17 +256,34 @@ def plain_number(value: Any) -> int:
 
 def check_numbers(name: str, given: List[Any], result: Any) -> None:
     """What was answered is the answer to the very numbers that were given."""
-    places = {"export_block": [1], "migrate_block": [0, 2], "migrate_chunks": [0, 2], "terms_of_block": [1], "terms": [2], "Schema.read": [1],
-              "Schema.export_block": [1], "Schema.export_chunks": [1], "Schema.documents": [1], "Document.write": [0], "Document.read": [2]}
+    places = {
+        "export_block": [1],
+        "migrate_block": [0, 2],
+        "migrate_chunks": [0, 2],
+        "terms_of_block": [1],
+        "terms": [2],
+        "Schema.read": [1],
+        "Schema.export_block": [1],
+        "Schema.export_chunks": [1],
+        "Schema.documents": [1],
+        "Document.write": [0],
+        "Document.read": [2],
+    }
     for place in places.get(name, []):
         if place < len(given):
             version = plain_number(given[place])
             # (a block without documents is not read by the lazy calls, so its version isn't either)
-            lazy = name in ("migrate_chunks", "terms", "Schema.export_chunks", "Schema.documents") and not result
+            lazy = (
+                name in ("migrate_chunks", "terms", "Schema.export_chunks", "Schema.documents")
+                and not result
+            )
             assert version in (1, 2, 3) or lazy and 0 <= version < 2**32, (name, version)
     if name in ("terms_of_block", "terms"):
         field = plain_number(given[0])
-        assert 0 <= field < 2**32 and all(term.term[:4] == field.to_bytes(4, "big") for term in result), (name, field)
+        assert 0 <= field < 2**32 and all(term.term[:4] == field.to_bytes(4, "big") for term in result), (
+            name,
+            field,
+        )
     if name == "term_of_text":
         assert result[:4] == plain_number(given[0]).to_bytes(4, "big")
     if name == "DateTime":
@@ -261,7 +315,10 @@ def run(seconds: float, seed: int) -> int:
     for name, (count, refused) in sorted(fuzzer.counts.items()):
         print(f"{name:40} {count:8} calls {refused:8} refused")
     samples.append(resident())
-    print(f"{calls} calls, {calls - middle} of them in the second half; resident {samples[0]} bytes, then {samples[-1]}")
+    print(
+        f"{calls} calls, {calls - middle} of them in the second half; "
+        f"resident {samples[0]} bytes, then {samples[-1]}"
+    )
     uncalled = {name for name, _, _ in fuzzer.targets} - set(fuzzer.counts)
     assert not uncalled or calls < 20_000, f"never called: {sorted(uncalled)}"
     # The address sanitizer keeps what was freed, so its memory grows.
@@ -271,7 +328,9 @@ def run(seconds: float, seed: int) -> int:
 
 def main() -> None:
     """The command."""
-    parser = argparse.ArgumentParser(description="Calls every public name with arguments of every type and state.")
+    parser = argparse.ArgumentParser(
+        description="Calls every public name with arguments of every type and state."
+    )
     parser.add_argument("--seconds", type=float, default=60)
     parser.add_argument("--seed", type=int, default=1)
     given = parser.parse_args()

@@ -1,4 +1,5 @@
-"""The values that the fuzzer hands over: for each kind of argument fitting ones, broken ones and ones of other types."""
+"""The values that the fuzzer hands over: for each kind of argument fitting ones, broken ones and ones of
+other types."""
 
 from __future__ import annotations
 
@@ -15,7 +16,7 @@ import threading
 from typing import Any, Callable, Dict, List, Optional
 
 import kormaglen as K
-from tests.common import ENTRIES, SCHEMA
+from tests.common import ENTRIES, SCHEMA, TOKENS
 
 LINES = [
     b'{"name":"Ada","age":36,"group":"/staff/research"}',
@@ -23,15 +24,42 @@ LINES = [
     b"",
     b"{}",
     '{"name":["a","é"],"word":[1,true,null],"more":{"k":[1,{"l":"m"}],"n":null},"hash":"AAEC"}'.encode(),
-    b'{"when":"2020-02-29T12:00:00.123456789Z","host":["::1","10.0.0.1"],"sold":true,"height":-7,"secret":9}',
-    b'{"name":{"text":"a b","tokens":[{"offset_from":0,"offset_to":1,"position":0,"text":"a","position_length":1}]}}',
+    b'{"when":"2020-02-29T12:00:00.123456789Z","host":["::1","10.0.0.1"],"sold":true,"height":-7}',
+    b'{"secret":9}',
+    TOKENS.encode(),
 ]
 BLOCK = K.import_lines(SCHEMA, LINES).block
-BLOCKS = [BLOCK, K.migrate_block(2, BLOCK, 3), b"\x80", b"", b"\x81\x07\0\0\0\x08{\"a\":1}"]
+BLOCKS = [BLOCK, K.migrate_block(2, BLOCK, 3), b"\x80", b"", b'\x81\x07\0\0\0\x08{"a":1}']
 
 NUMBERS: List[Any] = [
-    0, 1, 2, 3, 4, 7, 11, -1, 255, 2**31 - 1, 2**31, 2**32 - 1, 2**32, 2**32 + 2, 2**63, 2**64, 2**64 + 2, -(2**31), -(2**64), 10**5000,
-    True, False, 2.0, 1e300, float("nan"), None, "2", b"2",
+    0,
+    1,
+    2,
+    3,
+    4,
+    7,
+    11,
+    -1,
+    255,
+    2**31 - 1,
+    2**31,
+    2**32 - 1,
+    2**32,
+    2**32 + 2,
+    2**63,
+    2**64,
+    2**64 + 2,
+    -(2**31),
+    -(2**64),
+    10**5000,
+    True,
+    False,
+    2.0,
+    1e300,
+    float("nan"),
+    None,
+    "2",
+    b"2",
 ]
 
 
@@ -90,10 +118,16 @@ class OddFile:
 
 
 class Racing:
-    """Bytearrays that a thread changes all the time: each byte for a moment, and their size where nobody holds them."""
+    """Bytearrays that a thread changes all the time: each byte for a moment, and their size where nobody
+    holds them."""
 
     def __init__(self) -> None:
-        self.arrays = [bytearray(BLOCK * 20), bytearray(b"\n".join(LINES) * 20), bytearray(LINES[4]), bytearray(SCHEMA)]
+        self.arrays = [
+            bytearray(BLOCK * 20),
+            bytearray(b"\n".join(LINES) * 20),
+            bytearray(LINES[4]),
+            bytearray(SCHEMA),
+        ]
         self._good = [bytes(each) for each in self.arrays]
         self._stop = threading.Event()
         self._thread = threading.Thread(target=self._run, daemon=True)
@@ -173,7 +207,9 @@ class Values:
             elif which == 1:
                 del given[at : at + self.rng.randrange(6)]
             elif which == 2 and at < len(given):
-                given[at] = self.rng.choice((0, 10, 34, 92, 123, 125, 128, 129, 255, self.rng.randrange(256)))
+                given[at] = self.rng.choice(
+                    (0, 10, 34, 92, 123, 125, 128, 129, 255, self.rng.randrange(256))
+                )
             else:
                 given = given[:at]
         return bytes(given)
@@ -204,9 +240,16 @@ class Values:
         if self.chance(0.5):
             return self.rng.choice((bytes, bytearray, memoryview, Lying))(given)
         makers: List[Callable[[bytes], Any]] = [
-            lambda d: array.array("b", d), _wide, _mapped,
-            lambda d: memoryview(d)[::2], lambda d: memoryview(d)[1:], lambda d: memoryview(b"x" + d)[1:][::-1], _released,
-            lambda d: _mapped(d, True), lambda d: memoryview(_wide(d)), lambda d: ctypes.create_string_buffer(d, len(d)),
+            lambda d: array.array("b", d),
+            _wide,
+            _mapped,
+            lambda d: memoryview(d)[::2],
+            lambda d: memoryview(d)[1:],
+            lambda d: memoryview(b"x" + d)[1:][::-1],
+            _released,
+            lambda d: _mapped(d, True),
+            lambda d: memoryview(_wide(d)),
+            lambda d: ctypes.create_string_buffer(d, len(d)),
             lambda d: memoryview(d + bytes(-len(d) % 2)).cast("B", [2, (len(d) + 1) // 2]) if d else b"",
             lambda d: self.rng.choice(self.racing.arrays),
         ]
@@ -214,7 +257,18 @@ class Values:
 
     def text(self) -> Any:
         """A text of any kind."""
-        plain = ["age", "more.a", "more.a\\.b", "/staff/research", "/", "", "é\0\U0001f600", "name", "no slash", "x" * 5000]
+        plain = [
+            "age",
+            "more.a",
+            "more.a\\.b",
+            "/staff/research",
+            "/",
+            "",
+            "é\0\U0001f600",
+            "name",
+            "no slash",
+            "x" * 5000,
+        ]
         odd: List[Any] = ["\ud800", "a\udfff", LyingText("age"), LyingText("/a"), b"age", None, 5]
         if self.chance(0.2):
             return self.rng.choice(odd)
@@ -239,14 +293,36 @@ class Values:
         text = data.decode("utf-8", "replace")
         closed_file = io.BytesIO(data)
         closed_file.close()
-        return self.rng.choice([
-            lambda: text, lambda: io.BytesIO(data), lambda: io.StringIO(text), lambda: data.split(b"\n"), lambda: iter(text.split("\n")),
-            lambda: [self.buffer(), self.text(), self.number()], lambda: closed_file,
-            lambda: OddFile(self.rng.choice([None, 5, b"x", "{}", "\ud800", [], OSError("odd"), ValueError("odd"), memoryview(b"ab")[::2]])),
-        ])()
+        return self.rng.choice(
+            [
+                lambda: text,
+                lambda: io.BytesIO(data),
+                lambda: io.StringIO(text),
+                lambda: data.split(b"\n"),
+                lambda: iter(text.split("\n")),
+                lambda: [self.buffer(), self.text(), self.number()],
+                lambda: closed_file,
+                lambda: OddFile(
+                    self.rng.choice(
+                        [
+                            None,
+                            5,
+                            b"x",
+                            "{}",
+                            "\ud800",
+                            [],
+                            OSError("odd"),
+                            ValueError("odd"),
+                            memoryview(b"ab")[::2],
+                        ]
+                    )
+                ),
+            ]
+        )()
 
     def schema(self) -> Any:
         """A schema in any state, or a JSON of one."""
+
         class Bare(K.Schema):
             """A subclass that opens nothing."""
 
@@ -255,13 +331,24 @@ class Values:
 
         if self.chance(0.6):
             return self.kept()
-        return self.rng.choice([
-            lambda: K.Schema(SCHEMA), lambda: K.Schema(ENTRIES), self.kept, self.kept, lambda: self.closed, self.other,
-            lambda: self.kept("[]"), lambda: K.Schema.__new__(K.Schema), lambda: object.__new__(K.Schema), Bare,
-        ])()
+        return self.rng.choice(
+            [
+                lambda: K.Schema(SCHEMA),
+                lambda: K.Schema(ENTRIES),
+                self.kept,
+                self.kept,
+                lambda: self.closed,
+                self.other,
+                lambda: self.kept("[]"),
+                lambda: K.Schema.__new__(K.Schema),
+                lambda: object.__new__(K.Schema),
+                Bare,
+            ]
+        )()
 
     def document(self) -> Any:
         """A document in any state."""
+
         def closed() -> K.Document:
             document = self.kept().parse("{}")
             document.close()
@@ -275,10 +362,17 @@ class Values:
 
         if self.chance(0.6):
             return self.kept().parse(self.rng.choice(LINES[3:]))
-        return self.rng.choice([
-            lambda: self.kept().parse(self.rng.choice(LINES[3:])), lambda: self.kept().read(BLOCK)[0],
-            lambda: self.kept("[]").read(BLOCK)[0], lambda: self.other().read(BLOCK)[0], lambda: K.Document.__new__(K.Document), closed, orphan,
-        ])()
+        return self.rng.choice(
+            [
+                lambda: self.kept().parse(self.rng.choice(LINES[3:])),
+                lambda: self.kept().read(BLOCK)[0],
+                lambda: self.kept("[]").read(BLOCK)[0],
+                lambda: self.other().read(BLOCK)[0],
+                lambda: K.Document.__new__(K.Document),
+                closed,
+                orphan,
+            ]
+        )()
 
     def mapping(self) -> Any:
         """Values by name, of any kind."""
@@ -290,17 +384,44 @@ class Values:
         if depth and self.chance(0.3):
             return [self.value(depth - 1) for _ in range(self.rng.randrange(3))]
         if depth and self.chance(0.2):
-            return {self.rng.choice(["k", "é", "text", "tokens", 5]): self.value(depth - 1) for _ in range(self.rng.randrange(3))}
+            return {
+                self.rng.choice(["k", "é", "text", "tokens", 5]): self.value(depth - 1)
+                for _ in range(self.rng.randrange(3))
+            }
         moment = datetime.datetime(2020, 2, 29, tzinfo=self.rng.choice([None, datetime.timezone.utc]))
-        return self.rng.choice([
-            self.text, self.number, self.buffer, lambda: moment, lambda: K.DateTime(self.rng.randrange(-(2**63), 2**63)), lambda: 1.5,
-            lambda: ipaddress.ip_address(self.rng.randrange(2**32)), lambda: self.rng.randrange(-(2**64), 2**65), object,
-        ])()
+        return self.rng.choice(
+            [
+                self.text,
+                self.number,
+                self.buffer,
+                lambda: moment,
+                lambda: K.DateTime(self.rng.randrange(-(2**63), 2**63)),
+                lambda: 1.5,
+                lambda: ipaddress.ip_address(self.rng.randrange(2**32)),
+                lambda: self.rng.randrange(-(2**64), 2**65),
+                object,
+            ]
+        )()
 
     def anything(self) -> Any:
         """A value of any type."""
         plain: Dict[str, Any] = {"age": 1}
-        return self.rng.choice([
-            self.buffer, self.text, self.number, self.schema, self.document, lambda: self.source(LINES), self.mapping, lambda: json.loads(SCHEMA),
-            lambda: plain, object, lambda: [], lambda: K.Schema, lambda: len, lambda: K.Indexing(), lambda: K.SchemaBuilder(),
-        ])()
+        return self.rng.choice(
+            [
+                self.buffer,
+                self.text,
+                self.number,
+                self.schema,
+                self.document,
+                lambda: self.source(LINES),
+                self.mapping,
+                lambda: json.loads(SCHEMA),
+                lambda: plain,
+                object,
+                lambda: [],
+                lambda: K.Schema,
+                lambda: len,
+                lambda: K.Indexing(),
+                lambda: K.SchemaBuilder(),
+            ]
+        )()

@@ -36,7 +36,11 @@ def _is_own(kind: type, member: str) -> bool:
     """Whether a member is a method or a property that a class of the package defines."""
     owner = next(base for base in kind.__mro__ if member in vars(base))
     value = inspect.getattr_static(kind, member)
-    return owner.__module__.startswith("kormaglen") and isinstance(value, (staticmethod, classmethod, property)) or inspect.isfunction(value)
+    return (
+        owner.__module__.startswith("kormaglen")
+        and isinstance(value, (staticmethod, classmethod, property))
+        or inspect.isfunction(value)
+    )
 
 
 class Docs(unittest.TestCase):
@@ -58,7 +62,11 @@ class Docs(unittest.TestCase):
     def test_the_example(self) -> None:
         program = os.path.join(PACKAGE, "examples", "people.py")
         done = subprocess.run(
-            [sys.executable, program], env={**os.environ, "PYTHONPATH": PACKAGE}, capture_output=True, text=True, check=True
+            [sys.executable, program],
+            env={**os.environ, "PYTHONPATH": PACKAGE},
+            capture_output=True,
+            text=True,
+            check=True,
         )
         # The lines that the examples in C and Rust print, too: the sizes by docs/FORMATS.md.
         for line in (

@@ -1,4 +1,5 @@
-"""Faults of the first package. Each test fails there, some by the end of the process: those run in processes of their own."""
+"""Faults of the first package. Each test fails there, some by the end of the process: those run in
+processes of their own."""
 
 from __future__ import annotations
 
@@ -12,7 +13,7 @@ import unittest
 from typing import Any, Callable, List
 
 import kormaglen as K
-from tests.common import AGE_36, SCHEMA, run
+from tests.common import AGE_36, SCHEMA, TOKENS, run
 
 BEGIN = """
 import kormaglen as K
@@ -87,7 +88,11 @@ class CutNumbers(unittest.TestCase):
             self.refuses(TypeError, call, True, 2.0, "2", None, b"2")
 
     def test_fields(self) -> None:
-        for call in (lambda n: K.terms_of_block(n, 2, AGE_36), lambda n: K.term_of_text(n, "a"), lambda n: K.terms(n, AGE_36)):
+        for call in (
+            lambda n: K.terms_of_block(n, 2, AGE_36),
+            lambda n: K.term_of_text(n, "a"),
+            lambda n: K.terms(n, AGE_36),
+        ):
             self.refuses(OverflowError, call, *self.NUMBERS)
             self.refuses(TypeError, call, True, 1.0, "1", None)
 
@@ -177,22 +182,36 @@ class Inputs(unittest.TestCase):
         self.assertEqual(K.Schema(bytearray(SCHEMA)), K.Schema(SCHEMA.decode()))
 
     def test_a_false_length(self) -> None:
-        code = BEGIN + """
+        code = (
+            BEGIN
+            + """
 class Lying(bytes):
     def __len__(self):
         return 10**9
 print(schema.parse(Lying(b'{"age":36}')).write().hex(), K.migrate_block(2, Lying(b"\\x80"), 3).hex())
 """
+        )
         done = run(code)
-        self.assertEqual((done.returncode, done.stdout.strip()), (0, AGE_36.hex() + " 80"), done.stderr[-300:])
+        self.assertEqual(
+            (done.returncode, done.stdout.strip()), (0, AGE_36.hex() + " 80"), done.stderr[-300:]
+        )
 
     def test_bytes_that_lie_apart(self) -> None:
-        for call in (lambda given: K.Schema(SCHEMA).parse(given), lambda given: K.migrate_block(2, given, 3)):
+        for call in (
+            lambda given: K.Schema(SCHEMA).parse(given),
+            lambda given: K.migrate_block(2, given, 3),
+        ):
             with self.assertRaises(BufferError):
                 call(memoryview(self.LINE)[::2])
 
     def test_a_lone_surrogate(self) -> None:
-        for call in (K.Schema, K.facet_of_text, K.Schema(SCHEMA).parse, K.Schema(SCHEMA).find_field, lambda t: K.term_of_text(0, t)):
+        for call in (
+            K.Schema,
+            K.facet_of_text,
+            K.Schema(SCHEMA).parse,
+            K.Schema(SCHEMA).find_field,
+            lambda t: K.term_of_text(0, t),
+        ):
             with self.assertRaises(ValueError):
                 call("/\ud800")
 
@@ -227,9 +246,8 @@ class Copies(unittest.TestCase):
         schema = K.Schema(SCHEMA)
         with self.assertRaisesRegex(ValueError, "not stored"):
             pickle.dumps(schema.parse('{"secret":7}'))
-        tokens = '{"name":{"text":"a b","tokens":[{"offset_from":0,"offset_to":1,"position":0,"text":"a","position_length":1}]}}'
         with self.assertRaisesRegex(ValueError, "not stored"):
-            copy.copy(schema.parse(tokens))
+            copy.copy(schema.parse(TOKENS))
 
     def test_closed_ones(self) -> None:
         schema = K.Schema(SCHEMA)
@@ -251,7 +269,13 @@ class HalfMade(unittest.TestCase):
         for each in (K.Schema.__new__(K.Schema), object.__new__(K.Schema)):
             self.assertTrue(each.closed)
             each.close()
-            for call in (each.to_json, lambda: each.parse("{}"), lambda: each.find_field("a"), each.__enter__, lambda: hash(each)):
+            for call in (
+                each.to_json,
+                lambda: each.parse("{}"),
+                lambda: each.find_field("a"),
+                each.__enter__,
+                lambda: hash(each),
+            ):
                 with self.assertRaises(K.Closed):
                     call()
             self.assertEqual(repr(each), "<Schema, closed>")

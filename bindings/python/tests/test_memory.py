@@ -92,10 +92,12 @@ def attempt(call):
         pass
 def once():
     for call in (
-        lambda: K.Schema(SCHEMA), lambda: K.Schema("{"), lambda: schema.parse('{"age":"x"}'), lambda: schema.parse('{"age":1}').write(3),
-        lambda: schema.export_block(block), lambda: schema.export_block(block[:-1]), lambda: K.terms_of_block(1, 2, block),
-        lambda: list(schema.documents(block)), lambda: schema.import_lines("x\\n" * 10), lambda: schema.parse(5), lambda: schema.read(block, 9),
-        lambda: schema.export_block(memoryview(block)[::2]), lambda: schema.document({"age": [1, 2], "more": {"k": 1}}).to_dict(),
+        lambda: K.Schema(SCHEMA), lambda: K.Schema("{"), lambda: schema.parse('{"age":"x"}'),
+        lambda: schema.parse('{"age":1}').write(3), lambda: schema.export_block(block),
+        lambda: schema.export_block(block[:-1]), lambda: K.terms_of_block(1, 2, block),
+        lambda: list(schema.documents(block)), lambda: schema.import_lines("x\\n" * 10),
+        lambda: schema.parse(5), lambda: schema.read(block, 9), lambda: schema.export_block(memoryview(block)[::2]),
+        lambda: schema.document({"age": [1, 2], "more": {"k": 1}}).to_dict(),
     ):
         attempt(call)
 for _ in range(300):

@@ -24,7 +24,9 @@ def imports(**environment: str) -> "subprocess.CompletedProcess[str]":
     given: Dict[str, str] = {**kept, "PYTHONPATH": PACKAGE, **environment}
     code = "import kormaglen; print(kormaglen.library_version())"
     # (a program of -c finds modules where it runs, so it doesn't run in the package's folder)
-    return subprocess.run([sys.executable, "-c", code], cwd="/", env=given, capture_output=True, text=True, check=False)
+    return subprocess.run(
+        [sys.executable, "-c", code], cwd="/", env=given, capture_output=True, text=True, check=False
+    )
 
 
 class Loading(unittest.TestCase):
@@ -36,12 +38,20 @@ class Loading(unittest.TestCase):
 
     def test_a_library_that_is_missing(self) -> None:
         said = self.last_line(imports(KORMAGLEN_SO="/nowhere/libkormaglen.so"))
-        self.assertTrue(said.startswith("ImportError: the shared library libkormaglen.so is not found: build it with `make` in bindings/"), said)
+        self.assertTrue(
+            said.startswith(
+                "ImportError: the shared library libkormaglen.so is not found: build it with `make`"
+            ),
+            said,
+        )
         self.assertIn("/nowhere/libkormaglen.so", said)
 
     def test_a_library_that_lacks_calls(self) -> None:
         said = self.last_line(imports(KORMAGLEN_SO="libc.so.6"))
-        self.assertEqual(said, "ImportError: the library libc.so.6 is too old for this package: it lacks kormaglen_version")
+        self.assertEqual(
+            said,
+            "ImportError: the library libc.so.6 is too old for this package: it lacks kormaglen_version",
+        )
 
     def test_the_system_s_library(self) -> None:
         with tempfile.TemporaryDirectory() as folder:
@@ -64,17 +74,27 @@ class Loading(unittest.TestCase):
             self.assertEqual(imports(PYTHONPATH=os.path.join(folder, "python")).returncode, 0)
 
 
-@unittest.skipUnless(importlib.util.find_spec("setuptools") and importlib.util.find_spec("wheel"), "the wheel wants setuptools and wheel")
+@unittest.skipUnless(
+    importlib.util.find_spec("setuptools") and importlib.util.find_spec("wheel"),
+    "the wheel wants setuptools and wheel",
+)
 class Wheels(unittest.TestCase):
     """What setup.py builds."""
 
     def build(self, folder: str, library: str) -> "subprocess.CompletedProcess[str]":
         source = os.path.join(folder, "source")
-        kept = shutil.ignore_patterns("__pycache__", "build", "*.egg-info", "dist", "libkormaglen.so", ".mypy_cache")
+        kept = shutil.ignore_patterns(
+            "__pycache__", "build", "*.egg-info", "dist", "libkormaglen.so", ".mypy_cache"
+        )
         shutil.copytree(PACKAGE, source, ignore=kept)
         command = [sys.executable, "setup.py", "-q", "bdist_wheel", "-d", folder]
         return subprocess.run(
-            command, cwd=source, env={**os.environ, "KORMAGLEN_SO": library}, capture_output=True, text=True, check=False
+            command,
+            cwd=source,
+            env={**os.environ, "KORMAGLEN_SO": library},
+            capture_output=True,
+            text=True,
+            check=False,
         )
 
     def test_the_wheel(self) -> None:

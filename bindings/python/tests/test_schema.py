@@ -27,8 +27,14 @@ class Building(unittest.TestCase):
         self.equal(B().date("f"), {"name": "f", "type": "date", "options": {**plain, "fieldnorms": False}})
         self.equal(B().facet("f"), {"name": "f", "type": "facet", "options": {"stored": False}})
         self.equal(B().bytes("f"), {"name": "f", "type": "bytes", "options": {**plain, "fast": False}})
-        self.equal(B().json_object("f"), {"name": "f", "type": "json_object", "options": {"stored": False, "fast": False}})
-        self.equal(B().ip_addr("f"), {"name": "f", "type": "ip_addr", "options": {**plain, "fast": False, "fieldnorms": False}})
+        self.equal(
+            B().json_object("f"),
+            {"name": "f", "type": "json_object", "options": {"stored": False, "fast": False}},
+        )
+        self.equal(
+            B().ip_addr("f"),
+            {"name": "f", "type": "ip_addr", "options": {**plain, "fast": False, "fieldnorms": False}},
+        )
 
     def test_each_option(self) -> None:
         B = K.SchemaBuilder
@@ -37,7 +43,16 @@ class Building(unittest.TestCase):
         all_set = {"indexed": True, "stored": True, "fast": True, "fieldnorms": True}
         self.equal(
             B().text("f", indexing=given, stored=True, fast="raw", coerce=True),
-            {"name": "f", "type": "text", "options": {"indexing": indexing, "stored": True, "fast": {"with_tokenizer": "raw"}, "coerce": True}},
+            {
+                "name": "f",
+                "type": "text",
+                "options": {
+                    "indexing": indexing,
+                    "stored": True,
+                    "fast": {"with_tokenizer": "raw"},
+                    "coerce": True,
+                },
+            },
         )
         for kind in ("u64", "i64", "bool"):
             call = getattr(B(), kind)
@@ -45,18 +60,39 @@ class Building(unittest.TestCase):
                 call("f", indexed=True, stored=True, fast=True, fieldnorms=False, coerce=True),
                 {"name": "f", "type": kind, "options": {**all_set, "fieldnorms": False, "coerce": True}},
             )
-            self.equal(getattr(B(), kind)("f", indexed=True), {"name": "f", "type": kind, "options": {"indexed": True, "stored": False, "fieldnorms": True}})
+            self.equal(
+                getattr(B(), kind)("f", indexed=True),
+                {
+                    "name": "f",
+                    "type": kind,
+                    "options": {"indexed": True, "stored": False, "fieldnorms": True},
+                },
+            )
         self.equal(
             B().date("f", indexed=True, stored=True, fast=True, precision="nanoseconds"),
             {"name": "f", "type": "date", "options": {**all_set, "precision": "nanoseconds"}},
         )
         self.equal(B().facet("f", stored=True), {"name": "f", "type": "facet", "options": {"stored": True}})
-        self.equal(B().bytes("f", indexed=True, stored=True, fast=True), {"name": "f", "type": "bytes", "options": all_set})
-        self.equal(B().ip_addr("f", indexed=True, stored=True, fast=True), {"name": "f", "type": "ip_addr", "options": all_set})
+        self.equal(
+            B().bytes("f", indexed=True, stored=True, fast=True),
+            {"name": "f", "type": "bytes", "options": all_set},
+        )
+        self.equal(
+            B().ip_addr("f", indexed=True, stored=True, fast=True),
+            {"name": "f", "type": "ip_addr", "options": all_set},
+        )
         self.equal(
             B().json_object("f", indexing=given, stored=True, fast="raw", expand_dots_enabled=True),
-            {"name": "f", "type": "json_object",
-             "options": {"indexing": indexing, "stored": True, "fast": {"with_tokenizer": "raw"}, "expand_dots_enabled": True}},
+            {
+                "name": "f",
+                "type": "json_object",
+                "options": {
+                    "indexing": indexing,
+                    "stored": True,
+                    "fast": {"with_tokenizer": "raw"},
+                    "expand_dots_enabled": True,
+                },
+            },
         )
 
     def test_the_named_indexings(self) -> None:
@@ -82,11 +118,14 @@ class Fields(unittest.TestCase):
 
     def test_fields(self) -> None:
         schema = K.Schema(SCHEMA)
-        self.assertEqual([(f.name, f.type) for f in schema.fields], [(e["name"], e["type"]) for e in ENTRIES])
+        self.assertEqual(
+            [(f.name, f.type) for f in schema.fields], [(e["name"], e["type"]) for e in ENTRIES]
+        )
         self.assertEqual([f.number for f in schema.fields], list(range(11)))
         # By the table of options, with every default written out.
         self.assertEqual(
-            schema.field("when").options, {"indexed": True, "fieldnorms": True, "stored": True, "fast": False, "precision": "seconds"}
+            schema.field("when").options,
+            {"indexed": True, "fieldnorms": True, "stored": True, "fast": False, "precision": "seconds"},
         )
         with self.assertRaises(K.FieldRefused):
             schema.field("nothing")
@@ -124,7 +163,12 @@ class Fields(unittest.TestCase):
         with K.Schema(SCHEMA) as schema:
             self.assertFalse(schema.closed)
         self.assertTrue(schema.closed)
-        for call in (lambda: schema.parse("{}"), lambda: schema.import_lines(""), lambda: schema.import_chunks(""), lambda: schema.documents(b"")):
+        for call in (
+            lambda: schema.parse("{}"),
+            lambda: schema.import_lines(""),
+            lambda: schema.import_chunks(""),
+            lambda: schema.documents(b""),
+        ):
             with self.assertRaisesRegex(ValueError, "the schema is closed"):
                 call()
         with self.assertRaises(K.Closed):
@@ -146,19 +190,26 @@ class Messages(unittest.TestCase):
     """Refusals: what they say and have."""
 
     def test_a_schema(self) -> None:
-        entries: List[Any] = [{"name": f"f{i}", "type": "facet", "options": {"stored": True}} for i in range(4)]
+        entries: List[Any] = [
+            {"name": f"f{i}", "type": "facet", "options": {"stored": True}} for i in range(4)
+        ]
         entries.append({"name": "when", "type": "date", "options": {"indexed": True, "stored": True}})
         with self.assertRaises(K.SchemaRefused) as caught:
             K.Schema(entries)
         self.assertEqual((caught.exception.place, caught.exception.field), (5, "when"))
         self.assertEqual(caught.exception.reason, K.SchemaFault.FIELDNORMS)
-        self.assertEqual(str(caught.exception), 'schema: entry 5 ("when"): "fieldnorms": true or false is wanted')
+        self.assertEqual(
+            str(caught.exception), 'schema: entry 5 ("when"): "fieldnorms": true or false is wanted'
+        )
 
     def test_a_schema_that_is_no_json(self) -> None:
         for given in ("", "x", b"\xff", "[", b"[" * 10_000):
             with self.assertRaises(K.SchemaRefused) as caught:
                 K.Schema(given)
-            self.assertEqual((caught.exception.reason, caught.exception.place, caught.exception.field), (K.Status.INVALID_JSON, 0, None))
+            self.assertEqual(
+                (caught.exception.reason, caught.exception.place, caught.exception.field),
+                (K.Status.INVALID_JSON, 0, None),
+            )
             self.assertEqual(str(caught.exception), "schema: the schema is not JSON")
         with self.assertRaises(K.SchemaRefused) as caught:
             K.Schema("{}")
@@ -167,8 +218,12 @@ class Messages(unittest.TestCase):
     def test_a_line(self) -> None:
         imported = K.import_lines(SCHEMA, '{}\n{}\n{"age":"x"}\n[]\n')
         age, whole = imported.refused
-        self.assertEqual(str(age), 'line 3: field "age": a value is of another kind than the field\'s: {"age":"x"}')
-        self.assertEqual((age.line, age.field, age.field_number, age.text, age.place), (3, "age", 1, '{"age":"x"}', 1))
+        self.assertEqual(
+            str(age), 'line 3: field "age": a value is of another kind than the field\'s: {"age":"x"}'
+        )
+        self.assertEqual(
+            (age.line, age.field, age.field_number, age.text, age.place), (3, "age", 1, '{"age":"x"}', 1)
+        )
         self.assertEqual(age.reason, K.LineStatus.WRONG_TYPE)
         self.assertEqual(str(whole), "line 4: the line is not a JSON object: []")
         self.assertEqual((whole.line, whole.field, whole.field_number), (4, None, None))
@@ -182,7 +237,9 @@ class Messages(unittest.TestCase):
     def test_a_document(self) -> None:
         with self.assertRaises(K.DocumentRefused) as caught:
             K.Schema(SCHEMA).export_block(b"\x80\x80\x81")
-        self.assertEqual((caught.exception.reason, caught.exception.place), (K.DocumentFault.UNEXPECTED_END, 2))
+        self.assertEqual(
+            (caught.exception.reason, caught.exception.place), (K.DocumentFault.UNEXPECTED_END, 2)
+        )
         self.assertEqual(str(caught.exception), "the document at byte 2: the bytes end too early")
         # Field 0, code 6: a float.
         with self.assertRaises(K.DocumentRefused) as caught:
@@ -206,7 +263,10 @@ class Messages(unittest.TestCase):
     def test_others(self) -> None:
         with self.assertRaises(K.Refused) as caught:
             K.facet_of_text("a")
-        self.assertEqual((caught.exception.reason, str(caught.exception)), (K.Status.NOT_A_FACET, "a facet's text begins with /"))
+        self.assertEqual(
+            (caught.exception.reason, str(caught.exception)),
+            (K.Status.NOT_A_FACET, "a facet's text begins with /"),
+        )
         with self.assertRaises(K.Refused) as caught:
             K.end_of_prefix(b"\xff\xff")
         self.assertEqual(caught.exception.reason, K.Status.NO_END)
@@ -215,12 +275,24 @@ class Messages(unittest.TestCase):
         self.assertEqual(caught.exception.reason, K.Status.NOT_UTF8)
 
     def test_they_are_pickled(self) -> None:
-        for refused in (K.import_lines(SCHEMA, '{"age":"x"}').refused[0], K.Closed("the schema is closed", K.Status.CLOSED)):
+        for refused in (
+            K.import_lines(SCHEMA, '{"age":"x"}').refused[0],
+            K.Closed("the schema is closed", K.Status.CLOSED),
+        ):
             other = pickle.loads(pickle.dumps(refused))
-            self.assertEqual((type(other), str(other), vars(other)), (type(refused), str(refused), vars(refused)))
+            self.assertEqual(
+                (type(other), str(other), vars(other)), (type(refused), str(refused), vars(refused))
+            )
 
     def test_all_are_value_errors(self) -> None:
-        for kind in (K.SchemaRefused, K.DocumentRefused, K.LineRefused, K.FieldRefused, K.VersionRefused, K.Closed):
+        for kind in (
+            K.SchemaRefused,
+            K.DocumentRefused,
+            K.LineRefused,
+            K.FieldRefused,
+            K.VersionRefused,
+            K.Closed,
+        ):
             self.assertTrue(issubclass(kind, K.Refused))
         self.assertTrue(issubclass(K.Refused, ValueError))
 

@@ -16,9 +16,24 @@ import kormaglen as K
 from tests.common import AGE_36, EMPTY, SCHEMA
 
 LINES = '{"age":36}\n{"age":"x"}\n\n{}\n{"name":["a","é"],"age":[1,2]}'
-# The second and the third line are refused. The fifth has its pairs in byte order of the names: age is field 1, name field 0.
+# The second and the third line are refused. The fifth has its pairs in byte order of the names: age is
+# field 1, name field 0.
 FIFTH = bytes.fromhex(
-    "84" "01000000" "01" "0100000000000000" "01000000" "01" "0200000000000000" "00000000" "00" "81" "61" "00000000" "00" "82" "c3a9"
+    "84"
+    "01000000"
+    "01"
+    "0100000000000000"
+    "01000000"
+    "01"
+    "0200000000000000"
+    "00000000"
+    "00"
+    "81"
+    "61"
+    "00000000"
+    "00"
+    "82"
+    "c3a9"
 )
 BLOCK = AGE_36 + EMPTY + FIFTH
 STORED = K.LineStatus.STORED
@@ -58,8 +73,18 @@ class Importing(unittest.TestCase):
         mapped = mmap.mmap(-1, len(data))
         mapped.write(data)
         yield from (LINES, data, bytearray(data), memoryview(data), array.array("B", data), mapped)
-        yield from (io.BytesIO(data), io.StringIO(LINES, newline=""), Short(data), gzip.open(io.BytesIO(gzip.compress(data))))
-        yield from (LINES.split("\n"), data.split(b"\n"), data.splitlines(keepends=True), (line for line in LINES.split("\n")))
+        yield from (
+            io.BytesIO(data),
+            io.StringIO(LINES, newline=""),
+            Short(data),
+            gzip.open(io.BytesIO(gzip.compress(data))),
+        )
+        yield from (
+            LINES.split("\n"),
+            data.split(b"\n"),
+            data.splitlines(keepends=True),
+            (line for line in LINES.split("\n")),
+        )
         yield ['{"age":36}\n{"age":"x"}', "\n", b'{}\n{"name":["a","\xc3\xa9"],"age":[1,2]}\n']
 
     def test_each_source(self) -> None:
@@ -84,12 +109,17 @@ class Importing(unittest.TestCase):
     def test_nothing(self) -> None:
         for source in ("", b"", [], io.BytesIO()):
             imported = self.schema.import_lines(source)
-            self.assertEqual((imported.block, list(imported.lines), list(imported.refused), imported.first), (b"", [], [], 1))
+            self.assertEqual(
+                (imported.block, list(imported.lines), list(imported.refused), imported.first),
+                (b"", [], [], 1),
+            )
             self.assertEqual(list(self.schema.import_chunks(source)), [])
 
     def test_line_feeds(self) -> None:
         self.assertEqual([line.status for line in self.schema.import_lines("{}\r\n\n").lines], [STORED, 1])
-        self.assertEqual(len(self.schema.import_lines("{}").lines), len(self.schema.import_lines("{}\n").lines))
+        self.assertEqual(
+            len(self.schema.import_lines("{}").lines), len(self.schema.import_lines("{}\n").lines)
+        )
         self.assertEqual(len(self.schema.import_lines(["", "{}"]).lines), 2)
 
     def test_what_is_no_source(self) -> None:
@@ -136,7 +166,9 @@ class Importing(unittest.TestCase):
             self.assertEqual(block.read_bytes(), BLOCK)
             for target in (io.BytesIO(), Short()):
                 self.schema.import_file(io.BytesIO(LINES.encode()), target)
-                self.assertEqual(bytes(target.getvalue() if isinstance(target, io.BytesIO) else target.written), BLOCK)
+                self.assertEqual(
+                    bytes(target.getvalue() if isinstance(target, io.BytesIO) else target.written), BLOCK
+                )
             for lines_given, block_given in ((lines, 5), (lines, None), (5, block)):
                 with self.assertRaises(TypeError):
                     self.schema.import_file(lines_given, block_given)
@@ -157,7 +189,12 @@ class Importing(unittest.TestCase):
             said: Any = None
 
         full = Full()
-        for said, kind in ((None, BlockingIOError), (0, BlockingIOError), (10**9, OverflowError), ("1", TypeError)):
+        for said, kind in (
+            (None, BlockingIOError),
+            (0, BlockingIOError),
+            (10**9, OverflowError),
+            ("1", TypeError),
+        ):
             full.said = said
             with self.assertRaises(kind):
                 self.schema.import_file("{}".split(), full)
@@ -188,7 +225,15 @@ class Exporting(unittest.TestCase):
     def blocks(self, block: bytes) -> Iterator[Any]:
         mapped = mmap.mmap(-1, len(block))
         mapped.write(block)
-        yield from (block, bytearray(block), memoryview(block), mapped, io.BytesIO(block), Short(block), gzip.open(io.BytesIO(gzip.compress(block))))
+        yield from (
+            block,
+            bytearray(block),
+            memoryview(block),
+            mapped,
+            io.BytesIO(block),
+            Short(block),
+            gzip.open(io.BytesIO(gzip.compress(block))),
+        )
 
     def test_export(self) -> None:
         self.assertEqual(self.schema.export_block(BLOCK), self.JSON)
@@ -206,7 +251,10 @@ class Exporting(unittest.TestCase):
 
     def test_terms(self) -> None:
         # The field in 4 bytes, the code u, the number in 8 bytes: each with the highest first.
-        wanted = [(number, bytes.fromhex("00000001" "75" "00000000000000" + "%02x" % age)) for number, age in ((0, 36), (2, 1), (2, 2))]
+        wanted = [
+            (number, bytes.fromhex("00000001" "75" "00000000000000" + "%02x" % age))
+            for number, age in ((0, 36), (2, 1), (2, 2))
+        ]
         self.assertEqual(K.terms_of_block(1, 2, BLOCK), wanted)
         for size in (1, 3, 14, 15, 16, 1000):
             for block in self.blocks(BLOCK):
@@ -233,7 +281,10 @@ class Exporting(unittest.TestCase):
                 self.assertEqual([next(documents).write(), next(documents).write()], [AGE_36, EMPTY])
                 with self.assertRaises(K.DocumentRefused) as caught:
                     next(documents)
-                self.assertEqual((caught.exception.reason, caught.exception.place), (K.DocumentFault.UNEXPECTED_END, place))
+                self.assertEqual(
+                    (caught.exception.reason, caught.exception.place),
+                    (K.DocumentFault.UNEXPECTED_END, place),
+                )
 
     def test_a_bad_document(self) -> None:
         for bad in (b"\x81\0\0\0\0\x06", b"\x81\0\0\0\0\x63\0\0\0\0\0\0\0\0\0"):
@@ -253,7 +304,12 @@ class Exporting(unittest.TestCase):
                     self.assertGreaterEqual(count, 1)
 
     def test_arguments_are_tested_at_once(self) -> None:
-        for call in (self.schema.documents, self.schema.export_chunks, lambda block: K.terms(0, block), lambda block: K.migrate_chunks(2, block, 3)):
+        for call in (
+            self.schema.documents,
+            self.schema.export_chunks,
+            lambda block: K.terms(0, block),
+            lambda block: K.migrate_chunks(2, block, 3),
+        ):
             for block in ("text", None, 5, ["x"], {}):
                 with self.assertRaises(TypeError):
                     call(block)
@@ -265,7 +321,10 @@ class Exporting(unittest.TestCase):
     def test_a_document_larger_than_a_chunk(self) -> None:
         large = self.schema.document({"name": "x" * 300_000}).write()
         block = AGE_36 + large + AGE_36
-        self.assertEqual([len(d.write()) for d in self.schema.documents(io.BytesIO(block), chunk_size=64)], [14, len(large), 14])
+        self.assertEqual(
+            [len(d.write()) for d in self.schema.documents(io.BytesIO(block), chunk_size=64)],
+            [14, len(large), 14],
+        )
         self.assertEqual([t.document for t in K.terms(1, io.BytesIO(block), chunk_size=64)], [0, 2])
 
     def test_what_changes_between_two_parts(self) -> None:
@@ -282,7 +341,11 @@ class Exporting(unittest.TestCase):
             next(given)
 
     def test_closing_in_midst(self) -> None:
-        for iterator in (self.schema.documents(BLOCK), self.schema.import_chunks(LINES, 1), K.terms(1, BLOCK)):
+        for iterator in (
+            self.schema.documents(BLOCK),
+            self.schema.import_chunks(LINES, 1),
+            K.terms(1, BLOCK),
+        ):
             next(iterator)
             iterator.close()  # type: ignore[attr-defined]
 
@@ -291,7 +354,13 @@ class Facets(unittest.TestCase):
     """Facets, terms of texts and ends of prefixes."""
 
     def test_facets(self) -> None:
-        for text, encoded in (("/", b""), ("/a", b"a"), ("/a/b", b"a\0b"), ("/a\\/b", b"a/b"), ("/é", "é".encode())):
+        for text, encoded in (
+            ("/", b""),
+            ("/a", b"a"),
+            ("/a/b", b"a\0b"),
+            ("/a\\/b", b"a/b"),
+            ("/é", "é".encode()),
+        ):
             self.assertEqual(K.facet_of_text(text), encoded)
             self.assertEqual(K.text_of_facet(encoded), text)
         self.assertEqual(K.text_of_facet(bytearray(b"a\0b")), "/a/b")

@@ -226,7 +226,9 @@ class Processes(unittest.TestCase):
             self.assertEqual(rest, [1, [36], AGE_36])
             with self.assertRaises(K.LineRefused) as caught:
                 pool.apply(refusal, (schema,))
-            self.assertEqual((caught.exception.field, caught.exception.reason), ("age", K.LineStatus.WRONG_TYPE))
+            self.assertEqual(
+                (caught.exception.field, caught.exception.reason), ("age", K.LineStatus.WRONG_TYPE)
+            )
 
     def test_fork(self) -> None:
         code = """

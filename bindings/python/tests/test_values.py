@@ -1,4 +1,5 @@
-"""The values of each type: from Python into a document and back, and the bytes that are stored, by docs/FORMATS.md."""
+"""The values of each type: from Python into a document and back, and the bytes that are stored, by
+docs/FORMATS.md."""
 
 from __future__ import annotations
 
@@ -40,7 +41,12 @@ class RoundTrips(unittest.TestCase):
         self.check("word", ["1", "true"], ["1", "true"])
 
     def test_a_text_with_its_tokens(self) -> None:
-        tokens = {"text": "a", "tokens": [{"offset_from": 0, "offset_to": 1, "position": 0, "position_length": 1, "text": "a"}]}
+        tokens = {
+            "text": "a",
+            "tokens": [
+                {"offset_from": 0, "offset_to": 1, "position": 0, "position_length": 1, "text": "a"}
+            ],
+        }
         document = self.schema.document({"name": tokens})
         self.assertEqual(document["name"], [tokens])
         # As a pair's value it is written as its text.
@@ -62,9 +68,18 @@ class RoundTrips(unittest.TestCase):
         self.check("sold", [False], [False], "09" "00")
 
     def test_dates(self) -> None:
-        self.check("when", datetime.datetime(1970, 1, 1, 0, 0, 1, tzinfo=UTC), [K.DateTime(10**9)], "05" "00ca9a3b00000000")
+        self.check(
+            "when",
+            datetime.datetime(1970, 1, 1, 0, 0, 1, tzinfo=UTC),
+            [K.DateTime(10**9)],
+            "05" "00ca9a3b00000000",
+        )
         self.check("when", K.DateTime(-1), [K.DateTime(-1)], "05" "ffffffffffffffff")
-        self.check("when", [K.DateTime(-(2**63)), K.DateTime(2**63 - 1)], [K.DateTime(-(2**63)), K.DateTime(2**63 - 1)])
+        self.check(
+            "when",
+            [K.DateTime(-(2**63)), K.DateTime(2**63 - 1)],
+            [K.DateTime(-(2**63)), K.DateTime(2**63 - 1)],
+        )
         self.check("when", "1970-01-01T02:00:00.0000000010+02:00", [K.DateTime(1)])
         zone = datetime.timezone(datetime.timedelta(hours=5, minutes=30))
         self.check("when", datetime.datetime(1970, 1, 1, 5, 30, 0, 7, zone), [K.DateTime(7000)])
@@ -84,14 +99,24 @@ class RoundTrips(unittest.TestCase):
         self.check("more", {"b": 1, "a": [None, True]}, [{"a": [None, True], "b": 1}])
         # An object of twice one entry, the key a text with its code, and a number of type i64.
         self.check("more", {"k": 5}, [{"k": 5}], "0d" "82" "00" "81" "6b" "02" "0500000000000000")
-        self.check("more", [{}, {"k": 2**64 - 1}, {"k": -(2**63)}], [{}, {"k": 2**64 - 1}, {"k": -(2**63)}])
-        self.check("more", {"k": ("x", {"d": "2020-01-01T00:00:00+01:00"})}, [{"k": ["x", {"d": "2020-01-01T00:00:00+01:00"}]}])
+        self.check(
+            "more", [{}, {"k": 2**64 - 1}, {"k": -(2**63)}], [{}, {"k": 2**64 - 1}, {"k": -(2**63)}]
+        )
+        self.check(
+            "more",
+            {"k": ("x", {"d": "2020-01-01T00:00:00+01:00"})},
+            [{"k": ["x", {"d": "2020-01-01T00:00:00+01:00"}]}],
+        )
 
     def test_ip_addresses(self) -> None:
         # An address of version 4 is stored as ::ffff:a.b.c.d, as a number with its lowest byte first.
         stored = "0a" "0100007f" "ffff" + "00" * 10
         self.check("host", ipaddress.ip_address("127.0.0.1"), [ipaddress.IPv4Address("127.0.0.1")], stored)
-        self.check("host", ["::1", "2001:db8::1"], [ipaddress.IPv6Address("::1"), ipaddress.IPv6Address("2001:db8::1")])
+        self.check(
+            "host",
+            ["::1", "2001:db8::1"],
+            [ipaddress.IPv6Address("::1"), ipaddress.IPv6Address("2001:db8::1")],
+        )
 
     def test_no_values(self) -> None:
         document = self.schema.document({"name": [], "age": ()})
@@ -100,8 +125,17 @@ class RoundTrips(unittest.TestCase):
 
     def test_all_at_once(self) -> None:
         values: Dict[str, Any] = {
-            "name": ["Ada"], "age": [36], "height": [-2], "sold": [True], "when": [K.DateTime(0)], "group": ["/a"],
-            "hash": [b"x"], "more": [{"k": [1]}], "host": [ipaddress.ip_address("10.0.0.1")], "secret": [7], "word": ["w"],
+            "name": ["Ada"],
+            "age": [36],
+            "height": [-2],
+            "sold": [True],
+            "when": [K.DateTime(0)],
+            "group": ["/a"],
+            "hash": [b"x"],
+            "more": [{"k": [1]}],
+            "host": [ipaddress.ip_address("10.0.0.1")],
+            "secret": [7],
+            "word": ["w"],
         }
         document = self.schema.document(values)
         self.assertEqual(document, values)
@@ -145,7 +179,8 @@ class Refusals(unittest.TestCase):
         self.refused("age", None, K.LineStatus.WRONG_TYPE)
         self.refused("sold", 1, K.LineStatus.WRONG_TYPE)
         self.refused("name", 1, K.LineStatus.WRONG_TYPE)
-        # By the table of values from JSON a text that has not the shape of a date is a mismatch of types, and one out of range a bad text.
+        # By the table of values from JSON a text that has not the shape of a date is a mismatch of types,
+        # and one out of range a bad text.
         self.refused("when", "yesterday", K.LineStatus.WRONG_TYPE)
         self.refused("when", "3000-01-01T00:00:00Z", K.LineStatus.BAD_TEXT)
         self.refused("group", "a", K.LineStatus.BAD_TEXT)
@@ -157,8 +192,16 @@ class Refusals(unittest.TestCase):
         import decimal
 
         for name, value in (
-            ("name", b"bytes"), ("age", decimal.Decimal(1)), ("age", 1j), ("more", {1: 2}), ("more", {"k": b""}), ("more", {"k": {None: 1}}),
-            ("when", datetime.date(1970, 1, 1)), ("more", {"k": datetime.datetime.now(UTC)}), ("name", object()), ("host", b"\x7f\0\0\1"),
+            ("name", b"bytes"),
+            ("age", decimal.Decimal(1)),
+            ("age", 1j),
+            ("more", {1: 2}),
+            ("more", {"k": b""}),
+            ("more", {"k": {None: 1}}),
+            ("when", datetime.date(1970, 1, 1)),
+            ("more", {"k": datetime.datetime.now(UTC)}),
+            ("name", object()),
+            ("host", b"\x7f\0\0\1"),
         ):
             with self.subTest(name=name, value=repr(value)[:50]):
                 with self.assertRaises(TypeError):
@@ -241,7 +284,13 @@ class Moments(unittest.TestCase):
         for other in (True, 1.0, "1", None):
             with self.assertRaises(TypeError):
                 K.DateTime(other)  # type: ignore[arg-type]
-        for text in ("", "1970-01-01", "1970-13-01T00:00:00Z", "1970-01-01T00:00:00+00:00", "١970-01-01T00:00:00Z"):
+        for text in (
+            "",
+            "1970-01-01",
+            "1970-13-01T00:00:00Z",
+            "1970-01-01T00:00:00+00:00",
+            "١970-01-01T00:00:00Z",
+        ):
             with self.assertRaises(ValueError):
                 K.DateTime.from_text(text)
 
@@ -257,9 +306,13 @@ class ForeignValues(unittest.TestCase):
     """Documents that were stored by another schema."""
 
     def test_a_value_of_another_type(self) -> None:
-        schema = K.Schema('[{"name":"when","type":"date","options":{"indexed":true,"fieldnorms":true,"stored":true}}]')
+        schema = K.Schema(
+            '[{"name":"when","type":"date","options":{"indexed":true,"fieldnorms":true,"stored":true}}]'
+        )
         # A text "x" and a number in a field of dates.
-        document, _ = schema.read(bytes.fromhex("82" "00000000" "00" "81" "78" "00000000" "01" "0500000000000000"))
+        document, _ = schema.read(
+            bytes.fromhex("82" "00000000" "00" "81" "78" "00000000" "01" "0500000000000000")
+        )
         self.assertEqual(document["when"], ["x", 5])
 
     def test_a_field_that_the_schema_lacks(self) -> None:
