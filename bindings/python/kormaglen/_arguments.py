@@ -16,9 +16,6 @@ from kormaglen._refusals import Status, refused
 # types for its functions' results.)
 Call = Callable[[int, int], Any]
 
-# Anything with the buffer protocol. (typing has no name for it before Python 3.12.)
-Buffer = Any
-TextOrBuffer = Any
 
 _MOST_TRIES = 8
 
@@ -128,7 +125,7 @@ class Lent:
 
     __slots__ = ("_view", "at", "size")
 
-    def __init__(self, value: TextOrBuffer, name: str, texts: bool = False, writable: bool = False) -> None:
+    def __init__(self, value: Any, name: str, texts: bool = False, writable: bool = False) -> None:
         if texts and isinstance(value, str):
             value = utf8(value, name)
         if not is_buffer(value):

@@ -3,7 +3,7 @@
 from __future__ import annotations
 
 import contextlib
-from typing import Any, ContextManager, Iterator, List
+from typing import ContextManager, Iterator, List, Union
 
 import kormaglen._streams as _streams
 from kormaglen._arguments import Lent, filled, number, text
@@ -11,16 +11,19 @@ from kormaglen._import import Imported
 from kormaglen._library import CALLS
 from kormaglen._schema import Found, Schema
 from kormaglen._streams import Term
+from kormaglen._types import Block, Buffer, Json, Lines
+
+SchemaOrJson = Union[Schema, Json]
 
 
-def _schema(schema: Any) -> ContextManager[Schema]:
+def _schema(schema: SchemaOrJson) -> ContextManager[Schema]:
     """The schema for one call: an open one stays open, and one that is made of a JSON is closed."""
     if isinstance(schema, Schema):
         return contextlib.nullcontext(schema)
     return Schema(schema)
 
 
-def import_lines(schema: Any, lines: Any) -> Imported:
+def import_lines(schema: SchemaOrJson, lines: Lines) -> Imported:
     """As `Schema.import_lines`. The schema is a `Schema` or what one is made of, whose errors come too.
 
     >>> import_lines(SCHEMA, '{"age":36}').block.hex()
@@ -30,7 +33,7 @@ def import_lines(schema: Any, lines: Any) -> Imported:
         return by.import_lines(lines)
 
 
-def export_block(schema: Any, version: int, block: Any) -> bytes:
+def export_block(schema: SchemaOrJson, version: int, block: Buffer) -> bytes:
     """As `Schema.export_block`. The schema is a `Schema` or what one is made of, whose errors come too.
 
     >>> export_block(SCHEMA, 2, bytes.fromhex("8100000000012400000000000000"))
@@ -41,7 +44,7 @@ def export_block(schema: Any, version: int, block: Any) -> bytes:
         return by.export_block(block, version)
 
 
-def find_field(schema: Any, path: str) -> Found:
+def find_field(schema: SchemaOrJson, path: str) -> Found:
     """As `Schema.find_field`. The schema is a `Schema` or what one is made of, whose errors come too.
 
     >>> find_field(SCHEMA, "age").field
@@ -51,7 +54,7 @@ def find_field(schema: Any, path: str) -> Found:
         return by.find_field(path)
 
 
-def migrate_block(source: int, block: Any, target: int) -> bytes:
+def migrate_block(source: int, block: Buffer, target: int) -> bytes:
     """The documents of a block, of version 1, 2 or 3, in version 2 or 3. All values of them are kept.
 
     DocumentRefused where bytes hold none, VersionRefused, TypeError where an argument is of another type,
@@ -66,7 +69,7 @@ def migrate_block(source: int, block: Any, target: int) -> bytes:
         return _streams.migrated_at(before, given.at, given.size, after)
 
 
-def migrate_chunks(source: int, block: Any, target: int, chunk_size: int = 1 << 20) -> Iterator[bytes]:
+def migrate_chunks(source: int, block: Block, target: int, chunk_size: int = 1 << 20) -> Iterator[bytes]:
     """`migrate_block` in bounded memory, as `Schema.export_chunks`, whose errors come too.
 
     >>> list(migrate_chunks(2, b"\\x80\\x80", 3))
@@ -75,7 +78,7 @@ def migrate_chunks(source: int, block: Any, target: int, chunk_size: int = 1 << 
     return _streams.migrations(source, block, target, chunk_size)
 
 
-def terms_of_block(field: int, version: int, block: Any) -> List[Term]:
+def terms_of_block(field: int, version: int, block: Buffer) -> List[Term]:
     """The terms of the values of a field, by its number, in the documents of a block of version 1, 2 or 3,
     in their order, each with the number of its document from 0. Terms are compared as their bytes, and so
     by field, then by type, then by value. A date is cut to the second, as it is indexed, and a text is
@@ -92,7 +95,7 @@ def terms_of_block(field: int, version: int, block: Any) -> List[Term]:
     return [Term(document, term) for document, term in _streams.records_of(records)]
 
 
-def terms(field: int, block: Any, version: int = 2, chunk_size: int = 1 << 16) -> Iterator[Term]:
+def terms(field: int, block: Block, version: int = 2, chunk_size: int = 1 << 16) -> Iterator[Term]:
     """`terms_of_block` in bounded memory, term by term. The block is anything with the buffer protocol, or
     a file object of bytes.
 
@@ -124,7 +127,7 @@ def term_of_text(field: int, value: str) -> bytes:
         )
 
 
-def end_of_prefix(prefix: Any) -> bytes:
+def end_of_prefix(prefix: Buffer) -> bytes:
     """The least bytes above all that begin with a prefix: the terms that begin with it are those from the
     prefix on and below this.
 
@@ -155,7 +158,7 @@ def facet_of_text(value: str) -> bytes:
         )
 
 
-def text_of_facet(encoded: Any) -> str:
+def text_of_facet(encoded: Buffer) -> str:
     """The text that names an encoded facet.
 
     Refused where the bytes aren't UTF-8. TypeError where it is no buffer, BufferError where the bytes don't

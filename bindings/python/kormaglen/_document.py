@@ -20,7 +20,7 @@ from typing import (
 )
 
 import kormaglen._schema as _schema
-from kormaglen._arguments import Lent, TextOrBuffer, filled, number, type_name
+from kormaglen._arguments import Lent, filled, number, type_name
 from kormaglen._handles import Handle, Held, opened
 from kormaglen._library import CALLS, DocumentStruct
 from kormaglen._refusals import (
@@ -34,6 +34,7 @@ from kormaglen._refusals import (
     line_refused,
     refused,
 )
+from kormaglen._types import Buffer, TextOrBuffer
 from kormaglen._values import parsed, printed, read_values, written_values
 
 # So many bytes of a document are asked for at first.
@@ -120,7 +121,7 @@ class Document(Held, Mapping[str, List[Any]]):
         return document
 
     @classmethod
-    def read(cls: Type[_D], schema: _schema.Schema, data: Any, version: int = 2) -> Tuple[_D, int]:
+    def read(cls: Type[_D], schema: _schema.Schema, data: Buffer, version: int = 2) -> Tuple[_D, int]:
         """The document with which the bytes begin, of version 1, 2 or 3, and how many bytes it takes.
         Whatever follows is not looked at.
 

@@ -3,11 +3,11 @@
 from __future__ import annotations
 
 import json as _json
-from typing import Any, Callable, Dict, Iterator, List, Mapping, NamedTuple, Optional, Tuple, Union
+from typing import Any, Callable, Dict, Iterator, List, Mapping, NamedTuple, Optional, Tuple
 
 import kormaglen._document as _document
 import kormaglen._streams as _streams
-from kormaglen._arguments import Lent, TextOrBuffer, filled, number, text, type_name
+from kormaglen._arguments import Lent, filled, number, text, type_name
 from kormaglen._handles import Handle, Held, opened
 from kormaglen._import import ImportCounts, Imported, imported, joined
 from kormaglen._library import CALLS, LINE_ANSWER_SIZE, FoundField, SchemaStruct
@@ -21,9 +21,8 @@ from kormaglen._refusals import (
     schema_refused,
 )
 from kormaglen._sources import copied
+from kormaglen._types import Block, BlockFile, Buffer, Json, Lines, LinesFile, TextOrBuffer
 from kormaglen._values import printed
-
-Json = Union[str, Any, List[Mapping[str, Any]]]
 
 
 class Field(NamedTuple):
@@ -161,7 +160,7 @@ class Schema(Held):
         """
         return _document.Document.parse(self, line)
 
-    def read(self, data: Any, version: int = 2) -> Tuple[_document.Document, int]:
+    def read(self, data: Buffer, version: int = 2) -> Tuple[_document.Document, int]:
         """As `Document.read`.
 
         >>> Schema(SCHEMA).read(b"\\x80")[1]
@@ -169,7 +168,7 @@ class Schema(Held):
         """
         return _document.Document.read(self, data, version)
 
-    def import_lines(self, lines: Any) -> Imported:
+    def import_lines(self, lines: Lines) -> Imported:
         """Stores the documents of lines of JSON, one behind the other in version 2, and answers each line.
         A line ends at a line feed, and the last may lack it. A line that is refused stores nothing, and the
         next line follows.
@@ -189,7 +188,7 @@ class Schema(Held):
         parts = list(_streams.imports(self, lines, 1 << 20))
         return joined(parts) if parts else imported(b"", b"", b"", 1, ())
 
-    def import_chunks(self, lines: Any, chunk_size: int = 1 << 20) -> Iterator[Imported]:
+    def import_chunks(self, lines: Lines, chunk_size: int = 1 << 20) -> Iterator[Imported]:
         """`import_lines` in bounded memory: gives a part for about so many bytes of lines each, which holds
         whole lines. The blocks one behind the other are the block of all lines. A line larger than
         `chunk_size` makes a larger part.
@@ -206,8 +205,8 @@ class Schema(Held):
 
     def import_file(
         self,
-        lines: Any,
-        block: Any,
+        lines: LinesFile,
+        block: BlockFile,
         on_refused: Optional[Callable[[LineRefused], object]] = None,
         chunk_size: int = 1 << 20,
     ) -> ImportCounts:
@@ -224,7 +223,7 @@ class Schema(Held):
         """
         return _streams.import_file(self, lines, block, on_refused, chunk_size)
 
-    def export_block(self, block: Any, version: int = 2) -> bytes:
+    def export_block(self, block: Buffer, version: int = 2) -> bytes:
         """The documents of a block, of version 1, 2 or 3, as lines of JSON with the names of the schema's
         fields, each with a line feed.
 
@@ -239,7 +238,7 @@ class Schema(Held):
         with Lent(block, "block") as given:
             return _streams.exported_at(self, given.at, given.size, stored)
 
-    def export_chunks(self, block: Any, version: int = 2, chunk_size: int = 1 << 20) -> Iterator[bytes]:
+    def export_chunks(self, block: Block, version: int = 2, chunk_size: int = 1 << 20) -> Iterator[bytes]:
         """`export_block` in bounded memory: gives the lines of about so many bytes of the block each. The
         block is anything with the buffer protocol, or a file object of bytes. A document larger than
         `chunk_size` makes a larger part.
@@ -254,7 +253,7 @@ class Schema(Held):
         return _streams.exports(self, block, version, chunk_size)
 
     def documents(
-        self, block: Any, version: int = 2, chunk_size: int = 1 << 16
+        self, block: Block, version: int = 2, chunk_size: int = 1 << 16
     ) -> Iterator[_document.Document]:
         """The documents of a block, one at a time. Arguments and errors are those of `export_chunks`.
 
@@ -322,7 +321,7 @@ class Schema(Held):
         return f"<{type_name(self)} {shown}{', ...' if len(kinds) > 10 else ''}>"
 
 
-def _name_of_entry(json: TextOrBuffer, entry: int) -> Optional[str]:
+def _name_of_entry(json: Any, entry: int) -> Optional[str]:
     """The name of an entry, from 1, of a JSON that describes no schema, where it has one."""
     try:
         name = _json.loads(copied(json, "json"))[entry - 1]["name"] if entry else None

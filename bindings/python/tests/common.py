@@ -40,7 +40,9 @@ TOKENS = json.dumps(
     {
         "name": {
             "text": "a b",
-            "tokens": [{"offset_from": 0, "offset_to": 1, "position": 0, "text": "a", "position_length": 1}],
+            "tokens": [
+                {"offset_from": 0, "offset_to": 1, "position": 0, "text": "a", "position_length": 1}
+            ],
         }
     }
 )

@@ -32,9 +32,9 @@ from typing import Any, Callable, Dict, Iterator, List, Tuple
 
 sys.path.insert(0, os.path.dirname(os.path.dirname(os.path.abspath(__file__))))
 
-import kormaglen as K  # pylint: disable=wrong-import-position
-from tests.common import SCHEMA  # pylint: disable=wrong-import-position
-from tests.fuzz_values import BLOCKS, LINES, Racing, Values  # pylint: disable=wrong-import-position
+import kormaglen as K
+from tests.common import SCHEMA
+from tests.fuzz_values import BLOCKS, LINES, Racing, Values
 
 DOCUMENTED = (ValueError, TypeError, OverflowError, BufferError, MemoryError)
 # What a mapping, a sequence and the files that were handed over raise besides.
@@ -113,7 +113,7 @@ def snapshot(value: Any) -> Any:
     if isinstance(value, (list, dict)):
         try:
             return pickle.dumps(value)
-        except Exception:  # pylint: disable=broad-except
+        except Exception:
             return None
     return None
 
@@ -226,7 +226,7 @@ class Fuzzer:
                 result = [each for each, _ in zip(result, range(300))]
         except DOCUMENTED:
             self.counts[name][1] += 1
-        except BESIDES.get(name.split("|", 1)[0], ()):  # type: ignore[misc]
+        except BESIDES.get(name.split("|", 1)[0], ()):
             self.counts[name][1] += 1
         else:
             check_numbers(name, rest, result)
@@ -251,7 +251,7 @@ def plain_number(value: Any) -> int:
     """The number that an argument is, which must be one if the call was answered."""
     if isinstance(value, (bool, float, str, bytes)) or value is None:
         raise AssertionError(f"{value!r} was taken for a number")
-    return value if isinstance(value, int) else value.__index__()  # type: ignore[no-any-return]
+    return value if isinstance(value, int) else value.__index__()
 
 
 def check_numbers(name: str, given: List[Any], result: Any) -> None:

@@ -89,7 +89,7 @@ class Index:
     def __index__(self) -> int:
         if isinstance(self.given, BaseException):
             raise self.given
-        return self.given  # type: ignore[no-any-return]
+        return self.given
 
 
 class Kind(enum.IntEnum):
@@ -326,7 +326,7 @@ class Values:
         class Bare(K.Schema):
             """A subclass that opens nothing."""
 
-            def __init__(self) -> None:  # pylint: disable=super-init-not-called
+            def __init__(self) -> None:
                 pass
 
         if self.chance(0.6):

@@ -10,12 +10,13 @@ import importlib
 import pkgutil
 import subprocess
 import sys
+import typing
 import unittest
 import os
 from typing import Any, Dict, Iterator, Tuple
 
 import kormaglen as K
-from tests.common import PACKAGE
+from tests.common import PACKAGE, run
 
 SMALL = '[{"name":"age","type":"u64","options":{"indexed":true,"stored":true}}]'
 NAMES: Dict[str, Any] = {**vars(K), "SCHEMA": SMALL, "io": io, "datetime": datetime}
@@ -58,6 +59,14 @@ class Docs(unittest.TestCase):
             done = doctest.testmod(importlib.import_module(f"kormaglen.{module.name}"), extraglobs=NAMES)
             self.assertEqual(done.failed, 0, module.name)
         self.assertEqual(doctest.testmod(K).failed, 0)
+
+    def test_types_at_run_time(self) -> None:
+        for _, value in public():
+            if inspect.isfunction(value):
+                typing.get_type_hints(value)
+
+    def test_the_typed_program(self) -> None:
+        self.assertEqual(run("from tests.typed import main; main()").returncode, 0)
 
     def test_the_example(self) -> None:
         program = os.path.join(PACKAGE, "examples", "people.py")

@@ -109,7 +109,7 @@ class CutNumbers(unittest.TestCase):
             def __index__(self) -> int:
                 return 2
 
-        self.assertEqual(K.export_block(SCHEMA, Two(), AGE_36), b'{"age":[36]}\n')  # type: ignore[arg-type]
+        self.assertEqual(K.export_block(SCHEMA, Two(), AGE_36), b'{"age":[36]}\n')
 
 
 class OtherThreads(unittest.TestCase):
@@ -313,7 +313,7 @@ class HalfMade(unittest.TestCase):
     def test_a_second_init(self) -> None:
         schema = K.Schema(SCHEMA)
         with self.assertRaises(ValueError):
-            schema.__init__("[]")  # type: ignore[misc]
+            schema.__init__("[]")
         self.assertEqual(len(schema.fields), 11)
 
     def test_the_end_of_the_interpreter(self) -> None:

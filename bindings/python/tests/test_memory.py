@@ -9,6 +9,9 @@ import os
 import tempfile
 import unittest
 
+import kormaglen as K
+from kormaglen._arguments import filled
+from kormaglen._library import Answer
 from tests.common import run
 
 MEGABYTES = int(os.environ.get("KORMAGLEN_TEST_MB", "50"))
@@ -96,7 +99,8 @@ def once():
         lambda: schema.parse('{"age":1}').write(3), lambda: schema.export_block(block),
         lambda: schema.export_block(block[:-1]), lambda: K.terms_of_block(1, 2, block),
         lambda: list(schema.documents(block)), lambda: schema.import_lines("x\\n" * 10),
-        lambda: schema.parse(5), lambda: schema.read(block, 9), lambda: schema.export_block(memoryview(block)[::2]),
+        lambda: schema.parse(5), lambda: schema.read(block, 9),
+        lambda: schema.export_block(memoryview(block)[::2]),
         lambda: schema.document({"age": [1, 2], "more": {"k": 1}}).to_dict(),
     ):
         attempt(call)
@@ -109,6 +113,48 @@ for _ in range(3000):
 gc.collect()
 print(resident() - first, first)
 """
+
+
+LIMITED = """
+import resource
+import kormaglen as K
+from tests.common import SCHEMA
+schema = K.Schema(SCHEMA)
+line = b'{"name":"' + b"x" * (60 << 20) + b'"}'
+with open("/proc/self/statm") as file:
+    used = int(file.read().split()[0]) * resource.getpagesize()
+before = resource.getrlimit(resource.RLIMIT_AS)
+resource.setrlimit(resource.RLIMIT_AS, (used + (30 << 20), before[1]))
+seen = 0
+for call in (lambda: schema.parse(line), lambda: schema.import_lines(line), lambda: K.term_of_text(0, line[:-2].decode())):
+    try:
+        call()
+    except MemoryError:
+        seen += 1
+resource.setrlimit(resource.RLIMIT_AS, before)
+print(seen, schema.parse('{"age":36}')["age"])
+"""
+
+
+class Limits(unittest.TestCase):
+    """Where memory is refused."""
+
+    def test_want_of_memory(self) -> None:
+        done = run(LIMITED)
+        self.assertEqual((done.returncode, done.stdout.strip()), (0, "3 [36]"), done.stderr)
+
+    def test_an_answer_that_never_fits(self) -> None:
+        sizes = []
+
+        def call(_: int, size: int) -> Answer:
+            sizes.append(size)
+            return Answer(status=K.Status.TOO_SMALL, bytes=size + 1)
+
+        with self.assertRaises(BufferError):
+            filled(10, call)
+        self.assertEqual(sizes, list(range(10, 18)))
+        with self.assertRaises(MemoryError):
+            filled(10, lambda _, size: Answer(status=K.Status.TOO_SMALL, bytes=2**64 - 1))
 
 
 class Leaks(unittest.TestCase):

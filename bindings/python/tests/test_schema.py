@@ -68,6 +68,12 @@ class Building(unittest.TestCase):
                     "options": {"indexed": True, "stored": False, "fieldnorms": True},
                 },
             )
+
+    def test_each_option_of_other_types(self) -> None:
+        B = K.SchemaBuilder
+        indexing = {"record": "freq", "fieldnorms": False, "tokenizer": "en_stem"}
+        given = K.Indexing("en_stem", "freq", False)
+        all_set = {"indexed": True, "stored": True, "fast": True, "fieldnorms": True}
         self.equal(
             B().date("f", indexed=True, stored=True, fast=True, precision="nanoseconds"),
             {"name": "f", "type": "date", "options": {**all_set, "precision": "nanoseconds"}},
@@ -104,13 +110,13 @@ class Building(unittest.TestCase):
             K.SchemaBuilder().u64("a").text("a").build()
         self.assertEqual(caught.exception.reason, K.SchemaFault.SAME_NAME)
         with self.assertRaises(K.SchemaRefused):
-            K.SchemaBuilder().u64("a", stored=1).build()  # type: ignore[arg-type]
+            K.SchemaBuilder().u64("a", stored=1).build()
         with self.assertRaises(TypeError):
-            K.SchemaBuilder().text("a", indexing="raw")  # type: ignore[arg-type]
+            K.SchemaBuilder().text("a", indexing="raw")
         with self.assertRaises(TypeError):
-            K.SchemaBuilder().u64("a", stored=object()).build()  # type: ignore[arg-type]
+            K.SchemaBuilder().u64("a", stored=object()).build()
         with self.assertRaises(K.SchemaRefused):
-            K.SchemaBuilder().u64(None).build()  # type: ignore[arg-type]
+            K.SchemaBuilder().u64(None).build()
 
 
 class Fields(unittest.TestCase):
@@ -142,7 +148,7 @@ class Fields(unittest.TestCase):
             schema.find_field("nothing")
         self.assertEqual(caught.exception.reason, K.Status.NO_FIELD)
         with self.assertRaises(TypeError):
-            schema.find_field(b"age")  # type: ignore[arg-type]
+            schema.find_field(b"age")
 
     def test_equality(self) -> None:
         one, other = K.Schema(SCHEMA), K.Schema(json.dumps(ENTRIES, indent=2))

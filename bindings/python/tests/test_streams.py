@@ -152,7 +152,7 @@ class Importing(unittest.TestCase):
                 self.schema.import_chunks("", chunk_size=size)
         for other in (True, 1.0, None, "1"):
             with self.assertRaises(TypeError):
-                self.schema.import_chunks("", chunk_size=other)  # type: ignore[arg-type]
+                self.schema.import_chunks("", chunk_size=other)
 
     def test_files(self) -> None:
         with tempfile.TemporaryDirectory() as folder:
@@ -173,7 +173,7 @@ class Importing(unittest.TestCase):
                 with self.assertRaises(TypeError):
                     self.schema.import_file(lines_given, block_given)
             with self.assertRaises(TypeError):
-                self.schema.import_file(lines, block, on_refused=1)  # type: ignore[arg-type]
+                self.schema.import_file(lines, block, on_refused=1)
             with self.assertRaises(OverflowError):
                 self.schema.import_file(lines, block, chunk_size=0)
             self.assertEqual(block.read_bytes(), BLOCK)
@@ -211,7 +211,7 @@ class Importing(unittest.TestCase):
             with self.assertRaises(IndexError):
                 lines[index]
         with self.assertRaises(TypeError):
-            lines["0"]  # type: ignore[call-overload,index]
+            lines["0"]
 
 
 class Exporting(unittest.TestCase):
@@ -347,7 +347,7 @@ class Exporting(unittest.TestCase):
             K.terms(1, BLOCK),
         ):
             next(iterator)
-            iterator.close()  # type: ignore[attr-defined]
+            iterator.close()
 
 
 class Facets(unittest.TestCase):
@@ -366,7 +366,7 @@ class Facets(unittest.TestCase):
         self.assertEqual(K.text_of_facet(bytearray(b"a\0b")), "/a/b")
         for given in (b"/a", None, 5):
             with self.assertRaises(TypeError):
-                K.facet_of_text(given)  # type: ignore[arg-type]
+                K.facet_of_text(given)
         for other in ("/a", None, 5):
             with self.assertRaises(TypeError):
                 K.text_of_facet(other)

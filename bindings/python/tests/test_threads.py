@@ -24,7 +24,7 @@ def in_threads(count: int, work: Callable[[int], None]) -> List[BaseException]:
     def guarded(number: int) -> None:
         try:
             work(number)
-        except BaseException as error:  # pylint: disable=broad-except
+        except BaseException as error:
             errors.append(error)
 
     threads = [threading.Thread(target=guarded, args=(number,)) for number in range(count)]
@@ -154,7 +154,7 @@ class InTheMidst(unittest.TestCase):
     def test_a_mapping_that_closes(self) -> None:
         schema = K.Schema(SCHEMA)
 
-        class Closing(dict):  # type: ignore[type-arg]
+        class Closing(dict):
             def items(self) -> Any:
                 schema.close()
                 return super().items()
@@ -172,7 +172,7 @@ class InTheMidst(unittest.TestCase):
                 return 2
 
         with self.assertRaises(K.Closed):
-            document.write(Closing())  # type: ignore[arg-type]
+            document.write(Closing())
 
     @unittest.skipIf(sys.version_info < (3, 12), "__buffer__ is of Python 3.12")
     def test_a_buffer_that_closes(self) -> None:
