@@ -16,7 +16,6 @@ from kormaglen._refusals import Status, refused
 # types for its functions' results.)
 Call = Callable[[int, int], Any]
 
-
 _MOST_TRIES = 8
 
 # A buffer of more bytes than this is taken from the system: its pages count only when they are written.
@@ -159,7 +158,7 @@ def room(wanted: int) -> Union[bytearray, mmap.mmap]:
     if wanted <= _LARGE:
         return bytearray(wanted)
     try:
-        return mmap.mmap(-1, wanted)
+        return mmap.mmap(-1, wanted, flags=mmap.MAP_PRIVATE)
     except (OSError, OverflowError):
         raise MemoryError(f"{wanted} bytes are wanted") from None
 

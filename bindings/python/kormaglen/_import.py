@@ -6,7 +6,7 @@ import struct
 from typing import Any, Iterator, List, NamedTuple, Optional, Sequence, Tuple, TypeVar, Union
 
 from kormaglen._library import LINE_ANSWER, LINE_ANSWER_SIZE
-from kormaglen._refusals import SHOWN, LineRefused, LineStatus, line_refused, named
+from kormaglen._refusals import SHOWN, LineRefused, LineStatus, line_refused
 
 _T = TypeVar("_T")
 
@@ -19,7 +19,7 @@ class LineAnswer(NamedTuple):
     0
     """
 
-    status: Union[LineStatus, int]
+    status: LineStatus
     size: int
     field: Optional[int]
 
@@ -71,8 +71,8 @@ class LineAnswers(_Rows[LineAnswer]):
 
 
 def _answer(status: int, field: int, size: int) -> LineAnswer:
-    said = named(LineStatus, status)
-    return LineAnswer(said, size, field if isinstance(said, LineStatus) and said.of_a_field else None)
+    said = LineStatus(status)
+    return LineAnswer(said, size, field if said.of_a_field else None)
 
 
 # A line that was refused: its number, its status, the number and the name of the field, and how it begins.

@@ -3,7 +3,7 @@
 from __future__ import annotations
 
 import enum
-from typing import Any, Callable, Optional, Type, TypeVar, Union
+from typing import Any, Callable, Dict, Optional, Type, Union
 
 from kormaglen._library import CALLS, Answer
 
@@ -11,7 +11,20 @@ from kormaglen._library import CALLS, Answer
 SHOWN = 60
 
 
-class Status(enum.IntEnum):
+class _Numbers(enum.IntEnum):
+    """Names for numbers of the library. One without a name, as a newer library may have, is called after its
+    number."""
+
+    @classmethod
+    def _missing_(cls, value: object) -> Optional[_Numbers]:
+        if not isinstance(value, int) or isinstance(value, bool) or not 0 <= value < 1 << 32:
+            return None
+        other = int.__new__(cls, value)
+        other._name_, other._value_ = f"UNKNOWN_{value}", value
+        return other
+
+
+class Status(_Numbers):
     """What a call answers: `kormaglen_status` of the header.
 
     >>> Status(9).name
@@ -35,7 +48,7 @@ class Status(enum.IntEnum):
     BAD_ARGUMENT = 16
 
 
-class SchemaFault(enum.IntEnum):
+class SchemaFault(_Numbers):
     """Why a JSON describes no schema: `kormaglen_schema_detail` of the header.
 
     >>> SchemaFault(2).name
@@ -65,7 +78,7 @@ class SchemaFault(enum.IntEnum):
     EXPAND_DOTS = 21
 
 
-class DocumentFault(enum.IntEnum):
+class DocumentFault(_Numbers):
     """Why bytes hold no document: `kormaglen_document_detail` of the header.
 
     >>> DocumentFault(1).name
@@ -88,7 +101,7 @@ class DocumentFault(enum.IntEnum):
     TOO_LONG = 14
 
 
-class LineStatus(enum.IntEnum):
+class LineStatus(_Numbers):
     """What became of a line: `kormaglen_line_status` of the header. All but `STORED` are refusals.
 
     >>> LineStatus(3).name
@@ -110,24 +123,15 @@ class LineStatus(enum.IntEnum):
         return LineStatus.OVERFLOW <= self <= LineStatus.FLOAT
 
 
-_Named = TypeVar("_Named", bound=enum.IntEnum)
-Reason = Union[Status, SchemaFault, DocumentFault, LineStatus, int]
-
-
-def named(kind: Type[_Named], value: int) -> Union[_Named, int]:
-    """The name of a number, or the number itself where a newer library has one more."""
-    try:
-        return kind(value)
-    except ValueError:
-        return value
+Reason = Union[Status, SchemaFault, DocumentFault, LineStatus]
 
 
 class Refused(ValueError):
     """A call was refused. What it was given stays as it was, and so does what its handles hold.
 
     `reason` is the most precise name that there is: of `Status`, or of `SchemaFault`, `DocumentFault` or
-    `LineStatus` in the classes below. A number that this package has no name for stays a number. `place` is
-    the number that the library says where; each class says what it is.
+    `LineStatus` in the classes below. A number that this package has no name for is `UNKNOWN_` and the
+    number. `place` is the number that the library says where; each class says what it is.
 
     >>> try:
     ...     facet_of_text("no slash")
@@ -223,7 +227,7 @@ class Closed(Refused):
     """
 
 
-_KINDS = {
+_KINDS: Dict[Status, Type[Refused]] = {
     Status.INVALID_JSON: SchemaRefused,
     Status.BAD_SCHEMA: SchemaRefused,
     Status.BAD_DOCUMENT: DocumentRefused,
@@ -259,7 +263,7 @@ def line_text(status: int) -> str:
 def document_refused(detail: int, place: int) -> DocumentRefused:
     """That no document begins at a place of a block."""
     words = detail_text(Status.BAD_DOCUMENT, detail)
-    return DocumentRefused(f"the document at byte {place}: {words}", named(DocumentFault, detail), place)
+    return DocumentRefused(f"the document at byte {place}: {words}", DocumentFault(detail), place)
 
 
 def schema_refused(answer: Answer, field: Optional[str]) -> SchemaRefused:
@@ -269,7 +273,7 @@ def schema_refused(answer: Answer, field: Optional[str]) -> SchemaRefused:
         f"entry {answer.place}" + ("" if field is None else f' ("{field}")') + ": " if answer.place else ""
     )
     bad = answer.status == Status.BAD_SCHEMA
-    reason: Reason = named(SchemaFault, answer.detail) if bad else Status.INVALID_JSON
+    reason: Reason = SchemaFault(answer.detail) if bad else Status.INVALID_JSON
     error = SchemaRefused(f"schema: {entry}{words}", reason, answer.place)
     error.field = field
     return error
@@ -286,9 +290,7 @@ def line_refused(
     shown = beginning(text)
     head = "" if line is None else f"line {line}: "
     about = "" if field is None else f'field "{field}": '
-    error = LineRefused(
-        f"{head}{about}{line_text(status)}: {shown}", named(LineStatus, status), field_number or 0
-    )
+    error = LineRefused(f"{head}{about}{line_text(status)}: {shown}", LineStatus(status), field_number or 0)
     error.line, error.field, error.field_number, error.text = line, field, field_number, shown
     return error
 
@@ -315,6 +317,5 @@ def refused(answer: Answer) -> Exception:
         return MemoryError(status_text(answer.status))
     if answer.status == Status.BAD_DOCUMENT:
         return document_refused(answer.detail, answer.place)
-    reason = named(Status, answer.status)
-    kind = _KINDS.get(reason, Refused) if isinstance(reason, Status) else Refused
-    return kind(status_text(answer.status), reason, answer.place)
+    reason = Status(answer.status)
+    return _KINDS.get(reason, Refused)(status_text(answer.status), reason, answer.place)

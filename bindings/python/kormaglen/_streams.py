@@ -58,6 +58,8 @@ def import_file(
     """Schema.import_file."""
     if on_refused is not None and not callable(on_refused):
         raise TypeError("on_refused: a callable is wanted")
+    if _is_path(lines) and _is_path(block) and os.path.exists(block) and os.path.samefile(lines, block):
+        raise ValueError("lines and block are the same file")
     total = stored = size = 0
     kept: List[LineRefused] = []
     with _file(lines, "rb") as source:
@@ -76,9 +78,13 @@ def import_file(
     return ImportCounts(total, stored, total - stored, size, tuple(kept))
 
 
+def _is_path(source: object) -> bool:
+    return isinstance(source, (str, os.PathLike))
+
+
 def _file(source: Any, mode: str) -> ContextManager[Any]:
     """The file of a path, which is closed in the end, or the file that is given, which isn't."""
-    if isinstance(source, (str, os.PathLike)):
+    if _is_path(source):
         return open(source, mode)
     return contextlib.nullcontext(source)
 
@@ -96,9 +102,17 @@ def _write(target: IO[bytes], block: bytes) -> None:
         ]
 
 
+def _tested_version(version: object) -> int:
+    """A version to read that the library knows. It is asked at once, and not when the first document is
+    reached."""
+    stored = number(version, "version")
+    terms_at(0, stored, 0, 0)
+    return stored
+
+
 def exports(schema: _schema.Schema, block: Any, version: int, chunk_size: int) -> Iterator[bytes]:
     """Schema.export_chunks."""
-    stored, size = number(version, "version"), tested_chunk_size(chunk_size)
+    stored, size = _tested_version(version), tested_chunk_size(chunk_size)
     opened(schema, _schema.Schema, "schema")
     carry = Carry(reader_of_block(block, "block"), size)
     return (
@@ -122,7 +136,7 @@ def documents(
     schema: _schema.Schema, block: Any, version: int, chunk_size: int
 ) -> Iterator[_document.Document]:
     """Schema.documents."""
-    stored, size = number(version, "version"), tested_chunk_size(chunk_size)
+    stored, size = _tested_version(version), tested_chunk_size(chunk_size)
     opened(schema, _schema.Schema, "schema")
     return _documents(schema, Carry(reader_of_block(block, "block"), size), stored)
 
@@ -171,6 +185,7 @@ def _called(piece: bytes, call: _Call[_T]) -> _T:
 def migrations(source: int, block: Any, target: int, chunk_size: int) -> Iterator[bytes]:
     """migrate_chunks."""
     before, after, size = number(source, "source"), number(target, "target"), tested_chunk_size(chunk_size)
+    migrated_at(before, 0, 0, after)  # (the library knows both versions)
     carry = Carry(reader_of_block(block, "block"), size)
     return (
         moved for moved, _ in _runs(carry, size, lambda at, length: migrated_at(before, at, length, after))
@@ -197,7 +212,7 @@ class Term(NamedTuple):
 
 def terms(field: int, block: Any, version: int, chunk_size: int) -> Iterator[Term]:
     """terms."""
-    of, stored, size = number(field, "field"), number(version, "version"), tested_chunk_size(chunk_size)
+    of, stored, size = number(field, "field"), _tested_version(version), tested_chunk_size(chunk_size)
     return _terms(of, Carry(reader_of_block(block, "block"), size), stored, size)
 
 

@@ -272,18 +272,11 @@ def check_numbers(name: str, given: List[Any], result: Any) -> None:
     for place in places.get(name, []):
         if place < len(given):
             version = plain_number(given[place])
-            # (a block without documents is not read by the lazy calls, so its version isn't either)
-            lazy = (
-                name in ("migrate_chunks", "terms", "Schema.export_chunks", "Schema.documents")
-                and not result
-            )
-            assert version in (1, 2, 3) or lazy and 0 <= version < 2**32, (name, version)
+            assert version in (1, 2, 3), (name, version)
     if name in ("terms_of_block", "terms"):
         field = plain_number(given[0])
-        assert 0 <= field < 2**32 and all(term.term[:4] == field.to_bytes(4, "big") for term in result), (
-            name,
-            field,
-        )
+        assert 0 <= field < 2**32, (name, field)
+        assert all(term.term[:4] == field.to_bytes(4, "big") for term in result), (name, field)
     if name == "term_of_text":
         assert result[:4] == plain_number(given[0]).to_bytes(4, "big")
     if name == "DateTime":

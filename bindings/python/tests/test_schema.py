@@ -305,8 +305,12 @@ class Messages(unittest.TestCase):
     def test_a_number_without_a_name(self) -> None:
         from kormaglen._refusals import document_refused, line_refused
 
-        self.assertEqual(document_refused(99, 7).reason, 99)
-        self.assertEqual(line_refused(99, b"x").reason, 99)
+        for refused in (document_refused(99, 7), line_refused(99, b"x")):
+            self.assertEqual((refused.reason, refused.reason.name), (99, "UNKNOWN_99"))
+            self.assertEqual(pickle.loads(pickle.dumps(refused)).reason, refused.reason)
+        for value in (-1, 2**32, None, "x"):
+            with self.assertRaises(ValueError):
+                K.Status(value)
 
 
 if __name__ == "__main__":

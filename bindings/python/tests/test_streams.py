@@ -177,6 +177,9 @@ class Importing(unittest.TestCase):
             with self.assertRaises(OverflowError):
                 self.schema.import_file(lines, block, chunk_size=0)
             self.assertEqual(block.read_bytes(), BLOCK)
+            with self.assertRaises(ValueError):
+                self.schema.import_file(str(block), block)
+            self.assertEqual(block.read_bytes(), BLOCK)
             with self.assertRaises(FileNotFoundError):
                 self.schema.import_file(os.path.join(folder, "none"), block)
             self.assertEqual(block.read_bytes(), BLOCK)
@@ -315,6 +318,16 @@ class Exporting(unittest.TestCase):
                     call(block)
             with self.assertRaises(BufferError):
                 call(memoryview(BLOCK)[::2])
+        for call in (
+            lambda version: self.schema.documents(b"", version),
+            lambda version: self.schema.export_chunks(b"", version),
+            lambda version: K.terms(0, b"", version),
+            lambda version: K.migrate_chunks(version, b"", 2),
+            lambda version: K.migrate_chunks(2, b"", version),
+        ):
+            for version in (0, 4, 2**32 - 1):
+                with self.assertRaises(K.VersionRefused):
+                    call(version)
         with self.assertRaises(TypeError):
             list(self.schema.documents(io.StringIO("text")))
 
