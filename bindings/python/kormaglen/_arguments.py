@@ -123,6 +123,9 @@ class Lent:
     """
 
     __slots__ = ("_view", "at", "size")
+    # (the finalizer may run when the module's names are gone)
+    _release = _release_buffer
+    _by_reference = ctypes.byref
 
     def __init__(self, value: Any, name: str, texts: bool = False, writable: bool = False) -> None:
         if texts and isinstance(value, str):
@@ -149,6 +152,13 @@ class Lent:
         trace: Optional[TracebackType],
     ) -> None:
         _release_buffer(ctypes.byref(self._view))
+
+    def __del__(self) -> None:
+        # A signal's handler may raise before the `with` has begun. What was given back is passed over.
+        try:
+            self._release(self._by_reference(self._view))
+        except AttributeError:
+            pass  # nothing was lent
 
 
 def room(wanted: int) -> Union[bytearray, mmap.mmap]:

@@ -214,6 +214,58 @@ class InTheMidst(unittest.TestCase):
             signal.signal(signal.SIGALRM, before)
 
 
+class Interrupted(Exception):
+    """What a handler raises."""
+
+
+class Interrupts(unittest.TestCase):
+    """A handler that raises in the midst of anything: what was lent is given back, and no lock stays taken."""
+
+    def test_a_handler_that_raises(self) -> None:
+        schema = K.Schema(SCHEMA)
+        line, block = bytearray(b'{"age":36}'), bytearray(AGE_36 * 3)
+        calls: List[Callable[[], Any]] = [
+            lambda: schema.parse(line),
+            lambda: schema.import_lines(line),
+            lambda: schema.export_block(block),
+            lambda: list(schema.documents(block)),
+            lambda: schema.read(block)[0].write(),
+            lambda: K.migrate_block(2, block, 3),
+        ]
+
+        armed, seen = False, 0
+
+        def handler(*_: Any) -> None:
+            if armed:
+                raise Interrupted
+
+        before = signal.signal(signal.SIGALRM, handler)
+        # (what is raised in a finalizer is printed, and goes no further)
+        printing, sys.unraisablehook = sys.unraisablehook, lambda _: None
+        try:
+            end = time.monotonic() + 2
+            while time.monotonic() < end:
+                for call in calls:
+                    try:
+                        armed = True
+                        signal.setitimer(signal.ITIMER_REAL, 1e-6 * (1 + seen % 97))
+                        call()
+                        call()
+                        armed = False
+                    except Interrupted:
+                        armed = False
+                        seen += 1
+        finally:
+            signal.setitimer(signal.ITIMER_REAL, 0)
+            signal.signal(signal.SIGALRM, before)
+            sys.unraisablehook = printing
+        self.assertGreater(seen, 100)
+        gc.collect()
+        line.append(10)
+        block.append(0x80)
+        self.assertEqual(in_threads(1, lambda _: self.assertEqual(schema.parse(line)["age"], [36])), [])
+
+
 class Processes(unittest.TestCase):
     """Schemas, documents and refusals travel to other processes."""
 
