@@ -42,6 +42,7 @@ from kormaglen._blocks import (
 )
 from kormaglen._builder import STRING, TEXT, Indexing, SchemaBuilder
 from kormaglen._document import Document
+from kormaglen._fields import Field, Found
 from kormaglen._import import ImportCounts, Imported, LineAnswer, LineAnswers, LineRefusals
 from kormaglen._library import library_version
 from kormaglen._refusals import (
@@ -57,7 +58,7 @@ from kormaglen._refusals import (
     Status,
     VersionRefused,
 )
-from kormaglen._schema import Field, Found, Schema
+from kormaglen._schema import Schema
 from kormaglen._streams import Term
 from kormaglen._values import DateTime
 

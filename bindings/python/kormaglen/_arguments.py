@@ -8,7 +8,7 @@ import mmap
 import operator
 import sys
 from types import TracebackType
-from typing import Any, Callable, Optional, Type, Union
+from typing import Any, Callable, ClassVar, Optional, Type, Union
 
 from kormaglen._refusals import Status, refused
 
@@ -124,8 +124,8 @@ class Lent:
 
     __slots__ = ("_view", "at", "size")
     # (the finalizer may run when the module's names are gone)
-    _release = _release_buffer
-    _by_reference = ctypes.byref
+    _release: ClassVar[Any] = _release_buffer
+    _by_reference: ClassVar[Any] = ctypes.byref
 
     def __init__(self, value: Any, name: str, texts: bool = False, writable: bool = False) -> None:
         if texts and isinstance(value, str):

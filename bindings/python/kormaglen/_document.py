@@ -4,6 +4,7 @@ from __future__ import annotations
 
 import ctypes
 from typing import (
+    TYPE_CHECKING,
     Any,
     Callable,
     Dict,
@@ -19,8 +20,8 @@ from typing import (
     ValuesView,
 )
 
-import kormaglen._schema as _schema
 from kormaglen._arguments import Lent, filled, number, type_name
+from kormaglen._fields import HeldSchema
 from kormaglen._handles import Handle, Held, opened
 from kormaglen._library import CALLS, DocumentStruct
 from kormaglen._refusals import (
@@ -36,6 +37,11 @@ from kormaglen._refusals import (
 )
 from kormaglen._types import Buffer, TextOrBuffer
 from kormaglen._values import parsed, printed, read_values, written_values
+
+if TYPE_CHECKING:
+    from kormaglen._schema import Schema
+else:
+    Schema = HeldSchema  # (the module of that class needs this one)
 
 # So many bytes of a document are asked for at first.
 _FIRST_SIZE = 1024
@@ -66,13 +72,13 @@ class Document(Held, Mapping[str, List[Any]]):
     """
 
     _what = "document"
-    _by: Optional[_schema.Schema] = None
+    _by: Optional[Schema] = None
 
     def __init__(self) -> None:
         raise TypeError("a Document is made by Document.from_dict, Document.parse or Document.read")
 
     @classmethod
-    def from_dict(cls: Type[_D], schema: _schema.Schema, values: Mapping[str, Any]) -> _D:
+    def from_dict(cls: Type[_D], schema: Schema, values: Mapping[str, Any]) -> _D:
         """The document of a mapping of names to a value each, or to a list or a tuple of values. Values are
         as a document gives them, and as their JSON: a date may be a `datetime` with a time zone or a text
         of RFC 3339, bytes anything with the buffer protocol or base64.
@@ -85,7 +91,7 @@ class Document(Held, Mapping[str, List[Any]]):
         >>> Document.from_dict(Schema(SCHEMA), {"age": [1, 2**64 - 1]})["age"]
         [1, 18446744073709551615]
         """
-        opened(schema, _schema.Schema, "schema")
+        opened(schema, HeldSchema, "schema")
         if not isinstance(values, Mapping):
             raise TypeError(f"values: a mapping is wanted, not {type_name(values)}")
         kinds = schema._kinds()
@@ -99,7 +105,7 @@ class Document(Held, Mapping[str, List[Any]]):
         return cls.parse(schema, printed(plain, "values"))
 
     @classmethod
-    def parse(cls: Type[_D], schema: _schema.Schema, line: TextOrBuffer) -> _D:
+    def parse(cls: Type[_D], schema: Schema, line: TextOrBuffer) -> _D:
         """The document of a JSON object. Keys that name no field are passed over.
 
         LineRefused where it is no JSON object or a value is refused, Closed where the schema is, TypeError
@@ -108,7 +114,7 @@ class Document(Held, Mapping[str, List[Any]]):
         >>> Document.parse(Schema(SCHEMA), b'{"age":[7,8],"other":1}')["age"]
         [7, 8]
         """
-        opened(schema, _schema.Schema, "schema")
+        opened(schema, HeldSchema, "schema")
         with Lent(line, "line", texts=True) as given:
             document, answer = cls._made(
                 schema, lambda own, by: CALLS.kormaglen_document_parse(by, given.at, given.size, own)
@@ -121,7 +127,7 @@ class Document(Held, Mapping[str, List[Any]]):
         return document
 
     @classmethod
-    def read(cls: Type[_D], schema: _schema.Schema, data: Buffer, version: int = 2) -> Tuple[_D, int]:
+    def read(cls: Type[_D], schema: Schema, data: Buffer, version: int = 2) -> Tuple[_D, int]:
         """The document with which the bytes begin, of version 1, 2 or 3, and how many bytes it takes.
         Whatever follows is not looked at.
 
@@ -133,13 +139,13 @@ class Document(Held, Mapping[str, List[Any]]):
         >>> document["age"], size
         ([36], 14)
         """
-        opened(schema, _schema.Schema, "schema")
+        opened(schema, HeldSchema, "schema")
         stored = number(version, "version")
         with Lent(data, "data") as given:
             return cls._read_at(schema, given.at, given.size, stored)
 
     @classmethod
-    def _read_at(cls: Type[_D], schema: _schema.Schema, at: int, size: int, version: int) -> Tuple[_D, int]:
+    def _read_at(cls: Type[_D], schema: Schema, at: int, size: int, version: int) -> Tuple[_D, int]:
         """`read`, of bytes at an address."""
         document, answer = cls._made(
             schema, lambda own, by: CALLS.kormaglen_document_read(version, at, size, own)
@@ -149,10 +155,10 @@ class Document(Held, Mapping[str, List[Any]]):
         return document, answer.bytes
 
     @classmethod
-    def _made(cls: Type[_D], schema: _schema.Schema, call: Callable[[Any, Any], Any]) -> Tuple[_D, Any]:
+    def _made(cls: Type[_D], schema: Schema, call: Callable[[Any, Any], Any]) -> Tuple[_D, Any]:
         """A new document that a call opens, and what the call answers. Locks are taken in this order
         everywhere: the document's, the schema's."""
-        by, own = opened(schema, _schema.Schema, "schema"), Handle(DocumentStruct())
+        by, own = opened(schema, HeldSchema, "schema"), Handle(DocumentStruct())
         with own.lock, by.lock:
             answer = call(own.ref, by.ref)
         document = cls.__new__(cls)
@@ -160,7 +166,7 @@ class Document(Held, Mapping[str, List[Any]]):
         return document, answer
 
     @property
-    def schema(self) -> _schema.Schema:
+    def schema(self) -> Schema:
         """The schema by which the document was made. Closed where the document has none, since it was never
         made.
 
@@ -180,7 +186,7 @@ class Document(Held, Mapping[str, List[Any]]):
         >>> Schema(SCHEMA).parse('{"age":36}').to_json()
         '{"age":[36]}'
         """
-        own, by = opened(self, Document), opened(self._by, _schema.Schema, "schema")
+        own, by = opened(self, Document), opened(self._by, HeldSchema, "schema")
         with own.lock, by.lock:
             return filled(
                 _FIRST_SIZE, lambda at, size: CALLS.kormaglen_document_to_json(own.ref, by.ref, at, size)
@@ -197,7 +203,7 @@ class Document(Held, Mapping[str, List[Any]]):
         '8100000000012400000000000000'
         """
         stored = number(version, "version")
-        own, by = opened(self, Document), opened(self._by, _schema.Schema, "schema")
+        own, by = opened(self, Document), opened(self._by, HeldSchema, "schema")
         with own.lock, by.lock:
             return filled(
                 _FIRST_SIZE,
@@ -265,7 +271,7 @@ class Document(Held, Mapping[str, List[Any]]):
 
     __hash__ = None  # type: ignore[assignment]
 
-    def _parts(self) -> Tuple[_schema.Schema, str, bytes]:
+    def _parts(self) -> Tuple[Schema, str, bytes]:
         return self.schema, self.to_json(), self.write(3)
 
     def __reduce__(self) -> Tuple[Any, ...]:
@@ -286,6 +292,6 @@ class Document(Held, Mapping[str, List[Any]]):
         return f"<{type_name(self)} {text[:100]}{'...' if len(text) > 100 else ''}>"
 
 
-def _restored(kind: Type[_D], schema: _schema.Schema, stored: bytes) -> _D:
+def _restored(kind: Type[_D], schema: Schema, stored: bytes) -> _D:
     """The document of a pickle."""
     return kind.read(schema, stored, 3)[0]

@@ -102,7 +102,7 @@ def opened(value: object, kind: Type[Held], name: str = "self") -> Handle:
     """The handle of a value of that class that isn't closed. TypeError where it is of another class: a
     handle of another kind must not reach the library. Closed where it is closed."""
     if not isinstance(value, kind):
-        raise TypeError(f"{name}: a {kind.__name__} is wanted, not {type_name(value)}")
+        raise TypeError(f"{name}: a {kind._what} is wanted, not {type_name(value)}")
     handle = value._handle
     if handle is None or handle.closed:
         raise closed(value._what)

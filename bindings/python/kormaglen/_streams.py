@@ -8,10 +8,7 @@ import os
 import struct
 from typing import IO, Any, Callable, ContextManager, Iterator, List, NamedTuple, Optional, Tuple, TypeVar
 
-import kormaglen._document as _document
-import kormaglen._schema as _schema
 from kormaglen._arguments import Lent, chunk_size as tested_chunk_size, filled, number, within
-from kormaglen._handles import opened
 from kormaglen._import import ImportCounts, Imported
 from kormaglen._library import CALLS
 from kormaglen._refusals import (
@@ -29,33 +26,35 @@ _T = TypeVar("_T")
 # So many of the lines that were refused are kept of the import of a file.
 _KEPT = 100
 
+# Imports whole lines, of which the first has this number.
+Take = Callable[[bytes, int], Imported]
+
 # Calls with the address and the size of bytes of whole documents.
 _Call = Callable[[int, int], _T]
 
 
-def imports(schema: _schema.Schema, lines: Any, chunk_size: int) -> Iterator[Imported]:
-    """Schema.import_chunks."""
+def imports(lines: Any, chunk_size: int, take: Take) -> Iterator[Imported]:
+    """`Schema.import_chunks`, where `take` imports whole lines."""
     size = tested_chunk_size(chunk_size)
-    opened(schema, _schema.Schema, "schema")
-    return _imports(schema, reader_of_lines(lines, "lines"), size)
+    return _imports(reader_of_lines(lines, "lines"), size, take)
 
 
-def _imports(schema: _schema.Schema, read: Read, size: int) -> Iterator[Imported]:
+def _imports(read: Read, size: int, take: Take) -> Iterator[Imported]:
     first = 1
     for piece in whole_lines(read, size):
-        part = schema._import_piece(piece, first)
+        part = take(piece, first)
         first += len(part.lines)
         yield part
 
 
 def import_file(
-    schema: _schema.Schema,
     lines: Any,
     block: Any,
     on_refused: Optional[Callable[[LineRefused], object]],
     chunk_size: int,
+    take: Take,
 ) -> ImportCounts:
-    """Schema.import_file."""
+    """`Schema.import_file`, where `take` imports whole lines."""
     if on_refused is not None and not callable(on_refused):
         raise TypeError("on_refused: a callable is wanted")
     if _is_path(lines) and _is_path(block) and os.path.exists(block) and os.path.samefile(lines, block):
@@ -63,7 +62,7 @@ def import_file(
     total = stored = size = 0
     kept: List[LineRefused] = []
     with _file(lines, "rb") as source:
-        parts = imports(schema, source, chunk_size)
+        parts = imports(source, chunk_size, take)
         with _file(block, "wb") as target:
             if not callable(getattr(target, "write", None)):
                 raise TypeError("block: a path or a binary file is wanted")
@@ -102,7 +101,7 @@ def _write(target: IO[bytes], block: bytes) -> None:
         ]
 
 
-def _tested_version(version: object) -> int:
+def tested_version(version: object) -> int:
     """A version to read that the library knows. It is asked at once, and not when the first document is
     reached."""
     stored = number(version, "version")
@@ -110,50 +109,30 @@ def _tested_version(version: object) -> int:
     return stored
 
 
-def exports(schema: _schema.Schema, block: Any, version: int, chunk_size: int) -> Iterator[bytes]:
-    """Schema.export_chunks."""
-    stored, size = _tested_version(version), tested_chunk_size(chunk_size)
-    opened(schema, _schema.Schema, "schema")
-    carry = Carry(reader_of_block(block, "block"), size)
-    return (
-        lines for lines, _ in _runs(carry, size, lambda at, length: exported_at(schema, at, length, stored))
-    )
+def documents(block: Any, chunk_size: int, read: _Call[Tuple[_T, int]]) -> Iterator[_T]:
+    """The documents of a block, where `read` gives the one with which bytes begin, and its size."""
+    size = tested_chunk_size(chunk_size)
+    return _documents(Carry(reader_of_block(block, "block"), size), read)
 
 
-def exported_at(schema: _schema.Schema, at: int, size: int, version: int) -> bytes:
-    """Schema.export_block, of bytes at an address."""
-    handle = opened(schema, _schema.Schema)
-    with handle.lock:
-        return filled(
-            2 * size,
-            lambda out, out_size: CALLS.kormaglen_schema_export_block(
-                handle.ref, version, at, size, out, out_size
-            ),
-        )
-
-
-def documents(
-    schema: _schema.Schema, block: Any, version: int, chunk_size: int
-) -> Iterator[_document.Document]:
-    """Schema.documents."""
-    stored, size = _tested_version(version), tested_chunk_size(chunk_size)
-    opened(schema, _schema.Schema, "schema")
-    return _documents(schema, Carry(reader_of_block(block, "block"), size), stored)
-
-
-def _documents(schema: _schema.Schema, carry: Carry, version: int) -> Iterator[_document.Document]:
+def _documents(carry: Carry, read: _Call[Tuple[_T, int]]) -> Iterator[_T]:
     while carry.fill(1):
         try:
             with Lent(carry.held, "block") as held:
-                document, size = _document.Document._read_at(
-                    schema, held.at + carry.at, carry.left, version
-                )
+                document, size = read(held.at + carry.at, carry.left)
         except DocumentRefused as fault:
             if fault.reason == DocumentFault.UNEXPECTED_END and carry.grow():
                 continue
             raise document_refused(fault.reason, carry.place) from None
         carry.use(size)
         yield document
+
+
+def runs(block: Any, chunk_size: int, call: _Call[_T]) -> Iterator[_T]:
+    """What the call gives for the documents of a block, about so many bytes of them at once."""
+    size = tested_chunk_size(chunk_size)
+    carry = Carry(reader_of_block(block, "block"), size)
+    return (given for given, _ in _runs(carry, size, call))
 
 
 def _runs(carry: Carry, size: int, call: _Call[_T]) -> Iterator[Tuple[_T, bytes]]:
@@ -183,13 +162,10 @@ def _called(piece: bytes, call: _Call[_T]) -> _T:
 
 
 def migrations(source: int, block: Any, target: int, chunk_size: int) -> Iterator[bytes]:
-    """migrate_chunks."""
-    before, after, size = number(source, "source"), number(target, "target"), tested_chunk_size(chunk_size)
+    """`migrate_chunks`."""
+    before, after = number(source, "source"), number(target, "target")
     migrated_at(before, 0, 0, after)  # (the library knows both versions)
-    carry = Carry(reader_of_block(block, "block"), size)
-    return (
-        moved for moved, _ in _runs(carry, size, lambda at, length: migrated_at(before, at, length, after))
-    )
+    return runs(block, chunk_size, lambda at, size: migrated_at(before, at, size, after))
 
 
 def migrated_at(source: int, at: int, size: int, target: int) -> bytes:
@@ -212,7 +188,7 @@ class Term(NamedTuple):
 
 def terms(field: int, block: Any, version: int, chunk_size: int) -> Iterator[Term]:
     """terms."""
-    of, stored, size = number(field, "field"), _tested_version(version), tested_chunk_size(chunk_size)
+    of, stored, size = number(field, "field"), tested_version(version), tested_chunk_size(chunk_size)
     return _terms(of, Carry(reader_of_block(block, "block"), size), stored, size)
 
 
