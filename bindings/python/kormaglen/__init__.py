@@ -21,10 +21,12 @@ MemoryError. After an error everything is as it was.
 Where an argument is bytes, anything with the buffer protocol is taken, without a copy: bytes, bytearray,
 memoryview, mmap, array. Its bytes have to lie one behind the other, else that is a BufferError. While a
 call reads a bytearray, it can't be resized. If another thread changes the bytes meanwhile, the answer is
-that of some mixture, or a refusal.
+that of some mixture, or a refusal. A file that is mapped must not become shorter: then the system ends the
+process.
 
-A call lets other threads run. A schema or a document may be used by any thread; calls with the same one
-wait for each other.
+A call lets other threads run. A schema or a document may be used and closed by any thread; calls with the
+same one wait for each other. In a process that was forked while another thread was in a call, what that
+call used can't be used.
 """
 
 from kormaglen._blocks import (

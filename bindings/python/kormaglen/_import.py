@@ -3,7 +3,7 @@
 from __future__ import annotations
 
 import struct
-from typing import Any, Iterator, List, NamedTuple, Optional, Sequence, Tuple, TypeVar, Union
+from typing import Any, Iterator, List, NamedTuple, Optional, Sequence, Tuple, TypeVar
 
 from kormaglen._library import LINE_ANSWER, LINE_ANSWER_SIZE
 from kormaglen._refusals import SHOWN, LineRefused, LineStatus, line_refused
@@ -146,7 +146,7 @@ def _line_at(piece: bytes, start: int) -> bytes:
 
 
 def joined(parts: List[Imported]) -> Imported:
-    """The parts as one. They are given up on the way."""
+    """The parts as one."""
     if len(parts) == 1:
         return parts[0]
     block = b"".join(part.block for part in parts)

@@ -270,7 +270,9 @@ def schema_refused(answer: Answer, field: Optional[str]) -> SchemaRefused:
     """That a JSON describes no schema."""
     words = detail_text(answer.status, answer.detail)
     entry = (
-        f"entry {answer.place}" + ("" if field is None else f' ("{field}")') + ": " if answer.place else ""
+        f"entry {answer.place}" + ("" if field is None else f' ("{field[:SHOWN]}")') + ": "
+        if answer.place
+        else ""
     )
     bad = answer.status == Status.BAD_SCHEMA
     reason: Reason = SchemaFault(answer.detail) if bad else Status.INVALID_JSON
@@ -289,7 +291,7 @@ def line_refused(
     """That a line has no document. The text is the line, or as much of it as is shown."""
     shown = beginning(text)
     head = "" if line is None else f"line {line}: "
-    about = "" if field is None else f'field "{field}": '
+    about = "" if field is None else f'field "{field[:SHOWN]}": '
     error = LineRefused(f"{head}{about}{line_text(status)}: {shown}", LineStatus(status), field_number or 0)
     error.line, error.field, error.field_number, error.text = line, field, field_number, shown
     return error

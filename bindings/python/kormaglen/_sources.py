@@ -3,7 +3,7 @@
 from __future__ import annotations
 
 import ctypes
-from typing import Any, Callable, Iterable, Iterator, List
+from typing import Any, Callable, Iterable, Iterator, List, Mapping
 
 from kormaglen._arguments import Lent, is_buffer, type_name, utf8
 
@@ -77,13 +77,13 @@ def reader_of_lines(source: Any, name: str) -> Read:
         return _of_buffer(source, name)
     if _is_file(source):
         return _of_file(source, name, texts=True)
-    try:
+    # (what a mapping iterates over are its keys, which nobody means by lines)
+    if isinstance(source, Iterable) and not isinstance(source, Mapping):
         return _of_items(source, name)
-    except TypeError:
-        raise TypeError(
-            f"{name}: a text, a bytes-like object, a file or an iterable of lines is wanted, "
-            f"not {type_name(source)}"
-        ) from None
+    raise TypeError(
+        f"{name}: a text, a bytes-like object, a file or an iterable of lines is wanted, "
+        f"not {type_name(source)}"
+    )
 
 
 def reader_of_block(source: Any, name: str) -> Read:

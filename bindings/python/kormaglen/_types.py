@@ -3,10 +3,11 @@ is given is tested then."""
 
 from __future__ import annotations
 
-import os
 from typing import TYPE_CHECKING, Any, Iterable, Mapping, Sequence, Union
 
 if TYPE_CHECKING:
+    import os
+
     from _typeshed import ReadableBuffer, SupportsRead, SupportsWrite
 
     # Anything with the buffer protocol. (Python itself has a name for it from 3.12 on.)

@@ -121,12 +121,13 @@ import kormaglen as K
 from tests.common import SCHEMA
 schema = K.Schema(SCHEMA)
 line = b'{"name":"' + b"x" * (60 << 20) + b'"}'
+text = line.decode()
 with open("/proc/self/statm") as file:
     used = int(file.read().split()[0]) * resource.getpagesize()
 before = resource.getrlimit(resource.RLIMIT_AS)
 resource.setrlimit(resource.RLIMIT_AS, (used + (30 << 20), before[1]))
 seen = 0
-for call in (lambda: schema.parse(line), lambda: schema.import_lines(line), lambda: K.term_of_text(0, line[:-2].decode())):
+for call in (lambda: schema.parse(line), lambda: schema.import_lines(line), lambda: K.term_of_text(0, text)):
     try:
         call()
     except MemoryError:

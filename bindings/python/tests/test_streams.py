@@ -123,7 +123,7 @@ class Importing(unittest.TestCase):
         self.assertEqual(len(self.schema.import_lines(["", "{}"]).lines), 2)
 
     def test_what_is_no_source(self) -> None:
-        for source in (None, 1, 1.5, object(), True):
+        for source in (None, 1, 1.5, object(), True, {"{}": 1}):
             for call in (self.schema.import_lines, self.schema.import_chunks):
                 with self.assertRaises(TypeError):
                     call(source)

@@ -219,7 +219,8 @@ class Interrupted(Exception):
 
 
 class Interrupts(unittest.TestCase):
-    """A handler that raises in the midst of anything: what was lent is given back, and no lock stays taken."""
+    """A handler that raises in the midst of anything: what was lent is given back, and no lock stays
+    taken."""
 
     def test_a_handler_that_raises(self) -> None:
         schema = K.Schema(SCHEMA)
