@@ -57,7 +57,7 @@ class Document(Held, Mapping[str, List[Any]]):
     A value is in Python, by the type of its field: text a `str`, or a `dict` where it has its tokens; u64
     and i64 an `int`; bool a `bool`; date a `DateTime`; facet its text as `/first/second`; bytes `bytes`;
     json_object a `dict`; ip_addr an `IPv4Address` or `IPv6Address`. Of a value that isn't of its field's
-    type, as a document that was read may have it, it is what its JSON is.
+    type, as a document that was read may have it, it is what its JSON reads as.
 
     Each access reads the document anew, so `to_dict()` is the faster way to many fields. Any thread may use
     and close it: there is one call at a time. Two documents are equal if their schemas, their values and
