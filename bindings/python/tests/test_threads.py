@@ -231,7 +231,9 @@ class Interrupts(unittest.TestCase):
         armed, seen = False, 0
 
         def handler(*_: Any) -> None:
+            nonlocal armed
             if armed:
+                armed = False
                 raise Interrupted
 
         before = signal.signal(signal.SIGALRM, handler)
@@ -248,7 +250,6 @@ class Interrupts(unittest.TestCase):
                         call()
                         armed = False
                     except Interrupted:
-                        armed = False
                         seen += 1
         finally:
             signal.setitimer(signal.ITIMER_REAL, 0)
