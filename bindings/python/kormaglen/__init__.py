@@ -1,8 +1,8 @@
-"""Schemas, stored documents, terms and facets of tantivy 0.26.2, by calls of a library that is proved. This
-package tests arguments and hands them over; it needs no other package.
+"""Schemas, stored documents, terms and facets of tantivy 0.26.2, by calls of a library that is proved.
+This package tests arguments and hands them over; it needs no other package.
 
-A `Schema` holds a schema, a `Document` one document. A block has documents one behind the other, as a block
-of a document store has them.
+A `Schema` holds a schema, a `Document` one document. A block has documents one behind the other, as a
+block of a document store has them.
 
 >>> schema = SchemaBuilder().text("name", stored=True).u64("age", indexed=True, stored=True).build()
 >>> document = schema.parse('{"name":"Ada","age":36}')
@@ -15,18 +15,18 @@ line 2: field "age": ...
 [{'age': [36], 'name': ['Ada']}]
 
 Whatever the library refuses is a `Refused`, which is a `ValueError`. An argument of another type is a
-TypeError, and a number out of its range an OverflowError; neither reaches the library. Want of memory is a
-MemoryError. After an error everything is as it was.
+TypeError, and a number out of its range an OverflowError; neither reaches the library. Want of memory
+is a MemoryError. After an error everything is as it was.
 
-Where an argument is bytes, anything with the buffer protocol is taken, without a copy: bytes, bytearray,
-memoryview, mmap, array. Its bytes have to lie one behind the other, else that is a BufferError. While a
-call reads a bytearray, it can't be resized. If another thread changes the bytes meanwhile, the answer is
-that of some mixture, or a refusal. A file that is mapped must not become shorter: then the system ends the
-process.
+Where an argument is bytes, anything with the buffer protocol is taken, without a copy: bytes,
+bytearray, memoryview, mmap, array. Its bytes have to lie one behind the other, else that is a
+BufferError. While a call reads a bytearray, it can't be resized. If another thread changes the bytes
+meanwhile, the answer is that of some mixture, or a refusal. A file that is mapped must not become
+shorter: then the system ends the process.
 
-A call lets other threads run. A schema or a document may be used and closed by any thread; calls with the
-same one wait for each other. In a process that was forked while another thread was in a call, what that
-call used can't be used.
+A call lets other threads run. A schema or a document may be used and closed by any thread; calls with
+the same one wait for each other. In a process that was forked while another thread was in a call, what
+that call used can't be used.
 """
 
 from kormaglen._blocks import (

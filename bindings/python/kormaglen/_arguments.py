@@ -1,5 +1,5 @@
-"""What every call's arguments pass on their way in: numbers, texts and buffers are tested here and nowhere
-else."""
+"""What every call's arguments pass on their way in: numbers, texts and buffers are tested here and
+nowhere else."""
 
 from __future__ import annotations
 
@@ -28,7 +28,7 @@ def type_name(value: object) -> str:
 
 
 def integer(value: object, name: str) -> int:
-    """The value as an integer of any size. TypeError where it is none, as a float or a bool."""
+    """The value as an integer of any size. Raises TypeError where it is none, as a float or a bool."""
     if isinstance(value, bool):
         raise TypeError(f"{name}: an integer is wanted, not bool")
     try:
@@ -38,8 +38,8 @@ def integer(value: object, name: str) -> int:
 
 
 def within(value: object, name: str, least: int, most: int) -> int:
-    """The value as an integer of a range. Errors as of `integer`, and OverflowError where it is out of the
-    range."""
+    """The value as an integer of a range. Errors are those of `integer`, and OverflowError where it is
+    out of the range."""
     given = integer(value, name)
     if not least <= given <= most:
         # Python refuses to print a number of more than some thousand digits.
@@ -49,18 +49,18 @@ def within(value: object, name: str, least: int, most: int) -> int:
 
 
 def number(value: object, name: str) -> int:
-    """The value as a number of 32 bits, as C takes it. It is tested before it crosses, because ctypes cuts
-    it silently. Errors as of `within`."""
+    """The value as a number of 32 bits, as C takes it. It is tested before it crosses, because ctypes
+    cuts it silently. Errors are those of `within`."""
     return within(value, name, 0, (1 << 32) - 1)
 
 
 def chunk_size(value: object) -> int:
-    """The value as a number of bytes to handle at once: from 1 to 2^30. Errors as of `within`."""
+    """The value as a number of bytes to handle at once: from 1 to 2^30. Errors are those of `within`."""
     return within(value, "chunk_size", 1, 1 << 30)
 
 
 def utf8(value: str, name: str) -> bytes:
-    """The text in UTF-8. ValueError where it has a lone surrogate."""
+    """The text in UTF-8. Raises ValueError where it has a lone surrogate."""
     try:
         # (by the type, since a subclass may have another `encode`)
         return str.encode(value, "utf-8")
@@ -71,7 +71,7 @@ def utf8(value: str, name: str) -> bytes:
 
 
 def text(value: object, name: str) -> bytes:
-    """A text's UTF-8. TypeError where the value is no `str`."""
+    """A text's UTF-8. Raises TypeError where the value is no `str`."""
     if not isinstance(value, str):
         raise TypeError(f"{name}: a str is wanted, not {type_name(value)}")
     return utf8(value, name)
@@ -115,11 +115,12 @@ def is_buffer(value: object) -> bool:
 
 
 class Lent:
-    """The bytes of a buffer, where they lie and without a copy, for the time of a `with`. While they are
-    lent, a bytearray can't be resized.
+    """The bytes of a buffer, where they lie and without a copy, for the time of a `with`. While they
+    are lent, a bytearray can't be resized.
 
-    A `str` is its UTF-8 where `texts` is set. TypeError where the value has no bytes, ValueError for a lone
-    surrogate or a memoryview that was released, BufferError where the bytes don't lie one behind the other.
+    A `str` is its UTF-8 where `texts` is set. Raises TypeError where the value has no bytes, ValueError
+    for a lone surrogate or a memoryview that was released, BufferError where the bytes don't lie one
+    behind the other.
     """
 
     __slots__ = ("_view", "at", "size")
@@ -162,7 +163,7 @@ class Lent:
 
 
 def room(wanted: int) -> Union[bytearray, mmap.mmap]:
-    """A buffer of so many bytes to write into. MemoryError where there is none."""
+    """A buffer of so many bytes to write into. Raises MemoryError where there is none."""
     if wanted > sys.maxsize:
         raise MemoryError(f"{wanted} bytes are wanted")
     if wanted <= _LARGE:
@@ -174,11 +175,11 @@ def room(wanted: int) -> Union[bytearray, mmap.mmap]:
 
 
 def filled(first: int, call: Call) -> bytes:
-    """What a call writes. It is called with a buffer of the first size, and where that is too small with
-    one of the size that the answer says.
+    """What a call writes. It is called with a buffer of the first size, and where that is too small
+    with one of the size that the answer says.
 
-    One more try is enough, unless another thread changes the input meanwhile. BufferError where it does so
-    again and again.
+    One more try is enough, unless another thread changes the input meanwhile. Raises BufferError where
+    it does so again and again.
     """
     wanted = first
     for _ in range(_MOST_TRIES):

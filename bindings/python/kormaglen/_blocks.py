@@ -58,9 +58,9 @@ def find_field(schema: SchemaOrJson, path: str) -> Found:
 def migrate_block(source: int, block: Buffer, target: int) -> bytes:
     """The documents of a block, of version 1, 2 or 3, in version 2 or 3. All values of them are kept.
 
-    DocumentRefused where bytes hold none, VersionRefused, TypeError where an argument is of another type,
-    OverflowError where a version doesn't fit 32 bits, BufferError where the bytes don't lie one behind the
-    other, MemoryError.
+    Raises DocumentRefused where bytes hold none, VersionRefused for another version, TypeError where an
+    argument is of another type, OverflowError where a version doesn't fit 32 bits, BufferError where
+    the bytes don't lie one behind the other, MemoryError where memory is refused.
 
     >>> migrate_block(2, bytes.fromhex("8100000000012400000000000000"), 3).hex()
     '8100000000012400000000000000'
@@ -80,10 +80,10 @@ def migrate_chunks(source: int, block: Block, target: int, chunk_size: int = 1 <
 
 
 def terms_of_block(field: int, version: int, block: Buffer) -> List[Term]:
-    """The terms of the values of a field, by its number, in the documents of a block of version 1, 2 or 3,
-    in their order, each with the number of its document from 0. Terms are compared as their bytes, and so
-    by field, then by type, then by value. A date is cut to the second, as it is indexed, and a text is
-    whole.
+    """The terms of the values of a field, by its number, in the documents of a block of version 1, 2 or
+    3, in their order, each with the number of its document from 0. Terms are compared as their bytes,
+    and so by field, then by type, then by value. A date is cut to the second, as it is indexed, and a
+    text is whole.
 
     Errors are those of `migrate_block`.
 
@@ -97,12 +97,12 @@ def terms_of_block(field: int, version: int, block: Buffer) -> List[Term]:
 
 
 def terms(field: int, block: Block, version: int = 2, chunk_size: int = 1 << 16) -> Iterator[Term]:
-    """`terms_of_block` in bounded memory, term by term. The block is anything with the buffer protocol, or
-    a file object of bytes.
+    """`terms_of_block` in bounded memory, term by term. The block is anything with the buffer protocol,
+    or a file object of bytes.
 
-    Arguments are tested at once. A document that is refused is reported when it is reached: then the terms
-    before stay good. Errors are those of `terms_of_block`, OverflowError where `chunk_size` is not within 1
-    and 2^30, and what a file raises.
+    Arguments are tested at once. A document that is refused is reported when it is reached: then the
+    terms before stay good. Errors are those of `terms_of_block`, OverflowError where `chunk_size` is
+    not within 1 and 2^30, and what a file raises.
 
     >>> [term.document for term in terms(0, bytes.fromhex("80" + "8100000000012400000000000000"))]
     [1]
@@ -111,11 +111,11 @@ def terms(field: int, block: Block, version: int = 2, chunk_size: int = 1 << 16)
 
 
 def term_of_text(field: int, value: str) -> bytes:
-    """The term of a text in a field, by its number. The terms of all texts that begin with it begin with
-    this term.
+    """The term of a text in a field, by its number. The terms of all texts that begin with it begin
+    with this term.
 
-    TypeError where an argument is of another type, OverflowError where the field doesn't fit 32 bits,
-    ValueError for a lone surrogate.
+    Raises TypeError where an argument is of another type, OverflowError where the field doesn't fit 32
+    bits, ValueError for a lone surrogate.
 
     >>> term_of_text(1, "ab")
     b'\\x00\\x00\\x00\\x01sab'
@@ -129,11 +129,11 @@ def term_of_text(field: int, value: str) -> bytes:
 
 
 def end_of_prefix(prefix: Buffer) -> bytes:
-    """The least bytes above all that begin with a prefix: the terms that begin with it are those from the
-    prefix on and below this.
+    """The least bytes above all that begin with a prefix: the terms that begin with it are those from
+    the prefix on and below this.
 
-    Refused where no bytes are above them, as for a prefix of bytes 255 alone. TypeError where it is no
-    buffer, BufferError where the bytes don't lie one behind the other.
+    Raises Refused where no bytes are above them, as for a prefix of bytes 255 alone, TypeError where it
+    is no buffer, BufferError where the bytes don't lie one behind the other.
 
     >>> end_of_prefix(b"ab")
     b'ac'
@@ -145,10 +145,11 @@ def end_of_prefix(prefix: Buffer) -> bytes:
 
 
 def facet_of_text(value: str) -> bytes:
-    """The encoded facet that a text as `/first/second` names: its steps with a zero byte between each two.
+    """The encoded facet that a text as `/first/second` names: its steps with a zero byte between each
+    two.
 
-    Refused where the text names none, since it doesn't begin with a slash. TypeError where it is no `str`,
-    ValueError for a lone surrogate.
+    Raises Refused where the text names none, since it doesn't begin with a slash, TypeError where it is
+    no `str`, ValueError for a lone surrogate.
 
     >>> facet_of_text("/staff/research")
     b'staff\\x00research'
@@ -162,8 +163,8 @@ def facet_of_text(value: str) -> bytes:
 def text_of_facet(encoded: Buffer) -> str:
     """The text that names an encoded facet.
 
-    Refused where the bytes aren't UTF-8. TypeError where it is no buffer, BufferError where the bytes don't
-    lie one behind the other.
+    Raises Refused where the bytes aren't UTF-8, TypeError where it is no buffer, BufferError where the
+    bytes don't lie one behind the other.
 
     >>> text_of_facet(b"staff\\x00research")
     '/staff/research'

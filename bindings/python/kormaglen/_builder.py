@@ -45,8 +45,8 @@ def _fast(given: Fast) -> Any:
 
 
 class SchemaBuilder:
-    """The fields of a schema, one by one. Each call adds a field and returns the builder. The options have
-    tantivy's names and defaults; whether they describe a field is said by `build`.
+    """The fields of a schema, one by one. Each call adds a field and returns the builder. The options
+    have tantivy's names and defaults; whether they describe a field is said by `build`.
 
     >>> builder = SchemaBuilder().text("name", indexing=TEXT, stored=True).u64("age", stored=True)
     >>> schema = builder.build()
@@ -73,7 +73,7 @@ class SchemaBuilder:
         coerce: Flag = False,
     ) -> SchemaBuilder:
         """Adds a field of texts. Without `indexing` it isn't indexed. `fast` may be the name of a
-        tokenizer. TypeError where `indexing` is another type.
+        tokenizer. Raises TypeError where `indexing` is another type.
 
         >>> schema = SchemaBuilder().text("name", indexing=STRING).build()
         >>> schema.field("name").options["indexing"]["tokenizer"]
@@ -93,8 +93,8 @@ class SchemaBuilder:
         fieldnorms: Optional[Flag] = None,
         coerce: Flag = False,
     ) -> SchemaBuilder:
-        """Adds a field of whole numbers from 0 to 2^64 - 1. `fieldnorms` are as `indexed` where they aren't
-        given; `coerce` reads them from texts, too.
+        """Adds a field of whole numbers from 0 to 2^64 - 1. `fieldnorms` are as `indexed` where they
+        aren't given; `coerce` reads them from texts, too.
 
         >>> SchemaBuilder().u64("age", indexed=True).build().field("age").options["fieldnorms"]
         True
@@ -113,8 +113,8 @@ class SchemaBuilder:
         fieldnorms: Optional[Flag] = None,
         coerce: Flag = False,
     ) -> SchemaBuilder:
-        """Adds a field of whole numbers from -2^63 to 2^63 - 1. `fieldnorms` are as `indexed` where they
-        aren't given; `coerce` reads them from texts, too.
+        """Adds a field of whole numbers from -2^63 to 2^63 - 1. `fieldnorms` are as `indexed` where
+        they aren't given; `coerce` reads them from texts, too.
 
         >>> SchemaBuilder().i64("height", stored=True).build().field("height").type
         'i64'
@@ -197,8 +197,8 @@ class SchemaBuilder:
         fast: Fast = False,
         expand_dots_enabled: Flag = False,
     ) -> SchemaBuilder:
-        """Adds a field of JSON objects. Without `indexing` its texts aren't indexed. `fast` may be the name
-        of a tokenizer. TypeError where `indexing` is another type.
+        """Adds a field of JSON objects. Without `indexing` its texts aren't indexed. `fast` may be the
+        name of a tokenizer. Raises TypeError where `indexing` is another type.
 
         >>> schema = SchemaBuilder().json_object("more", stored=True).build()
         >>> schema.field("more").options["expand_dots_enabled"]
@@ -223,8 +223,8 @@ class SchemaBuilder:
         fast: Flag = False,
         fieldnorms: Optional[Flag] = None,
     ) -> SchemaBuilder:
-        """Adds a field of IP addresses of both versions. `fieldnorms` are as `indexed` where they aren't
-        given.
+        """Adds a field of IP addresses of both versions. `fieldnorms` are as `indexed` where they
+        aren't given.
 
         >>> SchemaBuilder().ip_addr("host", stored=True).build().field("host").type
         'ip_addr'
@@ -233,8 +233,8 @@ class SchemaBuilder:
         return self._add(name, "ip_addr", indexed=indexed, stored=stored, fast=fast, fieldnorms=norms)
 
     def to_json(self) -> str:
-        """The JSON of the fields so far, as `build` hands it to the library. TypeError where an option has
-        no JSON.
+        """The JSON of the fields so far, as `build` hands it to the library. Raises TypeError where an
+        option has no JSON.
 
         >>> SchemaBuilder().facet("group").to_json()
         '[{"name":"group","type":"facet","options":{"stored":false}}]'
@@ -244,8 +244,9 @@ class SchemaBuilder:
     def build(self) -> Schema:
         """The schema of the fields so far. The builder stays as it is, and can be used further.
 
-        SchemaRefused where the fields make none, as with two of one name or an option that is no truth
-        value, TypeError where an option has no JSON, ValueError for a lone surrogate, MemoryError.
+        Raises SchemaRefused where the fields make none, as with two of one name or an option that is no
+        truth value, TypeError where an option has no JSON, ValueError for a lone surrogate, MemoryError
+        where memory is refused.
 
         >>> schema = SchemaBuilder().facet("group").build()
         >>> schema == Schema('[{"name":"group","type":"facet","options":{"stored":false}}]')

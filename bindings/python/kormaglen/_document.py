@@ -50,19 +50,19 @@ _D = TypeVar("_D", bound="Document")
 
 
 class Document(Held, Mapping[str, List[Any]]):
-    """A document of a schema: a mapping of the names of fields to the lists of their values. It is made by
-    `from_dict`, `parse` and `read`, or by the calls of a `Schema` that have nearly the same names, and
-    doesn't change.
+    """A document of a schema: a mapping of the names of fields to the lists of their values. It is made
+    by `from_dict`, `parse` and `read`, or by the calls of a `Schema` that have nearly the same names,
+    and doesn't change.
 
-    A value is in Python, by the type of its field: text a `str`, or a `dict` where it has its tokens; u64
-    and i64 an `int`; bool a `bool`; date a `DateTime`; facet its text as `/first/second`; bytes `bytes`;
-    json_object a `dict`; ip_addr an `IPv4Address` or `IPv6Address`. Of a value that isn't of its field's
-    type, as a document that was read may have it, it is what its JSON reads as.
+    A value is in Python, by the type of its field: text a `str`, or a `dict` where it has its tokens;
+    u64 and i64 an `int`; bool a `bool`; date a `DateTime`; facet its text as `/first/second`; bytes
+    `bytes`; json_object a `dict`; ip_addr an `IPv4Address` or `IPv6Address`. Of a value that isn't of
+    its field's type, as a document that was read may have it, it is what its JSON reads as.
 
-    Each access reads the document anew, so `to_dict()` is the faster way to many fields. Any thread may use
-    and close it: there is one call at a time. Two documents are equal if their schemas, their values and
-    the bytes that are stored of them are, and a document is equal to a mapping of the same values. It can
-    be copied and pickled if all its values are stored; else that is a ValueError.
+    Each access reads the document anew, so `to_dict()` is the faster way to many fields. Any thread may
+    use and close it: there is one call at a time. Two documents are equal if their schemas, their
+    values and the bytes that are stored of them are, and a document is equal to a mapping of the same
+    values. It can be copied and pickled if all its values are stored; else that is a ValueError.
 
     >>> document = Schema(SCHEMA).parse('{"age":36}')
     >>> document["age"]
@@ -79,14 +79,14 @@ class Document(Held, Mapping[str, List[Any]]):
 
     @classmethod
     def from_dict(cls: Type[_D], schema: Schema, values: Mapping[str, Any]) -> _D:
-        """The document of a mapping of names to a value each, or to a list or a tuple of values. Values are
-        as a document gives them, and as their JSON: a date may be a `datetime` with a time zone or a text
-        of RFC 3339, bytes anything with the buffer protocol or base64.
+        """The document of a mapping of names to a value each, or to a list or a tuple of values. Values
+        are as a document gives them, and as their JSON: a date may be a `datetime` with a time zone or
+        a text of RFC 3339, bytes anything with the buffer protocol or base64.
 
-        LineRefused where the library refuses a value, as a number that doesn't fit its field or any float.
-        FieldRefused where a name is no field's. TypeError where a value has no JSON, ValueError for a
-        datetime without a time zone, NaN, a lone surrogate or values nested too deeply. Closed where the
-        schema is.
+        Raises LineRefused where the library refuses a value, as a number that doesn't fit its field or
+        any float. Raises FieldRefused where a name is no field's, TypeError where a value has no JSON,
+        ValueError for a datetime without a time zone, NaN, a lone surrogate or values nested too
+        deeply, Closed where the schema is closed, MemoryError where memory is refused.
 
         >>> Document.from_dict(Schema(SCHEMA), {"age": [1, 2**64 - 1]})["age"]
         [1, 18446744073709551615]
@@ -108,8 +108,9 @@ class Document(Held, Mapping[str, List[Any]]):
     def parse(cls: Type[_D], schema: Schema, line: TextOrBuffer) -> _D:
         """The document of a JSON object. Keys that name no field are passed over.
 
-        LineRefused where it is no JSON object or a value is refused, Closed where the schema is, TypeError
-        where an argument is of another type, ValueError for a lone surrogate, MemoryError.
+        Raises LineRefused where it is no JSON object or a value is refused, Closed where the schema is
+        closed, TypeError where an argument is of another type, ValueError for a lone surrogate,
+        MemoryError where memory is refused.
 
         >>> Document.parse(Schema(SCHEMA), b'{"age":[7,8],"other":1}')["age"]
         [7, 8]
@@ -131,9 +132,10 @@ class Document(Held, Mapping[str, List[Any]]):
         """The document with which the bytes begin, of version 1, 2 or 3, and how many bytes it takes.
         Whatever follows is not looked at.
 
-        DocumentRefused where none begins there, VersionRefused, Closed where the schema is, TypeError where
-        an argument is of another type, OverflowError where the version doesn't fit 32 bits, BufferError
-        where the bytes don't lie one behind the other, MemoryError.
+        Raises DocumentRefused where none begins there, VersionRefused for another version, Closed where
+        the schema is closed, TypeError where an argument is of another type, OverflowError where the
+        version doesn't fit 32 bits, BufferError where the bytes don't lie one behind the other,
+        MemoryError where memory is refused.
 
         >>> document, size = Document.read(Schema(SCHEMA), bytes.fromhex("8100000000012400000000000000ff"))
         >>> document["age"], size
@@ -167,8 +169,8 @@ class Document(Held, Mapping[str, List[Any]]):
 
     @property
     def schema(self) -> Schema:
-        """The schema by which the document was made. Closed where the document has none, since it was never
-        made.
+        """The schema by which the document was made. Raises Closed where the document has none, since
+        it was never made.
 
         >>> Schema(SCHEMA).parse("{}").schema == Schema(SCHEMA)
         True
@@ -178,10 +180,11 @@ class Document(Held, Mapping[str, List[Any]]):
         return self._by
 
     def to_json(self) -> str:
-        """The document as JSON: the names of the fields in byte order, each with an array of its values.
-        Values of fields that the schema doesn't have are left out. It is in one line, without a line feed.
+        """The document as JSON: the names of the fields in byte order, each with an array of its
+        values. Values of fields that the schema doesn't have are left out. It is in one line, without a
+        line feed.
 
-        Closed where the document or its schema is, MemoryError.
+        Raises Closed where the document or its schema is closed, MemoryError where memory is refused.
 
         >>> Schema(SCHEMA).parse('{"age":36}').to_json()
         '{"age":[36]}'
@@ -195,9 +198,9 @@ class Document(Held, Mapping[str, List[Any]]):
     def write(self, version: int = 2) -> bytes:
         """The bytes of the document in version 2 or 3: the values of stored fields.
 
-        FieldRefused where the document has a value of a field that the schema doesn't have, VersionRefused,
-        Closed where the document or its schema is, TypeError or OverflowError where the version is no
-        number of 32 bits, MemoryError.
+        Raises FieldRefused where the document has a value of a field that the schema doesn't have,
+        VersionRefused for another version, Closed where the document or its schema is closed, TypeError
+        or OverflowError where the version is no number of 32 bits, MemoryError where memory is refused.
 
         >>> Schema(SCHEMA).parse('{"age":36}').write().hex()
         '8100000000012400000000000000'
@@ -213,8 +216,8 @@ class Document(Held, Mapping[str, List[Any]]):
     def to_dict(self) -> Dict[str, List[Any]]:
         """The values of all fields that have some. Changing it doesn't change the document.
 
-        Closed where the document or its schema is, ValueError where values are nested more deeply than
-        Python reads, MemoryError.
+        Raises Closed where the document or its schema is closed, ValueError where values are nested
+        more deeply than Python reads, MemoryError where memory is refused.
 
         >>> Schema(SCHEMA).parse('{"age":36}').to_dict()
         {'age': [36]}
@@ -234,7 +237,7 @@ class Document(Held, Mapping[str, List[Any]]):
         return len(parsed(self.to_json()))
 
     def keys(self) -> KeysView[str]:
-        """The names of the fields that have values. Errors as of `to_dict`.
+        """The names of the fields that have values. Errors are those of `to_dict`.
 
         >>> list(Schema(SCHEMA).parse('{"age":36}').keys())
         ['age']
@@ -242,7 +245,7 @@ class Document(Held, Mapping[str, List[Any]]):
         return self.to_dict().keys()
 
     def items(self) -> ItemsView[str, List[Any]]:
-        """The names with their values. Errors as of `to_dict`.
+        """The names with their values. Errors are those of `to_dict`.
 
         >>> list(Schema(SCHEMA).parse('{"age":36}').items())
         [('age', [36])]
@@ -250,7 +253,7 @@ class Document(Held, Mapping[str, List[Any]]):
         return self.to_dict().items()
 
     def values(self) -> ValuesView[List[Any]]:
-        """The lists of values. Errors as of `to_dict`.
+        """The lists of values. Errors are those of `to_dict`.
 
         >>> list(Schema(SCHEMA).parse('{"age":36}').values())
         [[36]]

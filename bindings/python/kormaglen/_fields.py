@@ -15,8 +15,8 @@ from kormaglen._values import printed
 
 
 class Field(NamedTuple):
-    """A field of a schema: its number from 0, its name, the name of its type as the schema's JSON has it,
-    and its options, all of them.
+    """A field of a schema: its number from 0, its name, the name of its type as the schema's JSON has
+    it, and its options, all of them.
 
     >>> Schema(SCHEMA).field("age")[:3]
     (0, 'age', 'u64')
@@ -29,8 +29,8 @@ class Field(NamedTuple):
 
 
 class Found(NamedTuple):
-    """The field that a path names: its number, and the rest of the path, which leads into the field's JSON
-    objects.
+    """The field that a path names: its number, and the rest of the path, which leads into the field's
+    JSON objects.
 
     >>> Schema(SCHEMA).find_field("age")
     Found(field=0, rest='')
@@ -61,8 +61,8 @@ class HeldSchema(Held):
         self._handle = handle
 
     def to_json(self) -> str:
-        """The schema's JSON with all options written out. Of equal schemas it is the same. Closed,
-        MemoryError.
+        """The schema's JSON with all options written out. Equal schemas have the same. Raises Closed
+        where the schema is closed, MemoryError where memory is refused.
 
         >>> Schema("[]").to_json()
         '[]'
@@ -75,7 +75,8 @@ class HeldSchema(Held):
 
     @property
     def fields(self) -> Tuple[Field, ...]:
-        """The fields in order. Closed, MemoryError.
+        """The fields in order. Raises Closed where the schema is closed, MemoryError where memory is
+        refused.
 
         >>> [field.name for field in Schema(SCHEMA).fields]
         ['age']
@@ -86,8 +87,8 @@ class HeldSchema(Held):
         )
 
     def field(self, name: str) -> Field:
-        """The field of a name. FieldRefused where none has it, TypeError where it is no `str`, Closed,
-        MemoryError.
+        """The field of a name. Raises FieldRefused where none has it, TypeError where it is no `str`,
+        Closed where the schema is closed, MemoryError where memory is refused.
 
         >>> Schema(SCHEMA).field("age").options["stored"]
         True
@@ -99,11 +100,11 @@ class HeldSchema(Held):
         raise field_refused(name)
 
     def find_field(self, path: str) -> Found:
-        """The field that a path of a query names, as `author.name`: that of the whole path, or of the part
-        before the last dot that names one.
+        """The field that a path of a query names, as `author.name`: that of the whole path, or of the
+        part before the last dot that names one.
 
-        FieldRefused where there is none, TypeError where the path is no `str`, ValueError for a lone
-        surrogate, Closed.
+        Raises FieldRefused where there is none, TypeError where the path is no `str`, ValueError for a
+        lone surrogate, Closed where the schema is closed.
 
         >>> Schema(SCHEMA).find_field("age").field
         0
@@ -120,8 +121,8 @@ class HeldSchema(Held):
         return Found(found.field, given[found.rest :].decode())
 
     def _kinds(self) -> Dict[str, str]:
-        """The names of the fields in order, each with the name of its type. They are kept, since a schema
-        doesn't change."""
+        """The names of the fields in order, each with the name of its type. They are kept, since a
+        schema doesn't change."""
         kinds = self._names
         if kinds is None or self.closed:
             kinds = {field.name: field.type for field in self.fields}

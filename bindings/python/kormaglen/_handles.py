@@ -1,5 +1,5 @@
-"""What the library holds for a value of Python: a handle, with a lock, that is given up when nobody uses it
-any more."""
+"""What the library holds for a value of Python: a handle, with a lock, that is given up when nobody
+uses it any more."""
 
 from __future__ import annotations
 
@@ -16,11 +16,11 @@ _H = TypeVar("_H", bound="Held")
 
 
 class Handle:
-    """A struct of the library's and the lock that each call with it takes, so that there is one call at a
-    time.
+    """A struct of the library's and the lock that each call with it takes, so that there is one call at
+    a time.
 
-    The lock can be taken again on the same thread, since a finalizer or a signal's handler may run in the
-    midst of a method there.
+    The lock can be taken again on the same thread, since a finalizer or a signal's handler may run in
+    the midst of a method there.
     """
 
     __slots__ = ("_close", "_struct", "closed", "lock", "ref")
@@ -56,8 +56,8 @@ class Handle:
 
 
 class Held:
-    """A value that is held by the library: a context manager that closes it. A value without a handle is a
-    closed one."""
+    """A value that is held by the library: a context manager that closes it. A value without a handle
+    is a closed one."""
 
     # A subclass or `__new__` may leave out `__init__`: then this one is found.
     _handle: Optional[Handle] = None
@@ -74,8 +74,8 @@ class Held:
         return self._handle is None or self._handle.closed
 
     def close(self) -> None:
-        """Gives up what is held: every later call but this one and `closed` raises `Closed`. It waits for a
-        call on another thread. To close twice is no error.
+        """Gives up what is held: every later call but this one and `closed` raises `Closed`. It waits
+        for a call on another thread. To close twice is no error.
 
         >>> schema = Schema("[]")
         >>> schema.close()
@@ -99,8 +99,8 @@ class Held:
 
 
 def opened(value: object, kind: Type[Held], name: str = "self") -> Handle:
-    """The handle of a value of that class that isn't closed. TypeError where it is of another class: a
-    handle of another kind must not reach the library. Closed where it is closed."""
+    """The handle of a value of that class that isn't closed. Raises TypeError where it is of another
+    class: a handle of another kind must not reach the library. Raises Closed where it is closed."""
     if not isinstance(value, kind):
         raise TypeError(f"{name}: a {kind._what} is wanted, not {type_name(value)}")
     handle = value._handle

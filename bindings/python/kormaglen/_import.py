@@ -12,8 +12,8 @@ _T = TypeVar("_T")
 
 
 class LineAnswer(NamedTuple):
-    """What became of a line: `LineStatus.STORED`, or why it was refused; how many bytes its document takes
-    in the block; and the number of the field whose value was refused, or None.
+    """What became of a line: `LineStatus.STORED`, or why it was refused; how many bytes its document
+    takes in the block; and the number of the field whose value was refused, or None.
 
     >>> import_lines(SCHEMA, '{"age":"x"}').lines[0].field
     0
@@ -98,8 +98,8 @@ class LineRefusals(_Rows[LineRefused]):
 
 
 class Imported(NamedTuple):
-    """What lines gave: a block of their documents in version 2, an answer for each line, those that were
-    refused, and the number of the first line, which is 1 but for later parts.
+    """What lines gave: a block of their documents in version 2, an answer for each line, those that
+    were refused, and the number of the first line, which is 1 but for later parts.
 
     >>> import_lines(SCHEMA, '{"age":1}').block.hex()
     '8100000000010100000000000000'
@@ -112,8 +112,8 @@ class Imported(NamedTuple):
 
 
 class ImportCounts(NamedTuple):
-    """What an import of a file gave: how many lines there were, how many were stored and how many refused,
-    the size of the block in bytes, and the first 100 that were refused.
+    """What an import of a file gave: how many lines there were, how many were stored and how many
+    refused, the size of the block in bytes, and the first 100 that were refused.
 
     >>> Schema(SCHEMA).import_file(["{}"], io.BytesIO())[:4]
     (1, 1, 0, 1)

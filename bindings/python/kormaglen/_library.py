@@ -29,8 +29,8 @@ class FoundField(ctypes.Structure):
 
 
 class SchemaStruct(ctypes.Structure):
-    """kormaglen_schema. Its type differs from the document's, so that ctypes refuses one in the place of
-    the other."""
+    """kormaglen_schema. Its type differs from the document's, so that ctypes refuses one in the place
+    of the other."""
 
     _fields_ = [("at", ctypes.c_void_p)]
 
@@ -103,8 +103,8 @@ def _loaded() -> Tuple[ctypes.CDLL, str]:
 
 
 def _with_signatures() -> Tuple[ctypes.CDLL, str]:
-    """The library with the signatures of all calls. One that lacks a call is refused at once, and not in
-    the midst of its use."""
+    """The library with the signatures of all calls. One that lacks a call is refused at once, and not
+    in the midst of its use."""
     library, place = _loaded()
     for name, (arguments, result) in _SIGNATURES.items():
         try:

@@ -12,8 +12,8 @@ SHOWN = 60
 
 
 class _Numbers(enum.IntEnum):
-    """Names for numbers of the library. One without a name, as a newer library may have, is called after its
-    number."""
+    """Names for numbers of the library. One without a name, as a newer library may have, is called
+    after its number."""
 
     @classmethod
     def _missing_(cls, value: object) -> Optional[_Numbers]:
@@ -129,9 +129,9 @@ Reason = Union[Status, SchemaFault, DocumentFault, LineStatus]
 class Refused(ValueError):
     """A call was refused. What it was given stays as it was, and so does what its handles hold.
 
-    `reason` is the most precise name that there is: of `Status`, or of `SchemaFault`, `DocumentFault` or
-    `LineStatus` in the classes below. A number that this package has no name for is `UNKNOWN_` and the
-    number. `place` is the number that the library says where; each class says what it is.
+    `reason` is the most precise name that there is: of `Status`, or of `SchemaFault`, `DocumentFault`
+    or `LineStatus` in the classes below. A number that this package has no name for is `UNKNOWN_` and
+    the number. `place` is the number that the library says where; each class says what it is.
 
     >>> try:
     ...     facet_of_text("no slash")
@@ -173,8 +173,8 @@ class DocumentRefused(Refused):
 
 class LineRefused(Refused):
     """A line of JSON has no document. `line` is its number, from 1, or None where there is one alone;
-    `field` and `field_number` are the field whose value is refused, or None; `text` is how the line begins:
-    60 characters at most.
+    `field` and `field_number` are the field whose value is refused, or None; `text` is how the line
+    begins: 60 characters at most.
 
     >>> schema = Schema('[{"name":"age","type":"u64","options":{"indexed":true,"stored":true}}]')
     >>> try:
@@ -313,8 +313,8 @@ def closed(what: str) -> Closed:
 
 
 def refused(answer: Answer) -> Exception:
-    """The exception of an answer that isn't OK. What is known besides (a line, a name) has constructors of
-    its own above."""
+    """The exception of an answer that isn't OK. What is known besides (a line, a name) has constructors
+    of its own above."""
     if answer.status == Status.NO_MEMORY:
         return MemoryError(status_text(answer.status))
     if answer.status == Status.BAD_DOCUMENT:

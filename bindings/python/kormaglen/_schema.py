@@ -21,14 +21,14 @@ _LINES = 1 << 20
 class Schema(HeldSchema):
     """A schema: its JSON is read once, and serves any number of calls. It doesn't change.
 
-    It is made of its JSON, as tantivy writes it: a `str`, anything with the buffer protocol, or the list of
-    the entries. Any thread may use and close it: there is one call at a time, and others wait. `copy.copy`
-    makes one of its own for another thread. Two schemas are equal if their fields are. It is pickled as its
-    JSON.
+    It is made of its JSON, as tantivy writes it: a `str`, anything with the buffer protocol, or the
+    list of the entries. Any thread may use and close it: there is one call at a time, and others wait.
+    `copy.copy` makes one of its own for another thread. Two schemas are equal if their fields are. It
+    is pickled as its JSON.
 
-    SchemaRefused where the JSON describes no schema, TypeError where an argument is of another type,
-    ValueError for a lone surrogate or a list nested too deeply, MemoryError. A call of one that is closed
-    raises Closed.
+    Raises SchemaRefused where the JSON describes no schema, TypeError where an argument is of another
+    type, ValueError for a lone surrogate or a list nested too deeply, MemoryError where memory is
+    refused. Each call of one that is closed raises Closed.
 
     >>> with Schema('[{"name":"age","type":"u64","options":{"indexed":true,"stored":true}}]') as schema:
     ...     schema.parse('{"age":36}')["age"]
@@ -60,17 +60,18 @@ class Schema(HeldSchema):
         return Document.read(self, data, version)
 
     def import_lines(self, lines: Lines) -> Imported:
-        """Stores the documents of lines of JSON, one behind the other in version 2, and answers each line.
-        A line ends at a line feed, and the last may lack it. A line that is refused stores nothing, and the
-        next line follows.
+        """Stores the documents of lines of JSON, one behind the other in version 2, and answers each
+        line. A line ends at a line feed, and the last may lack it. A line that is refused stores
+        nothing, and the next line follows.
 
         `lines` are a text, anything with the buffer protocol, a file object of bytes or texts, or an
-        iterable of texts and buffers, of which each item is one line or several. The block and 16 bytes for
-        each line are held, and while it runs the block twice. Of lines that change meanwhile, what is
-        stored is that of a mixture.
+        iterable of texts and buffers, of which each item is one line or several. The block and 16 bytes
+        for each line are held, and while it runs the block twice. Of lines that change meanwhile, what
+        is stored is that of a mixture.
 
-        Closed, TypeError where an argument is of another type, ValueError for a lone surrogate, BufferError
-        where bytes don't lie one behind the other, MemoryError, and what a file or an iterable raises.
+        Raises Closed where the schema is closed, TypeError where an argument is of another type,
+        ValueError for a lone surrogate, BufferError where bytes don't lie one behind the other,
+        MemoryError where memory is refused, and what a file or an iterable raises.
 
         >>> imported = Schema(SCHEMA).import_lines('{"age":36}\\n{"age":"x"}\\n')
         >>> [line.status.name for line in imported.lines]
@@ -81,13 +82,13 @@ class Schema(HeldSchema):
         return joined(parts) if parts else imported(b"", b"", b"", 1, ())
 
     def import_chunks(self, lines: Lines, chunk_size: int = 1 << 20) -> Iterator[Imported]:
-        """`import_lines` in bounded memory: gives a part for about so many bytes of lines each, which holds
-        whole lines. The blocks one behind the other are the block of all lines. A line larger than
-        `chunk_size` makes a larger part.
+        """`import_lines` in bounded memory: gives a part for about so many bytes of lines each, which
+        holds whole lines. The blocks one behind the other are the block of all lines. A line larger
+        than `chunk_size` makes a larger part.
 
-        Arguments are tested at once. What the lines raise comes when the part is asked for: then the parts
-        before stay good. Errors are those of `import_lines`, and OverflowError where `chunk_size` is not
-        within 1 and 2^30.
+        Arguments are tested at once. What the lines raise comes when the part is asked for: then the
+        parts before stay good. Errors are those of `import_lines`, and OverflowError where `chunk_size`
+        is not within 1 and 2^30.
 
         >>> parts = Schema(SCHEMA).import_chunks(['{"age":1}', '{"age":2}'], chunk_size=1)
         >>> [(part.first, len(part.block)) for part in parts]
@@ -103,9 +104,9 @@ class Schema(HeldSchema):
         on_refused: Optional[Callable[[LineRefused], object]] = None,
         chunk_size: int = 1 << 20,
     ) -> ImportCounts:
-        """`import_chunks` from one file into another. Each is a path, or a file object; `lines` may also be
-        what `import_lines` takes, but a `str` is a path. `on_refused` is called with each line that is
-        refused.
+        """`import_chunks` from one file into another. Each is a path, or a file object; `lines` may
+        also be what `import_lines` takes, but a `str` is a path. `on_refused` is called with each line
+        that is refused.
 
         Errors are those of `import_chunks` and of the files. After one, the file has the documents that
         were written before.
@@ -119,12 +120,13 @@ class Schema(HeldSchema):
         return _streams.import_file(lines, block, on_refused, chunk_size, take)
 
     def export_block(self, block: Buffer, version: int = 2) -> bytes:
-        """The documents of a block, of version 1, 2 or 3, as lines of JSON with the names of the schema's
-        fields, each with a line feed.
+        """The documents of a block, of version 1, 2 or 3, as lines of JSON with the names of the
+        schema's fields, each with a line feed.
 
-        DocumentRefused where bytes hold none, VersionRefused, Closed, TypeError where an argument is of
-        another type, OverflowError where the version doesn't fit 32 bits, BufferError where the bytes don't
-        lie one behind the other, MemoryError.
+        Raises DocumentRefused where bytes hold none, VersionRefused for another version, Closed where
+        the schema is closed, TypeError where an argument is of another type, OverflowError where the
+        version doesn't fit 32 bits, BufferError where the bytes don't lie one behind the other,
+        MemoryError where memory is refused.
 
         >>> Schema(SCHEMA).export_block(bytes.fromhex("8100000000012400000000000000"))
         b'{"age":[36]}\\n'
@@ -134,13 +136,13 @@ class Schema(HeldSchema):
             return _exported(self, given.at, given.size, stored)
 
     def export_chunks(self, block: Block, version: int = 2, chunk_size: int = 1 << 20) -> Iterator[bytes]:
-        """`export_block` in bounded memory: gives the lines of about so many bytes of the block each. The
-        block is anything with the buffer protocol, or a file object of bytes. A document larger than
-        `chunk_size` makes a larger part.
+        """`export_block` in bounded memory: gives the lines of about so many bytes of the block each.
+        The block is anything with the buffer protocol, or a file object of bytes. A document larger
+        than `chunk_size` makes a larger part.
 
-        Arguments are tested at once. A document that is refused is reported when it is reached: then the
-        parts before stay good. Errors are those of `export_block`, OverflowError where `chunk_size` is not
-        within 1 and 2^30, and what a file raises.
+        Arguments are tested at once. A document that is refused is reported when it is reached: then
+        the parts before stay good. Errors are those of `export_block`, OverflowError where `chunk_size`
+        is not within 1 and 2^30, and what a file raises.
 
         >>> list(Schema(SCHEMA).export_chunks(b"\\x80\\x80", chunk_size=1))
         [b'{}\\n', b'{}\\n']

@@ -48,8 +48,8 @@ def _of_file(file: Any, name: str, texts: bool) -> Read:
 
 
 def _of_items(items: Iterable[Any], name: str) -> Read:
-    """Reads an iterable of lines: each item is one line or several, and ends a line, with a line feed or
-    without."""
+    """Reads an iterable of lines: each item is one line or several, and ends a line, with a line feed
+    or without."""
     iterator = iter(items)
 
     def read(size: int) -> bytes:
@@ -71,8 +71,8 @@ def _is_file(source: object) -> bool:
 
 
 def reader_of_lines(source: Any, name: str) -> Read:
-    """Reads a text, a buffer, a file object or an iterable of texts and buffers. TypeError where it is
-    something else."""
+    """Reads a text, a buffer, a file object or an iterable of texts and buffers. Raises TypeError where
+    it is something else."""
     if isinstance(source, str) or is_buffer(source):
         return _of_buffer(source, name)
     if _is_file(source):
@@ -87,7 +87,7 @@ def reader_of_lines(source: Any, name: str) -> Read:
 
 
 def reader_of_block(source: Any, name: str) -> Read:
-    """Reads a buffer or a file object of bytes. TypeError where it is something else."""
+    """Reads a buffer or a file object of bytes. Raises TypeError where it is something else."""
     if is_buffer(source):
         return _of_buffer(source, name)
     if _is_file(source):
@@ -114,8 +114,8 @@ def whole_lines(read: Read, size: int) -> Iterator[bytes]:
 
 
 class Carry:
-    """The bytes that were read and not yet used: those of `held` from `at` on. `place` is where these are
-    in the whole."""
+    """The bytes that were read and not yet used: those of `held` from `at` on. `place` is where these
+    are in the whole."""
 
     def __init__(self, read: Read, size: int) -> None:
         self._read = read

@@ -89,8 +89,8 @@ def _file(source: Any, mode: str) -> ContextManager[Any]:
 
 
 def _write(target: IO[bytes], block: bytes) -> None:
-    """Writes all of it: a file without a buffer may take a part only. What gives no count has taken all,
-    but such a file nothing."""
+    """Writes all of it: a file without a buffer may take a part only. What gives no count has taken
+    all, but such a file nothing."""
     rest = memoryview(block)
     while rest:
         count: Any = target.write(rest)
@@ -138,8 +138,8 @@ def runs(block: Any, chunk_size: int, call: _Call[_T]) -> Iterator[_T]:
 def _runs(carry: Carry, size: int, call: _Call[_T]) -> Iterator[Tuple[_T, bytes]]:
     """What the call gives for the documents of a block, so many bytes of them at once, and these bytes.
 
-    Where the bytes end inside a document, or hold none, the call is refused with the place where that one
-    begins. Those before are whole.
+    Where the bytes end inside a document, or hold none, the call is refused with the place where that
+    one begins. Those before are whole.
     """
     while carry.fill(size):
         piece = carry.held[carry.at :]

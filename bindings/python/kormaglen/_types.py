@@ -1,5 +1,5 @@
-"""Names for the types of arguments, for those who check types. When the package runs they say nothing: what
-is given is tested then."""
+"""Names for the types of arguments, for those who check types. When the package runs they say nothing:
+what is given is tested then."""
 
 from __future__ import annotations
 

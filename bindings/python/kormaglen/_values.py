@@ -30,13 +30,14 @@ def _nanoseconds(moment: datetime.datetime) -> int:
 
 @functools.total_ordering
 class DateTime:
-    """A moment in nanoseconds since 1970 at UTC, from 1677 to 2262, as the library keeps it. A `datetime`
-    has no nanoseconds, so one that is made of a `DateTime` could be another moment.
+    """A moment in nanoseconds since 1970 at UTC, from 1677 to 2262, as the library keeps it. A
+    `datetime` has no nanoseconds, so one that is made of a `DateTime` could be another moment.
 
     It doesn't change. It can be compared with others and with a `datetime` that has a time zone, and is
     equal to one of the same moment.
 
-    TypeError where the nanoseconds are no integer, OverflowError where they don't fit 64 bits with a sign.
+    Raises TypeError where the nanoseconds are no integer, OverflowError where they don't fit 64 bits
+    with a sign.
 
     >>> DateTime(1_500_000_001)
     DateTime('1970-01-01T00:00:01.500000001Z')
@@ -53,8 +54,8 @@ class DateTime:
     def from_datetime(cls, moment: datetime.datetime) -> DateTime:
         """The moment of a `datetime` that has a time zone.
 
-        TypeError where it is none, ValueError where it has no time zone, OverflowError where it is before
-        1677 or after 2262.
+        Raises TypeError where it is none, ValueError where it has no time zone, OverflowError where it
+        is before 1677 or after 2262.
 
         >>> DateTime.from_datetime(datetime.datetime(1970, 1, 1, tzinfo=datetime.timezone.utc)).nanoseconds
         0
@@ -67,11 +68,11 @@ class DateTime:
 
     @classmethod
     def from_text(cls, text: str) -> DateTime:
-        """The moment of a text as `str` gives it: a date at UTC by RFC 3339. A field of dates takes more
-        texts than this.
+        """The moment of a text as `str` gives it: a date at UTC by RFC 3339. A field of dates takes
+        more texts than this.
 
-        TypeError where it is no `str`, ValueError where it is another text, OverflowError where it is
-        before 1677 or after 2262.
+        Raises TypeError where it is no `str`, ValueError where it is another text, OverflowError where
+        it is before 1677 or after 2262.
 
         >>> DateTime.from_text("1970-01-01T00:00:00.000000007Z").nanoseconds
         7
@@ -96,8 +97,8 @@ class DateTime:
         return self._nanoseconds
 
     def to_datetime(self) -> datetime.datetime:
-        """The same moment as a `datetime` at UTC. ValueError where it has nanoseconds that make no whole
-        microsecond: those would be lost.
+        """The same moment as a `datetime` at UTC. Raises ValueError where it has nanoseconds that make
+        no whole microsecond: those would be lost.
 
         >>> DateTime(1_000).to_datetime().microsecond
         1
@@ -175,8 +176,8 @@ _READ: Mapping[str, Callable[[str], Any]] = {
 
 
 def read_value(kind: str, printed: Any) -> Any:
-    """What the JSON of a value is in Python, by the type of its field. What another type of value printed
-    stays as it is."""
+    """What the JSON of a value is in Python, by the type of its field. What another type of value
+    printed stays as it is."""
     read = _READ.get(kind)
     if read is None or not isinstance(printed, str):
         return printed
@@ -192,8 +193,8 @@ def read_values(kind: str, printed: List[Any]) -> List[Any]:
 
 
 def parsed(text: str) -> Any:
-    """The value of a JSON that the library printed. ValueError where it is nested more deeply than Python's
-    module json reads."""
+    """The value of a JSON that the library printed. Raises ValueError where it is nested more deeply
+    than Python's module json reads."""
     try:
         return json.loads(text)
     except RecursionError:
@@ -203,8 +204,8 @@ def parsed(text: str) -> Any:
 
 
 def printed(value: Any, what: str) -> str:
-    """The JSON of plain values. ValueError where they are nested too deeply or in themselves, TypeError
-    where one has no JSON."""
+    """The JSON of plain values. Raises ValueError where they are nested too deeply or in themselves,
+    TypeError where one has no JSON."""
     try:
         return json.dumps(value, ensure_ascii=False, separators=(",", ":"), allow_nan=False)
     except RecursionError:
@@ -212,8 +213,8 @@ def printed(value: Any, what: str) -> str:
 
 
 def _json_tree(value: Any, name: str) -> Any:
-    """A value inside a JSON object, where it is one of JSON's. Python's module json would print a key that
-    is no text as another one."""
+    """A value inside a JSON object, where it is one of JSON's. Python's module json would print a key
+    that is no text as another one."""
     if isinstance(value, Mapping):
         for key in value:
             if not isinstance(key, str):
@@ -231,8 +232,8 @@ def _json_tree(value: Any, name: str) -> Any:
 
 
 def _written(kind: str, value: Any, name: str) -> Any:
-    """The JSON value that the library reads as this value. Whether it fits the field is the library's to
-    say."""
+    """The JSON value that the library reads as this value. Whether it fits the field is the library's
+    to say."""
     if kind == "date":
         if isinstance(value, datetime.datetime):
             return str(DateTime.from_datetime(value))
@@ -249,8 +250,8 @@ def _written(kind: str, value: Any, name: str) -> Any:
 def written_values(kind: str, value: Any, name: str) -> List[Any]:
     """The JSON of a field's value, or of its values where it is a list or a tuple.
 
-    TypeError where a value has no JSON, ValueError for a datetime without a time zone, NaN or values nested
-    too deeply.
+    Raises TypeError where a value has no JSON, ValueError for a datetime without a time zone, NaN or
+    values nested too deeply.
     """
     try:
         many = value if isinstance(value, (list, tuple)) else [value]
