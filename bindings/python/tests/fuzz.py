@@ -314,8 +314,10 @@ def run(seconds: float, seed: int) -> int:
     )
     uncalled = {name for name, _, _ in fuzzer.targets} - set(fuzzer.counts)
     assert not uncalled or calls < 20_000, f"never called: {sorted(uncalled)}"
-    # The address sanitizer keeps what was freed, so its memory grows.
-    assert "ASAN_OPTIONS" in os.environ or samples[-1] <= samples[0] * 1.05, f"memory grew: {samples}"
+    # The address sanitizer keeps what was freed, so its memory grows; and a short run ends before Python has
+    # made all that it keeps.
+    measured = seconds >= 20 and "ASAN_OPTIONS" not in os.environ
+    assert not measured or samples[-1] <= samples[0] * 1.05, f"memory grew: {samples}"
     return calls
 
 
