@@ -119,7 +119,11 @@ class LineStatus(_Numbers):
 
     @property
     def of_a_field(self) -> bool:
-        """Whether a refusal of this kind is about the value of a field."""
+        """Whether a refusal of this kind is about the value of a field.
+
+        >>> LineStatus.WRONG_TYPE.of_a_field, LineStatus.INVALID_JSON.of_a_field
+        (True, False)
+        """
         return LineStatus.OVERFLOW <= self <= LineStatus.FLOAT
 
 

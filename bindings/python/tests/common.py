@@ -2,6 +2,7 @@
 
 from __future__ import annotations
 
+import inspect
 import json
 import os
 import subprocess
@@ -59,3 +60,17 @@ def run(code: str, *arguments: str, timeout: int = 300) -> "subprocess.Completed
         timeout=timeout,
         check=False,
     )
+
+
+def own_members(kind: type) -> List[str]:
+    """The methods and properties that a class has of the package, and not of Python's classes. (`dir`
+    leaves out those of an enum.)"""
+    found = []
+    for member in sorted({name for base in kind.__mro__ for name in vars(base)}):
+        owner = next(base for base in kind.__mro__ if member in vars(base))
+        value = inspect.getattr_static(kind, member)
+        if owner.__module__.startswith("kormaglen") and (
+            isinstance(value, (staticmethod, classmethod, property)) or inspect.isfunction(value)
+        ):
+            found.append(member)
+    return found

@@ -33,7 +33,7 @@ from typing import Any, Callable, Dict, Iterator, List, Tuple
 sys.path.insert(0, os.path.dirname(os.path.dirname(os.path.abspath(__file__))))
 
 import kormaglen as K
-from tests.common import SCHEMA
+from tests.common import SCHEMA, own_members
 from tests.fuzz_values import BLOCKS, LINES, Racing, Values
 
 DOCUMENTED = (ValueError, TypeError, OverflowError, BufferError, MemoryError)
@@ -69,15 +69,6 @@ SPECIAL: Dict[str, Callable[..., Any]] = {
 }
 
 
-def is_own(kind: type, member: str) -> bool:
-    """Whether a class of the package defines a member, and not one of Python's."""
-    owner = next(base for base in kind.__mro__ if member in vars(base))
-    if not owner.__module__.startswith("kormaglen"):
-        return False
-    value = inspect.getattr_static(kind, member)
-    return isinstance(value, (staticmethod, classmethod, property)) or inspect.isfunction(value)
-
-
 def targets() -> Iterator[Tuple[str, Callable[..., Any], Any]]:
     """Each public name with how it is called, and the class whose instance comes first, or None."""
     for name in K.__all__:
@@ -87,14 +78,12 @@ def targets() -> Iterator[Tuple[str, Callable[..., Any], Any]]:
                 yield name, value, None
             continue
         yield name, value, None
-        for member in dir(value):
-            if (
-                member in SPECIAL
-                and not issubclass(value, (enum.Enum, tuple))
-                and (member != "__lt__" or is_own(value, member))
-            ):
+        plain = issubclass(value, (enum.Enum, tuple))
+        own = own_members(value)
+        for member in sorted({*own, *dir(value)}):
+            if member in SPECIAL and not plain and (member != "__lt__" or member in own):
                 yield f"{name}.{member}", SPECIAL[member], value
-            elif not member.startswith("_") and is_own(value, member):
+            elif member in own and not member.startswith("_"):
                 static = inspect.getattr_static(value, member)
                 if isinstance(static, property):
                     yield f"{name}.{member}", static.__get__, value

@@ -16,7 +16,7 @@ import os
 from typing import Any, Dict, Iterator, Tuple
 
 import kormaglen as K
-from tests.common import PACKAGE, run
+from tests.common import PACKAGE, own_members, run
 
 SMALL = '[{"name":"age","type":"u64","options":{"indexed":true,"stored":true}}]'
 NAMES: Dict[str, Any] = {**vars(K), "SCHEMA": SMALL, "io": io, "datetime": datetime}
@@ -28,20 +28,9 @@ def public() -> Iterator[Tuple[str, Any]]:
         value = getattr(K, name)
         yield name, value
         if inspect.isclass(value):
-            for member in sorted(set(dir(value))):
-                if not member.startswith("_") and _is_own(value, member):
+            for member in own_members(value):
+                if not member.startswith("_"):
                     yield f"{name}.{member}", inspect.getattr_static(value, member)
-
-
-def _is_own(kind: type, member: str) -> bool:
-    """Whether a member is a method or a property that a class of the package defines."""
-    owner = next(base for base in kind.__mro__ if member in vars(base))
-    value = inspect.getattr_static(kind, member)
-    return (
-        owner.__module__.startswith("kormaglen")
-        and isinstance(value, (staticmethod, classmethod, property))
-        or inspect.isfunction(value)
-    )
 
 
 class Docs(unittest.TestCase):
