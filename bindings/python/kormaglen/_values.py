@@ -13,7 +13,7 @@ import math
 import re
 from typing import Any, Callable, Dict, List, Mapping, Optional, Tuple, Union
 
-from kormaglen._arguments import Lent, is_buffer, type_name, within
+from kormaglen._arguments import Lent, integer, is_buffer, type_name, within
 
 _EPOCH = datetime.datetime(1970, 1, 1, tzinfo=datetime.timezone.utc)
 _BILLION = 1_000_000_000
@@ -25,7 +25,9 @@ _PRINTED = re.compile(r"(\d{4})-(\d\d)-(\d\d)T(\d\d):(\d\d):(\d\d)(?:\.(\d{1,9})
 def _nanoseconds(moment: datetime.datetime) -> int:
     """The nanoseconds since 1970 of a `datetime` of any year that has a time zone."""
     since = moment - _EPOCH
-    return (since.days * 86400 + since.seconds) * _BILLION + since.microseconds * 1000
+    # (other packages have datetimes with nanoseconds, and so have their differences)
+    finer = integer(getattr(since, "nanoseconds", 0), "nanoseconds")
+    return (since.days * 86400 + since.seconds) * _BILLION + since.microseconds * 1000 + finer
 
 
 @functools.total_ordering
@@ -228,7 +230,9 @@ def _json_tree(value: Any, name: str) -> Any:
         if not math.isfinite(value):
             raise ValueError(f'field "{name}": {value} is no number of JSON')
         return value
-    raise TypeError(f'field "{name}": {type_name(value)} is no value of a JSON object')
+    if hasattr(type(value), "__index__"):
+        return integer(value, f'field "{name}"')
+    raise TypeError(f'field "{name}": JSON has no value for {type_name(value)}')
 
 
 def _written(kind: str, value: Any, name: str) -> Any:

@@ -190,7 +190,7 @@ class Fuzzer:
             ][given:]
         except (TypeError, ValueError):
             names = ["value"]
-        if self.values.chance(0.3):
+        if self.values.chance(0.5):
             names = [name for name in names if name not in ("chunk_size", "on_refused", "names", "module")]
         if self.values.chance(0.03):
             names = names[:-1] if self.values.chance(0.5) else names + ["more"]

@@ -278,7 +278,7 @@ class Values:
 
     def number(self) -> Any:
         """A number of any size, or what is none."""
-        if self.chance(0.5):
+        if self.chance(0.7):
             return self.rng.choice((1, 2, 2, 3, 3))
         if self.chance(0.2):
             errors = [ValueError("index"), TypeError("index"), OverflowError("index")]

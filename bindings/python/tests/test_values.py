@@ -61,7 +61,12 @@ class RoundTrips(unittest.TestCase):
         class Number(enum.IntEnum):
             SEVEN = 7
 
-        self.check("age", Number.SEVEN, [7])
+        class Index:
+            def __index__(self) -> int:
+                return 7
+
+        self.check("age", [Number.SEVEN, Index()], [7, 7])
+        self.check("more", {"k": Index()}, [{"k": 7}])
 
     def test_truth_values(self) -> None:
         self.check("sold", True, [True], "09" "01")
@@ -276,6 +281,16 @@ class Moments(unittest.TestCase):
             K.DateTime(1).to_datetime()
         with self.assertRaises(ValueError):
             K.DateTime.from_datetime(datetime.datetime(1970, 1, 1))
+
+    def test_datetimes_with_nanoseconds(self) -> None:
+        class Since(datetime.timedelta):
+            nanoseconds = 5
+
+        class Finer(datetime.datetime):
+            def __sub__(self, other: Any) -> Any:
+                return Since(microseconds=1)
+
+        self.assertEqual(K.DateTime.from_datetime(Finer(1970, 1, 1, tzinfo=UTC)).nanoseconds, 1005)
 
     def test_ranges(self) -> None:
         for value in (2**63, -(2**63) - 1, 10**5000):
