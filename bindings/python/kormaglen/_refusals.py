@@ -3,7 +3,7 @@
 from __future__ import annotations
 
 import enum
-from typing import Any, Callable, Dict, Optional, Type, Union
+from typing import Any, Callable, Dict, Optional, SupportsIndex, Tuple, Type, Union
 
 from kormaglen._library import CALLS, Answer
 
@@ -22,6 +22,10 @@ class _Numbers(enum.IntEnum):
         other = int.__new__(cls, value)
         other._name_, other._value_ = f"UNKNOWN_{value}", value
         return other
+
+    def __reduce_ex__(self, protocol: SupportsIndex) -> Tuple[Any, ...]:
+        # Some versions of Python pickle a name, which an unknown number has not in its class.
+        return type(self), (self._value_,)
 
 
 class Status(_Numbers):
