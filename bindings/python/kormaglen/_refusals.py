@@ -3,7 +3,7 @@
 from __future__ import annotations
 
 import enum
-from typing import Any, Callable, Dict, Optional, SupportsIndex, Tuple, Type, Union
+from typing import Any, Callable, Dict, Optional, Tuple, Type, Union
 
 from kormaglen._library import CALLS, Answer
 
@@ -23,7 +23,7 @@ class _Numbers(enum.IntEnum):
         other._name_, other._value_ = f"UNKNOWN_{value}", value
         return other
 
-    def __reduce_ex__(self, protocol: SupportsIndex) -> Tuple[Any, ...]:
+    def __reduce_ex__(self, protocol: object) -> Tuple[Any, ...]:
         # Some versions of Python pickle a name, which an unknown number has not in its class.
         return type(self), (self._value_,)
 
