@@ -7,9 +7,9 @@ from typing import ContextManager, Iterator, List, Union
 
 import kormaglen._streams as _streams
 from kormaglen._arguments import Lent, filled, number, text
+from kormaglen._fields import Found
 from kormaglen._import import Imported
 from kormaglen._library import CALLS
-from kormaglen._fields import Found
 from kormaglen._schema import Schema
 from kormaglen._streams import Term
 from kormaglen._types import Block, Buffer, Json, Lines

@@ -11,7 +11,7 @@ import ipaddress
 import json
 import math
 import re
-from typing import Any, Callable, Dict, List, Mapping, Optional, Tuple, Union
+from typing import Any, Callable, List, Mapping, Optional, Tuple
 
 from kormaglen._arguments import Lent, integer, is_buffer, type_name, within
 
@@ -149,21 +149,6 @@ class DateTime:
     def __hash__(self) -> int:
         # What is equal has the same hash, also a datetime.
         return hash(self._nanoseconds) if self._nanoseconds % 1000 else hash(self.to_datetime())
-
-
-# What a value of a field is in Python.
-Value = Union[
-    str,
-    int,
-    bool,
-    bytes,
-    None,
-    DateTime,
-    ipaddress.IPv4Address,
-    ipaddress.IPv6Address,
-    Dict[str, Any],
-    List[Any],
-]
 
 
 def _bytes_of(printed: str) -> bytes:
