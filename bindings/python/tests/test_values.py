@@ -117,6 +117,8 @@ class RoundTrips(unittest.TestCase):
         # An address of version 4 is stored as ::ffff:a.b.c.d, as a number with its lowest byte first.
         stored = "0a" "0100007f" "ffff" + "00" * 10
         self.check("host", ipaddress.ip_address("127.0.0.1"), [ipaddress.IPv4Address("127.0.0.1")], stored)
+        mapped = ipaddress.ip_address("::ffff:127.0.0.1")
+        self.check("host", mapped, [ipaddress.IPv4Address("127.0.0.1")], stored)
         self.check(
             "host",
             ["::1", "2001:db8::1"],
