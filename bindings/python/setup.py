@@ -77,6 +77,7 @@ class WithLibrary(Distribution):
     """Its files go where those of extensions go."""
 
     def has_ext_modules(self):
+        """What setuptools asks for that."""
         return True
 
 

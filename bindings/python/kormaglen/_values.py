@@ -151,8 +151,8 @@ class DateTime:
         return hash(self._nanoseconds) if self._nanoseconds % 1000 else hash(self.to_datetime())
 
 
-def _bytes_of(printed: str) -> bytes:
-    return base64.b64decode(printed, validate=True)
+def _bytes_of(text: str) -> bytes:
+    return base64.b64decode(text, validate=True)
 
 
 _READ: Mapping[str, Callable[[str], Any]] = {
@@ -162,21 +162,21 @@ _READ: Mapping[str, Callable[[str], Any]] = {
 }
 
 
-def read_value(kind: str, printed: Any) -> Any:
+def read_value(kind: str, value: Any) -> Any:
     """What the JSON of a value is in Python, by the type of its field. What another type of value
     printed stays as it is."""
     read = _READ.get(kind)
-    if read is None or not isinstance(printed, str):
-        return printed
+    if read is None or not isinstance(value, str):
+        return value
     try:
-        return read(printed)
+        return read(value)
     except (ValueError, OverflowError, binascii.Error):
-        return printed
+        return value
 
 
-def read_values(kind: str, printed: List[Any]) -> List[Any]:
+def read_values(kind: str, values: List[Any]) -> List[Any]:
     """`read_value` of each."""
-    return [read_value(kind, value) for value in printed]
+    return [read_value(kind, value) for value in values]
 
 
 def parsed(text: str) -> Any:

@@ -208,6 +208,18 @@ class InTheMidst(unittest.TestCase):
             signal.signal(signal.SIGALRM, before)
 
 
+def calls_of(schema: K.Schema, line: bytearray, block: bytearray) -> List[Callable[[], Any]]:
+    """Calls that are lent buffers and take locks."""
+    return [
+        lambda: schema.parse(line),
+        lambda: schema.import_lines(line),
+        lambda: schema.export_block(block),
+        lambda: list(schema.documents(block)),
+        lambda: schema.read(block)[0].write(),
+        lambda: K.migrate_block(2, block, 3),
+    ]
+
+
 class Interrupted(Exception):
     """What a handler raises."""
 
@@ -219,15 +231,14 @@ class Interrupts(unittest.TestCase):
     def test_a_handler_that_raises(self) -> None:
         schema = K.Schema(SCHEMA)
         line, block = bytearray(b'{"age":36}'), bytearray(AGE_36 * 3)
-        calls: List[Callable[[], Any]] = [
-            lambda: schema.parse(line),
-            lambda: schema.import_lines(line),
-            lambda: schema.export_block(block),
-            lambda: list(schema.documents(block)),
-            lambda: schema.read(block)[0].write(),
-            lambda: K.migrate_block(2, block, 3),
-        ]
+        self.assertGreater(self.interrupted(calls_of(schema, line, block)), 10)
+        gc.collect()
+        line.append(10)
+        block.append(0x80)
+        self.assertEqual(in_threads(1, lambda _: self.assertEqual(schema.parse(line)["age"], [36])), [])
 
+    def interrupted(self, calls: List[Callable[[], Any]]) -> int:
+        """Makes the calls for two seconds, while a handler raises. Returns how often it did."""
         armed, seen = False, 0
 
         def handler(*_: Any) -> None:
@@ -255,11 +266,7 @@ class Interrupts(unittest.TestCase):
             signal.setitimer(signal.ITIMER_REAL, 0)
             signal.signal(signal.SIGALRM, before)
             sys.unraisablehook = printing
-        self.assertGreater(seen, 10)
-        gc.collect()
-        line.append(10)
-        block.append(0x80)
-        self.assertEqual(in_threads(1, lambda _: self.assertEqual(schema.parse(line)["age"], [36])), [])
+        return seen
 
 
 class Processes(unittest.TestCase):
