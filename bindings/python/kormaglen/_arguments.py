@@ -139,6 +139,8 @@ class Lent:
             _get_buffer(value, ctypes.byref(self._view), _WRITABLE if writable else _SIMPLE)
         except BufferError as error:
             raise BufferError(f"{name}: {error}") from None
+        except ValueError as error:
+            raise ValueError(f"{name}: {error}") from None
         # The length is the buffer's own: `len` of a subclass may say anything.
         self.at: int = self._view.buf or 0
         self.size: int = self._view.len

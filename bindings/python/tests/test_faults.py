@@ -201,8 +201,12 @@ print(schema.parse(Lying(b'{"age":36}')).write().hex(), K.migrate_block(2, Lying
             lambda given: K.Schema(SCHEMA).parse(given),
             lambda given: K.migrate_block(2, given, 3),
         ):
-            with self.assertRaises(BufferError):
+            with self.assertRaisesRegex(BufferError, "^(line|block): "):
                 call(memoryview(self.LINE)[::2])
+            released = memoryview(self.LINE)
+            released.release()
+            with self.assertRaisesRegex(ValueError, "^(line|block): "):
+                call(released)
 
     def test_a_lone_surrogate(self) -> None:
         for call in (
