@@ -18,11 +18,11 @@ Whatever the library refuses is a `Refused`, which is a `ValueError`. An argumen
 TypeError, and a number out of its range an OverflowError; neither reaches the library. Want of memory
 is a MemoryError. After an error everything is as it was.
 
-Where an argument is bytes, anything with the buffer protocol is taken, without a copy: bytes,
-bytearray, memoryview, mmap, array. Its bytes have to lie one behind the other, else that is a
-BufferError. While a call reads a bytearray, it can't be resized. If another thread changes the bytes
-meanwhile, the answer is that of some mixture, or a refusal. A file that is mapped must not become
-shorter: then the system ends the process.
+Where an argument is bytes, anything with the buffer protocol is taken: bytes, bytearray, memoryview,
+mmap, array. Its bytes have to lie one behind the other, else that is a BufferError. Bytes, and a
+memoryview of them, are read where they lie. Of what may change, a copy is read, which is made at the
+call's beginning while no other thread of Python runs; the calls that go by parts copy one part at a
+time. A file that is mapped must not become shorter meanwhile: then the system ends the process.
 
 A call lets other threads run. A schema or a document may be used and closed by any thread; calls with
 the same one wait for each other. In a process that was forked while another thread was in a call, what

@@ -8,7 +8,7 @@ import mmap
 import operator
 import sys
 from types import TracebackType
-from typing import Any, Callable, ClassVar, Optional, Type, Union
+from typing import Any, Callable, ClassVar, Optional, Type, TypeVar, Union
 
 from kormaglen._refusals import Status, refused
 
@@ -17,6 +17,8 @@ from kormaglen._refusals import Status, refused
 Call = Callable[[int, int], Any]
 
 _MOST_TRIES = 8
+
+_V = TypeVar("_V", bound="View")
 
 # A buffer of more bytes than this is taken from the system: its pages count only when they are written.
 _LARGE = 1 << 20
@@ -101,6 +103,9 @@ _get_buffer.restype = ctypes.c_int
 _release_buffer = ctypes.pythonapi.PyBuffer_Release
 _release_buffer.argtypes = [ctypes.POINTER(_PyBuffer)]
 _release_buffer.restype = None
+_new_bytes = ctypes.pythonapi.PyBytes_FromStringAndSize
+_new_bytes.argtypes = [ctypes.c_void_p, ctypes.c_ssize_t]
+_new_bytes.restype = ctypes.py_object
 _has_buffer = ctypes.pythonapi.PyObject_CheckBuffer
 _has_buffer.argtypes = [ctypes.py_object]
 _has_buffer.restype = ctypes.c_int
@@ -114,13 +119,12 @@ def is_buffer(value: object) -> bool:
     return bool(_has_buffer(value))
 
 
-class Lent:
-    """The bytes of a buffer, where they lie and without a copy, for the time of a `with`. While they
-    are lent, a bytearray can't be resized.
+class View:
+    """The bytes of a buffer, where they lie, for the time of a `with`. Until then they can't be
+    resized, but another thread may change them.
 
-    A `str` is its UTF-8 where `texts` is set. Raises TypeError where the value has no bytes, ValueError
-    for a lone surrogate or a memoryview that was released, BufferError where the bytes don't lie one
-    behind the other.
+    Raises TypeError where the value has no bytes, ValueError for a memoryview that was released,
+    BufferError where the bytes don't lie one behind the other.
     """
 
     __slots__ = ("_view", "at", "size")
@@ -128,11 +132,10 @@ class Lent:
     _release: ClassVar[Any] = _release_buffer
     _by_reference: ClassVar[Any] = ctypes.byref
 
-    def __init__(self, value: Any, name: str, texts: bool = False, writable: bool = False) -> None:
-        if texts and isinstance(value, str):
-            value = utf8(value, name)
+    def __init__(
+        self, value: Any, name: str, wanted: str = "a bytes-like object", writable: bool = False
+    ) -> None:
         if not is_buffer(value):
-            wanted = "a str or a bytes-like object" if texts else "a bytes-like object"
             raise TypeError(f"{name}: {wanted} is wanted, not {type_name(value)}")
         self._view = _PyBuffer()
         try:
@@ -145,7 +148,13 @@ class Lent:
         self.at: int = self._view.buf or 0
         self.size: int = self._view.len
 
-    def __enter__(self) -> Lent:
+    def bytes_at(self, start: int, count: int) -> bytes:
+        """A copy of some of the bytes. No other thread of Python runs meanwhile."""
+        count = max(0, min(count, self.size - start))
+        copy: bytes = _new_bytes(self.at + start, count) if count else b""
+        return copy
+
+    def __enter__(self: _V) -> _V:
         return self
 
     def __exit__(
@@ -164,6 +173,40 @@ class Lent:
             pass  # nothing was lent
 
 
+def copied(value: Any, name: str, texts: bool = True) -> bytes:
+    """The bytes of a buffer, or of a text where `texts` is set, that nobody changes any more. Errors
+    are those of `View`, and ValueError for a lone surrogate."""
+    if texts and isinstance(value, str):
+        return utf8(value, name)
+    if type(value) is bytes:
+        return value
+    wanted = "a str or a bytes-like object" if texts else "a bytes-like object"
+    with View(value, name, wanted) as view:
+        return view.bytes_at(0, view.size)
+
+
+def _is_of_bytes(value: Any) -> bool:
+    """Whether a value is a memoryview of bytes."""
+    try:
+        return type(value) is memoryview and type(value.obj) is bytes
+    except ValueError:
+        return True  # (it was released, which is said when it is lent)
+
+
+class Lent(View):
+    """The bytes of an argument for a call, which relies on it that they don't change while it runs.
+    Bytes, and a memoryview of them, are read where they lie; of what may change, a copy is. A `str` is
+    its UTF-8 where `texts` is set.
+
+    Errors are those of `View`, and ValueError for a lone surrogate.
+    """
+
+    __slots__ = ()
+
+    def __init__(self, value: Any, name: str, texts: bool = False) -> None:
+        super().__init__(value if _is_of_bytes(value) else copied(value, name, texts), name)
+
+
 def room(wanted: int) -> Union[bytearray, mmap.mmap]:
     """A buffer of so many bytes to write into. Raises MemoryError where there is none."""
     if wanted > sys.maxsize:
@@ -180,13 +223,13 @@ def filled(first: int, call: Call) -> bytes:
     """What a call writes. It is called with a buffer of the first size, and where that is too small
     with one of the size that the answer says.
 
-    One more try is enough, unless another thread changes the input meanwhile. Raises BufferError where
-    it does so again and again.
+    One more try is enough, as the input stays the same. Raises BufferError where no try is, so that it
+    ends in any case.
     """
     wanted = first
     for _ in range(_MOST_TRIES):
         buffer = room(wanted)
-        with Lent(buffer, "buffer", writable=True) as out:
+        with View(buffer, "buffer", writable=True) as out:
             answer = call(out.at, out.size)
         if answer.status == Status.OK:
             with memoryview(buffer) as view:
@@ -194,4 +237,4 @@ def filled(first: int, call: Call) -> bytes:
         if answer.status != Status.TOO_SMALL:
             raise refused(answer)
         wanted = answer.bytes
-    raise BufferError("the input changes while it is read: no buffer was large enough for the answer")
+    raise BufferError("no buffer was large enough for the answer, which grew with each try")

@@ -2,7 +2,6 @@
 
 from __future__ import annotations
 
-import ctypes
 from typing import (
     TYPE_CHECKING,
     Any,
@@ -121,7 +120,7 @@ class Document(Held, Mapping[str, List[Any]]):
                 schema, lambda own, by: CALLS.kormaglen_document_parse(by, given.at, given.size, own)
             )
             if answer.status == Status.BAD_LINE:
-                text = ctypes.string_at(given.at, min(given.size, 4 * SHOWN))
+                text = given.bytes_at(0, 4 * SHOWN)
                 raise line_refused(answer.detail, text, None, *schema._about(answer.detail, answer.place))
         if answer.status != Status.OK:
             raise refused(answer)

@@ -5,11 +5,10 @@ from __future__ import annotations
 import json as _json
 from typing import Any, Dict, NamedTuple, Optional, Tuple
 
-from kormaglen._arguments import Lent, filled, text, type_name
+from kormaglen._arguments import Lent, copied, filled, text, type_name
 from kormaglen._handles import Handle, Held, opened
 from kormaglen._library import CALLS, FoundField, SchemaStruct
 from kormaglen._refusals import Closed, LineStatus, Status, field_refused, refused, schema_refused
-from kormaglen._sources import copied
 from kormaglen._types import Json
 from kormaglen._values import printed
 

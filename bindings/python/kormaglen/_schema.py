@@ -5,7 +5,7 @@ from __future__ import annotations
 from typing import Any, Callable, Iterator, Mapping, Optional, Tuple
 
 import kormaglen._streams as _streams
-from kormaglen._arguments import Lent, filled, number
+from kormaglen._arguments import Lent, View, filled, number
 from kormaglen._document import Document
 from kormaglen._fields import HeldSchema
 from kormaglen._handles import opened
@@ -178,7 +178,7 @@ def _imported(schema: Schema, piece: bytes, first: int) -> Imported:
         lines = answer.lines
         return answer
 
-    with Lent(piece, "lines") as given, Lent(packed, "answers", writable=True) as rows, handle.lock:
+    with Lent(piece, "lines") as given, View(packed, "answers", writable=True) as rows, handle.lock:
         block = filled(len(piece), call)
     return imported(piece, block, bytes(packed[: lines * LINE_ANSWER_SIZE]), first, list(schema._kinds()))
 

@@ -2,21 +2,12 @@
 
 from __future__ import annotations
 
-import ctypes
 from typing import Any, Callable, Iterable, Iterator, List, Mapping
 
-from kormaglen._arguments import Lent, is_buffer, type_name, utf8
+from kormaglen._arguments import View, copied, is_buffer, type_name, utf8
 
 # Gives about so many bytes more, and none at the end.
 Read = Callable[[int], bytes]
-
-
-def copied(value: Any, name: str, texts: bool = True) -> bytes:
-    """The bytes of a buffer, or of a text where `texts` is set, that nobody changes any more."""
-    if type(value) is bytes:
-        return value
-    with Lent(value, name, texts) as given:
-        return ctypes.string_at(given.at, given.size)
 
 
 def _of_buffer(value: Any, name: str) -> Read:
@@ -24,14 +15,14 @@ def _of_buffer(value: Any, name: str) -> Read:
     closed."""
     if isinstance(value, str):
         value = utf8(value, name)
-    with Lent(value, name):
+    with View(value, name):
         pass  # (what isn't lent is refused here, and not at the first part)
     at = 0
 
     def read(size: int) -> bytes:
         nonlocal at
-        with Lent(value, name) as given:
-            part = ctypes.string_at(given.at + at, min(size, given.size - at)) if at < given.size else b""
+        with View(value, name) as view:
+            part = view.bytes_at(at, size)
         at += len(part)
         return part
 

@@ -209,14 +209,10 @@ def terms_at(field: int, version: int, at: int, size: int) -> bytes:
 
 
 def records_of(records: bytes) -> Iterator[Tuple[int, bytes]]:
-    """The number of the document and the term of each record. Raises BufferError where they make no
-    sense, since another thread changed the block."""
+    """The number of the document and the term of each record."""
     at = 0
     while at < len(records):
-        try:
-            document, length = struct.unpack_from("<QQ", records, at)
-        except struct.error:
-            raise BufferError("the block changes while it is read") from None
+        document, length = struct.unpack_from("<QQ", records, at)
         yield document, records[at + 16 : at + 16 + length]
         at += 16 + length
 

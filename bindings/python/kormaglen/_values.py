@@ -4,7 +4,6 @@ from __future__ import annotations
 
 import base64
 import binascii
-import ctypes
 import datetime
 import functools
 import ipaddress
@@ -13,7 +12,7 @@ import math
 import re
 from typing import Any, Callable, List, Mapping, Optional, Tuple
 
-from kormaglen._arguments import Lent, integer, is_buffer, type_name, within
+from kormaglen._arguments import copied, integer, is_buffer, type_name, within
 
 _EPOCH = datetime.datetime(1970, 1, 1, tzinfo=datetime.timezone.utc)
 _BILLION = 1_000_000_000
@@ -231,8 +230,7 @@ def _written(kind: str, value: Any, name: str) -> Any:
     if kind == "ip_addr" and isinstance(value, (ipaddress.IPv4Address, ipaddress.IPv6Address)):
         return str(value)
     if kind == "bytes" and is_buffer(value):
-        with Lent(value, f'field "{name}"') as given:
-            return base64.b64encode(ctypes.string_at(given.at, given.size)).decode()
+        return base64.b64encode(copied(value, f'field "{name}"', texts=False)).decode()
     return _json_tree(value, name)
 
 
