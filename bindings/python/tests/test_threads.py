@@ -2,8 +2,10 @@
 
 from __future__ import annotations
 
+import array
 import gc
 import io
+import mmap
 import multiprocessing
 import os
 import signal
@@ -14,6 +16,7 @@ import unittest
 from typing import Any, Callable, List
 
 import kormaglen as K
+from kormaglen._arguments import Lent, View
 from tests.common import AGE_36, SCHEMA, run
 
 
@@ -124,6 +127,69 @@ class Threads(unittest.TestCase):
                 assert (documents[number] == documents[1 - number]) is False
 
         self.assertEqual(in_threads(2, work), [])
+
+
+RACE = """
+import ctypes, threading, time
+import kormaglen as K
+from tests.common import SCHEMA
+schema = K.Schema(SCHEMA)
+line = '{"name":"%s","group":["/a\\\\u0041/b"],"hash":"AAECAwQ=","more":{"k":[1,"v"]}}'
+line = (line % ("é\\\\u0000x" * 200)).encode()
+block = schema.import_lines(line).block * 20
+pairs = [(bytearray(line), line), (bytearray(block), block)]
+move, stop = ctypes.CDLL(None).memmove, time.monotonic() + 4
+def change(given, good):
+    # (these calls of C run beside others, as the interpreter's lock is not held)
+    there = (ctypes.c_char * len(given)).from_buffer(given)
+    bad = bytes((byte * 7 + 3) % 256 if at % 50 == 0 else byte for at, byte in enumerate(good))
+    while time.monotonic() < stop:
+        move(there, bad, len(good))
+        move(there, good, len(good))
+for pair in pairs:
+    threading.Thread(target=change, args=pair).start()
+calls = [
+    lambda: schema.parse(pairs[0][0]).to_json(), lambda: schema.import_lines(pairs[0][0]),
+    lambda: schema.export_block(pairs[1][0]), lambda: K.migrate_block(2, pairs[1][0], 3),
+    lambda: K.terms_of_block(0, 2, pairs[1][0]),
+    lambda: [each.to_dict() for each in schema.documents(pairs[1][0])],
+]
+while time.monotonic() < stop:
+    for call in calls:
+        try:
+            call()
+        except (ValueError, MemoryError):
+            pass
+print("whole")
+"""
+
+
+class Changes(unittest.TestCase):
+    """Input that other threads change: the library relies on it that it stays."""
+
+    def test_what_may_change_is_copied(self) -> None:
+        data = bytes(100)
+        for given in (data, memoryview(data), memoryview(data)[10:]):
+            with View(given, "given") as view, Lent(given, "given") as lent:
+                self.assertEqual((lent.at, lent.size), (view.at, view.size))
+        changing = bytearray(data)
+        mapped = mmap.mmap(-1, 100)
+        for given in (
+            changing,
+            memoryview(changing),
+            memoryview(changing).toreadonly(),
+            array.array("b", data),
+            mapped,
+        ):
+            with View(given, "given") as view, Lent(given, "given") as lent:
+                self.assertNotEqual(lent.at, view.at)
+                self.assertEqual(lent.size, view.size)
+        with Lent(changing, "given"):
+            changing.append(0)
+
+    def test_a_race(self) -> None:
+        done = run(RACE)
+        self.assertEqual((done.returncode, done.stdout.strip()), (0, "whole"), done.stderr[-300:])
 
 
 class InTheMidst(unittest.TestCase):
