@@ -1,0 +1,331 @@
+"""What a call refuses, as exceptions. The words are the library's; here are names for its numbers."""
+
+from __future__ import annotations
+
+import enum
+from typing import Any, Callable, Dict, Optional, Tuple, Type, Union
+
+from kormaglen._library import CALLS, Answer
+
+# So much of a refused line is kept and shown.
+SHOWN = 60
+
+
+class _Numbers(enum.IntEnum):
+    """Names for numbers of the library. One without a name, as a newer library may have, is called
+    after its number."""
+
+    @classmethod
+    def _missing_(cls, value: object) -> Optional[_Numbers]:
+        if not isinstance(value, int) or isinstance(value, bool) or not 0 <= value < 1 << 32:
+            return None
+        other = int.__new__(cls, value)
+        other._name_, other._value_ = f"UNKNOWN_{value}", value
+        return other
+
+    def __reduce_ex__(self, protocol: object) -> Tuple[Any, ...]:
+        # Some versions of Python pickle a name, which an unknown number has not in its class.
+        return type(self), (self._value_,)
+
+
+class Status(_Numbers):
+    """What a call answers: `kormaglen_status` of the header.
+
+    >>> Status(9).name
+    'WRONG_VERSION'
+    """
+
+    OK = 0
+    TOO_SMALL = 1
+    NO_MEMORY = 2
+    NOT_UTF8 = 3
+    NOT_A_FACET = 4
+    INVALID_JSON = 5
+    BAD_SCHEMA = 6
+    NO_FIELD = 7
+    BAD_DOCUMENT = 8
+    WRONG_VERSION = 9
+    NO_END = 10
+    BAD_LINE = 11
+    FOREIGN_FIELD = 12
+    CLOSED = 15
+    BAD_ARGUMENT = 16
+
+
+class SchemaFault(_Numbers):
+    """Why a JSON describes no schema: `kormaglen_schema_detail` of the header.
+
+    >>> SchemaFault(2).name
+    'SAME_NAME'
+    """
+
+    BAD_NAME = 1
+    SAME_NAME = 2
+    TOO_MANY_FIELDS = 3
+    BAD_ENTRY = 4
+    FLOAT_FIELD = 5
+    NAME = 6
+    TYPE = 7
+    OPTIONS = 8
+    INDEXED = 9
+    STORED = 10
+    FIELDNORMS = 11
+    FAST = 12
+    FAST_OF_TEXT = 13
+    COERCE = 14
+    PRECISION = 15
+    INDEXING = 16
+    RECORD = 17
+    INDEXING_FIELDNORMS = 18
+    TOKENIZER = 19
+    WITH_TOKENIZER = 20
+    EXPAND_DOTS = 21
+
+
+class DocumentFault(_Numbers):
+    """Why bytes hold no document: `kormaglen_document_detail` of the header.
+
+    >>> DocumentFault(1).name
+    'UNEXPECTED_END'
+    """
+
+    UNEXPECTED_END = 1
+    UNKNOWN_TYPE = 2
+    UNKNOWN_EXTENSION = 3
+    FLOAT = 4
+    BAD_NUMBER = 5
+    BAD_BOOL = 6
+    NOT_UTF8 = 7
+    ODD_OBJECT = 8
+    DATE_RANGE = 9
+    OLD_JSON = 10
+    OLD_FLOAT = 11
+    KEY_NO_TEXT = 12
+    NO_ROOM = 13
+    TOO_LONG = 14
+
+
+class LineStatus(_Numbers):
+    """What became of a line: `kormaglen_line_status` of the header. All but `STORED` are refusals.
+
+    >>> LineStatus(3).name
+    'WRONG_TYPE'
+    """
+
+    STORED = 0
+    INVALID_JSON = 1
+    OVERFLOW = 2
+    WRONG_TYPE = 3
+    BAD_TEXT = 4
+    BAD_BASE64 = 5
+    FLOAT = 6
+    NO_ROOM = 7
+
+    @property
+    def of_a_field(self) -> bool:
+        """Whether a refusal of this kind is about the value of a field.
+
+        >>> LineStatus.WRONG_TYPE.of_a_field, LineStatus.INVALID_JSON.of_a_field
+        (True, False)
+        """
+        return LineStatus.OVERFLOW <= self <= LineStatus.FLOAT
+
+
+Reason = Union[Status, SchemaFault, DocumentFault, LineStatus]
+
+
+class Refused(ValueError):
+    """A call was refused. What it was given stays as it was, and so does what its handles hold.
+
+    `reason` is the most precise name that there is: of `Status`, or of `SchemaFault`, `DocumentFault`
+    or `LineStatus` in the classes below. A number that this package has no name for is `UNKNOWN_` and
+    the number. `place` is the number that the library says where; each class says what it is.
+
+    >>> try:
+    ...     facet_of_text("no slash")
+    ... except Refused as refused:
+    ...     print(refused.reason.name)
+    NOT_A_FACET
+    """
+
+    def __init__(self, message: str = "", reason: Reason = Status.OK, place: int = 0) -> None:
+        super().__init__(message)
+        self.reason = reason
+        self.place = place
+
+
+class SchemaRefused(Refused):
+    """A JSON describes no schema. `place` is the number of the entry, from 1, or 0 for the whole, and
+    `field` its name where it has one.
+
+    >>> try:
+    ...     Schema('[{"name":"age","type":"u65","options":{}}]')
+    ... except SchemaRefused as refused:
+    ...     print(refused.reason.name, refused.place, refused.field)
+    TYPE 1 age
+    """
+
+    field: Optional[str] = None
+
+
+class DocumentRefused(Refused):
+    """Bytes hold no document. `place` is where in the block the document begins, in bytes from 0.
+
+    >>> try:
+    ...     migrate_block(2, b"\\x80\\x81", 3)
+    ... except DocumentRefused as refused:
+    ...     print(refused.reason.name, refused.place)
+    UNEXPECTED_END 1
+    """
+
+
+class LineRefused(Refused):
+    """A line of JSON has no document. `line` is its number, from 1, or None where there is one alone;
+    `field` and `field_number` are the field whose value is refused, or None; `text` is how the line
+    begins: 60 characters at most.
+
+    >>> schema = Schema('[{"name":"age","type":"u64","options":{"indexed":true,"stored":true}}]')
+    >>> try:
+    ...     schema.parse('{"age":"x"}')
+    ... except LineRefused as refused:
+    ...     print(refused.reason.name, refused.field, refused.field_number, refused.text)
+    WRONG_TYPE age 0 {"age":"x"}
+    """
+
+    line: Optional[int] = None
+    field: Optional[str] = None
+    field_number: Optional[int] = None
+    text: str = ""
+
+
+class FieldRefused(Refused, LookupError):
+    """A path or a name names no field of the schema, or a document has a field that its schema doesn't
+    have; `place` is then its number.
+
+    >>> schema = Schema('[{"name":"age","type":"u64","options":{"indexed":true,"stored":true}}]')
+    >>> try:
+    ...     schema.find_field("size")
+    ... except FieldRefused as refused:
+    ...     print(refused.reason.name)
+    NO_FIELD
+    """
+
+
+class VersionRefused(Refused):
+    """There is no such version of the store, or it is one that is read and not written. `place` is 0.
+
+    >>> try:
+    ...     migrate_block(2, b"", 1)
+    ... except VersionRefused as refused:
+    ...     print(refused.reason.name)
+    WRONG_VERSION
+    """
+
+
+class Closed(Refused):
+    """A schema or a document was closed, and holds nothing. `place` is 0.
+
+    >>> schema = Schema("[]")
+    >>> schema.close()
+    >>> try:
+    ...     schema.to_json()
+    ... except Closed as refused:
+    ...     print(refused)
+    the schema is closed
+    """
+
+
+_KINDS: Dict[Status, Type[Refused]] = {
+    Status.INVALID_JSON: SchemaRefused,
+    Status.BAD_SCHEMA: SchemaRefused,
+    Status.BAD_DOCUMENT: DocumentRefused,
+    Status.BAD_LINE: LineRefused,
+    Status.NO_FIELD: FieldRefused,
+    Status.FOREIGN_FIELD: FieldRefused,
+    Status.WRONG_VERSION: VersionRefused,
+    Status.CLOSED: Closed,
+}
+
+
+def _words(call: Callable[..., Any], *numbers: int) -> str:
+    """The library's words for a number."""
+    said: bytes = call(*numbers)
+    return said.decode("utf-8", "replace")
+
+
+def status_text(status: int) -> str:
+    """The library's words for a status."""
+    return _words(CALLS.kormaglen_status_text, status)
+
+
+def detail_text(status: int, detail: int) -> str:
+    """The library's words for a detail of a status, or for the status where it has none."""
+    return _words(CALLS.kormaglen_detail_text, status, detail) or status_text(status)
+
+
+def line_text(status: int) -> str:
+    """The library's words for what became of a line."""
+    return _words(CALLS.kormaglen_line_status_text, status)
+
+
+def document_refused(detail: int, place: int) -> DocumentRefused:
+    """That no document begins at a place of a block."""
+    words = detail_text(Status.BAD_DOCUMENT, detail)
+    return DocumentRefused(f"the document at byte {place}: {words}", DocumentFault(detail), place)
+
+
+def schema_refused(answer: Answer, field: Optional[str]) -> SchemaRefused:
+    """That a JSON describes no schema."""
+    words = detail_text(answer.status, answer.detail)
+    entry = (
+        f"entry {answer.place}" + ("" if field is None else f' ("{field[:SHOWN]}")') + ": "
+        if answer.place
+        else ""
+    )
+    bad = answer.status == Status.BAD_SCHEMA
+    reason: Reason = SchemaFault(answer.detail) if bad else Status.INVALID_JSON
+    error = SchemaRefused(f"schema: {entry}{words}", reason, answer.place)
+    error.field = field
+    return error
+
+
+def line_refused(
+    status: int,
+    text: bytes,
+    line: Optional[int] = None,
+    field_number: Optional[int] = None,
+    field: Optional[str] = None,
+) -> LineRefused:
+    """That a line has no document. The text is the line, or as much of it as is shown."""
+    shown = beginning(text)
+    head = "" if line is None else f"line {line}: "
+    about = "" if field is None else f'field "{field[:SHOWN]}": '
+    error = LineRefused(f"{head}{about}{line_text(status)}: {shown}", LineStatus(status), field_number or 0)
+    error.line, error.field, error.field_number, error.text = line, field, field_number, shown
+    return error
+
+
+def beginning(line: bytes) -> str:
+    """The first characters of a line."""
+    return line[: 4 * SHOWN].decode("utf-8", "replace")[:SHOWN]
+
+
+def field_refused(name: str) -> FieldRefused:
+    """That a name is no field's."""
+    return FieldRefused(f'no field has the name "{name[:SHOWN]}"', Status.NO_FIELD)
+
+
+def closed(what: str) -> Closed:
+    """That a schema or a document was closed."""
+    return Closed(f"the {what} is closed", Status.CLOSED)
+
+
+def refused(answer: Answer) -> Exception:
+    """The exception of an answer that isn't OK. What is known besides (a line, a name) has constructors
+    of its own above."""
+    if answer.status == Status.NO_MEMORY:
+        return MemoryError(status_text(answer.status))
+    if answer.status == Status.BAD_DOCUMENT:
+        return document_refused(answer.detail, answer.place)
+    reason = Status(answer.status)
+    return _KINDS.get(reason, Refused)(status_text(answer.status), reason, answer.place)
