@@ -17,9 +17,9 @@
  * A handle is the caller's struct, and what it holds is the library's: a schema, or a document. One that is all zeros is closed. Whoever
  * opens it closes it. It may be moved, but a copy of it is never used beside it, nor after it was closed.
  *
- * Threads. A handle is used by one call at a time, by any thread: a call changes the handle of a schema, too, while it runs. Calls with
- * different handles, and calls without one, run at the same time on any threads. The bytes that a call
- * reads stay as they are until it returns: the library relies on that.
+ * Threads. A handle is used by one call at a time, by any thread. A call changes the handle of a schema, too, while it runs: nobody else reads
+ * its struct meanwhile. Calls with different handles, and calls without one, run at the same time on any threads. The bytes that a call reads
+ * stay as they are until it returns: the library relies on that.
  */
 #ifndef KORMAGLEN_H
 #define KORMAGLEN_H
@@ -102,8 +102,8 @@ enum kormaglen_line_status {
     KORMAGLEN_LINE_STORED = 0,
     KORMAGLEN_LINE_INVALID_JSON = 1, /* it is no JSON object */
     KORMAGLEN_LINE_OVERFLOW = 2,     /* a number does not fit the field's type */
-    KORMAGLEN_LINE_WRONG_TYPE = 3,   /* a value is of another kind than the field's */
-    KORMAGLEN_LINE_BAD_TEXT = 4,     /* a text is no date, address or facet */
+    KORMAGLEN_LINE_WRONG_TYPE = 3,   /* a value is of another kind than the field's; a text that is no date, too */
+    KORMAGLEN_LINE_BAD_TEXT = 4,     /* a date is out of its range, or a text is no address or facet */
     KORMAGLEN_LINE_BAD_BASE64 = 5,
     KORMAGLEN_LINE_FLOAT = 6,        /* a number is not whole, or does not fit 64 bits */
     KORMAGLEN_LINE_NO_ROOM = 7       /* the values need more than 4294967295 bytes */

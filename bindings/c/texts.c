@@ -95,7 +95,7 @@ const char *kormaglen_line_status_text(uint32_t status) {
     case KORMAGLEN_LINE_INVALID_JSON: return "the line is not a JSON object";
     case KORMAGLEN_LINE_OVERFLOW: return "a number does not fit the field's type";
     case KORMAGLEN_LINE_WRONG_TYPE: return "a value is of another kind than the field's";
-    case KORMAGLEN_LINE_BAD_TEXT: return "a text is not a date, an address or a facet, as the field wants";
+    case KORMAGLEN_LINE_BAD_TEXT: return "a date is out of its range, or a text is not an address or a facet";
     case KORMAGLEN_LINE_BAD_BASE64: return "a text is not base64";
     case KORMAGLEN_LINE_FLOAT: return "a number is not whole, or does not fit 64 bits";
     case KORMAGLEN_LINE_NO_ROOM: return "the values need more than 4294967295 bytes";

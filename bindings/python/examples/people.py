@@ -27,7 +27,7 @@ def print_one(schema: kormaglen.Schema) -> None:
     try:
         schema.parse('{"age":"old"}')
     except kormaglen.LineRefused as refused:
-        print(refused)
+        print(f"field {refused.field_number}: {kormaglen.LineStatus(refused.reason).words}")
 
 
 def main() -> None:
@@ -36,7 +36,7 @@ def main() -> None:
     with builder.json_object("more", stored=True).build() as schema:
         imported = schema.import_lines(LINES)
         for number, line in enumerate(imported.lines, 1):
-            print(f"line {number}: status {line.status}, {line.size} bytes")
+            print(f"line {number}: {line.status.words}, {line.size} bytes")
         for document in schema.documents(imported.block):
             print(document.to_json())
         print_range(imported.block, "Ad")

@@ -122,6 +122,15 @@ class LineStatus(_Numbers):
     NO_ROOM = 7
 
     @property
+    def words(self) -> str:
+        """What it is called in words.
+
+        >>> LineStatus.STORED.words
+        'stored'
+        """
+        return line_text(self)
+
+    @property
     def of_a_field(self) -> bool:
         """Whether a refusal of this kind is about the value of a field.
 

@@ -8,8 +8,10 @@ import inspect
 import io
 import importlib
 import pkgutil
+import re
 import subprocess
 import sys
+import tempfile
 import typing
 import unittest
 import os
@@ -56,6 +58,28 @@ class Docs(unittest.TestCase):
 
     def test_the_typed_program(self) -> None:
         self.assertEqual(run("from tests.typed import main; main()").returncode, 0)
+
+    def test_the_page(self) -> None:
+        with open(os.path.join(PACKAGE, "README.md"), encoding="utf-8") as file:
+            blocks = re.findall(r"```python\n(.*?)```", file.read(), re.S)
+        with tempfile.TemporaryDirectory() as folder:
+            with open(os.path.join(folder, "people.jsonl"), "wb") as lines:
+                lines.write(b'{"name":"Cleo","age":7}\n[]\n')
+            done = subprocess.run(
+                [sys.executable, "-c", "\n".join(blocks) + "print(counts[:4])"],
+                env={**os.environ, "PYTHONPATH": PACKAGE},
+                cwd=folder,
+                capture_output=True,
+                text=True,
+                check=True,
+            )
+        first, second, refused, counts = done.stdout.splitlines()
+        about = "a value is of another kind than the field's"
+        self.assertEqual(first, 'line 2: field "age": ' + about + ': {"name":"Bob","age":"old"}')
+        self.assertEqual(second, "['Ada'] [36]")
+        self.assertTrue(refused.startswith("line 2: ") and refused.endswith(": []"), refused)
+        # One pair in 1 byte, of "Cleo" in 4 + 1 + 1 + 4 bytes and of 7 in 4 + 1 + 8.
+        self.assertEqual(counts, "(2, 1, 1, 24)")
 
     def test_the_example(self) -> None:
         program = os.path.join(PACKAGE, "examples", "people.py")
