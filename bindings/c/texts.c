@@ -35,7 +35,7 @@ static const char *schema_text(uint32_t detail) {
     case KORMAGLEN_SCHEMA_BAD_NAME: return "a name is empty or begins with -";
     case KORMAGLEN_SCHEMA_SAME_NAME: return "a field has this name already";
     case KORMAGLEN_SCHEMA_TOO_MANY_FIELDS: return "there are 4294967295 fields already";
-    case KORMAGLEN_SCHEMA_BAD_ENTRY: return "a schema is an array of objects, one for each field";
+    case KORMAGLEN_SCHEMA_BAD_ENTRY: return "a schema is an array, and each of its entries an object";
     case KORMAGLEN_SCHEMA_FLOAT_FIELD: return "the type f64 is not supported";
     case KORMAGLEN_SCHEMA_NAME: return "\"name\": a text is wanted";
     case KORMAGLEN_SCHEMA_TYPE:
