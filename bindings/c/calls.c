@@ -3,7 +3,7 @@
 
 #include <stdbool.h>
 
-/* Where a call reads or writes: so many items of a size, which begin at a pointer. */
+/* Where a call reads or writes: `count` items of a size, which begin at a pointer. */
 typedef struct region {
     const void *start;
     size_t count;

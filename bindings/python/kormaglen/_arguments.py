@@ -208,7 +208,7 @@ class Lent(View):
 
 
 def room(wanted: int) -> Union[bytearray, mmap.mmap]:
-    """A buffer of so many bytes to write into. Raises MemoryError where there is none."""
+    """A buffer of `wanted` bytes to write into. Raises MemoryError where there is none."""
     if wanted > sys.maxsize:
         raise MemoryError(f"{wanted} bytes are wanted")
     if wanted <= _LARGE:

@@ -42,7 +42,7 @@ if TYPE_CHECKING:
 else:
     Schema = HeldSchema  # (the module of that class needs this one)
 
-# So many bytes of a document are asked for at first.
+# How many bytes of a document are asked for at first.
 _FIRST_SIZE = 1024
 
 _D = TypeVar("_D", bound="Document")

@@ -14,7 +14,7 @@ from kormaglen._library import CALLS, LINE_ANSWER_SIZE
 from kormaglen._refusals import LineRefused
 from kormaglen._types import Block, BlockFile, Buffer, Lines, LinesFile, TextOrBuffer
 
-# So many bytes of lines are read at once.
+# How many bytes of lines are read at once.
 _LINES = 1 << 20
 
 
@@ -82,7 +82,7 @@ class Schema(HeldSchema):
         return joined(parts) if parts else imported(b"", b"", b"", 1, ())
 
     def import_chunks(self, lines: Lines, chunk_size: int = 1 << 20) -> Iterator[Imported]:
-        """`import_lines` in bounded memory: gives a part for about so many bytes of lines each, which
+        """`import_lines` in bounded memory: gives a part for about `chunk_size` bytes of lines each, which
         holds whole lines. The blocks one behind the other are the block of all lines. A line larger
         than `chunk_size` makes a larger part.
 
@@ -136,7 +136,7 @@ class Schema(HeldSchema):
             return _exported(self, given.at, given.size, stored)
 
     def export_chunks(self, block: Block, version: int = 2, chunk_size: int = 1 << 20) -> Iterator[bytes]:
-        """`export_block` in bounded memory: gives the lines of about so many bytes of the block each.
+        """`export_block` in bounded memory: gives the lines of about `chunk_size` bytes of the block each.
         The block is anything with the buffer protocol, or a file object of bytes. A document larger
         than `chunk_size` makes a larger part.
 

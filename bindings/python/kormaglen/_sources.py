@@ -6,7 +6,7 @@ from typing import Any, Callable, Iterable, Iterator, List, Mapping
 
 from kormaglen._arguments import View, copied, is_buffer, type_name, utf8
 
-# Gives about so many bytes more, and none at the end.
+# Gives about as many bytes more as it is asked for, and none at the end.
 Read = Callable[[int], bytes]
 
 
@@ -122,7 +122,7 @@ class Carry:
         return len(self.held) - self.at
 
     def fill(self, wanted: int) -> int:
-        """Reads until so many bytes are there, or all. Returns how many are."""
+        """Reads until `wanted` bytes are there, or all. Returns how many are."""
         length = self.left
         if length < wanted and not self.ended:
             parts = [self.held[self.at :]]
@@ -140,6 +140,6 @@ class Carry:
         return self.fill(before + max(before, self._size)) > before
 
     def use(self, count: int) -> None:
-        """Leaves so many bytes behind."""
+        """Leaves `count` bytes behind."""
         self.at += count
         self.place += count

@@ -23,7 +23,7 @@ from kormaglen._sources import Carry, Read, reader_of_block, reader_of_lines, wh
 
 _T = TypeVar("_T")
 
-# So many of the lines that were refused are kept of the import of a file.
+# How many of the refused lines are kept of the import of a file.
 _KEPT = 100
 
 # Imports whole lines, of which the first has this number.
@@ -129,14 +129,14 @@ def _documents(carry: Carry, read: _Call[Tuple[_T, int]]) -> Iterator[_T]:
 
 
 def runs(block: Any, chunk_size: int, call: _Call[_T]) -> Iterator[_T]:
-    """What the call gives for the documents of a block, about so many bytes of them at once."""
+    """What the call gives for the documents of a block, about `chunk_size` bytes of them at once."""
     size = tested_chunk_size(chunk_size)
     carry = Carry(reader_of_block(block, "block"), size)
     return (given for given, _ in _runs(carry, size, call))
 
 
 def _runs(carry: Carry, size: int, call: _Call[_T]) -> Iterator[Tuple[_T, bytes]]:
-    """What the call gives for the documents of a block, so many bytes of them at once, and these bytes.
+    """What the call gives for the documents of a block, `size` bytes of them at once, and these bytes.
 
     Where the bytes end inside a document, or hold none, the call is refused with the place where that
     one begins. Those before are whole.

@@ -281,7 +281,7 @@ def resident() -> int:
 
 
 def run(seconds: float, seed: int) -> int:
-    """Runs for so many seconds; returns how many calls there were."""
+    """Runs for this number of seconds; returns how many calls there were."""
     fuzzer = Fuzzer(seed)
     began, calls, middle, next_sample = time.monotonic(), 0, 0, seconds / 2
     samples: List[int] = []

@@ -193,7 +193,7 @@ class Values:
         return self.kept('[{"name":"age","type":"text","options":{"stored":true}}]')
 
     def chance(self, share: float) -> bool:
-        """True in so many cases of all."""
+        """True in this share of all cases."""
         return self.rng.random() < share
 
     def mutated(self, data: bytes) -> bytes:

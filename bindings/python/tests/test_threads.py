@@ -21,7 +21,7 @@ from tests.common import AGE_36, SCHEMA, run
 
 
 def in_threads(count: int, work: Callable[[int], None]) -> List[BaseException]:
-    """Runs the work on so many threads, and returns what they raised."""
+    """Runs the work on this number of threads, and returns what they raised."""
     errors: List[BaseException] = []
 
     def guarded(number: int) -> None:

@@ -90,7 +90,7 @@ fn make_room<T: Clone + Default>(
     Ok(())
 }
 
-/// Has the vector have memory for so many more items.
+/// Has the vector have memory for `more` items more.
 pub(crate) fn reserve<T>(items: &mut Vec<T>, more: usize) -> Result<(), Refusal> {
     items.try_reserve(more).map_err(|_| Refusal::Memory)
 }

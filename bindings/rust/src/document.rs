@@ -7,7 +7,7 @@ use crate::refusal::Refusal;
 use crate::schema::Schema;
 use std::fmt;
 
-/// So many bytes of a document are asked for at first.
+/// How many bytes of a document are asked for at first.
 const FIRST_ROOM: usize = 1024;
 
 /// One document, or none. Its memory serves the next document that is read or parsed in its place,

@@ -9,7 +9,7 @@ use std::io::{self, Read};
 use std::iter::FusedIterator;
 use std::mem;
 
-/// So many bytes are read at a time where nothing else is said.
+/// How many bytes are read at a time where nothing else is said.
 const CHUNK: usize = 1 << 20;
 
 /// Why the import of a reader's lines ended early.
@@ -111,7 +111,7 @@ impl<'s, R: Read> ImportedBlocks<'s, R> {
         }
     }
 
-    /// Has about so many bytes of lines be read and imported at a time, in place of 1 MiB; 0 is
+    /// Has about `bytes` bytes of lines be read and imported at a time, in place of 1 MiB; 0 is
     /// taken as 1. A line that is longer is imported alone.
     ///
     /// ```
@@ -126,7 +126,7 @@ impl<'s, R: Read> ImportedBlocks<'s, R> {
         self
     }
 
-    /// Has a line of more than so many bytes, and of more than a chunk, be an error, so that no
+    /// Has a line of more than `bytes` bytes, and of more than a chunk, be an error, so that no
     /// input takes more memory than that. Without this call there is no limit.
     ///
     /// ```

@@ -120,7 +120,7 @@ impl Refusal {
     }
 
     /// The same refusal of a document that the call had as the first of its block, whereas it
-    /// begins behind so many bytes.
+    /// begins behind this number of bytes.
     pub(crate) fn behind(self, bytes: usize) -> Refusal {
         match self {
             Refusal::BadDocument { reason, start } => {

@@ -8,7 +8,7 @@ use crate::refusal::Refusal;
 use std::fmt;
 use std::io::Read;
 
-/// So many bytes of a schema's JSON are asked for at first.
+/// How many bytes of a schema's JSON are asked for at first.
 const FIRST_ROOM: usize = 4096;
 
 /// A schema whose JSON is read once, for any number of calls, and the memory that reading lines

@@ -8,9 +8,9 @@ use kormaglen::{documents, terms, Document, Schema, Version};
 use std::fs;
 use std::io::{self, Read};
 
-/// So many bytes of lines are imported.
+/// How many bytes of lines are imported.
 const INPUT: u64 = 50 << 20;
-/// So many bytes more may be taken: some chunks of 1 MiB, what is stored of one, and its answers.
+/// How many bytes more may be taken: some chunks of 1 MiB, what is stored of one, and its answers.
 const ROOM: u64 = 12 << 20;
 
 /// The lines, which are made as they are read.
