@@ -110,7 +110,7 @@ impl From<AllocError> for BlockError {
     }
 }
 
-// What is said of a document, behind so many bytes of its block, that couldn't be read.
+// What is said of a document that couldn't be read, where it begins at this byte of its block.
 pub(crate) fn unread(start: u64, error: &DeserializeError) -> BlockError
     ensures { result ≡ document_refusal start error.now }
 {

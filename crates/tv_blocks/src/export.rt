@@ -79,8 +79,8 @@ pub fn export_block_by(
 
 /// Writes the documents of a block as lines of JSON, see `export_block_by`, and returns how many bytes these take.
 ///
-/// Errors: `InvalidJson`, `BadSchemaKey`, `BadSchemaEntry` and `BadSchema` where the schema is refused, else `BadDocument` for the first document that can't be
-/// read, `TooSmall`, `Memory`. The buffer then stays as it is.
+/// Errors: `InvalidJson`, `BadSchemaKey`, `BadSchemaEntry` and `BadSchema` where the schema is refused, else `BadDocument` for the first
+/// document that can't be read, `TooSmall`, `Memory`. The buffer then stays as it is.
 pub fn export_block(
     alloc: Global,
     schema: &[u8],

@@ -40,8 +40,8 @@ pub fn find_field_by(schema: &Schema, path: &[u8]) -> Result<FoundField, BlockEr
 
 /// The field that a path of a query names, see `find_field_by`.
 ///
-/// Errors: `InvalidJson`, `BadSchemaKey`, `BadSchemaEntry` and `BadSchema` where the schema is refused, else `NotUtf8` where the path isn't UTF-8, `NoField`
-/// where it names no field, `Memory`.
+/// Errors: `InvalidJson`, `BadSchemaKey`, `BadSchemaEntry` and `BadSchema` where the schema is refused, else `NotUtf8` where the path isn't
+/// UTF-8, `NoField` where it names no field, `Memory`.
 pub fn find_field(alloc: Global, schema: &[u8], path: &[u8]) -> Result<FoundField, BlockError>
     ensures found { IfOk result (Finds schema.now path.now) }
     ensures refused { IfErr result (IsPathAnswer schema.now path.now) }

@@ -24,7 +24,7 @@ use tv_store::BinaryDocumentSerializer;
 /// What became of a line. (Not in tantivy.)
 #[derive(Clone, Copy, Debug, PartialEq, Eq, Drop)]
 pub enum LineOutcome {
-    /// Its document was stored, in so many bytes.
+    /// Its document was stored, in this number of bytes.
     Stored(u64),
     /// There is no document of it.
     Refused(LineRefusal),
@@ -183,8 +183,8 @@ pub fn import_lines_by(
 
 /// Stores the documents of lines of JSON and answers each line, see `import_lines_by`.
 ///
-/// Errors: `InvalidJson`, `BadSchemaKey`, `BadSchemaEntry` and `BadSchema` where the schema is refused; `TooSmall` with the bytes of the block and the number of
-/// lines, where one of the buffers is too small; `Memory`. Both buffers then stay as they are.
+/// Errors: `InvalidJson`, `BadSchemaKey`, `BadSchemaEntry` and `BadSchema` where the schema is refused; `TooSmall` with the bytes of the block
+/// and the number of lines, where one of the buffers is too small; `Memory`. Both buffers then stay as they are.
 pub fn import_lines(
     alloc: Global,
     schema: &[u8],

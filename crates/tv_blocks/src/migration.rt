@@ -14,7 +14,7 @@ use tv_base::{SliceSource, VecSink};
 use tv_format::version::WriteVersion;
 use tv_store::{DocStoreVersion, MigrateError, migrate};
 
-// What is said where a document that begins behind so many bytes isn't migrated.
+// What is said where a document that begins at this byte isn't migrated.
 fn unmigrated(start: u64, error: MigrateError) -> BlockError
     ensures { result ≡ migration_refusal start error }
 {

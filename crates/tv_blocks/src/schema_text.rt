@@ -50,8 +50,7 @@ pub fn read_schema(alloc: Global, text: &[u8]) -> Result<Schema, BlockError>
     }
 }
 
-/// Writes the schema's text of JSON, which `read_schema` reads as this schema, and returns how many bytes it takes. It is the value of
-/// `Schema::to_json_value`, without spaces.
+/// Writes the schema's text of JSON, and returns how many bytes it takes: the value of `Schema::to_json_value`, without spaces.
 ///
 /// Errors: `TooSmall`, `Memory`. The buffer then stays as it is.
 #[tactic(auto, using(tv_schema::proofs::SchemaJsonFloats::schema_has_no_float))]
