@@ -51,7 +51,8 @@ const ANSWERS: [LineAnswer; 3] = [
 
 // The schema, printed, and two bytes that stay as they were.
 const PRINTED_SCHEMA: &[u8] =
-    b"[{\"name\":\"s\",\"options\":{\"fast\":false,\"stored\":true},\"type\":\"text\"},{\"name\":\"j\",\"options\":{\"expand_dots_enabled\":false,\"fast\":false,\"indexing\":null,\"stored\":true},\"type\":\"json_object\"}]\xa5\xa5";
+    b"[{\"name\":\"s\",\"options\":{\"fast\":false,\"stored\":true},\"type\":\"text\"},\
+{\"name\":\"j\",\"options\":{\"expand_dots_enabled\":false,\"fast\":false,\"indexing\":null,\"stored\":true},\"type\":\"json_object\"}]\xa5\xa5";
 
 // Schemas of one entry, the key of it that is at fault, and the number of that key in an answer.
 const FAULTS: [(&[u8], SchemaKey, u32); 26] = [
