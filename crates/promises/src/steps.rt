@@ -32,8 +32,7 @@ pub fn steps_take_few_bytes<S: ByteSource>(
     source: &mut S,
 ) -> Result<Step, DeserializeError>
     ensures finds { decoder.old.failed ≡ false → ¬ IsDone decoder.old.reading →
-        Finds S.is_known S.left S.failures source.old decoder.old.count source.new decoder.new.count
-        result
+        Finds S.ByteSource source.old decoder.old.count source.new decoder.new.count result
         (λ b _. Stepped (version_of decoder.old.version) decoder.new.legacy_seen
         decoder.old.reading decoder.new.reading b)
         (NoPrefix (version_of decoder.old.version) decoder.old.reading) }

@@ -18,7 +18,7 @@ pub fn entries_of_equal_keys_are_kept<S: ByteSource>(
     alloc: Global,
     reader: &mut StoreReader<S>,
 ) -> Result<Vec<(String, u64)>, DeserializeError>
-    ensures { Deserializes S.is_known S.left S.failures reader.old reader.new result
+    ensures { Deserializes S.ByteSource reader.old reader.new result
         (EncodesAs ⟦<Vec<(String, u64)> as ValueDeserialize>⟧.is (version_of reader.old.version))
         (NextRefused ⟦<Vec<(String, u64)> as ValueDeserialize>⟧.refused
         (version_of reader.old.version)) }

@@ -9,10 +9,11 @@ ghost use Rattle.tantivy_schema.specs.Documents.{IsReadingError};
 ghost use Rattle.tantivy_schema.specs.InputError.{Refusal};
 ghost use Rattle.tantivy_schema.specs.Legacy.{Legacy};
 ghost use Rattle.tantivy_schema.specs.ReadsAs.{Known};
-ghost use Rattle.tantivy_schema.specs.ReaderError.{IsRefusal, store_stop};
+ghost use Rattle.tantivy_schema.specs.ReaderError.{store_stop};
 ghost use Rattle.tantivy_schema.specs.Room.{document_room};
 ghost use Rattle.tantivy_schema.specs.Encoding.{EncodesDocument};
 ghost use Rattle.tantivy_schema.specs.Stop.{Counts};
+ghost use Rattle.tantivy_schema.specs.Stop.Stop.{InputError};
 ghost use Rattle.tantivy_schema.specs.StoreVersion.{version_of};
 ghost use Rattle.tantivy_schema.specs.Tree.{Document};
 
@@ -50,7 +51,7 @@ pub fn encoded_documents_are_returned<S: ByteSource>(
     source: &mut S,
     version: DocStoreVersion,
 ) -> Result<TantivyDocument, DeserializeError>
-    ensures { Known S.is_known S.left source.old → (d : Document) (prefix rest : List ℕ) →
+    ensures { Known S.ByteSource source.old → (d : Document) (prefix rest : List ℕ) →
         S.left source.old ≡ prefix ++ rest → EncodesDocument Legacy (version_of version) prefix d →
         document_room d ≤ 4294967295 → Answers result d rest (S.left source.new) }
 {
@@ -87,10 +88,10 @@ pub fn refusals_are_true<S: ByteSource>(
     source: &mut S,
     version: DocStoreVersion,
 ) -> Result<TantivyDocument, DeserializeError>
-    ensures error { Known S.is_known S.left source.old → (e : DeserializeError) (r : Refusal) →
-        IsErrOf result e → IsRefusal e r → NoDocument (version_of version) (S.left source.old) r }
-    ensures full { S.is_known source.old → IsErrOf result HeapFull →
-        HasNoRoom (version_of version) (S.left source.old) }
+    ensures error { S.is_known source.old → (e : DeserializeError) (r : Refusal) → IsErrOf result e
+        → store_stop e ≡ InputError r → NoDocument (version_of version) (S.left source.old) r }
+    ensures full { S.is_known source.old → (e : DeserializeError) → IsErrOf result e → e ≡ HeapFull
+        → HasNoRoom (version_of version) (S.left source.old) }
     ensures errors { IfErr result IsReadingError }
 {
     match read_document(alloc, source, version) {

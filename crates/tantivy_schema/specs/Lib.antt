@@ -4,6 +4,7 @@
 pub use Rattle.tv_base.specs.Source
 pub use Rattle.tv_base.specs.Lend
 pub use Rattle.tv_base.specs.Sink
+pub use Rattle.tv_base.specs.Writing
 pub use Rattle.tv_base.specs.Stop
 pub use Rattle.tv_base.specs.Take
 pub use Rattle.tv_base.specs.Append
@@ -77,6 +78,7 @@ pub use Rattle.tv_schema.specs.SchemaJsonReading
 pub use Rattle.tv_term.specs.FastValue
 pub use Rattle.tv_term.specs.FastValueLaws
 pub use Rattle.tv_term.specs.Key
+pub use Rattle.tv_term.specs.Making as TermMaking
 pub use Rattle.tv_term.specs.Reading as TermReading
 pub use Rattle.tv_term.specs.Printed as TermPrinted
 pub use Rattle.tv_term.specs.Lending
@@ -129,7 +131,6 @@ pub use Rattle.tv_store.specs.Error as StoreError
 pub use Rattle.tv_store.specs.Decoder
 pub use Rattle.tv_store.specs.Blocks
 pub use Rattle.tv_store.specs.Limits
-pub use Rattle.tv_store.specs.Chosen
 pub use Rattle.tv_chosen.specs.ChosenFields
 pub use Rattle.tv_decoder.specs.Documents as DecodedDocuments
 pub use Rattle.tv_decoder.specs.Prefix as DecoderPrefix

@@ -110,7 +110,7 @@ pub fn stored_pairs_are_read_back<S: ByteSource>(
     schema: &Schema,
     document: &CompactDoc,
 ) -> Result<CompactDoc, DeserializeError>
-    ensures read { Known S.is_known S.left source.old
+    ensures read { Known S.ByteSource source.old
         → document_room (document_of document.now) ≤ 4294967295 → (rest : List ℕ)
         → S.left source.old
         ≡ short_document V2 (stored schema.now (document_of document.now)) ++ rest

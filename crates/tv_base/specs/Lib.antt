@@ -3,6 +3,7 @@ pub mod Parts
 pub mod ErrorInPart
 pub mod Source
 pub mod Sink
+pub mod Writing
 pub mod Stop
 pub mod Take
 pub mod Append

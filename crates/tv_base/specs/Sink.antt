@@ -1,6 +1,5 @@
 -- What writes do to the bytes that a sink holds, and to its failures.
 use Rattle.std.specs.Prelude.{◌≡◌, ℕ, List, ◌++◌, take, Result, Ok, Err}
-use Rattle.std.specs.declared.io.ErrorKind.{ErrorKind}
 use Rattle.tv_base.specs.Source.{Failures}
 use Rattle.tv_base.specs.Stop.{Stop, Counts}
 use Rattle.tv_base.specs.Stop.Stop.{InputError, Uncounted, Failed, Short, Never}
@@ -43,10 +42,3 @@ pub record WritesBy {S T E R : Type 0} (stop : E → Stop R) (is_known : S → T
   pub appends : is_known old → Appends stop result (held old) (held new) writing
   pub stays_known : is_known old → is_known new
   pub counts : Counts stop result (failures old) (failures new)
-
--- a writer that refuses nothing
-abbrev pub io_stop : ErrorKind → Stop ⊥
-io_stop kind = Failed kind
-
-abbrev pub Writes : {S T : Type 0} (is_known : S → Type 0) (held : S → List ℕ) (failures : S → Failures) (old new : S) (result : Result T ErrorKind) (text : List ℕ) → Type 0
-Writes is_known held failures old new result text = WritesBy io_stop is_known held failures old new result (Ok text)

@@ -43,10 +43,14 @@ CountsStop (Failed kind) old new = HasFailed kind old new
 CountsStop Short old new = new ≡ old
 CountsStop Never old new = ⊥
 
+-- without an error there was no failure, and each error says what there was
+abbrev pub CountsBy : {E T : Type 0} → (E → Failures → Failures → Type 0) → Result T E → Failures → Failures → Type 0
+CountsBy IsCounted (Ok x) old new = new ≡ old
+CountsBy IsCounted (Err e) old new = IsCounted e old new
+
 -- an error of a read or a write is told with its kind, and only where there was one
 abbrev pub Counts : {E F T : Type 0} → (E → Stop F) → Result T E → Failures → Failures → Type 0
-Counts stop (Ok x) old new = new ≡ old
-Counts stop (Err e) old new = CountsStop (stop e) old new
+Counts stop result old new = CountsBy (λ e. CountsStop (stop e)) result old new
 
 -- a slice of the bytes was taken, and counted
 pub record Taken (old new : List ℕ) (count now : ℕ) : Type 0 where

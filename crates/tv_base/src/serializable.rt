@@ -9,7 +9,7 @@ ghost use Rattle.tv_base.specs.ErrorInPart.{ErrorInNumber, ErrorInBytes, ErrorIn
 ghost use Rattle.tv_base.specs.ErrorInPart.{ErrorInSized, ErrorInText};
 ghost use Rattle.tv_base.specs.ReadsAs.{ReadsAs, ReadsLean};
 ghost use Rattle.tv_base.specs.Reading.{vint_at};
-ghost use Rattle.tv_base.specs.Sink.{Writes};
+ghost use Rattle.tv_base.specs.Writing.{Writes};
 ghost use Rattle.tv_base.specs.Take.{TakesLean};
 
 use crate::facet::Facet;
@@ -48,8 +48,7 @@ pub trait BinarySerializable: Sized {
     /// Writes the shortest encoding. Errors: that of a write that failed. The sink then holds a beginning of the encoding
     /// behind what it held before.
     fn serialize<K: ByteSink>(&self, sink: &mut K) -> Result<(), io::ErrorKind>
-        ensures { Writes K.is_known K.held K.failures sink.old sink.new result
-            (shortest (view self.now)) };
+        ensures { Writes K.ByteSink sink.old sink.new result (shortest (view self.now)) };
 
     /// Reads a value, and takes the bytes that encode it and no more.
     ///
@@ -58,8 +57,7 @@ pub trait BinarySerializable: Sized {
     /// and at `UnexpectedEnd` all were taken. `TooLong` comes behind 2^64 - 1 bytes, where more are needed. After each other error some
     /// prefix was taken.
     fn deserialize<S: ByteSource>(alloc: Global, source: &mut S) -> Result<Self, ReadError>
-        ensures { ReadsAs S.is_known S.left S.failures source.old source.new view result encodes
-            has_error };
+        ensures { ReadsAs S.ByteSource source.old source.new view result encodes has_error };
 }
 
 impl BinarySerializable for VInt {
@@ -78,7 +76,7 @@ impl BinarySerializable for VInt {
     }
 
     fn deserialize<S: ByteSource>(alloc: Global, source: &mut S) -> Result<VInt, ReadError>
-        ensures reads { ReadsLean S.is_known S.left S.failures source.old source.new (λ x. x.0)
+        ensures reads { ReadsLean S.ByteSource source.old source.new (λ x. x.0)
             result VNum ErrorInNumber }
     {
         let mut count = 0;
@@ -87,7 +85,7 @@ impl BinarySerializable for VInt {
 }
 
 fn take_wrapped<S: ByteSource>(source: &mut S, count: &mut u64) -> Result<VInt, ReadError>
-    ensures takes { TakesLean S.is_known S.left S.failures source.old count.old source.new count.new
+    ensures takes { TakesLean S.ByteSource source.old count.old source.new count.new
         (λ x. x.0) result vint_at }
 {
     Ok(VInt(take_vint(source, count)?))
@@ -109,7 +107,7 @@ impl BinarySerializable for u8 {
     }
 
     fn deserialize<S: ByteSource>(alloc: Global, source: &mut S) -> Result<u8, ReadError>
-        ensures reads { ReadsLean S.is_known S.left S.failures source.old source.new (λ n. n) result
+        ensures reads { ReadsLean S.ByteSource source.old source.new (λ n. n) result
             (Fixed 1) (ErrorInBytes 1) }
     {
         let mut count = 0;
@@ -133,7 +131,7 @@ impl BinarySerializable for u32 {
     }
 
     fn deserialize<S: ByteSource>(alloc: Global, source: &mut S) -> Result<u32, ReadError>
-        ensures reads { ReadsLean S.is_known S.left S.failures source.old source.new (λ n. n) result
+        ensures reads { ReadsLean S.ByteSource source.old source.new (λ n. n) result
             (Fixed 4) (ErrorInBytes 4) }
     {
         let mut count = 0;
@@ -157,7 +155,7 @@ impl BinarySerializable for u64 {
     }
 
     fn deserialize<S: ByteSource>(alloc: Global, source: &mut S) -> Result<u64, ReadError>
-        ensures reads { ReadsLean S.is_known S.left S.failures source.old source.new (λ n. n) result
+        ensures reads { ReadsLean S.ByteSource source.old source.new (λ n. n) result
             (Fixed 8) (ErrorInBytes 8) }
     {
         let mut count = 0;
@@ -202,7 +200,7 @@ impl BinarySerializable for u128 {
     }
 
     fn deserialize<S: ByteSource>(alloc: Global, source: &mut S) -> Result<u128, ReadError>
-        ensures reads { ReadsLean S.is_known S.left S.failures source.old source.new (λ n. n) result
+        ensures reads { ReadsLean S.ByteSource source.old source.new (λ n. n) result
             (Fixed 16) (ErrorInBytes 16) }
     {
         let mut count = 0;
@@ -226,7 +224,7 @@ impl BinarySerializable for i64 {
     }
 
     fn deserialize<S: ByteSource>(alloc: Global, source: &mut S) -> Result<i64, ReadError>
-        ensures reads { ReadsLean S.is_known S.left S.failures source.old source.new (λ n. n) result
+        ensures reads { ReadsLean S.ByteSource source.old source.new (λ n. n) result
             Signed (ErrorInBytes 8) }
     {
         let mut count = 0;
@@ -250,7 +248,7 @@ impl BinarySerializable for bool {
     }
 
     fn deserialize<S: ByteSource>(alloc: Global, source: &mut S) -> Result<bool, ReadError>
-        ensures reads { ReadsLean S.is_known S.left S.failures source.old source.new
+        ensures reads { ReadsLean S.ByteSource source.old source.new
             (λ truth. truth) result Truth ErrorInTruth }
     {
         let mut count = 0;

@@ -29,7 +29,7 @@ use std::mem;
 /// What `buf` then holds is unspecified.
 #[inline]
 pub fn take<S: ByteSource>(source: &mut S, count: &mut u64, buf: &mut [u8]) -> Result<(), ReadError>
-    ensures takes { TakesLean S.is_known S.left S.failures source.old count.old source.new count.new
+    ensures takes { TakesLean S.ByteSource source.old count.old source.new count.new
         (λ _. buf.new) result (bytes_at (length buf.old)) }
     ensures causes { (cause : Cause) → IsErrOf result (Corrupted cause)
         → (cause ≡ UnexpectedEnd) ⊎ (cause ≡ TooLong) }
@@ -53,7 +53,7 @@ fn take_by_reads<S: ByteSource>(
     count: &mut u64,
     buf: &mut [u8],
 ) -> Result<(), ReadError>
-    ensures takes { TakesLean S.is_known S.left S.failures source.old count.old source.new count.new
+    ensures takes { TakesLean S.ByteSource source.old count.old source.new count.new
         (λ _. buf.new) result (bytes_at (length buf.old)) }
     ensures causes { (cause : Cause) → IsErrOf result (Corrupted cause)
         → (cause ≡ UnexpectedEnd) ⊎ (cause ≡ TooLong) }
@@ -83,7 +83,7 @@ fn take_by_reads<S: ByteSource>(
 #[inline]
 #[tactic(auto, unfolding(crate::specs::Reading::u8_at))]
 pub fn take_u8<S: ByteSource>(source: &mut S, count: &mut u64) -> Result<u8, ReadError>
-    ensures takes { TakesLean S.is_known S.left S.failures source.old count.old source.new count.new
+    ensures takes { TakesLean S.ByteSource source.old count.old source.new count.new
         (λ x. x) result u8_at }
     ensures causes { (cause : Cause) → IsErrOf result (Corrupted cause)
         → (cause ≡ UnexpectedEnd) ⊎ (cause ≡ TooLong) }
@@ -106,7 +106,7 @@ pub fn take_u8<S: ByteSource>(source: &mut S, count: &mut u64) -> Result<u8, Rea
 /// Takes a number in four bytes, the lowest first. Errors: those of [`take`].
 #[tactic(auto, unfolding(crate::specs::Reading::number_at))]
 pub fn take_u32<S: ByteSource>(source: &mut S, count: &mut u64) -> Result<u32, ReadError>
-    ensures takes { TakesLean S.is_known S.left S.failures source.old count.old source.new count.new
+    ensures takes { TakesLean S.ByteSource source.old count.old source.new count.new
         (λ x. x) result u32_at }
     ensures counted { OnOk result (count.new ≡ count.old + 4) }
     ensures few { count.new ≤ count.old + 4 }
@@ -119,7 +119,7 @@ pub fn take_u32<S: ByteSource>(source: &mut S, count: &mut u64) -> Result<u32, R
 /// Takes a number in eight bytes, the lowest first. Errors: those of [`take`].
 #[tactic(auto, unfolding(crate::specs::Reading::number_at))]
 pub fn take_u64<S: ByteSource>(source: &mut S, count: &mut u64) -> Result<u64, ReadError>
-    ensures takes { TakesLean S.is_known S.left S.failures source.old count.old source.new count.new
+    ensures takes { TakesLean S.ByteSource source.old count.old source.new count.new
         (λ x. x) result u64_at }
     ensures counted { OnOk result (count.new ≡ count.old + 8) }
     ensures few { count.new ≤ count.old + 8 }
@@ -132,7 +132,7 @@ pub fn take_u64<S: ByteSource>(source: &mut S, count: &mut u64) -> Result<u64, R
 /// Takes a number in sixteen bytes, the lowest first. Errors: those of [`take`].
 #[tactic(auto, unfolding(crate::specs::Reading::number_at))]
 pub fn take_u128<S: ByteSource>(source: &mut S, count: &mut u64) -> Result<u128, ReadError>
-    ensures takes { TakesLean S.is_known S.left S.failures source.old count.old source.new count.new
+    ensures takes { TakesLean S.ByteSource source.old count.old source.new count.new
         (λ x. x) result u128_at }
     ensures counted { OnOk result (count.new ≡ count.old + 16) }
     ensures few { count.new ≤ count.old + 16 }
@@ -145,7 +145,7 @@ pub fn take_u128<S: ByteSource>(source: &mut S, count: &mut u64) -> Result<u128,
 /// Takes a signed number in eight bytes, the lowest first, in two's complement. Errors: those of [`take`].
 #[tactic(auto, unfolding(crate::specs::Reading::i64_at))]
 pub fn take_i64<S: ByteSource>(source: &mut S, count: &mut u64) -> Result<i64, ReadError>
-    ensures takes { TakesLean S.is_known S.left S.failures source.old count.old source.new count.new
+    ensures takes { TakesLean S.ByteSource source.old count.old source.new count.new
         (λ x. x) result i64_at }
     ensures counted { OnOk result (count.new ≡ count.old + 8) }
     ensures few { count.new ≤ count.old + 8 }
@@ -159,7 +159,7 @@ pub fn take_i64<S: ByteSource>(source: &mut S, count: &mut u64) -> Result<i64, R
 /// Errors: those of [`take`], and `Corrupted(BadBool)` where the byte is neither.
 #[tactic(auto, unfolding(crate::specs::Reading::truth_at))]
 pub fn take_bool<S: ByteSource>(source: &mut S, count: &mut u64) -> Result<bool, ReadError>
-    ensures takes { TakesLean S.is_known S.left S.failures source.old count.old source.new count.new
+    ensures takes { TakesLean S.ByteSource source.old count.old source.new count.new
         (λ x. x) result truth_at }
     ensures counted { OnOk result (count.new ≡ count.old + 1) }
     ensures few { count.new ≤ count.old + 1 }
@@ -180,7 +180,7 @@ const LONGEST_NUMBER: u64 = 10;
 /// Errors: those of [`take`], and `Corrupted(BadNumber)` where the number has more than ten bytes or is 2^64 or more.
 #[inline]
 pub fn take_vint<S: ByteSource>(source: &mut S, count: &mut u64) -> Result<u64, ReadError>
-    ensures takes { TakesLean S.is_known S.left S.failures source.old count.old source.new count.new
+    ensures takes { TakesLean S.ByteSource source.old count.old source.new count.new
         (λ x. x) result vint_at }
     ensures few { count.new ≤ count.old + 10 }
     ensures ten { IsErrOf result (Corrupted BadNumber) → count.new ≡ count.old + 10 }
@@ -202,7 +202,7 @@ const MORE_GROUPS: u32 = 9;
 
 // The same, group by group.
 fn take_groups<S: ByteSource>(source: &mut S, count: &mut u64) -> Result<u64, ReadError>
-    ensures takes { TakesLean S.is_known S.left S.failures source.old count.old source.new count.new
+    ensures takes { TakesLean S.ByteSource source.old count.old source.new count.new
         (λ x. x) result vint_at }
     ensures few { count.new ≤ count.old + 10 }
     ensures ten { IsErrOf result (Corrupted BadNumber) → count.new ≡ count.old + 10 }
@@ -236,7 +236,7 @@ pub fn take_pieces<S: ByteSource>(
     bytes: &mut Vec<u8>,
     len: u64,
 ) -> Result<(), ReadError>
-    ensures takes { TakesBy S.is_known S.left S.failures source.old count.old source.new count.new
+    ensures takes { TakesBy S.ByteSource source.old count.old source.new count.new
         (λ _. bytes.new.items) result (more_at bytes.old.items len) }
     ensures longer { OnOk result (length bytes.new.items ≡ length bytes.old.items + len) }
     ensures few { count.new ≤ count.old + len }
@@ -267,7 +267,7 @@ pub fn take_sized<S: ByteSource>(
     count: &mut u64,
     bytes: &mut Vec<u8>,
 ) -> Result<(), ReadError>
-    ensures takes { TakesBy S.is_known S.left S.failures source.old count.old source.new count.new
+    ensures takes { TakesBy S.ByteSource source.old count.old source.new count.new
         (λ _. bytes.new.items) result sized_at }
 {
     let len = take_vint(source, count)?;
@@ -281,7 +281,7 @@ pub fn take_bytes<S: ByteSource>(
     source: &mut S,
     count: &mut u64,
 ) -> Result<Vec<u8>, ReadError>
-    ensures takes { TakesBy S.is_known S.left S.failures source.old count.old source.new count.new
+    ensures takes { TakesBy S.ByteSource source.old count.old source.new count.new
         (λ bytes. bytes.items) result sized_at }
 {
     let mut bytes = Vec::new(alloc);
@@ -300,7 +300,7 @@ pub fn take_text<S: ByteSource>(
     count: &mut u64,
     text: &mut String,
 ) -> Result<(), ReadError>
-    ensures takes { TakesBy S.is_known S.left S.failures source.old count.old source.new count.new
+    ensures takes { TakesBy S.ByteSource source.old count.old source.new count.new
         (λ _. string_bytes text.new) result text_at }
     ensures empty { OnErr result (string_bytes text.new ≡ []) }
 {
@@ -316,7 +316,7 @@ pub fn take_string<S: ByteSource>(
     source: &mut S,
     count: &mut u64,
 ) -> Result<String, ReadError>
-    ensures takes { TakesBy S.is_known S.left S.failures source.old count.old source.new count.new
+    ensures takes { TakesBy S.ByteSource source.old count.old source.new count.new
         (λ s. string_bytes s) result text_at }
 {
     let mut text = String::new(alloc);
@@ -330,7 +330,7 @@ pub fn take_facet<S: ByteSource>(
     source: &mut S,
     count: &mut u64,
 ) -> Result<Facet, ReadError>
-    ensures takes { TakesBy S.is_known S.left S.failures source.old count.old source.new count.new
+    ensures takes { TakesBy S.ByteSource source.old count.old source.new count.new
         (λ facet. facet) result text_at }
 {
     let encoded = take_string(alloc, source, count)?;

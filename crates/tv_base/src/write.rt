@@ -7,7 +7,7 @@ ghost use Rattle.std.specs.Prelude.{◌≡◌};
 ghost use Rattle.tv_base.specs.Number.{vnum, one_byte, four_bytes, eight_bytes, sixteen_bytes};
 ghost use Rattle.tv_base.specs.Number.{signed_bytes, truth_byte};
 ghost use Rattle.tv_base.specs.Parts.{short_sized};
-ghost use Rattle.tv_base.specs.Sink.{Writes};
+ghost use Rattle.tv_base.specs.Writing.{Writes};
 
 use crate::sink::ByteSink;
 use crate::vint::VInt;
@@ -16,7 +16,7 @@ use std::io;
 /// Writes all of the bytes, in as many writes as it takes.
 #[inline]
 pub fn write_all<K: ByteSink>(sink: &mut K, bytes: &[u8]) -> Result<(), io::ErrorKind>
-    ensures { Writes K.is_known K.held K.failures sink.old sink.new result bytes.now }
+    ensures { Writes K.ByteSink sink.old sink.new result bytes.now }
 {
     let mut rest = bytes;
     while !rest.is_empty() {
@@ -30,7 +30,7 @@ pub fn write_all<K: ByteSink>(sink: &mut K, bytes: &[u8]) -> Result<(), io::Erro
 #[inline]
 #[tactic(auto, unfolding(crate::specs::Number::one_byte))]
 pub fn write_u8<K: ByteSink>(sink: &mut K, number: u8) -> Result<(), io::ErrorKind>
-    ensures { Writes K.is_known K.held K.failures sink.old sink.new result (one_byte number) }
+    ensures { Writes K.ByteSink sink.old sink.new result (one_byte number) }
 {
     write_all(sink, &[number])
 }
@@ -39,7 +39,7 @@ pub fn write_u8<K: ByteSink>(sink: &mut K, number: u8) -> Result<(), io::ErrorKi
 #[inline]
 #[tactic(auto, using(crate::proofs::Widths::four_bytes_is))]
 pub fn write_u32<K: ByteSink>(sink: &mut K, number: u32) -> Result<(), io::ErrorKind>
-    ensures { Writes K.is_known K.held K.failures sink.old sink.new result (four_bytes number) }
+    ensures { Writes K.ByteSink sink.old sink.new result (four_bytes number) }
 {
     let four = number.to_le_bytes();
     write_all(sink, &four)
@@ -49,7 +49,7 @@ pub fn write_u32<K: ByteSink>(sink: &mut K, number: u32) -> Result<(), io::Error
 #[inline]
 #[tactic(auto, using(crate::proofs::Widths::eight_bytes_is))]
 pub fn write_u64<K: ByteSink>(sink: &mut K, number: u64) -> Result<(), io::ErrorKind>
-    ensures { Writes K.is_known K.held K.failures sink.old sink.new result (eight_bytes number) }
+    ensures { Writes K.ByteSink sink.old sink.new result (eight_bytes number) }
 {
     let eight = number.to_le_bytes();
     write_all(sink, &eight)
@@ -59,7 +59,7 @@ pub fn write_u64<K: ByteSink>(sink: &mut K, number: u64) -> Result<(), io::Error
 #[inline]
 #[tactic(auto, using(crate::proofs::Widths::sixteen_bytes_is))]
 pub fn write_u128<K: ByteSink>(sink: &mut K, number: u128) -> Result<(), io::ErrorKind>
-    ensures { Writes K.is_known K.held K.failures sink.old sink.new result (sixteen_bytes number) }
+    ensures { Writes K.ByteSink sink.old sink.new result (sixteen_bytes number) }
 {
     let sixteen = number.to_le_bytes();
     write_all(sink, &sixteen)
@@ -68,7 +68,7 @@ pub fn write_u128<K: ByteSink>(sink: &mut K, number: u128) -> Result<(), io::Err
 /// Writes a signed number in eight bytes, the lowest first, in two's complement.
 #[inline]
 pub fn write_i64<K: ByteSink>(sink: &mut K, number: i64) -> Result<(), io::ErrorKind>
-    ensures { Writes K.is_known K.held K.failures sink.old sink.new result (signed_bytes number) }
+    ensures { Writes K.ByteSink sink.old sink.new result (signed_bytes number) }
 {
     write_u64(sink, number.cast_unsigned())
 }
@@ -77,7 +77,7 @@ pub fn write_i64<K: ByteSink>(sink: &mut K, number: i64) -> Result<(), io::Error
 #[inline]
 #[tactic(auto, unfolding(crate::specs::Number::one_byte))]
 pub fn write_bool<K: ByteSink>(sink: &mut K, truth: bool) -> Result<(), io::ErrorKind>
-    ensures { Writes K.is_known K.held K.failures sink.old sink.new result (truth_byte truth) }
+    ensures { Writes K.ByteSink sink.old sink.new result (truth_byte truth) }
 {
     if truth {
         write_u8(sink, 1)
@@ -90,7 +90,7 @@ pub fn write_bool<K: ByteSink>(sink: &mut K, truth: bool) -> Result<(), io::Erro
 // Most have one byte.
 #[inline(always)]
 pub fn write_vint<K: ByteSink>(sink: &mut K, number: u64) -> Result<(), io::ErrorKind>
-    ensures { Writes K.is_known K.held K.failures sink.old sink.new result (vnum number) }
+    ensures { Writes K.ByteSink sink.old sink.new result (vnum number) }
 {
     if number < 128 {
         return write_u8(sink, number as u8 + 128);
@@ -103,8 +103,7 @@ pub fn write_vint<K: ByteSink>(sink: &mut K, number: u64) -> Result<(), io::Erro
 #[inline(always)]
 #[tactic(auto, using(crate::proofs::Written::Writes_then, crate::proofs::Written::Writes_prefix))]
 pub fn write_sized<K: ByteSink>(sink: &mut K, content: &[u8]) -> Result<(), io::ErrorKind>
-    ensures { Writes K.is_known K.held K.failures sink.old sink.new result
-        (short_sized content.now) }
+    ensures { Writes K.ByteSink sink.old sink.new result (short_sized content.now) }
 {
     write_vint(sink, content.len() as u64)?;
     write_all(sink, content)
@@ -113,7 +112,7 @@ pub fn write_sized<K: ByteSink>(sink: &mut K, content: &[u8]) -> Result<(), io::
 /// Writes a text behind its length in bytes.
 #[inline(always)]
 pub fn write_text<K: ByteSink>(sink: &mut K, text: &str) -> Result<(), io::ErrorKind>
-    ensures { Writes K.is_known K.held K.failures sink.old sink.new result (short_sized text.now) }
+    ensures { Writes K.ByteSink sink.old sink.new result (short_sized text.now) }
 {
     write_sized(sink, text.as_bytes())
 }

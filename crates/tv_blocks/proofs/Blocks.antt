@@ -19,7 +19,7 @@ use Rattle.tv_reader.specs.declared.error.DeserializeError.{DeserializeError}
 use Rattle.tv_reader.specs.declared.error.DeserializeError.TheVariants as errors
 use Rattle.tv_reader.specs.declared.value_type.ValueType.{ValueType}
 use Rattle.tv_store.specs.Documents.{BeginsWith, NoDocument, HasNoRoom, IsReadingError}
-use Rattle.tv_store.specs.Migrate.{IsMigrationError, Transcribes}
+use Rattle.tv_store.proofs.Migrations.{Transcribes}
 use Rattle.tv_store.specs.declared.migration.MigrateError.{MigrateError}
 use Rattle.tv_store.specs.declared.migration.MigrateError.TheVariants.{Read, Write}
 
@@ -49,13 +49,13 @@ pub migrated_none : (from to : Version) (block content : List ℕ) → content �
 migrated_none from to block content none = record { before = []; joined = refl; documents = []; encoded = refl; written = none }
 
 pub migrated_more : {from to : Version} {block rest now content more : List ℕ} → MigratedSoFar from to block rest content
-    → Transcribes from to rest now (λ text. more ≡ content ++ text) → MigratedSoFar from to block now more
-migrated_more {from} {to} {block} {rest} {now} {content} {more} m t = record {
+    → (text : List ℕ) × (more ≡ content ++ text) × Transcribes from to rest now text → MigratedSoFar from to block now more
+migrated_more {from} {to} {block} {rest} {now} {content} {more} m more_is = let t = more_is.2 in record {
   before = m.before ++ t.read.prefix;
   joined = joined_more block m.before rest t.read.prefix now m.joined t.read.joined;
   documents = m.documents ++ t.document ∷ [];
   encoded = each-snoc (EncodesDocument Legacy from) m.before t.read.prefix m.documents t.document m.encoded t.read.encoded;
-  written = t.written ∙ ap (λ (l : List ℕ). l ++ short_document to t.document) m.written ∙ sym (flat-snoc (short_document to) m.documents t.document);
+  written = more_is.1 ∙ ap (λ (l : List ℕ). content ++ l) t.written ∙ ap (λ (l : List ℕ). l ++ short_document to t.document) m.written ∙ sym (flat-snoc (short_document to) m.documents t.document);
 }
 
 pub migrated_all : {from to : Version} {block rest content : List ℕ} → MigratedSoFar from to block rest content → rest ≡ [] → IsMigrated from to block content
@@ -114,12 +114,12 @@ breaks v block before behind documents start e joined at encoded refused full ma
 
 -- the same of migrating it
 pub migration_breaks : (v : Version) (block before behind : List ℕ) (documents : List Document) (start : ℕ) (error : MigrateError) → block ≡ before ++ behind → start ≡ length before
-    → EncodesBlock v before documents → ((e : DeserializeError) → error ≡ Read e → ((r : Refusal) → IsRefusal e r → NoDocument v behind r) × (e ≡ errors.HeapFull → HasNoRoom v behind)) → IsMigrationError error
+    → EncodesBlock v before documents → ((e : DeserializeError) → error ≡ Read e → ((r : Refusal) → IsRefusal e r → NoDocument v behind r) × (e ≡ errors.HeapFull → HasNoRoom v behind) × IsReadingError e)
     → IsRefusedBlock v block (migration_refusal start error)
-migration_breaks v block before behind documents start (Read e) joined at encoded refused may =
+migration_breaks v block before behind documents start (Read e) joined at encoded refused =
     let why = refused e refl in
-    breaks v block before behind documents start e joined at encoded why.0 why.1 may
-migration_breaks v block before behind documents start (Write e) joined at encoded refused may = tt
+    breaks v block before behind documents start e joined at encoded why.0 why.1 why.2
+migration_breaks v block before behind documents start (Write e) joined at encoded refused = tt
 
 -- what is left of a slice is no longer than it
 pub no_more_left : (block before rest : List ℕ) → block ≡ before ++ rest → length block < 2 ^ 63 → length rest < 2 ^ 64 - 1

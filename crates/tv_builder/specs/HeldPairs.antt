@@ -61,7 +61,11 @@ abbrev pub Refuses : HeapPairs → Tree → AddError → Type 0
 Refuses d t HeapFull = IsFull d t
 Refuses d t Memory = length (heap_of d) + room t ≤ 4294967295
 
--- what an addition returns, and what it leaves
+-- The promise of adding: what an addition of a pair returns, and what it leaves.
+--
+-- Where it succeeds, the heap had room for the tree, and the pair stands behind the others (`Added`).
+-- `HeapFull` comes only where the heap has no room for the tree, and `Memory` only where it has.
+-- After an error nothing has changed (`IsUnchanged`).
 abbrev pub Adds : {T : Type 0} → HeapPairs → HeapPairs → ℕ → Tree → Result T AddError → Type 0
 Adds old new field t (Ok x) = (length (heap_of old) + room t ≤ 4294967295) × Added old new field t
 Adds old new field t (Err e) = Refuses old t e × IsUnchanged old new

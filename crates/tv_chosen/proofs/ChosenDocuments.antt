@@ -20,7 +20,7 @@ use Rattle.tv_format.specs.InputError.{Refusal, Corrupt, ErrorInPair}
 use Rattle.tv_format.specs.Tree.{Tree, Document}
 use Rattle.tv_format.specs.Version.{Version}
 use Rattle.tv_format.proofs.Prefixes.{each_push}
-use Rattle.tv_reader.specs.Finds.{Finds, FindsLean}
+use Rattle.tv_reader.specs.Finds.{FindsIf}
 use Rattle.tv_reader.specs.declared.error.DeserializeError.{DeserializeError}
 use Rattle.tv_reader.proofs.Finding.{finds_then, finds_as, finds_fails}
 use Rattle.tv_value.specs.declared.field.Field.{Field}
@@ -31,6 +31,7 @@ use Rattle.tv_decoder.proofs.PairValues.{pairs_are_parts}
 use Rattle.tv_chosen.specs.ChosenFields.{is_among, chosen, EncodesChosen, HasNoRoomChosen}
 use Rattle.tv_chosen.specs.ChosenPair.{FindsPair, FindsNoPair, PairHasNoRoom}
 use Rattle.tv_chosen.proofs.ChosenPairs.{end, chosen_stand, pair_ended}
+use Rattle.tv_reader.specs.Error.{StoreMayStop, StoreMayStopLean}
 
 -- so many of the announced pairs were taken, and the chosen ones of these are kept
 pub record TakenChosen (v : Version) (fields : List Field) (announced count : ℕ) (taken : List ℕ) (kept : HeapPairs) : Type 0 where
@@ -77,20 +78,20 @@ module _ (v : Version) (fields : List Field) (n : ℕ) where
 
 module _ {S : Type 0} {is_known : S → Type 0} {left : S → List ℕ} {failures : S → Failures} (v : Version) (fields : List Field) (n : ℕ) where
   -- the number of the pairs
-  pub number_taken : {old new : S} {i k : ℕ} (empty : HeapPairs) → document_of empty ≡ [] → FindsLean is_known left failures old i new k (Ok n) VNum (Corrupt ErrorInNumber) → Finds is_known left failures old i new k (Ok empty) (TakenChosen v fields n 0) Nothing
+  pub number_taken : {old new : S} {i k : ℕ} (empty : HeapPairs) → document_of empty ≡ [] → FindsIf StoreMayStopLean is_known left failures old i new k (Ok n) VNum (Corrupt ErrorInNumber) → FindsIf StoreMayStop is_known left failures old i new k (Ok empty) (TakenChosen v fields n 0) Nothing
   number_taken empty none p = finds_as empty (TakenChosen v fields n 0) Nothing
       (λ a q. record { pairs = []; counted = refl; encoded = record { prefix = a; rest = []; joined = sym (append-nil a); first = q; second = refl }; document = none }) p
 
   -- one more
-  pub pair_taken : {old mid new : S} {i j k : ℕ} (m : ℕ) (document after : HeapPairs) → Finds is_known left failures old i mid j (Ok document) (TakenChosen v fields n m) Nothing
-      → Finds is_known left failures mid j new k (Ok after) (FindsPair v fields (document_of document)) (FindsNoPair v (document_of document)) → Finds is_known left failures old i new k (Ok after) (TakenChosen v fields n (m + 1)) Nothing
+  pub pair_taken : {old mid new : S} {i j k : ℕ} (m : ℕ) (document after : HeapPairs) → FindsIf StoreMayStop is_known left failures old i mid j (Ok document) (TakenChosen v fields n m) Nothing
+      → FindsIf StoreMayStop is_known left failures mid j new k (Ok after) (FindsPair v fields (document_of document)) (FindsNoPair v (document_of document)) → FindsIf StoreMayStop is_known left failures old i new k (Ok after) (TakenChosen v fields n (m + 1)) Nothing
   pair_taken m document after p h =
       finds_then (TakenChosen v fields n (m + 1)) Nothing (λ a b y q s. one_more v fields n m document y a b q s) (λ a w r q f. f) (λ a r q other f start byte last. f)
       p (finds_as after (FindsPair v fields (document_of document)) Nothing (λ a s. s) h)
 
   -- or it is malformed
-  pub pair_refused : {old mid new : S} {i j k : ℕ} {e : DeserializeError} (m : ℕ) (document : HeapPairs) → m < n → Finds is_known left failures old i mid j (Ok document) (TakenChosen v fields n m) Nothing
-      → Finds {X = HeapPairs} is_known left failures mid j new k (Err e) (FindsPair v fields (document_of document)) (FindsNoPair v (document_of document)) → Finds {X = HeapPairs} is_known left failures old i new k (Err e) (EncodesChosen v fields) (NoDocument v)
+  pub pair_refused : {old mid new : S} {i j k : ℕ} {e : DeserializeError} (m : ℕ) (document : HeapPairs) → m < n → FindsIf StoreMayStop is_known left failures old i mid j (Ok document) (TakenChosen v fields n m) Nothing
+      → FindsIf {X = HeapPairs} StoreMayStop is_known left failures mid j new k (Err e) (FindsPair v fields (document_of document)) (FindsNoPair v (document_of document)) → FindsIf {X = HeapPairs} StoreMayStop is_known left failures old i new k (Err e) (EncodesChosen v fields) (NoDocument v)
   pair_refused m document less p h =
       finds_then (EncodesChosen v fields) (NoDocument v) (λ a b y q s. absurd s)
       (λ a w r q f. let s = q.encoded in inr (
@@ -107,7 +108,7 @@ module _ {S : Type 0} {is_known : S → Type 0} {left : S → List ℕ} {failure
       p (finds_fails (λ b z. ⊥) (FindsNoPair v (document_of document)) (λ w r f. f) h)
 
   -- or it has no room
-  pub pair_has_none : {old mid : S} {i j : ℕ} (m : ℕ) (document : HeapPairs) → m < n → Finds is_known left failures old i mid j (Ok document) (TakenChosen v fields n m) Nothing → is_known old → (CanStand v (document_of document) → PairHasNoRoom v fields (document_of document) (left mid))
+  pub pair_has_none : {old mid : S} {i j : ℕ} (m : ℕ) (document : HeapPairs) → m < n → FindsIf StoreMayStop is_known left failures old i mid j (Ok document) (TakenChosen v fields n m) Nothing → is_known old → (CanStand v (document_of document) → PairHasNoRoom v fields (document_of document) (left mid))
       → HasNoRoomChosen v fields (left old)
   pair_has_none m document less p t without =
       let f = p.found t in
@@ -132,6 +133,6 @@ module _ {S : Type 0} {is_known : S → Type 0} {left : S → List ℕ} {failure
       }
 
   -- all of them
-  pub all_taken : {old new : S} {i k : ℕ} (m : ℕ) (document : HeapPairs) → m ≡ n → Finds is_known left failures old i new k (Ok document) (TakenChosen v fields n m) Nothing → Finds is_known left failures old i new k (Ok document) (EncodesChosen v fields) (NoDocument v)
+  pub all_taken : {old new : S} {i k : ℕ} (m : ℕ) (document : HeapPairs) → m ≡ n → FindsIf StoreMayStop is_known left failures old i new k (Ok document) (TakenChosen v fields n m) Nothing → FindsIf StoreMayStop is_known left failures old i new k (Ok document) (EncodesChosen v fields) (NoDocument v)
   all_taken m document all p = finds_as document (EncodesChosen v fields) (NoDocument v)
       (λ a q. let s = q.encoded in (q.pairs, record { prefix = s.prefix; rest = s.rest; joined = s.joined; first = subst (λ (z : ℕ). VNum s.prefix z) (sym (q.counted ∙ all)) s.first; second = s.second }, q.document)) p

@@ -26,8 +26,8 @@ use Rattle.tv_format.specs.InputError.{Refusal, corrupted, Corrupt, ErrorInPair}
 use Rattle.tv_format.specs.Tree.{Tree, Document}
 use Rattle.tv_format.specs.Version.{Version}
 use Rattle.tv_format.proofs.Prefixes.{each_push, begins_cut, small_take}
-use Rattle.tv_reader.specs.Error.{store_stop}
-use Rattle.tv_reader.specs.Finds.{FindsBy, Finds, FindsLean, FindsRoomy}
+use Rattle.tv_reader.specs.Error.{store_stop, StoreMayStop, StoreMayStopRoomy}
+use Rattle.tv_reader.specs.Finds.{FindsBy, FindsLean, FindsIf}
 use Rattle.tv_reader.specs.Trees.{NoValue}
 use Rattle.tv_reader.specs.declared.error.DeserializeError.{DeserializeError}
 use Rattle.tv_reader.proofs.BehindKinds.{value_ended}
@@ -109,8 +109,8 @@ pair_ended v r (inl h) = bytes_ended 4 r h
 pair_ended v r (inr h) = value_ended (rest_none h.1.prefix h.1.rest h.1.joined) h.1.second
 
 module _ {S : Type 0} {is_known : S → Type 0} {left : S → List ℕ} {failures : S → Failures} (v : Version) (fields : List Field) where
-  pub pair_buffered : {os ns : S} {i k : ℕ} (before after : HeapPairs) (number n : ℕ) → n ≤ 1 → (is_known os → BeginsAsPair (left os) number) → is_among fields number ≡ true → Finds is_known left failures os i ns k (Ok n) (λ b added. AddsPairs v before after b added) Nothing
-      → Finds is_known left failures os i ns k (Ok (nat_eq n 1)) (λ b added. AddsIf v fields before after b added) Nothing
+  pub pair_buffered : {os ns : S} {i k : ℕ} (before after : HeapPairs) (number n : ℕ) → n ≤ 1 → (is_known os → BeginsAsPair (left os) number) → is_among fields number ≡ true → FindsIf StoreMayStop is_known left failures os i ns k (Ok n) (λ b added. AddsPairs v before after b added) Nothing
+      → FindsIf StoreMayStop is_known left failures os i ns k (Ok (nat_eq n 1)) (λ b added. AddsIf v fields before after b added) Nothing
   pair_buffered {os = os} {ns = ns} before after number n most named among p = record {
     found = λ t. let h = p.found t in record { prefix = h.prefix; joined = h.joined; encoded = buffered v fields before after number h.prefix (left ns) (left os) n most h.encoded h.joined (named t) among };
     taken = p.taken;
@@ -123,8 +123,8 @@ module _ {S : Type 0} {is_known : S → Type 0} {left : S → List ℕ} {failure
   -- ---- a pair part by part
 
   -- its value is kept
-  pub value_kept : {old mid new : S} {i j k : ℕ} (d : Document) (number : ℕ) (result : Result HeapPairs DeserializeError) → is_among fields number ≡ true → Finds is_known left failures old i mid j (Ok number) (Fixed 4) (λ w f. ⊥)
-      → Finds is_known left failures mid j new k result (FindsValue v d number) (FindsNoValue v d) → Finds is_known left failures old i new k result (FindsPair v fields d) (FindsNoPair v d)
+  pub value_kept : {old mid new : S} {i j k : ℕ} (d : Document) (number : ℕ) (result : Result HeapPairs DeserializeError) → is_among fields number ≡ true → FindsIf StoreMayStop is_known left failures old i mid j (Ok number) (Fixed 4) (λ w f. ⊥)
+      → FindsIf StoreMayStop is_known left failures mid j new k result (FindsValue v d number) (FindsNoValue v d) → FindsIf StoreMayStop is_known left failures old i new k result (FindsPair v fields d) (FindsNoPair v d)
   value_kept d number result among p h =
       finds_then (FindsPair v fields d) (FindsNoPair v d)
       (λ a b y fixed s. λ stands. let added = s stands in record {
@@ -137,7 +137,7 @@ module _ {S : Type 0} {is_known : S → Type 0} {left : S → List ℕ} {failure
       p h
 
   -- or it has no room
-  pub value_has_none : {old mid : S} {i j : ℕ} (d : Document) (number : ℕ) → is_among fields number ≡ true → Finds is_known left failures old i mid j (Ok number) (Fixed 4) (λ w f. ⊥) → is_known old → ValueHasNoRoom v d (left mid) → PairHasNoRoom v fields d (left old)
+  pub value_has_none : {old mid : S} {i j : ℕ} (d : Document) (number : ℕ) → is_among fields number ≡ true → FindsIf StoreMayStop is_known left failures old i mid j (Ok number) (Fixed 4) (λ w f. ⊥) → is_known old → ValueHasNoRoom v d (left mid) → PairHasNoRoom v fields d (left old)
   value_has_none d number among p t none =
       let f = p.found t in
       record {
@@ -153,12 +153,12 @@ module _ {S : Type 0} {is_known : S → Type 0} {left : S → List ℕ} {failure
       }
 
   -- its value is passed over
-  pub value_passed : {old mid new : S} {i j k : ℕ} {x : Unit {0}} (document : HeapPairs) (number : ℕ) → is_among fields number ≡ false → Finds is_known left failures old i mid j (Ok number) (Fixed 4) (λ w f. ⊥)
-      → FindsRoomy is_known left failures mid j new k (Ok x) (λ b _. IsValue v b) (NoValue v) → Finds is_known left failures old i new k (Ok document) (FindsPair v fields (document_of document)) (FindsNoPair v (document_of document))
+  pub value_passed : {old mid new : S} {i j k : ℕ} {x : Unit {0}} (document : HeapPairs) (number : ℕ) → is_among fields number ≡ false → FindsIf StoreMayStop is_known left failures old i mid j (Ok number) (Fixed 4) (λ w f. ⊥)
+      → FindsIf StoreMayStopRoomy is_known left failures mid j new k (Ok x) (λ b _. IsValue v b) (NoValue v) → FindsIf StoreMayStop is_known left failures old i new k (Ok document) (FindsPair v fields (document_of document)) (FindsNoPair v (document_of document))
   value_passed {old = old} {mid = mid} {new = new} {i = i} {j = j} {k = k} {x = x} document number other p h =
       let d = document_of document in
-      let value : Finds is_known left failures mid j new k (Ok x) (λ b _. IsValue v b) Nothing = finds_as x (λ b _. IsValue v b) Nothing (λ a s. s) h in
-      let pair : Finds is_known left failures old i new k (Ok x) (λ b _. FindsPair v fields d b document) Nothing =
+      let value : FindsIf StoreMayStop is_known left failures mid j new k (Ok x) (λ b _. IsValue v b) Nothing = finds_as x (λ b _. IsValue v b) Nothing (λ a s. s) h in
+      let pair : FindsIf StoreMayStop is_known left failures old i new k (Ok x) (λ b _. FindsPair v fields d b document) Nothing =
       finds_then (λ b _. FindsPair v fields d b document) Nothing
       (λ a b y fixed t. λ stands. record {
         pair = (number, t.0);
@@ -168,8 +168,8 @@ module _ {S : Type 0} {is_known : S → Type 0} {left : S → List ℕ} {failure
       (λ a w r fixed f. f) (λ a r fixed o f start byte last. f) p value in
       finds_as document (FindsPair v fields d) (FindsNoPair v d) (λ a s. s) pair
 
-  pub value_not_passed : {old mid new : S} {i j k : ℕ} {e : DeserializeError} (d : Document) (number : ℕ) → Finds is_known left failures old i mid j (Ok number) (Fixed 4) (λ w f. ⊥) → FindsRoomy {X = Unit {0}} is_known left failures mid j new k (Err e) (λ b _. IsValue v b) (NoValue v)
-      → Finds {X = HeapPairs} is_known left failures old i new k (Err e) (FindsPair v fields d) (FindsNoPair v d)
+  pub value_not_passed : {old mid new : S} {i j k : ℕ} {e : DeserializeError} (d : Document) (number : ℕ) → FindsIf StoreMayStop is_known left failures old i mid j (Ok number) (Fixed 4) (λ w f. ⊥) → FindsIf {X = Unit {0}} StoreMayStopRoomy is_known left failures mid j new k (Err e) (λ b _. IsValue v b) (NoValue v)
+      → FindsIf {X = HeapPairs} StoreMayStop is_known left failures old i new k (Err e) (FindsPair v fields d) (FindsNoPair v d)
   value_not_passed d number p h =
       finds_then (FindsPair v fields d) (FindsNoPair v d) (λ a b y fixed s. absurd s)
       (λ a w r fixed f. λ stands. inr (number, record { prefix = a; rest = w; joined = refl; first = fixed; second = f }))
@@ -178,8 +178,8 @@ module _ {S : Type 0} {is_known : S → Type 0} {left : S → List ℕ} {failure
 
   -- ---- a pair, behind none that was buffered
 
-  pub none_before : {old mid new : S} {i j k : ℕ} (document pairs : HeapPairs) (added : Bool) (result : Result HeapPairs DeserializeError) → added ≡ false → Finds is_known left failures old i mid j (Ok added) (λ b z. AddsIf v fields document pairs b z) Nothing
-      → Finds is_known left failures mid j new k result (FindsPair v fields (document_of pairs)) (FindsNoPair v (document_of pairs)) → Finds is_known left failures old i new k result (FindsPair v fields (document_of document)) (FindsNoPair v (document_of document))
+  pub none_before : {old mid new : S} {i j k : ℕ} (document pairs : HeapPairs) (added : Bool) (result : Result HeapPairs DeserializeError) → added ≡ false → FindsIf StoreMayStop is_known left failures old i mid j (Ok added) (λ b z. AddsIf v fields document pairs b z) Nothing
+      → FindsIf StoreMayStop is_known left failures mid j new k result (FindsPair v fields (document_of pairs)) (FindsNoPair v (document_of pairs)) → FindsIf StoreMayStop is_known left failures old i new k result (FindsPair v fields (document_of document)) (FindsNoPair v (document_of document))
   none_before document pairs added result none p h =
       finds_then (FindsPair v fields (document_of document)) (FindsNoPair v (document_of document))
       (λ a b y q s. let n = subst (AddsIf v fields document pairs a) none q in subst (λ z. FindsPair v fields z (a ++ b) y) n.1 (subst (λ z. FindsPair v fields (document_of pairs) (z ++ b) y) (sym n.0) s))
@@ -187,7 +187,7 @@ module _ {S : Type 0} {is_known : S → Type 0} {left : S → List ℕ} {failure
       (λ a r q other f start byte last. λ stands. let n = subst (AddsIf v fields document pairs a) none q in absurd (other (pair_ended v r (f (subst (CanStand v) (sym n.1) stands)))))
       p h
 
-  pub none_before_full : {old mid : S} {i j : ℕ} (document pairs : HeapPairs) (added : Bool) → added ≡ false → Finds is_known left failures old i mid j (Ok added) (λ b z. AddsIf v fields document pairs b z) Nothing → is_known old → CanStand v (document_of document)
+  pub none_before_full : {old mid : S} {i j : ℕ} (document pairs : HeapPairs) (added : Bool) → added ≡ false → FindsIf StoreMayStop is_known left failures old i mid j (Ok added) (λ b z. AddsIf v fields document pairs b z) Nothing → is_known old → CanStand v (document_of document)
       → (CanStand v (document_of pairs) → PairHasNoRoom v fields (document_of pairs) (left mid)) → PairHasNoRoom v fields (document_of document) (left old)
   none_before_full {old = old} {mid = mid} document pairs added none p t stands without =
       let f = p.found t in

@@ -53,7 +53,7 @@ fn take_buffered_pair<S: ByteSource>(
     version: DocStoreVersion,
     fields: &[Field],
 ) -> bool
-    ensures finds { Finds S.is_known S.left S.failures source.old count.old source.new count.new
+    ensures finds { Finds S.ByteSource source.old count.old source.new count.new
         (Ok result) (λ b added. AddsIf (version_of version) fields.now document.old document.new b
         added) Nothing }
 {
@@ -76,7 +76,7 @@ fn take_pair_by_parts<S: ByteSource>(
     fields: &[Field],
     bytes: &mut Vec<u8>,
 ) -> Result<HeapPairs, DeserializeError>
-    ensures finds { Finds S.is_known S.left S.failures source.old count.old source.new count.new
+    ensures finds { Finds S.ByteSource source.old count.old source.new count.new
         result (FindsPair (version_of version) fields.now (document_of document))
         (FindsNoPair (version_of version) (document_of document)) }
     ensures full { S.is_known source.old → IsErrOf result HeapFull
@@ -102,7 +102,7 @@ fn take_chosen_pair<S: ByteSource>(
     fields: &[Field],
     bytes: &mut Vec<u8>,
 ) -> Result<HeapPairs, DeserializeError>
-    ensures finds { Finds S.is_known S.left S.failures source.old count.old source.new count.new
+    ensures finds { Finds S.ByteSource source.old count.old source.new count.new
         result (FindsPair (version_of version) fields.now (document_of document))
         (FindsNoPair (version_of version) (document_of document)) }
     ensures full { S.is_known source.old → IsErrOf result HeapFull
@@ -134,9 +134,8 @@ pub fn take_chosen_into<S: ByteSource>(
     fields: &[Field],
 ) -> Result<HeapPairs, DeserializeError>
     requires { document_of empty ≡ [] }
-    ensures finds { Finds S.is_known S.left S.failures source.old count.old source.new count.new
-        result (EncodesChosen (version_of version) fields.now)
-        (NoDocument (version_of version)) }
+    ensures finds { Finds S.ByteSource source.old count.old source.new count.new
+        result (EncodesChosen (version_of version) fields.now) (NoDocument (version_of version)) }
     ensures full { S.is_known source.old → IsErrOf result HeapFull
         → HasNoRoomChosen (version_of version) fields.now (S.left source.old) }
 {

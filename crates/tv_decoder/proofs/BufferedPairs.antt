@@ -12,8 +12,8 @@ use Rattle.tv_builder.specs.Parts.{Part, number, pair}
 use Rattle.tv_builder.proofs.Grammar.{each_append}
 use Rattle.tv_builder.specs.Builder.{built, state_of}
 use Rattle.tv_legacy.specs.Legacy.{Legacy}
-use Rattle.tv_reader.specs.Error.{store_stop}
-use Rattle.tv_reader.specs.Finds.{Finds}
+use Rattle.tv_reader.specs.Error.{store_stop, StoreMayStop}
+use Rattle.tv_reader.specs.Finds.{FindsIf}
 use Rattle.tv_reader.proofs.Finding.{finds_nothing}
 use Rattle.tv_format.specs.InputError.{corrupted}
 use Rattle.tv_format.specs.Encoding.{Encodes, EncodesElements, EncodesEntries, EncodesPair, NoLegacy}
@@ -119,7 +119,7 @@ prefix_lent old new lent n lend within p = sym (take-append-le n lent lend.0 wit
 
 module _ {S X : Type 0} {is_known : S → Type 0} {left : S → List ℕ} {failures : S → Failures} (Encodes : List ℕ → X → Type 0) (x : X) where
   pub passed_finds : {os ns : S} {i k : ℕ} (lent : List ℕ) (n : ℕ) → (is_known os → IsPrefix lent (left os)) → n ≤ length lent → Encodes (take n lent) x → (is_known os → Passes (left os) (left ns) n true) → (is_known os → is_known ns) → failures ns ≡ failures os → k ≡ i + n
-      → Finds is_known left failures os i ns k (Ok x) Encodes Nothing
+      → FindsIf StoreMayStop is_known left failures os i ns k (Ok x) Encodes Nothing
   passed_finds {os = os} {ns = ns} lent n lend within is pass told same counted = record {
     found = λ t. let p = pass t in record { prefix = p.0; joined = p.1; encoded = subst (λ z. Encodes z x) (prefix_lent (left os) (left ns) lent n (lend t) within p) is };
     taken = λ t. let p = pass t in record { prefix = p.0; joined = p.1; counted = omega (arith, counted, p.2) };
@@ -130,7 +130,7 @@ module _ {S X : Type 0} {is_known : S → Type 0} {left : S → List ℕ} {failu
   }
 
   -- or they weren't, and nothing was
-  pub not_passed : {os ns : S} {i : ℕ} → Encodes [] x → (is_known os → left ns ≡ left os) → (is_known os → is_known ns) → failures ns ≡ failures os → Finds is_known left failures os i ns i (Ok x) Encodes Nothing
+  pub not_passed : {os ns : S} {i : ℕ} → Encodes [] x → (is_known os → left ns ≡ left os) → (is_known os → is_known ns) → failures ns ≡ failures os → FindsIf StoreMayStop is_known left failures os i ns i (Ok x) Encodes Nothing
   not_passed {i = i} is pass told same = record {
     found = λ t. record { prefix = []; joined = sym (pass t); encoded = is };
     taken = λ t. record { prefix = []; joined = sym (pass t); counted = omega arith };
@@ -141,5 +141,5 @@ module _ {S X : Type 0} {is_known : S → Type 0} {left : S → List ℕ} {failu
   }
 
   -- or there were none
-  pub none_passed : {p : S} {i : ℕ} → Encodes [] x → Finds is_known left failures p i p i (Ok x) Encodes Nothing
+  pub none_passed : {p : S} {i : ℕ} → Encodes [] x → FindsIf StoreMayStop is_known left failures p i p i (Ok x) Encodes Nothing
   none_passed {p = p} {i = i} is = finds_nothing store_stop (corrupted UnexpectedEnd) is_known left failures p i x Encodes Nothing is

@@ -25,13 +25,14 @@ use Rattle.tv_format.specs.Version.{Version}
 use Rattle.tv_format.proofs.ExcludingLeaves.{excludes_corrupt}
 use Rattle.tv_format.proofs.ExcludingTrees.{excludes_field, pair_excludes}
 use Rattle.tv_format.proofs.Trees.{one_pair}
-use Rattle.tv_reader.specs.Finds.{Finds}
+use Rattle.tv_reader.specs.Finds.{FindsIf}
 use Rattle.tv_reader.specs.Trees.{NoValue}
 use Rattle.tv_reader.specs.declared.error.DeserializeError.{DeserializeError}
 use Rattle.tv_reader.proofs.Finding.{finds_as, finds_fails}
 use Rattle.tv_decoder.specs.PairValue.{CanStand, AddsValue, ValueHasNoRoom}
 use Rattle.tv_decoder.specs.Prefix.{HasNoRoom}
 use Rattle.tv_decoder.proofs.RoomWithin.{rest_is, both_cut, document_room-cons, state_within}
+use Rattle.tv_reader.specs.Error.{StoreMayStop}
 
 -- ---- bytes that encode the pairs, and the field of one more
 
@@ -195,6 +196,6 @@ value_too_large v d f left few is_field none stands =
 -- ---- the same reading in other words
 
 pub reads_map : {S X : Type 0} {is_known : S → Type 0} {left : S → List ℕ} {failures : S → Failures} {old new : S} {i k : ℕ} {A : List ℕ → X → Type 0} {P : List ℕ → Refusal → Type 0} (B : List ℕ → X → Type 0) (Q : List ℕ → Refusal → Type 0) (result : Result X DeserializeError)
-    → ((a : List ℕ) (x : X) → A a x → B a x) → ((w : List ℕ) (r : Refusal) → P w r → Q w r) → Finds is_known left failures old i new k result A P → Finds is_known left failures old i new k result B Q
+    → ((a : List ℕ) (x : X) → A a x → B a x) → ((w : List ℕ) (r : Refusal) → P w r → Q w r) → FindsIf StoreMayStop is_known left failures old i new k result A P → FindsIf StoreMayStop is_known left failures old i new k result B Q
 reads_map B Q (Ok x) is refused p = finds_as x B Q (λ a h. is a x h) p
 reads_map B Q (Err e) is refused p = finds_fails B Q refused p

@@ -15,7 +15,7 @@ use Rattle.tv_builder.proofs.Trading.{trades_as, trades_from}
 use Rattle.tv_builder.specs.declared.pair_builder.PairBuilder.{PairBuilder}
 use Rattle.tv_builder.specs.Builder.{built, state_of}
 use Rattle.tv_legacy.specs.Legacy.{Legacy}
-use Rattle.tv_reader.specs.Finds.{Finds, FindsIf}
+use Rattle.tv_reader.specs.Finds.{FindsIf}
 use Rattle.tv_reader.specs.HeadReading.{head_part}
 use Rattle.tv_reader.specs.Heads.{HeadPart, leaf_head, length_head, HasWidth, array_head as array_number, object_head as object_number, tokenized_head, legacy_head, EncodesHead, EncodesKeyHead}
 use Rattle.tv_reader.specs.declared.error.DeserializeError.{DeserializeError}
@@ -35,6 +35,7 @@ use Rattle.tv_decoder.specs.Prefix.{parts_at, parts_read, Lacks, IsPlace, IsSoun
 use Rattle.tv_decoder.specs.Puts.{Put, Fills, Puts, IsParts, head_parts}
 use Rattle.tv_decoder.specs.Steps.{Advances, BeginsWith, IsTakenWhole, Stepped}
 use Rattle.tv_decoder.specs.declared.reading.Reading.{Reading}
+use Rattle.tv_reader.specs.Error.{StoreMayStop}
 
 abbrev pub EncodesIn : (List ℕ → Entries → Type 0) → Version → List ℕ → List Part → Type 0
 EncodesIn L v b ps = Each (EncodesPart L v) b ps
@@ -129,7 +130,7 @@ pub part_steps : (v : Version) (legacy : Bool) (old new : Reading) (ps : List Pa
 part_steps v legacy old new ps taken h p = stepped v legacy old new ps taken p h.some h.few h.encoded h.plain
 
 pub puts_found : {S X : Type 0} {May : DeserializeError → ℕ → Type 0} {is_known : S → Type 0} {left : S → List ℕ} {failures : S → Failures} {os ns : S} {i k : ℕ} {x : X} {A : List ℕ → X → Type 0} {I : List ℕ → Refusal → Type 0} (v : Version) (legacy : Bool) (old new : Reading) (ps : List Part) (result : Result (Unit {0}) DeserializeError)
-    → ((a : List ℕ) → A a x → IsPart v legacy old a ps) → FindsIf May is_known left failures os i ns k (Ok x) A I → Puts old new ps result → Finds is_known left failures os i ns k result (λ b _. Stepped v legacy old new b) (NoPrefix v old)
+    → ((a : List ℕ) → A a x → IsPart v legacy old a ps) → FindsIf May is_known left failures os i ns k (Ok x) A I → Puts old new ps result → FindsIf StoreMayStop is_known left failures os i ns k result (λ b _. Stepped v legacy old new b) (NoPrefix v old)
 puts_found v legacy old new ps (Ok y) part h p = finds_as y (λ b _. Stepped v legacy old new b) (NoPrefix v old) (λ a s. part_steps v legacy old new ps a (part a s) p) h
 puts_found v legacy old new ps (Err errors.HeapFull) part h p = finds_short errors.HeapFull (λ b _. Stepped v legacy old new b) (NoPrefix v old) refl tt h
 puts_found v legacy old new ps (Err errors.Memory) part h p = finds_short errors.Memory (λ b _. Stepped v legacy old new b) (NoPrefix v old) refl tt h

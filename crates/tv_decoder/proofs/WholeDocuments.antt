@@ -20,7 +20,7 @@ use Rattle.tv_builder.specs.HeldPairs.{document_of}
 use Rattle.tv_builder.specs.Builder.{built, state_of}
 use Rattle.tv_legacy.specs.Legacy.{Legacy, ErrorInLegacy}
 use Rattle.tv_legacy.proofs.Unique.{one_legacy, legacy_excludes, single_legacy}
-use Rattle.tv_reader.specs.Finds.{Finds, FindsLean}
+use Rattle.tv_reader.specs.Finds.{FindsIf}
 use Rattle.tv_reader.specs.declared.error.DeserializeError.{DeserializeError}
 use Rattle.tv_reader.specs.declared.error.DeserializeError.TheVariants as errors
 use Rattle.tv_reader.proofs.Finding.{finds_then, finds_as, finds_fails}
@@ -36,6 +36,7 @@ use Rattle.tv_decoder.specs.Steps.{Advances, Stepped}
 use Rattle.tv_decoder.specs.declared.reading.Reading.{Reading}
 use Rattle.tv_decoder.proofs.BufferedPairs.{pairs_as_parts}
 use Rattle.tv_decoder.proofs.WithErrors.{number_at_error, field_at_error, value_at_error, key_at_error, end_at_error}
+use Rattle.tv_reader.specs.Error.{StoreMayStop, StoreMayStopLean}
 
 abbrev end : Refusal
 end = corrupted causes.UnexpectedEnd
@@ -116,50 +117,50 @@ pub same_refusal : {A B : Type 0} (e f : DeserializeError) → IsErrOf {T = A} (
 same_refusal e f is = let same : e ≡ f = cc in ap (λ x. Err x) same
 
 module _ {S : Type 0} {is_known : S → Type 0} {left : S → List ℕ} {failures : S → Failures} (v : Version) (begun r : Reading) where
-  pub step_more : {old mid new : S} {i j k : ℕ} (x : Unit {0}) (legacy : Bool) (after : Reading) → Finds is_known left failures old i mid j (Ok r) (Goes v begun) Nothing → Finds is_known left failures mid j new k (Ok x) (λ b _. Stepped v legacy r after b) (NoPrefix v r) → Finds is_known left failures old i new k (Ok after) (Goes v begun) Nothing
+  pub step_more : {old mid new : S} {i j k : ℕ} (x : Unit {0}) (legacy : Bool) (after : Reading) → FindsIf StoreMayStop is_known left failures old i mid j (Ok r) (Goes v begun) Nothing → FindsIf StoreMayStop is_known left failures mid j new k (Ok x) (λ b _. Stepped v legacy r after b) (NoPrefix v r) → FindsIf StoreMayStop is_known left failures old i new k (Ok after) (Goes v begun) Nothing
   step_more x legacy after p h =
       finds_as after (Goes v begun) Nothing (λ a s. s)
       (finds_then (λ b z. Goes v begun b after) (λ w c. Unit {0}) (λ a b z q s. two_steps v begun r after a b q s.goes) (λ a w c q f. tt) (λ a f q _ _ start byte last. tt) p h)
 
-  pub step_fails : {old mid new : S} {i j k : ℕ} (e : DeserializeError) (legacy : Bool) (after : Reading) → IsSound r → ¬ IsDone r → Finds is_known left failures old i mid j (Ok r) (Goes v begun) Nothing → Finds {X = Unit {0}} is_known left failures mid j new k (Err e) (λ b _. Stepped v legacy r after b) (NoPrefix v r)
-      → Finds is_known left failures old i new k (Err e) (EncodesBehind v begun) (NoPrefix v begun)
+  pub step_fails : {old mid new : S} {i j k : ℕ} (e : DeserializeError) (legacy : Bool) (after : Reading) → IsSound r → ¬ IsDone r → FindsIf StoreMayStop is_known left failures old i mid j (Ok r) (Goes v begun) Nothing → FindsIf {X = Unit {0}} StoreMayStop is_known left failures mid j new k (Err e) (λ b _. Stepped v legacy r after b) (NoPrefix v r)
+      → FindsIf StoreMayStop is_known left failures old i new k (Err e) (EncodesBehind v begun) (NoPrefix v begun)
   step_fails e legacy after sound more p h =
       finds_then (EncodesBehind v begun) (NoPrefix v begun) (λ a b z q s. absurd s) (λ a w c q f. refused_behind v begun r a w c q f) (λ a f q other nothing start byte last. λ bytes s. absurd (other (ended v r (bytes ++ a) f sound more (q bytes s) nothing)))
       p (finds_fails (λ b z. ⊥) (NoPrefix v r) (λ w c f. f) h)
 
   -- and takes a byte
-  pub step_takes : {mid new : S} {j k : ℕ} (x : Unit {0}) (legacy : Bool) (after : Reading) → Finds is_known left failures mid j new k (Ok x) (λ b _. Stepped v legacy r after b) (NoPrefix v r) → is_known mid → j < k
+  pub step_takes : {mid new : S} {j k : ℕ} (x : Unit {0}) (legacy : Bool) (after : Reading) → FindsIf StoreMayStop is_known left failures mid j new k (Ok x) (λ b _. Stepped v legacy r after b) (NoPrefix v r) → is_known mid → j < k
   step_takes {mid = mid} {new = new} x legacy after h t =
       let f = h.found t in
       let g = h.taken t in
       omega (arith, f.encoded.some, g.counted, ap length f.joined, ap length g.joined, length-append f.prefix (left new), length-append g.prefix (left new))
 
   -- buffered pairs behind them
-  pub pairs_more : {old mid new : S} {i j k : ℕ} (after : Reading) → Finds is_known left failures old i mid j (Ok r) (Goes v begun) Nothing → Finds is_known left failures mid j new k (Ok after) (λ b z. Advances Legacy v r z b) Nothing → Finds is_known left failures old i new k (Ok after) (Goes v begun) Nothing
+  pub pairs_more : {old mid new : S} {i j k : ℕ} (after : Reading) → FindsIf StoreMayStop is_known left failures old i mid j (Ok r) (Goes v begun) Nothing → FindsIf StoreMayStop is_known left failures mid j new k (Ok after) (λ b z. Advances Legacy v r z b) Nothing → FindsIf StoreMayStop is_known left failures old i new k (Ok after) (Goes v begun) Nothing
   pairs_more after p h = finds_then (Goes v begun) Nothing (λ a b z q s. two_steps v begun r z a b q s) (λ a w c q f. f) (λ a f q _ none start byte last. none) p h
 
   -- all pairs are finished
-  pub all_finished : {old mid : S} {i j : ℕ} (document : HeapPairs) → IsSound r → IsDone r → document_of document ≡ built r.builder → Finds is_known left failures old i mid j (Ok r) (Goes v begun) Nothing
-      → Finds is_known left failures old i mid j (Ok document) (EncodesBehind v begun) (NoPrefix v begun)
+  pub all_finished : {old mid : S} {i j : ℕ} (document : HeapPairs) → IsSound r → IsDone r → document_of document ≡ built r.builder → FindsIf StoreMayStop is_known left failures old i mid j (Ok r) (Goes v begun) Nothing
+      → FindsIf StoreMayStop is_known left failures old i mid j (Ok document) (EncodesBehind v begun) (NoPrefix v begun)
   all_finished document sound done is p = finds_as document (EncodesBehind v begun) (NoPrefix v begun) (λ a s. λ bytes q. done_encodes v r document (bytes ++ a) sound done is (s bytes q)) p
 
   -- what has come has no room
-  pub no_room : {old mid : S} {i j : ℕ} → Finds is_known left failures old i mid j (Ok r) (Goes v begun) Nothing → is_known old → NoRoomBehind v r (left mid) → NoRoomBehind v begun (left old)
+  pub no_room : {old mid : S} {i j : ℕ} → FindsIf StoreMayStop is_known left failures old i mid j (Ok r) (Goes v begun) Nothing → is_known old → NoRoomBehind v r (left mid) → NoRoomBehind v begun (left old)
   no_room {old = old} {mid = mid} p t none = λ bytes q.
       let f = p.found t in
       let joined : (bytes ++ f.prefix) ++ left mid ≡ bytes ++ left old = append_assoc bytes f.prefix (left mid) ∙ ap (λ z. bytes ++ z) (sym f.joined) in
       subst (HasNoRoom v) joined (none (bytes ++ f.prefix) (f.encoded bytes q))
 
   -- more is awaited, so what was taken ends too early
-  pub awaits_more : {old mid : S} {i j : ℕ} → IsSound r → ¬ IsDone r → Finds is_known left failures old i mid j (Ok r) (Goes v begun) Nothing → is_known old → EndsEarly end (NoPrefix v begun) (left old) (left mid)
+  pub awaits_more : {old mid : S} {i j : ℕ} → IsSound r → ¬ IsDone r → FindsIf StoreMayStop is_known left failures old i mid j (Ok r) (Goes v begun) Nothing → is_known old → EndsEarly end (NoPrefix v begun) (left old) (left mid)
   awaits_more sound more p t =
       let f = p.found t in
       let early = refused_behind v begun r f.prefix [] end f.encoded (ended_at v r sound more r.announced r.field refl refl) in
       record { taken = f.prefix; joined = f.joined; shown = subst (λ z. NoPrefix v begun z end) (append-nil f.prefix) early }
 
   -- so many steps that no more can be counted
-  pub too_many : {old mid : S} {i j : ℕ} (counter : ℕ) → IsSound r → ¬ IsDone r → j < 2 ^ 64 → 2 ^ 64 - 1 ≤ counter → (is_known old → counter + i ≤ j) → Finds is_known left failures old i mid j (Ok r) (Goes v begun) Nothing
-      → Finds {X = HeapPairs} is_known left failures old i mid 18446744073709551615 (Err (errors.CorruptedValue causes.TooLong)) (EncodesBehind v begun) (NoPrefix v begun)
+  pub too_many : {old mid : S} {i j : ℕ} (counter : ℕ) → IsSound r → ¬ IsDone r → j < 2 ^ 64 → 2 ^ 64 - 1 ≤ counter → (is_known old → counter + i ≤ j) → FindsIf StoreMayStop is_known left failures old i mid j (Ok r) (Goes v begun) Nothing
+      → FindsIf {X = HeapPairs} StoreMayStop is_known left failures old i mid 18446744073709551615 (Err (errors.CorruptedValue causes.TooLong)) (EncodesBehind v begun) (NoPrefix v begun)
   too_many counter sound more second many counts p = record {
     found = λ t. (refl, awaits_more sound more p t);
     taken = λ t. let g = p.taken t in record { prefix = g.prefix; joined = g.joined; counted = omega (arith, g.counted, counts t, many, second) };
@@ -181,22 +182,22 @@ begun_encodes v n m empty document a b none number h =
     (record { prefix = a; rest = b; joined = refl; first = number; second = subst (λ z. Each (EncodesPart Legacy v) b (pairs_parts z)) (sym is) (pairs_as_parts Legacy v h.pairs b h.encoded) }, ap length is ∙ h.counted)
 
 module _ {S : Type 0} {is_known : S → Type 0} {left : S → List ℕ} {failures : S → Failures} (v : Version) (n : ℕ) (empty document : HeapPairs) (none : document_of empty ≡ []) where
-  pub begun_finds : {old mid new : S} {i j k : ℕ} (m : ℕ) → FindsLean is_known left failures old i mid j (Ok n) VNum (Corrupt ErrorInNumber) → Finds is_known left failures mid j new k (Ok m) (λ b z. AddsPairs v empty document b z) Nothing → Finds is_known left failures old i new k (Ok m) (Begun v n document) Nothing
+  pub begun_finds : {old mid new : S} {i j k : ℕ} (m : ℕ) → FindsIf StoreMayStopLean is_known left failures old i mid j (Ok n) VNum (Corrupt ErrorInNumber) → FindsIf StoreMayStop is_known left failures mid j new k (Ok m) (λ b z. AddsPairs v empty document b z) Nothing → FindsIf StoreMayStop is_known left failures old i new k (Ok m) (Begun v n document) Nothing
   begun_finds m p h = finds_then (Begun v n document) Nothing (λ a b z q s. begun_encodes v n z empty document a b none q s) (λ a w c q f. f) (λ a f q _ never start byte last. never) p h
 
   -- these are all
-  pub begun_ends : {old new : S} {i k : ℕ} (m : ℕ) → m ≡ n → Finds is_known left failures old i new k (Ok m) (Begun v n document) Nothing → Finds is_known left failures old i new k (Ok document) (EncodesRead v) (NoDocument v)
+  pub begun_ends : {old new : S} {i k : ℕ} (m : ℕ) → m ≡ n → FindsIf StoreMayStop is_known left failures old i new k (Ok m) (Begun v n document) Nothing → FindsIf StoreMayStop is_known left failures old i new k (Ok document) (EncodesRead v) (NoDocument v)
   begun_ends m all p = finds_as document (EncodesRead v) (NoDocument v)
       (λ a s. record { prefix = s.0.prefix; rest = s.0.rest; joined = s.0.joined; first = subst (λ z. VNum s.0.prefix z) (sym (s.1 ∙ all)) s.0.first; second = pairs_encode v (document_of document) s.0.rest s.0.second }) p
 
   -- and the rest behind them
-  pub begun_then : {old mid new : S} {i j k : ℕ} (m : ℕ) (begun : Reading) (result : Result HeapPairs DeserializeError) → parts_read begun ≡ document_parts n (document_of document) → Finds is_known left failures old i mid j (Ok m) (Begun v n document) Nothing
-      → Finds is_known left failures mid j new k result (EncodesBehind v begun) (NoPrefix v begun) → IsSound begun → ¬ IsDone begun → Finds is_known left failures old i new k result (EncodesRead v) (NoDocument v)
+  pub begun_then : {old mid new : S} {i j k : ℕ} (m : ℕ) (begun : Reading) (result : Result HeapPairs DeserializeError) → parts_read begun ≡ document_parts n (document_of document) → FindsIf StoreMayStop is_known left failures old i mid j (Ok m) (Begun v n document) Nothing
+      → FindsIf StoreMayStop is_known left failures mid j new k result (EncodesBehind v begun) (NoPrefix v begun) → IsSound begun → ¬ IsDone begun → FindsIf StoreMayStop is_known left failures old i new k result (EncodesRead v) (NoDocument v)
   begun_then m begun result is p h sound more =
       let encoded : (a : List ℕ) → Encoded Legacy v a (document_parts n (document_of document)) → Encoded Legacy v a (parts_read begun) = λ a q. subst (λ z. Encoded Legacy v a z) (sym is) q in
       finds_then (EncodesRead v) (NoDocument v) (λ a b z q s. s a (encoded a q.0)) (λ a w c q f. f a (encoded a q.0)) (λ a f q other nothing start byte last. absurd (other (ended v begun a f sound more (encoded a q.0) nothing))) p h
 
-  pub begun_no_room : {old mid : S} {i j : ℕ} (m : ℕ) (begun : Reading) → parts_read begun ≡ document_parts n (document_of document) → Finds is_known left failures old i mid j (Ok m) (Begun v n document) Nothing → is_known old → NoRoomBehind v begun (left mid) → HasNoRoom v (left old)
+  pub begun_no_room : {old mid : S} {i j : ℕ} (m : ℕ) (begun : Reading) → parts_read begun ≡ document_parts n (document_of document) → FindsIf StoreMayStop is_known left failures old i mid j (Ok m) (Begun v n document) Nothing → is_known old → NoRoomBehind v begun (left mid) → HasNoRoom v (left old)
   begun_no_room m begun is p t full =
       let f = p.found t in
       subst (HasNoRoom v) (sym f.joined) (full f.prefix (subst (λ z. Encoded Legacy v f.prefix z) (sym is) f.encoded.0))

@@ -11,11 +11,11 @@ use Rattle.tv_builder.specs.Parts.{Part, some_bytes}
 use Rattle.tv_builder.specs.State.{State, complete, in_lists, in_bytes, awaited}
 use Rattle.tv_builder.specs.Builder.{built, state_of}
 use Rattle.tv_legacy.specs.Legacy.{Legacy}
-use Rattle.tv_reader.specs.Finds.{Refuses, Found, Finds, FindsRoomy, FindsLean}
+use Rattle.tv_reader.specs.Finds.{Refuses, Found, FindsIf}
 use Rattle.tv_reader.specs.HeadReading.{head_part}
 use Rattle.tv_reader.specs.Heads.{EncodesHead}
 use Rattle.tv_reader.specs.Trees.{NoValue, NoneBehind}
-use Rattle.tv_reader.specs.Error.{store_stop, StoreMayStop}
+use Rattle.tv_reader.specs.Error.{store_stop, StoreMayStop, StoreMayStopRoomy, StoreMayStopLean}
 use Rattle.tv_reader.specs.ValueType.{coded}
 use Rattle.tv_reader.specs.declared.error.DeserializeError.{DeserializeError}
 use Rattle.tv_reader.specs.declared.error.DeserializeError.TheVariants as errors
@@ -74,7 +74,7 @@ seen_as v legacy old new (Err e) Q a b k h = h
 
 -- no object of an older store is encoded there, whether one was seen before or not
 pub finds_seen : {S : Type 0} {is_known : S → Type 0} {left : S → List ℕ} {failures : S → Failures} {os ns : S} {i k : ℕ} {result : Result (Unit {0}) DeserializeError} (v : Version) (legacy : Bool) (old new : Reading)
-    → Finds is_known left failures os i ns k result (λ b _. Stepped v false old new b) (NoPrefix v old) → Finds is_known left failures os i ns k result (λ b _. Stepped v legacy old new b) (NoPrefix v old)
+    → FindsIf StoreMayStop is_known left failures os i ns k result (λ b _. Stepped v false old new b) (NoPrefix v old) → FindsIf StoreMayStop is_known left failures os i ns k result (λ b _. Stepped v legacy old new b) (NoPrefix v old)
 finds_seen {left = left} {os = os} {ns = ns} {k = k} {result = result} v legacy old new h =
     record { found = λ t. seen_as v legacy old new result (NoPrefix v old) (left os) (left ns) k (h.found t); taken = h.taken; stays_known = h.stays_known; counts = h.counts; rises = h.rises; may_stop = h.may_stop }
 
@@ -89,8 +89,8 @@ value_edge : (v : Version) (old : Reading) (kind : ValueType) → Awaiting old a
 value_edge v old kind h a start byte is last = kind_edge end (NoPrefix v old) (value_at_error v old [] end h value_ends) (value_at_error v old (7 ∷ []) end h (held_error leaves.PreTokStr (no_extension refl))) kind start byte (sym is ∙ last)
 
 pub whole_found : {S X : Type 0} {is_known : S → Type 0} {left : S → List ℕ} {failures : S → Failures} {os ms ns : S} {i j k : ℕ} {head : Head} {x : X} {I : List ℕ → Refusal → Type 0} (view : X → Tree) (v : Version) (old : Reading) (kind : ValueType) → Awaiting old awaits.Value
-    → ((a : List ℕ) → EncodesHead v a (head_part head) → a ≡ coded kind) → FindsLean is_known left failures os i ms j (Ok head) (λ b x. EncodesHead v b (head_part x)) I → FindsRoomy is_known left failures ms j ns k (Ok x) (λ b y. Encodes Legacy v (coded kind ++ b) (view y)) (NoneBehind v kind)
-    → FindsRoomy is_known left failures os i ns k (Ok x) (IsBehind view v kind) (NoPrefix v old)
+    → ((a : List ℕ) → EncodesHead v a (head_part head) → a ≡ coded kind) → FindsIf StoreMayStopLean is_known left failures os i ms j (Ok head) (λ b x. EncodesHead v b (head_part x)) I → FindsIf StoreMayStopRoomy is_known left failures ms j ns k (Ok x) (λ b y. Encodes Legacy v (coded kind ++ b) (view y)) (NoneBehind v kind)
+    → FindsIf StoreMayStopRoomy is_known left failures os i ns k (Ok x) (IsBehind view v kind) (NoPrefix v old)
 whole_found {head = head} view v old kind h is p q =
     finds_then {May0 = StoreMayStop} (IsBehind view v kind) (NoPrefix v old)
     (λ a b y r s. record { body = b; joined = ap (λ (z : List ℕ). z ++ b) r; encoded = subst (λ z. Encodes Legacy v (z ++ b) (view y)) (sym r) s })
@@ -99,8 +99,8 @@ whole_found {head = head} view v old kind h is p q =
     (finds_as {May = StoreMayStop} head (λ a _. a ≡ coded kind) (λ w r. Unit {0}) is p) q
 
 pub whole_fails : {S X : Type 0} {A : List ℕ → X → Type 0} {is_known : S → Type 0} {left : S → List ℕ} {failures : S → Failures} {os ms ns : S} {i j k : ℕ} {head : Head} {e : DeserializeError} {I : List ℕ → Refusal → Type 0} (v : Version) (legacy : Bool) (old new : Reading) (kind : ValueType) → Awaiting old awaits.Value
-    → ((a : List ℕ) → EncodesHead v a (head_part head) → a ≡ coded kind) → FindsLean is_known left failures os i ms j (Ok head) (λ b x. EncodesHead v b (head_part x)) I → FindsRoomy {X = X} is_known left failures ms j ns k (Err e) A (NoneBehind v kind)
-    → Finds {X = Unit {0}} is_known left failures os i ns k (Err e) (λ b _. Stepped v legacy old new b) (NoPrefix v old)
+    → ((a : List ℕ) → EncodesHead v a (head_part head) → a ≡ coded kind) → FindsIf StoreMayStopLean is_known left failures os i ms j (Ok head) (λ b x. EncodesHead v b (head_part x)) I → FindsIf {X = X} StoreMayStopRoomy is_known left failures ms j ns k (Err e) A (NoneBehind v kind)
+    → FindsIf {X = Unit {0}} StoreMayStop is_known left failures os i ns k (Err e) (λ b _. Stepped v legacy old new b) (NoPrefix v old)
 whole_fails {head = head} v legacy old new kind h is p q =
     finds_then {May0 = StoreMayStop} (λ b _. Stepped v legacy old new b) (NoPrefix v old)
     (λ a b y r s. absurd s)
@@ -166,8 +166,8 @@ bytes_fill : (old new : Reading) (bytes : List ℕ) (result : Result (Unit {0}) 
 bytes_fill old new bytes result is q = subst (λ z. PutsBytes old new bytes (some_bytes bytes ∷ []) z) is q
 
 module _ {S X : Type 0} {is_known : S → Type 0} {left : S → List ℕ} {failures : S → Failures} {os ns : S} {i k : ℕ} {x : X} {I : List ℕ → Refusal → Type 0} (v : Version) (old new : Reading) (n missing : ℕ) (bytes : List ℕ) where
-  text_refused : (c : Cause) → Awaiting old (awaits.Bytes missing) → n ≤ missing → NoText c (state_of old.builder) bytes → Finds is_known left failures os i ns k (Ok x) (λ a _. Piece n bytes a) I
-      → Finds {X = Unit {0}} is_known left failures os i ns k (Err (errors.CorruptedValue c)) (λ b _. Stepped v false old new b) (NoPrefix v old)
+  text_refused : (c : Cause) → Awaiting old (awaits.Bytes missing) → n ≤ missing → NoText c (state_of old.builder) bytes → FindsIf StoreMayStop is_known left failures os i ns k (Ok x) (λ a _. Piece n bytes a) I
+      → FindsIf {X = Unit {0}} StoreMayStop is_known left failures os i ns k (Err (errors.CorruptedValue c)) (λ b _. Stepped v false old new b) (NoPrefix v old)
   text_refused causes.NotUtf8 h few none p = record {
     found = λ t. let f = p.found t in no_text_refuses v old n missing bytes f.prefix (left os) (left ns) h few none f.encoded f.joined;
     taken = p.taken;
@@ -178,8 +178,8 @@ module _ {S X : Type 0} {is_known : S → Type 0} {left : S → List ℕ} {failu
   }
   text_refused _ h few none p = absurd none
 
-  pub bytes_found : (result : Result (Unit {0}) DeserializeError) → Awaiting old (awaits.Bytes missing) → 0 < n → n ≤ missing → n ≤ 4096 → Finds is_known left failures os i ns k (Ok x) (λ a _. Piece n bytes a) I → PutsBytes old new bytes (some_bytes bytes ∷ []) result
-      → Finds is_known left failures os i ns k result (λ b _. Stepped v false old new b) (NoPrefix v old)
+  pub bytes_found : (result : Result (Unit {0}) DeserializeError) → Awaiting old (awaits.Bytes missing) → 0 < n → n ≤ missing → n ≤ 4096 → FindsIf StoreMayStop is_known left failures os i ns k (Ok x) (λ a _. Piece n bytes a) I → PutsBytes old new bytes (some_bytes bytes ∷ []) result
+      → FindsIf StoreMayStop is_known left failures os i ns k result (λ b _. Stepped v false old new b) (NoPrefix v old)
   bytes_found (Ok y) h some few small p q = finds_as y (λ b _. Stepped v false old new b) (NoPrefix v old) (λ a s. part_steps v false old new (some_bytes bytes ∷ []) a (piece_part v false old n bytes a some small s) q) p
   bytes_found (Err errors.HeapFull) h some few small p q = finds_short errors.HeapFull (λ b _. Stepped v false old new b) (NoPrefix v old) refl tt p
   bytes_found (Err errors.Memory) h some few small p q = finds_short errors.Memory (λ b _. Stepped v false old new b) (NoPrefix v old) refl tt p
@@ -192,7 +192,7 @@ module _ {S X : Type 0} {is_known : S → Type 0} {left : S → List ℕ} {failu
   bytes_found (Err errors.AlreadyFailed) h some few small p q = absurd q
   bytes_found (Err errors.TooDeep) h some few small p q = absurd q
 
-  pub bytes_full : (result : Result (Unit {0}) DeserializeError) → 0 < n → n ≤ 4096 → Finds is_known left failures os i ns k (Ok x) (λ a _. Piece n bytes a) I → PutsBytes old new bytes (some_bytes bytes ∷ []) result → is_known os → IsErrOf result errors.HeapFull → NoRoomBehind v old (left os)
+  pub bytes_full : (result : Result (Unit {0}) DeserializeError) → 0 < n → n ≤ 4096 → FindsIf StoreMayStop is_known left failures os i ns k (Ok x) (λ a _. Piece n bytes a) I → PutsBytes old new bytes (some_bytes bytes ∷ []) result → is_known os → IsErrOf result errors.HeapFull → NoRoomBehind v old (left os)
   bytes_full result some small p q t is =
       let f = p.found t in
       no_room v old (some_bytes bytes ∷ []) (left os) (left ns) f.prefix f.joined (piece_part v false old n bytes f.prefix some small f.encoded).encoded (bytes_fill old new bytes result is q)

@@ -34,7 +34,7 @@ pub fn take_buffered_pairs<S: ByteSource>(
     version: DocStoreVersion,
     most: u64,
 ) -> u64
-    ensures finds { Finds S.is_known S.left S.failures source.old count.old source.new count.new
+    ensures finds { Finds S.ByteSource source.old count.old source.new count.new
         (Ok result) (λ b added. AddsPairs (version_of version) document.old document.new b added)
         Nothing }
     ensures counted { length (document_of document.new)

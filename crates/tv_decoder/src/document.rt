@@ -28,7 +28,7 @@ fn take_rest<S: ByteSource>(
     bytes: &mut Vec<u8>,
 ) -> Result<HeapPairs, DeserializeError>
     requires { IsSound begun }
-    ensures finds { Finds S.is_known S.left S.failures source.old count.old source.new count.new
+    ensures finds { Finds S.ByteSource source.old count.old source.new count.new
         result (EncodesBehind (version_of version) begun) (NoPrefix (version_of version) begun) }
     ensures full { S.is_known source.old → IsErrOf result HeapFull
         → NoRoomBehind (version_of version) begun (S.left source.old) }
@@ -63,7 +63,7 @@ pub fn take_document<S: ByteSource>(
     count: &mut u64,
     version: DocStoreVersion,
 ) -> Result<HeapPairs, DeserializeError>
-    ensures finds { Finds S.is_known S.left S.failures source.old count.old source.new count.new
+    ensures finds { Finds S.ByteSource source.old count.old source.new count.new
         result (EncodesRead (version_of version)) (NoDocument (version_of version)) }
     ensures full { S.is_known source.old → IsErrOf result HeapFull
         → HasNoRoom (version_of version) (S.left source.old) }
@@ -82,7 +82,7 @@ pub fn take_document_into<S: ByteSource>(
     version: DocStoreVersion,
 ) -> Result<HeapPairs, DeserializeError>
     requires { document_of empty ≡ [] }
-    ensures finds { Finds S.is_known S.left S.failures source.old count.old source.new count.new
+    ensures finds { Finds S.ByteSource source.old count.old source.new count.new
         result (EncodesRead (version_of version)) (NoDocument (version_of version)) }
     ensures full { S.is_known source.old → IsErrOf result HeapFull
         → HasNoRoom (version_of version) (S.left source.old) }
@@ -114,7 +114,7 @@ pub fn take_pair_value<S: ByteSource>(
     field: u32,
     bytes: &mut Vec<u8>,
 ) -> Result<HeapPairs, DeserializeError>
-    ensures finds { Finds S.is_known S.left S.failures source.old count.old source.new count.new
+    ensures finds { Finds S.ByteSource source.old count.old source.new count.new
         result (FindsValue (version_of version) (document_of document) field)
         (FindsNoValue (version_of version) (document_of document)) }
     ensures full { S.is_known source.old → IsErrOf result HeapFull

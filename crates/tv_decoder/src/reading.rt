@@ -141,7 +141,7 @@ impl Reading {
     ) -> Reading
         requires { IsSound self }
         ensures sound { IsSound result }
-        ensures finds { Finds S.is_known S.left S.failures source.old count.old source.new count.new
+        ensures finds { Finds S.ByteSource source.old count.old source.new count.new
             (Ok result) (λ b r. Advances Legacy (version_of version) self r b) Nothing }
     {
         let (Some(announced), None) = (self.announced, self.field) else {
@@ -327,7 +327,7 @@ impl Reading {
         ensures grows { OnOk result (Grows self.old self.new) }
         ensures left { OnErr result (KeepsPairs self.old self.new) }
         ensures finds { (v : Version)
-            → FindsLean S.is_known S.left S.failures source.old count.old source.new count.new
+            → FindsLean S.ByteSource source.old count.old source.new count.new
             result (λ b _. Stepped v false self.old self.new b) (NoPrefix v self.old) }
         ensures few { count.new ≤ count.old + 4096 }
     {
@@ -349,7 +349,7 @@ impl Reading {
         ensures grows { OnOk result (Grows self.old self.new) }
         ensures left { OnErr result (KeepsPairs self.old self.new) }
         ensures finds { (v : Version)
-            → FindsLean S.is_known S.left S.failures source.old count.old source.new count.new
+            → FindsLean S.ByteSource source.old count.old source.new count.new
             result (λ b _. Stepped v false self.old self.new b) (NoPrefix v self.old) }
         ensures few { count.new ≤ count.old + 4096 }
     {
@@ -371,7 +371,7 @@ impl Reading {
         ensures sound { OnOk result (IsSound self.new) }
         ensures grows { OnOk result (Grows self.old self.new) }
         ensures left { OnErr result (KeepsPairs self.old self.new) }
-        ensures finds { Finds S.is_known S.left S.failures source.old count.old source.new count.new
+        ensures finds { Finds S.ByteSource source.old count.old source.new count.new
             result (λ b _. Stepped (version_of version) legacy_seen.new self.old self.new b)
             (NoPrefix (version_of version) self.old) }
         ensures full { S.is_known source.old → IsErrOf result HeapFull
@@ -407,7 +407,7 @@ impl Reading {
         ensures sound { OnOk result (IsSound self.new) }
         ensures grows { OnOk result (Grows self.old self.new) }
         ensures left { OnErr result (KeepsPairs self.old self.new) }
-        ensures finds { Finds S.is_known S.left S.failures source.old count.old source.new count.new
+        ensures finds { Finds S.ByteSource source.old count.old source.new count.new
             result (λ b _. Stepped (version_of version) false self.old self.new b)
             (NoPrefix (version_of version) self.old) }
         ensures full { S.is_known source.old → IsErrOf result HeapFull
@@ -431,7 +431,7 @@ impl Reading {
         ensures grows { OnOk result (Grows self.old self.new) }
         ensures left { OnErr result (KeepsPairs self.old self.new) }
         ensures finds { (v : Version)
-            → Finds S.is_known S.left S.failures source.old count.old source.new count.new result
+            → Finds S.ByteSource source.old count.old source.new count.new result
             (λ b _. Stepped v false self.old self.new b) (NoPrefix v self.old) }
         ensures full { (v : Version) → S.is_known source.old → IsErrOf result HeapFull
             → NoRoomBehind v self.old (S.left source.old) }
@@ -464,7 +464,7 @@ impl Reading {
         ensures sound { OnOk result (IsSound self.new) }
         ensures grows { OnOk result (Grows self.old self.new) }
         ensures left { OnErr result (KeepsPairs self.old self.new) }
-        ensures finds { Finds S.is_known S.left S.failures source.old count.old source.new count.new
+        ensures finds { Finds S.ByteSource source.old count.old source.new count.new
             result (λ b _. Stepped (version_of version) legacy_seen.new self.old self.new b)
             (NoPrefix (version_of version) self.old) }
         ensures full { S.is_known source.old → IsErrOf result HeapFull

@@ -1,10 +1,19 @@
 -- Additions to a document, one after the other, refused ones among them.
+--
+-- The words of the public contracts:
+-- `AreKept`: where each of these additions is called on what the one before it left, the accepted pairs are kept, as `Keeps` says. `document`: they
+-- stand in order behind the pairs that were there. `heap`: what stood in the heap stands there still. `places`: the pairs that were there have the
+-- same places, and the new places come behind them.
+-- `AddsAsBuilt`: the first document is made by one addition, the second by a builder. `added_bytes`: the addition writes the tree behind the heap.
+-- `added_pair`: it adds the pair behind the others. `heap`, `pairs` and `document`: both documents have the same heap, byte for byte, and the same
+-- pairs at the same places.
 use Rattle.std.specs.Prelude.{◌≡◌, ℕ, List, [], ◌∷◌, ◌++◌, Result, Ok, Err}
 use Rattle.tv_base.specs.Sink.{IsPrefix}
 use Rattle.tv_format.specs.Tree.{Tree, Document}
+use Rattle.tv_builder.specs.TreeBytes.{tree_heap}
 use Rattle.tv_builder.specs.declared.add_error.AddError.{AddError}
 use Rattle.tv_doc.specs.declared.document.CompactDoc.{CompactDoc}
-use Rattle.tv_doc.specs.Document.{document_of, heap_of, places_of, Adds, IsUnchanged}
+use Rattle.tv_doc.specs.Document.{document_of, heap_of, pairs_of, places_of, Adds, IsUnchanged}
 
 -- an addition and its answer
 pub record Addition : Type 0 where
@@ -34,6 +43,10 @@ pub record Keeps (pairs : Document) (old new : CompactDoc) : Type 0 where
   pub added_places : List (ℕ × ℕ)
   pub places : places_of new ≡ places_of old ++ added_places
 
+-- where each addition is called on what the one before it left, the accepted pairs are kept
+abbrev pub AreKept : List Addition → CompactDoc → CompactDoc → Type 0
+AreKept additions old new = Runs additions old new → Keeps (accepted additions) old new
+
 -- the addition is accepted
 abbrev pub Accepts : CompactDoc → CompactDoc → ℕ → Tree → Type 0
 Accepts old new field t = Adds old new field t (Ok (tt {0}))
@@ -42,6 +55,14 @@ Accepts old new field t = Adds old new field t (Ok (tt {0}))
 abbrev pub AddsEach : Document → CompactDoc → CompactDoc → Type 0
 AddsEach [] old new = IsUnchanged old new
 AddsEach (pair ∷ pairs) old new = (mid : CompactDoc) × Accepts old mid pair.0 pair.1 × AddsEach pairs mid new
+
+-- One call adds a pair, and a builder builds its value whole and finishes it: both leave the same heap and the same pairs.
+pub record AddsAsBuilt (old : CompactDoc) (field : ℕ) (t : Tree) (added finished : CompactDoc) : Type 0 where
+  pub added_bytes : heap_of added ≡ tree_heap (heap_of old) t
+  pub added_pair : document_of added ≡ document_of old ++ (field, t) ∷ []
+  pub heap : heap_of added ≡ heap_of finished
+  pub pairs : pairs_of added ≡ pairs_of finished
+  pub document : document_of added ≡ document_of finished
 
 -- no pair, and no byte in the heap
 pub record IsEmpty (d : CompactDoc) : Type 0 where

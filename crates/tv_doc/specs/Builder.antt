@@ -1,12 +1,45 @@
 -- What a tree builder is seen as, and what its calls return and leave: that of the builder of pairs which it holds.
-use Rattle.std.specs.Prelude.{ℕ, List, Result}
+--
+-- The words of the public contracts:
+-- `IsNewBuilder`: a builder behind this document's pairs. `document`, `heap`, `kept` and `pairs`: its finished pairs are those of the document, at
+-- the same places, and its heap is the document's, which ends behind the last of them. `state`: nothing of a next value has come, and no list is
+-- open. `live`: no call was refused.
+-- `IsDocumentOf`: the document of a builder's finished pairs. `document` and `pairs`: it has these pairs, at their places. `heap`: its heap is the
+-- builder's up to the end of the last of their values.
+-- `IsHeapLength`: a length. `same`: the heap so far has it. `within`: it is at most what the finished pairs and the next value so far weigh.
+-- `Builds`: a call that brings a part of the next value. Its arguments say where the call belongs, what fits where memory is refused, and which state
+-- it goes on to. After a refusal it returns `AlreadyFailed` and changes nothing. Else it goes on to that state: the finished pairs stay, and the heap
+-- is that of the state. Or it is refused: `OutOfPlace` exactly where it does not belong there, `HeapFull` where the state has no room, or `Memory`.
+-- Then nothing is open, and the finished pairs stay.
+-- `BuildsLeaf`, `BuildsTree`, `BuildsList`, `BuildsKey`, `BeginsBytes`: such a call for a value without children; for a whole value; for a list that
+-- opens with this many announced children; for a key of the innermost object; for the head of bytes, of which this many are announced.
+-- `BuildsBytes`: some of the announced bytes. `builds`: it is such a call. `roomy`: it never returns `HeapFull`.
+-- `Ends`: the announced bytes are a finished value or key, or the call is refused. `Finishes`: the complete value becomes that of a pair, or the call
+-- is refused.
+-- `HoldsState`: all of a builder's state stands in its heap. `bytes`: behind the heap of the finished pairs its bytes are those of the state.
+-- `reads`: where a tree is complete, the heap reads it at its place. `room`: the heap takes at most the room of the pairs and what is written.
+use Rattle.std.specs.Prelude.{◌≡◌, ◌+◌, ◌≤◌, ℕ, List, [], false, length, Result, IsErrOf}
 use Rattle.tv_builder.specs.Builder as pairs
 pub use Rattle.tv_builder.specs.Builder.{TakesBytes, HasAllBytes, HasContent, IsComplete}
-use Rattle.tv_builder.specs.State.{State}
+use Rattle.tv_builder.specs.Fits.{LeafFits, ListFits, KeyFits, HeadFits}
+use Rattle.tv_builder.specs.State.{State, OpenList, complete, in_lists, lists_of, awaited, head_awaits, written}
+use Rattle.tv_builder.specs.State.{and_value, and_list, and_key, and_head, and_bytes}
+use Rattle.tv_builder.specs.StateHeap.{state_heap}
+use Rattle.tv_builder.specs.TreeBytes.{tree_place}
+use Rattle.tv_builder.specs.Weight.{document_weight, state_weight}
+use Rattle.tv_builder.specs.declared.awaits.Awaits.TheVariants as awaits
+use Rattle.tv_builder.specs.declared.bytes_kind.BytesKind.{BytesKind}
+use Rattle.tv_builder.specs.declared.list_kind.ListKind.{ListKind}
 use Rattle.tv_builder.specs.declared.heap_pair.HeapPair.{HeapPair}
 use Rattle.tv_builder.specs.declared.build_error.BuildError.{BuildError}
+use Rattle.tv_builder.specs.declared.build_error.BuildError.TheVariants.{HeapFull}
+use Rattle.tv_doc.specs.Document.{document_of, heap_of, pairs_of}
 use Rattle.tv_doc.specs.declared.builder.TreeBuilder.{TreeBuilder}
-use Rattle.tv_format.specs.Tree.{Document}
+use Rattle.tv_doc.specs.declared.document.CompactDoc.{CompactDoc}
+use Rattle.tv_format.specs.Tree.{Document, Leaf, Tree, leaf}
+use Rattle.tv_heap.specs.Reads.{Reads}
+use Rattle.tv_heap.specs.Room.{document_room}
+use Rattle.tv_heap.specs.TypeCode.{type_code}
 
 -- the finished pairs
 abbrev pub built : TreeBuilder → Document
@@ -15,6 +48,10 @@ built b = pairs.built b.builder
 -- what has come so far of the next value
 abbrev pub state_of : TreeBuilder → State
 state_of b = pairs.state_of b.builder
+
+-- its open lists, from the innermost
+abbrev pub open_lists : TreeBuilder → List OpenList
+open_lists b = lists_of (state_of b)
 
 abbrev pub heap_so_far : TreeBuilder → List ℕ
 heap_so_far b = pairs.heap_so_far b.builder
@@ -35,3 +72,61 @@ Ends old new r = pairs.Ends old.builder new.builder r
 
 abbrev pub Finishes : TreeBuilder → TreeBuilder → ℕ → Result (Unit {0}) BuildError → Type 0
 Finishes old new f r = pairs.Finishes old.builder new.builder f r
+
+-- ---- new builders, and what is taken out of one
+
+-- behind the pairs of a document, and nothing of a next value has come
+pub record IsNewBuilder (doc : CompactDoc) (b : TreeBuilder) : Type 0 where
+  pub document : built b ≡ document_of doc
+  pub heap : heap_so_far b ≡ heap_of doc
+  pub kept : kept_heap b ≡ heap_of doc
+  pub pairs : pairs_so_far b ≡ pairs_of doc
+  pub state : state_of b ≡ in_lists []
+  pub live : b.builder.failed ≡ false
+
+-- the document of the finished pairs
+pub record IsDocumentOf (b : TreeBuilder) (doc : CompactDoc) : Type 0 where
+  pub document : document_of doc ≡ built b
+  pub heap : heap_of doc ≡ kept_heap b
+  pub pairs : pairs_of doc ≡ pairs_so_far b
+
+-- the length of the heap so far
+pub record IsHeapLength (b : TreeBuilder) (n : ℕ) : Type 0 where
+  pub same : n ≡ length (heap_so_far b)
+  pub within : n ≤ document_weight (built b) + state_weight (state_of b)
+
+-- ---- the parts of the next value
+
+-- a value without children
+abbrev pub BuildsLeaf : TreeBuilder → TreeBuilder → Leaf → Result (Unit {0}) BuildError → Type 0
+BuildsLeaf old new l r = Builds old new (awaited (state_of old) ≡ awaits.Value) (LeafFits (heap_so_far old) l) (λ s. and_value s (leaf l)) r
+
+-- a whole value, which says nothing of what fits where memory is refused
+abbrev pub BuildsTree : TreeBuilder → TreeBuilder → Tree → Result (Unit {0}) BuildError → Type 0
+BuildsTree old new t r = Builds old new (awaited (state_of old) ≡ awaits.Value) (Unit {0}) (λ s. and_value s t) r
+
+-- a list opens with this many announced children; one of none closes at once
+abbrev pub BuildsList : TreeBuilder → TreeBuilder → ListKind → ℕ → Result (Unit {0}) BuildError → Type 0
+BuildsList old new kind n r = Builds old new (awaited (state_of old) ≡ awaits.Value) (ListFits (heap_so_far old) n) (λ s. and_list s kind n) r
+
+-- a key of the innermost object
+abbrev pub BuildsKey : TreeBuilder → TreeBuilder → List ℕ → Result (Unit {0}) BuildError → Type 0
+BuildsKey old new k r = Builds old new (awaited (state_of old) ≡ awaits.Key) (KeyFits (heap_so_far old) k) (λ s. and_key s k) r
+
+-- the bytes of a value or of a key begin, of which this many are announced
+abbrev pub BeginsBytes : TreeBuilder → TreeBuilder → BytesKind → ℕ → Result (Unit {0}) BuildError → Type 0
+BeginsBytes old new kind n r = Builds old new (awaited (state_of old) ≡ head_awaits kind) (HeadFits (heap_so_far old) n) (λ s. and_head s kind n) r
+
+-- some of the announced bytes
+pub record BuildsBytes (old new : TreeBuilder) (bs : List ℕ) (r : Result (Unit {0}) BuildError) : Type 0 where
+  pub builds : Builds old new (TakesBytes (state_of old) (length bs)) (Unit {0}) (λ s. and_bytes s bs) r
+  pub roomy : ¬ IsErrOf r HeapFull
+
+-- ---- a law
+
+-- all of the state stands in the heap
+pub record HoldsState (b : TreeBuilder) : Type 0 where
+  pub bytes : heap_so_far b ≡ state_heap (kept_heap b) (state_of b)
+  pub reads : (t : Tree) → state_of b ≡ complete t
+      → let place = tree_place (kept_heap b) t in ∥ Reads (heap_so_far b) (type_code place.value_type) place.address t ∥₁
+  pub room : length (heap_so_far b) ≤ document_room (built b) + written (state_of b)

@@ -1,9 +1,21 @@
--- What a document is seen as, and what an addition leaves.
-use Rattle.std.specs.Prelude.{ℕ, List, Option, Result}
+-- What a document is seen as, and what its calls return and leave.
+--
+-- The words of the public contracts:
+-- `IsEmptyWith`: a document without pairs. `document`: it has no pair. `heap`: no byte stands in its heap. `bytes` and `places`: for how
+-- many bytes of the heap, and for how many pairs, it has memory.
+-- `Clears`: all pairs are taken off. The document is then empty, and has the memory that it had before.
+-- `Shrinks`: memory is given back. `same`: the pairs and the heap are unchanged. `bytes` and `places`: the document has no more memory for its heap
+-- and for pairs than before. `frees_bytes` and `frees_places`: it has none for its heap where no byte stands in it, and none for pairs where it has
+-- no pair.
+-- `Adds`: a pair of this field and this tree is added behind the others. Or the addition is refused: `HeapFull` where the heap has no room for the
+-- tree, `Memory` only where it has. The pairs and the heap are then unchanged. `AddsLeaf`: the same of a value without children.
+-- `IsWithinRoom`: the heap is no longer than the room of the values.
+use Rattle.std.specs.Prelude.{◌≡◌, ◌≤◌, ℕ, List, [], length, Option, Result}
 use Rattle.tv_builder.specs.HeldPairs as held
 use Rattle.tv_builder.specs.declared.add_error.AddError.{AddError}
 use Rattle.tv_builder.specs.declared.heap_pair.HeapPair.{HeapPair}
-use Rattle.tv_format.specs.Tree.{Tree, Document}
+use Rattle.tv_format.specs.Tree.{Leaf, Tree, Document, leaf}
+use Rattle.tv_heap.specs.Room.{document_room}
 use Rattle.tv_doc.specs.declared.document.CompactDoc.{CompactDoc}
 
 -- its fields and trees, in order
@@ -48,6 +60,33 @@ Refuses d t e = held.Refuses d.values t e
 -- what an addition returns, and what it leaves
 abbrev pub Adds : {T : Type 0} → CompactDoc → CompactDoc → ℕ → Tree → Result T AddError → Type 0
 Adds old new field t r = held.Adds old.values new.values field t r
+
+-- the same of a value without children
+abbrev pub AddsLeaf : {T : Type 0} → CompactDoc → CompactDoc → ℕ → Leaf → Result T AddError → Type 0
+AddsLeaf old new field l r = Adds old new field (leaf l) r
+
+-- no pair and no byte in the heap, with memory for this many pairs and bytes
+pub record IsEmptyWith (for_pairs for_bytes : ℕ) (d : CompactDoc) : Type 0 where
+  pub document : document_of d ≡ []
+  pub heap : heap_of d ≡ []
+  pub bytes : heap_capacity d ≡ for_bytes
+  pub places : pairs_capacity d ≡ for_pairs
+
+-- all pairs are taken off, and the memory stays
+abbrev pub Clears : CompactDoc → CompactDoc → Type 0
+Clears old new = IsEmptyWith (pairs_capacity old) (heap_capacity old) new
+
+-- memory is given back, all of it where nothing needs any, and the document stays the same
+pub record Shrinks (old new : CompactDoc) : Type 0 where
+  pub same : IsUnchanged old new
+  pub bytes : heap_capacity new ≤ heap_capacity old
+  pub places : pairs_capacity new ≤ pairs_capacity old
+  pub frees_bytes : heap_of old ≡ [] → heap_capacity new ≡ 0
+  pub frees_places : document_of old ≡ [] → pairs_capacity new ≡ 0
+
+-- the heap takes at most the room of the values
+abbrev pub IsWithinRoom : CompactDoc → Type 0
+IsWithinRoom d = length (heap_of d) ≤ document_room (document_of d)
 
 -- the type byte and the address of the pair at a place, whose tree the heap reads there
 abbrev pub ReadsAt : CompactDoc → ℕ → Option (ℕ × ℕ) → Type 0

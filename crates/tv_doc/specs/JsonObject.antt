@@ -1,5 +1,13 @@
 -- A JSON object as a document: which values it has for the fields of a schema, and what adding them returns.
-use Rattle.std.specs.Prelude.{◌≡◌, ℕ, List, [], ◌∷◌, ◌++◌, Option, Some, None, Result, Ok, Err, slice_get, string_bytes}
+--
+-- The words of the public contracts:
+-- `MakesFromObject`: the document of an object's members. `makes`: it has just the pairs of the object's values, in order, which were added to an
+-- empty document, or the error is that of the first value that was refused. `belongs`: each of its pairs has a field of the schema.
+-- `ParsesDocument`: the document of a text. `parses`: it is that of the object that the text encodes, or the text is refused for this error.
+-- `belongs`: each of its pairs has a field of the schema.
+-- `ParsesInto`: the same in the place of a document. `parses` and `belongs`: where the call returns no error, what is left in the place is the
+-- document of the text. `none`: where it returns an error, no pair is left in the place.
+use Rattle.std.specs.Prelude.{◌≡◌, ℕ, List, [], ◌∷◌, ◌++◌, Option, Some, None, Result, Ok, Err, IfOk, OnOk, OnErr, slice_get, string_bytes}
 use Rattle.std.specs.Fmt.{take_chars}
 use Rattle.serde_json.specs.Data as json
 use Rattle.serde_json.specs.Data.{Data, Items, Members}
@@ -12,7 +20,9 @@ use Rattle.tv_field.specs.declared.field_type.FieldType.{FieldType}
 use Rattle.tv_field.specs.declared.json_value.JsonRefusal.{JsonRefusal}
 use Rattle.tv_format.specs.Tree.{Tree, Document}
 use Rattle.tv_doc.specs.Additions.{AddsEach, IsEmpty, IsMade}
+use Rattle.tv_doc.specs.Belongs.{Belongs}
 use Rattle.tv_doc.specs.Document.{document_of, Refuses}
+use Rattle.tv_doc.specs.InPlace.{in_place}
 use Rattle.tv_builder.specs.declared.add_error.AddError.{AddError}
 use Rattle.tv_builder.specs.declared.add_error.AddError.TheVariants as add_error
 use Rattle.tv_doc.specs.declared.doc_parsing_error.DocParsingError.{DocParsingError}
@@ -129,3 +139,21 @@ Parses schema text (Ok made) =
 Parses schema text (Err (error.InvalidJson start)) = IsNoObject text × (string_bytes start ≡ take_chars 20 text)
 Parses schema text (Err error.Memory) = Unit {0}
 Parses schema text (Err e) = (members : Members) × (read text ≡ Some (json.object members)) × StopsEarly (object_values schema members) e
+
+-- ---- the words of the public contracts
+
+-- the document of an object's members, whose fields are those of the schema
+pub record MakesFromObject (schema : List Entry) (members : Members) (r : Result CompactDoc DocParsingError) : Type 0 where
+  pub makes : MakesDocument (object_values schema members) r
+  pub belongs : IfOk r (λ made. Belongs schema (document_of made))
+
+-- the document of a text, whose fields are those of the schema
+pub record ParsesDocument (schema : List Entry) (text : List ℕ) (r : Result CompactDoc DocParsingError) : Type 0 where
+  pub parses : Parses schema text r
+  pub belongs : IfOk r (λ made. Belongs schema (document_of made))
+
+-- the same in the place of a document, where an error leaves no pair
+pub record ParsesInto (schema : List Entry) (text : List ℕ) (new : CompactDoc) (r : Result (Unit {0}) DocParsingError) : Type 0 where
+  pub parses : Parses schema text (in_place r new)
+  pub belongs : OnOk r (Belongs schema (document_of new))
+  pub none : OnErr r (document_of new ≡ [])

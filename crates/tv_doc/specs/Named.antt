@@ -1,5 +1,10 @@
 -- Documents by the names of their fields.
-use Rattle.std.specs.Prelude.{◌≡◌, ℕ, List, [], ◌∷◌, map, Option, Some, None, OnSome, slice_get, string_bytes}
+--
+-- The word of the public contracts:
+-- `CopiesByName`: copies of a document's values under the names of their fields. `named`: for each name of a field that has a value, they are the
+-- copies of its values in order. `within`: where the call returns no error, each value of a field that has a name nests within this depth.
+-- `deep`: the error is `TooDeep` exactly where one of them does not.
+use Rattle.std.specs.Prelude.{◌≡◌, ℕ, List, [], ◌∷◌, ◌↔◌, map, Option, Some, None, Result, IfOk, OnOk, IsErrOf, OnSome, slice_get, string_bytes}
 use Rattle.std.specs.BTreeMap.{insert_entry}
 use Rattle.std.specs.Cmp.Lexicographic.{slice_cmp}
 use Rattle.std.specs.List.{AllByRecursion}
@@ -8,6 +13,8 @@ use Rattle.serde_json.specs.Data.{object}
 use Rattle.serde_json.specs.Written.{compact_text}
 use Rattle.tv_value.specs.Nesting.{NestsWithin}
 use Rattle.tv_value.specs.Owned.{owned_tree}
+use Rattle.tv_value.specs.declared.copy_error.CopyError.{CopyError}
+use Rattle.tv_value.specs.declared.copy_error.CopyError.TheVariants.{TooDeep}
 use Rattle.tv_format.specs.Tree.{Tree, Document}
 use Rattle.tv_field.specs.Entry.{Entry}
 use Rattle.tv_json.specs.Named.{named_json}
@@ -45,3 +52,9 @@ named_of n = map (λ e. (string_bytes e.0, map owned_tree e.1.items)) n.0.entrie
 -- each value of a field that has a name nests within a number
 abbrev pub NamedNestWithin : List (List ℕ) → ℕ → Document → Type 0
 NamedNestWithin names n d = AllByRecursion (λ pair. OnSome (slice_get names pair.0) (NestsWithin n pair.1)) d
+
+-- copies of the values under the names of their fields, where each of them nests within this depth
+pub record CopiesByName (names : List (List ℕ)) (d : Document) (depth : ℕ) (r : Result NamedFieldDocument CopyError) : Type 0 where
+  pub named : IfOk r (λ made. IsNamed names d (named_of made))
+  pub within : OnOk r (NamedNestWithin names depth d)
+  pub deep : IsErrOf r TooDeep ↔ (¬ NamedNestWithin names depth d)

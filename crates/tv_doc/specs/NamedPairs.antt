@@ -1,12 +1,24 @@
 -- The pairs of names with values, and what adding them returns.
-use Rattle.std.specs.Prelude.{◌≡◌, ℕ, ◌<◌, List, [], ◌∷◌, ◌++◌, map, Option, Some, None, Result, Ok, Err}
+--
+-- The words of the public contracts:
+-- `ConvertsNamed`: the document of values by name. `makes`: it has just the pairs of these names, in order, which were added to an empty document,
+-- or the error is that of the first addition that was refused. `belongs`: each of its pairs has a field of the schema.
+-- `KeepsValues`: a second document has the values of a first. `kept`: each field of the schema has the same values, in their order. `all`: every
+-- field has, where each pair of the first has a field of the schema.
+-- `KeepsNamed`: the pairs of values by name. `same`: where these are the values by name of this document, by a schema, the pairs keep the document's
+-- values. `others`: no field past the schema has a value.
+-- `ConvertsBack`: the values by name of a document are made a document again. `keeps`: it keeps the document's values. `belongs`: each of its pairs
+-- has a field of the schema. `errors`: the error is one of `IsBackError`.
+use Rattle.std.specs.Prelude.{◌≡◌, ℕ, ◌<◌, ◌≤◌, List, [], ◌∷◌, ◌++◌, length, map, Option, Some, None, Result, Ok, Err, IfOk, IfErr}
 use Rattle.tv_field.specs.Entry.{Entry}
-use Rattle.tv_schema.specs.Schema.{field_named}
+use Rattle.tv_schema.specs.Schema.{IsSchema, field_named}
 use Rattle.tv_format.specs.Tree.{Tree, Document}
 use Rattle.tv_doc.specs.AdditionError.{addition_error}
 use Rattle.tv_doc.specs.Additions.{AddsEach, IsEmpty, IsMade}
+use Rattle.tv_doc.specs.Belongs.{Belongs}
 use Rattle.tv_doc.specs.Document.{document_of, Refuses}
-use Rattle.tv_doc.specs.Named.{Named, NamedNestWithin, field_names}
+use Rattle.tv_doc.specs.FieldValues.{values_of}
+use Rattle.tv_doc.specs.Named.{IsNamed, Named, NamedNestWithin, field_names}
 use Rattle.tv_heap.specs.Room.{document_room}
 use Rattle.tv_builder.specs.declared.add_error.AddError.{AddError}
 use Rattle.tv_doc.specs.declared.doc_parsing_error.DocParsingError.{DocParsingError}
@@ -50,6 +62,23 @@ abbrev pub MakesPairs : Document → Result CompactDoc DocParsingError → Type 
 MakesPairs pairs (Ok made) = (document_of made ≡ pairs) × IsMade made
 MakesPairs pairs (Err e) = (refused : AddError) × (e ≡ addition_error refused) × StopsEarly pairs refused
 
+-- what is made of values by name, whose fields are those of the schema
+pub record ConvertsNamed (schema : List Entry) (named : Named) (r : Result CompactDoc DocParsingError) : Type 0 where
+  pub makes : MakesPairs (named_pairs schema named) r
+  pub belongs : IfOk r (λ made. Belongs schema (document_of made))
+
+-- ---- values by name, as pairs again
+
+-- the second document has the values of the first
+pub record KeepsValues (schema : List Entry) (old new : Document) : Type 0 where
+  pub kept : (field : ℕ) → field < length schema → values_of field new ≡ values_of field old
+  pub all : Belongs schema old → (field : ℕ) → values_of field new ≡ values_of field old
+
+-- the values by name of a document keep its values
+pub record KeepsNamed (schema : List Entry) (d : Document) (named : Named) : Type 0 where
+  pub same : IsSchema schema → IsNamed (field_names schema) d named → KeepsValues schema d (named_pairs schema named)
+  pub others : (field : ℕ) → length schema ≤ field → values_of field (named_pairs schema named) ≡ []
+
 -- The error of converting back the values by name of this document: memory was refused, or the document's values need more room than a
 -- heap has.
 abbrev pub IsConversionError : Document → DocParsingError → Type 0
@@ -63,3 +92,9 @@ abbrev pub IsBackError : List Entry → Document → NamedBackError → Type 0
 IsBackError schema d (back.Named copying.Memory) = Unit {0}
 IsBackError schema d (back.Named copying.TooDeep) = ¬ NamedNestWithin (field_names schema) MAX_DEPTH d
 IsBackError schema d (back.Converted e) = IsConversionError d e
+
+-- what converting back the values by name of this document returns
+pub record ConvertsBack (schema : List Entry) (d : Document) (r : Result CompactDoc NamedBackError) : Type 0 where
+  pub keeps : IfOk r (λ back. KeepsValues schema d (document_of back))
+  pub belongs : IfOk r (λ back. Belongs schema (document_of back))
+  pub errors : IfErr r (IsBackError schema d)

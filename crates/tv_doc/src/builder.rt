@@ -1,7 +1,6 @@
 //! Building the values of a document part by part.
 
-ghost use Rattle.std.specs.Prelude.{◌≡◌, ◌+◌, ◌≤◌, [], length, false, IsErrOf};
-ghost use Rattle.tv_builder.specs.Weight.{document_weight, state_weight};
+ghost use Rattle.std.specs.Prelude.{◌≡◌, length};
 
 use crate::document::CompactDoc;
 pub use tv_builder::awaits::Awaits;
@@ -39,26 +38,17 @@ pub struct TreeBuilder {
 }
 
 impl TreeBuilder {
-    ghost use Rattle.tv_builder.specs.Fits.{LeafFits, ListFits, KeyFits, HeadFits};
-    ghost use Rattle.tv_builder.specs.State.{and_value, and_list, and_key, and_head, and_bytes};
-    ghost use Rattle.tv_builder.specs.State.{awaited, head_awaits, in_lists, lists_of, children_of};
-    ghost use Rattle.tv_builder.specs.declared.awaits.Awaits.TheVariants.{Value as ValueNext};
-    ghost use Rattle.tv_builder.specs.declared.awaits.Awaits.TheVariants.{Key as KeyNext};
+    ghost use Rattle.tv_builder.specs.State.{awaited, children_of};
     ghost use Rattle.tv_builder.specs.declared.list_kind.ListKind.TheVariants.{Array, Object};
-    ghost use Rattle.tv_doc.specs.Builder.{built, state_of, heap_so_far, kept_heap, TakesBytes};
-    ghost use Rattle.tv_doc.specs.Builder.{pairs_so_far, Builds, Ends, Finishes};
-    ghost use Rattle.tv_doc.specs.Document.{document_of, heap_of, pairs_of};
-    ghost use Rattle.tv_format.specs.Tree.{leaf as leaf_tree};
+    ghost use Rattle.tv_doc.specs.Builder.{IsNewBuilder, IsDocumentOf, IsHeapLength};
+    ghost use Rattle.tv_doc.specs.Builder.{state_of, open_lists};
+    ghost use Rattle.tv_doc.specs.Builder.{BuildsLeaf, BuildsTree, BuildsList, BuildsKey};
+    ghost use Rattle.tv_doc.specs.Builder.{BeginsBytes, BuildsBytes, Ends, Finishes};
     ghost use Rattle.tv_value.specs.Lent.{leaf_of};
 
     /// A builder behind a document's pairs. It takes no memory.
     pub fn new(doc: CompactDoc) -> TreeBuilder
-        ensures document { built result ≡ document_of doc }
-        ensures heap { heap_so_far result ≡ heap_of doc }
-        ensures kept { kept_heap result ≡ heap_of doc }
-        ensures pairs { pairs_so_far result ≡ pairs_of doc }
-        ensures state { state_of result ≡ in_lists [] }
-        ensures live { result.builder.failed ≡ false }
+        ensures { IsNewBuilder doc result }
     {
         TreeBuilder {
             builder: PairBuilder::new(doc.values),
@@ -67,32 +57,28 @@ impl TreeBuilder {
 
     /// The document of the finished pairs, at any time, also after a refusal. Its heap ends behind the last of their values.
     pub fn into_doc(self) -> CompactDoc
-        ensures document { document_of result ≡ built self }
-        ensures heap { heap_of result ≡ kept_heap self }
-        ensures pairs { pairs_of result ≡ pairs_so_far self }
+        ensures { IsDocumentOf self result }
     {
         CompactDoc::from_pairs(self.builder.into_pairs())
     }
 
     /// The length of the heap, in bytes: at most what the finished pairs and the value that comes next weigh.
     pub fn heap_len(&self) -> usize
-        ensures same { result ≡ length (heap_so_far self.now) }
-        ensures within { result
-            ≤ document_weight (built self.now) + state_weight (state_of self.now) }
+        ensures { IsHeapLength self.now result }
     {
         self.builder.heap_len()
     }
 
     /// How many finished children the open lists have, keys among them.
     pub fn pending(&self) -> usize
-        ensures { result ≡ children_of (lists_of (state_of self.now)) }
+        ensures { result ≡ children_of (open_lists self.now) }
     {
         self.builder.pending()
     }
 
     /// How many lists are open.
     pub fn frames(&self) -> usize
-        ensures { result ≡ length (lists_of (state_of self.now)) }
+        ensures { result ≡ length (open_lists self.now) }
     {
         self.builder.frames()
     }
@@ -110,9 +96,7 @@ impl TreeBuilder {
     /// end above 4294967295; `Memory` where memory is refused. `Memory` comes only where the value itself fits; it may come before the
     /// `HeapFull` of a list that the value closes.
     pub fn leaf(&mut self, value: ReferenceValueLeaf<'_>) -> Result<(), BuildError>
-        ensures { let l = leaf_of value.entry in Builds self.old self.new
-            (awaited (state_of self.old) ≡ ValueNext) (LeafFits (heap_so_far self.old) l)
-            (λ s. and_value s (leaf_tree l)) result }
+        ensures { BuildsLeaf self.old self.new (leaf_of value.entry) result }
     {
         self.builder.leaf(value)
     }
@@ -123,29 +107,26 @@ impl TreeBuilder {
     /// closes, would end above 4294967295; `Memory` where memory is refused, which may come before the `HeapFull` of a later part of the
     /// value, or of a list that it closes.
     pub fn tree<'a, V: Value<'a>>(&mut self, value: &V) -> Result<(), BuildError>
-        ensures { let t = V.tree value.now in Builds self.old self.new
-            (awaited (state_of self.old) ≡ ValueNext) (Unit {0}) (λ s. and_value s t) result }
+        ensures { BuildsTree self.old self.new (V.tree value.now) result }
     {
         self.builder.tree(value)
     }
 
-    /// An array opens, of which so many elements are announced. One of none closes at once. Nothing is reserved.
+    /// An array opens, of which this many elements are announced. One of none closes at once. Nothing is reserved.
     ///
     /// `AlreadyFailed` after a refusal; `OutOfPlace` where no value is awaited; `HeapFull` where the array, or a list that it closes,
     /// would end above 4294967295; `Memory` where memory is refused. `Memory` comes only where an array of none itself fits; it may come
     /// before the `HeapFull` of a list that the array closes.
     pub fn open_array(&mut self, announced: u64) -> Result<(), BuildError>
-        ensures { Builds self.old self.new (awaited (state_of self.old) ≡ ValueNext)
-            (ListFits (heap_so_far self.old) announced) (λ s. and_list s Array announced) result }
+        ensures { BuildsList self.old self.new Array announced result }
     {
         self.builder.open_list(ListKind::Array, announced)
     }
 
-    /// An object opens, of which so many entries are announced. One of none closes at once. Nothing is reserved. The errors are those
+    /// An object opens, of which this many entries are announced. One of none closes at once. Nothing is reserved. The errors are those
     /// of `open_array`.
     pub fn open_object(&mut self, announced: u64) -> Result<(), BuildError>
-        ensures { Builds self.old self.new (awaited (state_of self.old) ≡ ValueNext)
-            (ListFits (heap_so_far self.old) announced) (λ s. and_list s Object announced) result }
+        ensures { BuildsList self.old self.new Object announced result }
     {
         self.builder.open_list(ListKind::Object, announced)
     }
@@ -155,19 +136,17 @@ impl TreeBuilder {
     /// `AlreadyFailed` after a refusal; `OutOfPlace` where no key is awaited; `HeapFull` where the key would end above 4294967295; else
     /// `Memory` where memory is refused. `Memory` comes only where the key fits.
     pub fn key(&mut self, content: &str) -> Result<(), BuildError>
-        ensures { Builds self.old self.new (awaited (state_of self.old) ≡ KeyNext)
-            (KeyFits (heap_so_far self.old) content.now) (λ s. and_key s content.now) result }
+        ensures { BuildsKey self.old self.new content.now result }
     {
         self.builder.key(content)
     }
 
-    /// The bytes of a value or of a key begin, of which so many are announced. Nothing is reserved.
+    /// The bytes of a value or of a key begin, of which this many are announced. Nothing is reserved.
     ///
     /// `AlreadyFailed` after a refusal; `OutOfPlace` where no value, or for a key no key, is awaited; `HeapFull` where the announced
     /// bytes behind their length would end above 4294967295; else `Memory` where memory is refused. `Memory` comes only where they fit.
     pub fn begin_bytes(&mut self, kind: BytesKind, announced: u64) -> Result<(), BuildError>
-        ensures { Builds self.old self.new (awaited (state_of self.old) ≡ head_awaits kind)
-            (HeadFits (heap_so_far self.old) announced) (λ s. and_head s kind announced) result }
+        ensures { BeginsBytes self.old self.new kind announced result }
     {
         self.builder.begin_bytes(kind, announced)
     }
@@ -176,10 +155,7 @@ impl TreeBuilder {
     ///
     /// `AlreadyFailed` after a refusal; `OutOfPlace` where fewer are missing; else `Memory` where memory is refused.
     pub fn chunk(&mut self, bytes: &[u8]) -> Result<(), BuildError>
-        ensures builds { Builds self.old self.new
-            (TakesBytes (state_of self.old) (length bytes.now)) (Unit {0})
-            (λ s. and_bytes s bytes.now) result }
-        ensures roomy { ¬ IsErrOf result BuildError.HeapFull }
+        ensures { BuildsBytes self.old self.new bytes.now result }
     {
         self.builder.chunk(bytes)
     }

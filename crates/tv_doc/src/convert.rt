@@ -1,12 +1,10 @@
 //! Documents of values by name.
 
-ghost use Rattle.std.specs.Prelude.{map, IfOk};
+ghost use Rattle.std.specs.Prelude.{map};
 ghost use Rattle.tv_value.specs.Owned.{owned_tree};
 ghost use Rattle.tv_schema.specs.Schema.{field_named};
-ghost use Rattle.tv_doc.specs.Belongs.{Belongs};
-ghost use Rattle.tv_doc.specs.Document.{document_of};
 ghost use Rattle.tv_doc.specs.Named.{named_of};
-ghost use Rattle.tv_doc.specs.NamedPairs.{AddsPairs, MakesPairs, named_pairs, pairs_of_field};
+ghost use Rattle.tv_doc.specs.NamedPairs.{AddsPairs, ConvertsNamed, pairs_of_field};
 
 use crate::add_error::AddError;
 use crate::doc_parsing_error::DocParsingError;
@@ -59,8 +57,7 @@ impl CompactDoc {
         schema: &Schema,
         named: &NamedFieldDocument,
     ) -> Result<CompactDoc, DocParsingError>
-        ensures makes { MakesPairs (named_pairs schema.now (named_of named.now)) result }
-        ensures belongs { IfOk result (λ made. Belongs schema.now (document_of made)) }
+        ensures { ConvertsNamed schema.now (named_of named.now) result }
     {
         names_are_of_one_field();
         let mut document = CompactDoc::new(alloc);

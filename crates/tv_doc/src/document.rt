@@ -1,11 +1,12 @@
 //! Documents: pairs of a field and a value, the values in one heap.
 
-ghost use Rattle.std.specs.Prelude.{◌≡◌, ◌≤◌, [], ◌↔◌, IsTrue, IfOk, option_map, length, map};
+ghost use Rattle.std.specs.Prelude.{◌≡◌, [], ◌↔◌, IsTrue, IfOk, option_map, length, map};
 ghost use Rattle.std.specs.Prelude.{slice_get};
 ghost use Rattle.std.specs.Net.Addr.{ipv6_bits};
 ghost use Rattle.std.specs.String.{string_bytes};
 ghost use Rattle.tv_value.specs.HeldTokens.{token_of};
-ghost use Rattle.tv_format.specs.Tree.{leaf, text, unsigned, signed, boolean, date, facet, bytes};
+ghost use Rattle.tv_format.specs.Tree.{text, unsigned, signed, boolean, date, facet};
+ghost use Rattle.tv_format.specs.Tree.{bytes as bytes_leaf};
 ghost use Rattle.tv_format.specs.Tree.{ip_address, tokenized};
 ghost use Rattle.tv_value.specs.Lent.{leaf_of};
 
@@ -48,30 +49,25 @@ pub struct CompactDoc {
 
 impl CompactDoc {
     ghost use Rattle.tv_doc.specs.Belongs.{Belongs};
-    ghost use Rattle.tv_doc.specs.Document.{document_of, heap_of, heap_capacity, pairs_capacity};
-    ghost use Rattle.tv_doc.specs.Document.{places_of, Adds, IsUnchanged, ReadsAt};
+    ghost use Rattle.tv_doc.specs.Document.{document_of, heap_of, places_of};
+    ghost use Rattle.tv_doc.specs.Document.{Adds, AddsLeaf, Clears, IsEmptyWith, IsUnchanged};
+    ghost use Rattle.tv_doc.specs.Document.{ReadsAt, Shrinks};
     ghost use Rattle.tv_doc.specs.MapValue.{map_tree};
     ghost use Rattle.tv_heap.specs.Value.{tree_of};
     ghost use Rattle.tv_doc.specs.FieldValues.{pairs_left, values_left, values_of};
 
     /// A document without pairs, which takes no memory.
     pub fn new(alloc: Global) -> CompactDoc
-        ensures document { document_of result ≡ [] }
-        ensures heap { heap_of result ≡ [] }
-        ensures no_bytes { heap_capacity result ≡ 0 }
-        ensures no_places { pairs_capacity result ≡ 0 }
+        ensures { IsEmptyWith 0 0 result }
     {
         CompactDoc {
             values: HeapPairs::new(alloc),
         }
     }
 
-    /// A document without pairs, with memory for so many bytes of values. The only error is that memory was refused.
+    /// A document without pairs, with memory for this many bytes of values. The only error is that memory was refused.
     pub fn with_capacity(alloc: Global, bytes: usize) -> Result<CompactDoc, AllocError>
-        ensures document { IfOk result (λ made. document_of made ≡ []) }
-        ensures heap { IfOk result (λ made. heap_of made ≡ []) }
-        ensures capacity { IfOk result (λ made. heap_capacity made ≡ bytes) }
-        ensures no_places { IfOk result (λ made. pairs_capacity made ≡ 0) }
+        ensures { IfOk result (λ made. IsEmptyWith 0 bytes made) }
     {
         let values = HeapPairs::with_capacity(alloc, bytes)?;
         Ok(CompactDoc { values })
@@ -93,10 +89,7 @@ impl CompactDoc {
 
     /// Takes all pairs off, and keeps the memory for more. (Not in tantivy.)
     pub fn clear(&mut self)
-        ensures document { document_of self.new ≡ [] }
-        ensures heap { heap_of self.new ≡ [] }
-        ensures bytes { heap_capacity self.new ≡ heap_capacity self.old }
-        ensures places { pairs_capacity self.new ≡ pairs_capacity self.old }
+        ensures { Clears self.old self.new }
     {
         self.values.clear();
     }
@@ -113,11 +106,7 @@ impl CompactDoc {
     /// Gives memory back that neither the values nor the pairs need, as far as the allocator takes it; where there is no value or no pair,
     /// all of what was for them. The document stays the same.
     pub fn shrink_to_fit(&mut self)
-        ensures same { IsUnchanged self.old self.new }
-        ensures bytes { heap_capacity self.new ≤ heap_capacity self.old }
-        ensures places { pairs_capacity self.new ≤ pairs_capacity self.old }
-        ensures frees_bytes { heap_of self.old ≡ [] → heap_capacity self.new ≡ 0 }
-        ensures frees_places { document_of self.old ≡ [] → pairs_capacity self.new ≡ 0 }
+        ensures { Shrinks self.old self.new }
     {
         self.values.shrink_to_fit();
     }
@@ -164,35 +153,35 @@ impl CompactDoc {
     /// `HeapFull` where the heap's length and the text's room, 5 bytes and its length, are together above 4294967295; else
     /// `Memory` where memory is refused. After each of these the pairs and the heap are unchanged.
     pub fn add_text(&mut self, field: Field, content: &str) -> Result<(), AddError>
-        ensures { Adds self.old self.new field.id (leaf (text content.now)) result }
+        ensures { AddsLeaf self.old self.new field.id (text content.now) result }
     {
         self.add_leaf(field, &ReferenceValueLeaf::Str(content))
     }
 
     /// Adds a pair of a field and an unsigned number, whose room is 8 bytes. The errors are those of `add_text`.
     pub fn add_u64(&mut self, field: Field, number: u64) -> Result<(), AddError>
-        ensures { Adds self.old self.new field.id (leaf (unsigned number)) result }
+        ensures { AddsLeaf self.old self.new field.id (unsigned number) result }
     {
         self.add_leaf(field, &ReferenceValueLeaf::U64(number))
     }
 
     /// Adds a pair of a field and a signed number, whose room is 8 bytes. The errors are those of `add_text`.
     pub fn add_i64(&mut self, field: Field, number: i64) -> Result<(), AddError>
-        ensures { Adds self.old self.new field.id (leaf (signed number)) result }
+        ensures { AddsLeaf self.old self.new field.id (signed number) result }
     {
         self.add_leaf(field, &ReferenceValueLeaf::I64(number))
     }
 
     /// Adds a pair of a field and a truth value, which takes no room. The errors are those of `add_text`.
     pub fn add_bool(&mut self, field: Field, truth: bool) -> Result<(), AddError>
-        ensures { Adds self.old self.new field.id (leaf (boolean truth)) result }
+        ensures { AddsLeaf self.old self.new field.id (boolean truth) result }
     {
         self.add_leaf(field, &ReferenceValueLeaf::Bool(truth))
     }
 
     /// Adds a pair of a field and a date, whose room is 8 bytes. The errors are those of `add_text`.
     pub fn add_date(&mut self, field: Field, moment: DateTime) -> Result<(), AddError>
-        ensures { Adds self.old self.new field.id (leaf (date moment.nanoseconds)) result }
+        ensures { AddsLeaf self.old self.new field.id (date moment.nanoseconds) result }
     {
         self.add_leaf(field, &ReferenceValueLeaf::Date(moment))
     }
@@ -200,21 +189,21 @@ impl CompactDoc {
     /// Adds a pair of a field and a facet, whose room is 5 bytes and the length of its encoded text. The errors are those of
     /// `add_text`.
     pub fn add_facet(&mut self, field: Field, path: &Facet) -> Result<(), AddError>
-        ensures { Adds self.old self.new field.id (leaf (facet path.now)) result }
+        ensures { AddsLeaf self.old self.new field.id (facet path.now) result }
     {
         self.add_leaf(field, &ReferenceValueLeaf::Facet(path.encoded_str()))
     }
 
     /// Adds a pair of a field and bytes, whose room is 5 bytes and their length. The errors are those of `add_text`.
     pub fn add_bytes(&mut self, field: Field, content: &[u8]) -> Result<(), AddError>
-        ensures { Adds self.old self.new field.id (leaf (bytes content.now)) result }
+        ensures { AddsLeaf self.old self.new field.id (bytes_leaf content.now) result }
     {
         self.add_leaf(field, &ReferenceValueLeaf::Bytes(content))
     }
 
     /// Adds a pair of a field and an IP address, whose room is 16 bytes. The errors are those of `add_text`.
     pub fn add_ip_addr(&mut self, field: Field, address: Ipv6Addr) -> Result<(), AddError>
-        ensures { Adds self.old self.new field.id (leaf (ip_address (ipv6_bits address))) result }
+        ensures { AddsLeaf self.old self.new field.id (ip_address (ipv6_bits address)) result }
     {
         self.add_leaf(field, &ReferenceValueLeaf::IpAddr(address))
     }
@@ -226,9 +215,8 @@ impl CompactDoc {
         field: Field,
         content: &PreTokenizedString,
     ) -> Result<(), AddError>
-        ensures { Adds self.old self.new field.id
-            (leaf
-            (tokenized (string_bytes content.now.text) (map token_of content.now.tokens.items)))
+        ensures { AddsLeaf self.old self.new field.id
+            (tokenized (string_bytes content.now.text) (map token_of content.now.tokens.items))
             result }
     {
         let content = PreTokenizedStr::from_string(content);
@@ -314,7 +302,7 @@ impl CompactDoc {
         field: Field,
         value: ReferenceValueLeaf<'_>,
     ) -> Result<(), AddError>
-        ensures { Adds self.old self.new field.id (leaf (leaf_of value.entry)) result }
+        ensures { AddsLeaf self.old self.new field.id (leaf_of value.entry) result }
     {
         self.add_leaf(field, &value)
     }
@@ -326,7 +314,7 @@ impl CompactDoc {
         field: Field,
         value: &ReferenceValueLeaf<'_>,
     ) -> Result<(), AddError>
-        ensures { Adds self.old self.new field.id (leaf (leaf_of value.now)) result }
+        ensures { AddsLeaf self.old self.new field.id (leaf_of value.now) result }
     {
         self.values.add_leaf(field.field_id(), value)
     }

@@ -1,11 +1,11 @@
 //! Documents of any kind: pairs of a field and a value.
 
-ghost use Rattle.std.specs.Prelude.{◌≡◌, ◌↔◌, Option, IfOk, IsErrOf, IsTrue, OnOk, map, string_bytes};
+ghost use Rattle.std.specs.Prelude.{◌≡◌, ◌↔◌, Option, IfOk, IsTrue, map, string_bytes};
 ghost use Rattle.std.specs.Iterator.{IsFinite, YieldsFirstBy};
 ghost use Rattle.tv_value.specs.declared.field.Field.{Field};
 ghost use Rattle.tv_format.specs.Tree.{Document as Pairs};
 ghost use Rattle.tv_doc.specs.Grouped.{IsGrouped, group_seen};
-ghost use Rattle.tv_doc.specs.Named.{IsNamed, IsJsonText, NamedNestWithin, named_of};
+ghost use Rattle.tv_doc.specs.Named.{CopiesByName, IsJsonText, NamedNestWithin};
 ghost use Rattle.tv_doc.specs.FieldValues.{pair_seen};
 
 use crate::grouped::{grouped, sort_pairs};
@@ -18,7 +18,7 @@ use tv_value::field::Field;
 use tv_value::nesting::{MAX_DEPTH, nests_within};
 use tv_value::value::Value;
 
-// So many pairs are gathered in memory that is taken once.
+// This many pairs are gathered in memory that is taken once.
 const FIRST_PAIRS: usize = 16;
 
 // The pairs of a document.
@@ -36,7 +36,7 @@ fn gathered<'a, D: Document<'a>>(
     Ok(pairs)
 }
 
-// Whether each value of a field that has a name nests within so many lists.
+// Whether each value of a field that has a name nests within this many lists.
 fn named_nest_within<'a, D: Document<'a>, S: FieldNames>(
     document: &'a D,
     schema: &S,
@@ -98,12 +98,7 @@ pub trait Document<'a> {
         alloc: Global,
         schema: &S,
     ) -> Result<NamedFieldDocument, CopyError>
-        ensures named { IfOk result
-            (λ named. IsNamed (S.names schema.now) (pairs self.now) (named_of named)) }
-        ensures within { OnOk result
-            (NamedNestWithin (S.names schema.now) MAX_DEPTH (pairs self.now)) }
-        ensures deep { IsErrOf result CopyError.TooDeep
-            ↔ (¬ NamedNestWithin (S.names schema.now) MAX_DEPTH (pairs self.now)) }
+        ensures { CopiesByName (S.names schema.now) (pairs self.now) MAX_DEPTH result }
     {
         self.to_named_doc_within(alloc, schema, MAX_DEPTH)
     }
@@ -116,11 +111,7 @@ pub trait Document<'a> {
         schema: &S,
         depth: u32,
     ) -> Result<NamedFieldDocument, CopyError>
-        ensures named { IfOk result
-            (λ named. IsNamed (S.names schema.now) (pairs self.now) (named_of named)) }
-        ensures within { OnOk result (NamedNestWithin (S.names schema.now) depth (pairs self.now)) }
-        ensures deep { IsErrOf result CopyError.TooDeep
-            ↔ (¬ NamedNestWithin (S.names schema.now) depth (pairs self.now)) }
+        ensures { CopiesByName (S.names schema.now) (pairs self.now) depth result }
     {
         if !named_nest_within(self, schema, depth) {
             return Err(CopyError::TooDeep);

@@ -1,15 +1,14 @@
 //! Documents from JSON objects.
 
-ghost use Rattle.std.specs.Prelude.{◌≡◌, ◌∷◌, [], IfOk, OnErr, OnOk, string_bytes};
+ghost use Rattle.std.specs.Prelude.{◌≡◌, ◌∷◌, [], IfOk, string_bytes};
 ghost use Rattle.serde_json.specs.View.{view as data_of, items_view, members_view};
 ghost use Rattle.tv_schema.specs.Schema.{field_named};
 ghost use Rattle.tv_field.specs.JsonAnswer.{lent_tree};
 ghost use Rattle.tv_doc.specs.JsonObject.{item_values, values_at};
 ghost use Rattle.tv_doc.specs.JsonObject.{object_values, AddsValues, IsInvalidJson, IsValueError};
-ghost use Rattle.tv_doc.specs.JsonObject.{MakesDocument, Parses};
+ghost use Rattle.tv_doc.specs.JsonObject.{MakesFromObject, Parses, ParsesDocument, ParsesInto};
 ghost use Rattle.std.specs.Fmt.{take_chars};
-ghost use Rattle.tv_doc.specs.Belongs.{Belongs};
-ghost use Rattle.tv_doc.specs.Document.{Adds, document_of};
+ghost use Rattle.tv_doc.specs.Document.{Adds};
 ghost use Rattle.tv_doc.specs.InPlace.{in_place};
 
 use crate::add_error::AddError;
@@ -197,8 +196,7 @@ impl CompactDoc {
         schema: &Schema,
         text: &str,
     ) -> Result<CompactDoc, DocParsingError>
-        ensures parses { Parses schema.now text.now result }
-        ensures belongs { IfOk result (λ made. Belongs schema.now (document_of made)) }
+        ensures { ParsesDocument schema.now text.now result }
     {
         let mut document = CompactDoc::new(alloc);
         let mut buffers = ParseBuffers::for_one(alloc);
@@ -232,9 +230,7 @@ impl CompactDoc {
         text: &str,
         buffers: &mut ParseBuffers,
     ) -> Result<(), DocParsingError>
-        ensures parses { Parses schema.now text.now (in_place result self.new) }
-        ensures belongs { OnOk result (Belongs schema.now (document_of self.new)) }
-        ensures none { OnErr result (document_of self.new ≡ []) }
+        ensures { ParsesInto schema.now text.now self.new result }
     {
         if let Some(()) = self.parse_borrowed(alloc, schema, text, buffers) {
             return Ok(());
@@ -259,9 +255,7 @@ impl CompactDoc {
         schema: &Schema,
         object: Map<String, Value>,
     ) -> Result<CompactDoc, DocParsingError>
-        ensures makes { MakesDocument (object_values schema.now (members_view object.entries))
-            result }
-        ensures belongs { IfOk result (λ made. Belongs schema.now (document_of made)) }
+        ensures { MakesFromObject schema.now (members_view object.entries) result }
     {
         let mut document = CompactDoc::new(alloc);
         let mut scratch = JsonScratch::new(alloc);

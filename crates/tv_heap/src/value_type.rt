@@ -89,7 +89,7 @@ impl BinarySerializable for ValueType {
     }
 
     fn deserialize<S: ByteSource>(alloc: Global, source: &mut S) -> Result<ValueType, ReadError>
-        ensures reads { ReadsLean S.is_known S.left S.failures source.old source.new (λ t. t) result
+        ensures reads { ReadsLean S.ByteSource source.old source.new (λ t. t) result
             (λ bytes t. Fixed 1 bytes (type_code t)) ErrorInType }
     {
         let code = u8::deserialize(alloc, source)?;

@@ -24,7 +24,7 @@ fn is_blank(byte: u8) -> bool
 
 // The first byte that is no blank.
 fn take_nonblank<S: ByteSource>(source: &mut S, count: &mut u64) -> Result<u8, ReadError>
-    ensures takes { TakesLean S.is_known S.left S.failures source.old count.old source.new count.new
+    ensures takes { TakesLean S.ByteSource source.old count.old source.new count.new
         (λ x. x) result nonblank_at }
 {
     loop {
@@ -45,7 +45,7 @@ fn take_rest<S: ByteSource>(
     slice: &mut Vec<u8>,
 ) -> Result<(), ReadError>
     requires { slice.old.items ≡ 123 ∷ [] }
-    ensures takes { TakesBy S.is_known S.left S.failures source.old count.old source.new count.new
+    ensures takes { TakesBy S.ByteSource source.old count.old source.new count.new
         (λ _. slice.new.items) result (rest_at slice.old.items) }
 {
     let mut scan = Scan::opened();
@@ -66,7 +66,7 @@ fn take_slice<S: ByteSource>(
     source: &mut S,
     count: &mut u64,
 ) -> Result<Vec<u8>, ReadError>
-    ensures takes { TakesBy S.is_known S.left S.failures source.old count.old source.new count.new
+    ensures takes { TakesBy S.ByteSource source.old count.old source.new count.new
         (λ slice. slice.items) result slice_at }
 {
     let first = take_nonblank(source, count)?;
@@ -115,7 +115,7 @@ pub fn take_legacy<S: ByteSource>(
     source: &mut S,
     count: &mut u64,
 ) -> Result<OwnedValue, ReadError>
-    ensures takes { TakesBy S.is_known S.left S.failures source.old count.old source.new count.new
+    ensures takes { TakesBy S.ByteSource source.old count.old source.new count.new
         owned_tree result legacy_at }
 {
     let slice = take_slice(alloc, source, count)?;

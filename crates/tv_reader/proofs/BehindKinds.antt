@@ -38,7 +38,7 @@ kind_edge end Q none seven kind start byte last = subst (λ l. Q l end) (sym (sa
 
 -- the type was taken, and then what stands behind it
 pub finds_behind : {S Y : Type 0} {stop : DeserializeError → Stop Refusal} {May : DeserializeError → ℕ → Type 0} {is_known : S → Type 0} {left : S → List ℕ} {failures : S → Failures} {old mid new : S} {i j k : ℕ} {kind : ValueType} {result : Result Y DeserializeError} (B : List ℕ → Y → Type 0) (Q : List ℕ → Refusal → Type 0)
-    → ((source : S) → is_known source → AllBytes (left source)) → Q [] end → Q (7 ∷ []) end → reads.TakesLean is_known left failures old i mid j (λ x. x) (Ok kind) kind_at
+    → ((source : S) → is_known source → AllBytes (left source)) → Q [] end → Q (7 ∷ []) end → reads.TakesIf reads.MayStopLean is_known left failures old i mid j (λ x. x) (Ok kind) kind_at
     → FindsBy stop May end is_known left failures mid j new k result (λ b y. B (coded kind ++ b) y) (λ w r. Q (coded kind ++ w) r) → FindsBy stop May end is_known left failures old i new k result B Q
 finds_behind {stop = stop} {May = May} {kind = kind} B Q are_bytes none seven part h =
     finds_then B Q

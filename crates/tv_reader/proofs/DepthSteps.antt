@@ -21,8 +21,8 @@ use Rattle.tv_format.proofs.Lists.{elements-length, entries-length}
 use Rattle.tv_value.specs.declared.owned_value.OwnedValue.{OwnedValue, Array, Object}
 use Rattle.tv_reader.specs.Counts.{entry_count_at}
 use Rattle.tv_reader.specs.Depth.{EncodesWithin, ElementsWithin, EntriesWithin, BehindKey, AmongElements, AmongEntries, Opens}
-use Rattle.tv_reader.specs.Error.{read_error}
-use Rattle.tv_reader.specs.Finds.{FindsRoomy, FindsDeep}
+use Rattle.tv_reader.specs.Error.{read_error, StoreMayStopRoomy}
+use Rattle.tv_reader.specs.Finds.{FindsIf, FindsDeepBy}
 use Rattle.tv_reader.specs.Kinds.{kind_at}
 use Rattle.tv_reader.specs.LeafBodies.{LeafOf}
 use Rattle.tv_reader.specs.Leaves.{leaf_at}
@@ -114,7 +114,7 @@ abbrev pub OpensBehind : Version → ValueType → ℕ → List ℕ → Type 0
 OpensBehind v kind n b = Opens v n (coded kind ++ b)
 
 pub value_deepens : {S : Type 0} {is_known : S → Type 0} {left : S → List ℕ} {old mid new : S} {i j : ℕ} {kind : ValueType} {result : Result OwnedValue DeserializeError} (failures : S → Failures) (v : Version) (n : ℕ)
-    → ((source : S) → is_known source → AllBytes (left source)) → reads.TakesLean is_known left failures old i mid j (λ x. x) (Ok kind) kind_at
+    → ((source : S) → is_known source → AllBytes (left source)) → reads.TakesIf reads.MayStopLean is_known left failures old i mid j (λ x. x) (Ok kind) kind_at
     → Deepens is_known left mid new result (BehindWithin v kind n) (OpensBehind v kind n) → Deepens is_known left old new result (ValueWithin v n) (Opens v n)
 value_deepens failures v n are_bytes part h =
     let p = finds_part are_bytes kind_agrees part in
@@ -130,7 +130,7 @@ leaf_within v n types.Object a t p = absurd p
 leaf_within v n kind a t p = subst (EncodesWithin v n (coded kind ++ a)) (sym p.2) (record { body = a; joined = refl; encoded = p.1 })
 
 pub leaf_deepens : {S : Type 0} {is_known : S → Type 0} {left : S → List ℕ} {old new : S} {i k : ℕ} {value : OwnedValue} (failures : S → Failures) (v : Version) (n : ℕ) (kind : ValueType)
-    → ((source : S) → is_known source → AllBytes (left source)) → reads.TakesBy is_known left failures old i new k owned_tree (Ok value) (leaf_at v kind)
+    → ((source : S) → is_known source → AllBytes (left source)) → reads.TakesIf reads.MayStop is_known left failures old i new k owned_tree (Ok value) (leaf_at v kind)
     → Deepens is_known left old new (Ok value) (BehindWithin v kind n) (OpensBehind v kind n)
 leaf_deepens {left = left} {old = old} {new = new} {value = value} failures v n kind are_bytes h =
     let p = finds_part are_bytes (leaf_agrees v kind) h in
@@ -145,7 +145,7 @@ legacy_within v zero b (object es) (inr h) = h
 legacy_within v (suc n) b (object es) (inr h) = inr h
 
 pub legacy_deepens : {S : Type 0} {is_known : S → Type 0} {left : S → List ℕ} {failures : S → Failures} {old new : S} {i k : ℕ} (result : Result OwnedValue DeserializeError) (v : Version) (n : ℕ)
-    → FindsRoomy is_known left failures old i new k result (EncodesBehind v types.JSONObject) (NoneBehind v types.JSONObject) → Deepens is_known left old new result (BehindWithin v types.JSONObject n) (OpensBehind v types.JSONObject n)
+    → FindsIf StoreMayStopRoomy is_known left failures old i new k result (EncodesBehind v types.JSONObject) (NoneBehind v types.JSONObject) → Deepens is_known left old new result (BehindWithin v types.JSONObject n) (OpensBehind v types.JSONObject n)
 legacy_deepens {left = left} {old = old} {new = new} (Ok value) v n p =
     deepens_found value (BehindWithin v types.JSONObject n) (OpensBehind v types.JSONObject n) (λ t. begins_as (left old) (left new) (λ a q. legacy_within v n a (owned_tree value) q) (p.found t))
 legacy_deepens {is_known = is_known} {left = left} {failures = failures} {old = old} {new = new} (Err e) v n p =
@@ -172,7 +172,7 @@ items_deepen is_known left {old = old} {mid = mid} {new = new} items y v n more 
 
 -- the next is refused
 pub items_deepen_fails : {S : Type 0} {is_known : S → Type 0} {left : S → List ℕ} {failures : S → Failures} {old mid new : S} {i j m count : ℕ} {items : Vec OwnedValue Global} {I : List ℕ → Refusal → Type 0} {e : DeserializeError} (v : Version) (n : ℕ) → m < count
-    → FindsDeep is_known left failures old i mid j (Ok items) (EncodesItems v m) I → (is_known old → Begins (λ b. ItemsWithin v n b items) (left old) (left mid))
+    → FindsDeepBy is_known left failures old i mid j (Ok items) (EncodesItems v m) I → (is_known old → Begins (λ b. ItemsWithin v n b items) (left old) (left mid))
     → Deepens is_known left mid new (Err e) (ValueWithin v n) (Opens v n) → Deepens {X = Vec OwnedValue Global} is_known left old new (Err e) (ItemsWithin v n) (AmongItems v n count)
 items_deepen_fails {left = left} {old = old} {mid = mid} {m = m} {count = count} {items = items} v n less p first h =
     let before = elements (map owned_tree items.items) in
@@ -191,8 +191,8 @@ array_opens : (v : Version) (n count : ℕ) (a b : List ℕ) → VNum a count �
 array_opens v n count a b number w = inl (record { body = a ++ b; joined = refl; encoded = (count, record { prefix = a; rest = b; joined = refl; first = number; second = w }) })
 
 pub array_deepens : {S : Type 0} {is_known : S → Type 0} {left : S → List ℕ} {failures : S → Failures} {old mid new : S} {i j k count : ℕ} {items : Vec OwnedValue Global} (v : Version) (levels below : ℕ) → levels ≡ suc below
-    → ((source : S) → is_known source → AllBytes (left source)) → reads.TakesLean is_known left failures old i mid j (λ x. x) (Ok count) vint_at
-    → FindsDeep is_known left failures mid j new k (Ok items) (EncodesItems v count) (NoItems v count) → Deepens is_known left mid new (Ok items) (ItemsWithin v below) (AmongItems v below count)
+    → ((source : S) → is_known source → AllBytes (left source)) → reads.TakesIf reads.MayStopLean is_known left failures old i mid j (λ x. x) (Ok count) vint_at
+    → FindsDeepBy is_known left failures mid j new k (Ok items) (EncodesItems v count) (NoItems v count) → Deepens is_known left mid new (Ok items) (ItemsWithin v below) (AmongItems v below count)
     → Deepens is_known left old new (Ok (Array items)) (BehindWithin v types.Array levels) (OpensBehind v types.Array levels)
 array_deepens {is_known = is_known} {left = left} {old = old} {mid = mid} {new = new} {count = count} {items = items} v levels below is are_bytes part q h =
     let p = finds_part are_bytes vint_agrees part in
@@ -201,7 +201,7 @@ array_deepens {is_known = is_known} {left = left} {old = old} {mid = mid} {new =
     (λ t. begins_then (left old) (left mid) (left new) (λ a b r w. array_within v below count a b items r (q.found (p.stays_known t)).encoded.many w) (p.found t) (h.within (p.stays_known t))))
 
 pub array_deepens_fails : {S : Type 0} {is_known : S → Type 0} {left : S → List ℕ} {old mid new : S} {i j count : ℕ} {e : DeserializeError} (failures : S → Failures) (v : Version) (levels below : ℕ) → levels ≡ suc below
-    → ((source : S) → is_known source → AllBytes (left source)) → reads.TakesLean is_known left failures old i mid j (λ x. x) (Ok count) vint_at
+    → ((source : S) → is_known source → AllBytes (left source)) → reads.TakesIf reads.MayStopLean is_known left failures old i mid j (λ x. x) (Ok count) vint_at
     → Deepens {X = Vec OwnedValue Global} is_known left mid new (Err e) (ItemsWithin v below) (AmongItems v below count)
     → Deepens is_known left old new (Err e) (BehindWithin v types.Array levels) (OpensBehind v types.Array levels)
 array_deepens_fails {is_known = is_known} {left = left} {old = old} {new = new} {count = count} {e = e} failures v levels below is are_bytes part h =
@@ -222,14 +222,14 @@ abbrev pub AmongMembers : Version → ℕ → ℕ → List ℕ → Type 0
 AmongMembers v n count b = AmongEntries v n (Opens v n) count b
 
 pub member_deepens : {S : Type 0} {is_known : S → Type 0} {left : S → List ℕ} {failures : S → Failures} {old mid new : S} {i j : ℕ} {key : String Global} {value : OwnedValue} {I : List ℕ → Refusal → Type 0} (v : Version) (n : ℕ)
-    → FindsRoomy is_known left failures old i mid j (Ok key) (λ b key. Key v b (string_bytes key)) I → Deepens is_known left mid new (Ok value) (ValueWithin v n) (Opens v n)
+    → FindsIf StoreMayStopRoomy is_known left failures old i mid j (Ok key) (λ b key. Key v b (string_bytes key)) I → Deepens is_known left mid new (Ok value) (ValueWithin v n) (Opens v n)
     → Deepens is_known left old new (Ok (key, value)) (MemberWithin v n) (BehindKey v (Opens v n))
 member_deepens {left = left} {old = old} {mid = mid} {new = new} {key = key} {value = value} v n p h =
     deepens_found (key, value) (MemberWithin v n) (BehindKey v (Opens v n))
     (λ t. begins_then (left old) (left mid) (left new) (λ a b r w. record { prefix = a; rest = b; joined = refl; first = r; second = w }) (p.found t) (h.within (p.stays_known t)))
 
 pub member_deepens_fails : {S : Type 0} {is_known : S → Type 0} {left : S → List ℕ} {failures : S → Failures} {old mid new : S} {i j : ℕ} {key : String Global} {e : DeserializeError} {I : List ℕ → Refusal → Type 0} (v : Version) (n : ℕ)
-    → FindsRoomy is_known left failures old i mid j (Ok key) (λ b key. Key v b (string_bytes key)) I → Deepens {X = OwnedValue} is_known left mid new (Err e) (ValueWithin v n) (Opens v n)
+    → FindsIf StoreMayStopRoomy is_known left failures old i mid j (Ok key) (λ b key. Key v b (string_bytes key)) I → Deepens {X = OwnedValue} is_known left mid new (Err e) (ValueWithin v n) (Opens v n)
     → Deepens is_known left old new (Err e) (MemberWithin v n) (BehindKey v (Opens v n))
 member_deepens_fails {key = key} v n p h =
     deepens_then (MemberWithin v n) (BehindKey v (Opens v n)) (λ a b y r w. absurd w) (λ a b r w. (string_bytes key, record { prefix = a; rest = b; joined = refl; first = r; second = w }))
@@ -272,7 +272,7 @@ entry_many : (members : Vec (String Global × OwnedValue) Global) → entry_coun
 entry_many members = entries-length (owned_entries members.items) ∙ length-map (map (λ m. (m.0, owned_tree m.1)) members.items) key_and ∙ length-map members.items (λ m. (m.0, owned_tree m.1))
 
 pub members_deepen_fails : {S : Type 0} {is_known : S → Type 0} {left : S → List ℕ} {failures : S → Failures} {old mid new : S} {i j m count : ℕ} {members : Vec (String Global × OwnedValue) Global} {I : List ℕ → Refusal → Type 0} {e : DeserializeError} (v : Version) (n : ℕ) → m < count
-    → FindsDeep is_known left failures old i mid j (Ok members) (EncodesMembers v m) I → (is_known old → Begins (λ b. MembersWithin v n b members) (left old) (left mid))
+    → FindsDeepBy is_known left failures old i mid j (Ok members) (EncodesMembers v m) I → (is_known old → Begins (λ b. MembersWithin v n b members) (left old) (left mid))
     → Deepens {X = String Global × OwnedValue} is_known left mid new (Err e) (MemberWithin v n) (BehindKey v (Opens v n)) → Deepens {X = Vec (String Global × OwnedValue) Global} is_known left old new (Err e) (MembersWithin v n) (AmongMembers v n count)
 members_deepen_fails {left = left} {old = old} {mid = mid} {m = m} {count = count} {members = members} v n less p first h =
     let before = entries (owned_entries members.items) in
@@ -291,8 +291,8 @@ object_opens : (v : Version) (n count : ℕ) (a b : List ℕ) → VNum a (entry_
 object_opens v n count a b number w = inr (record { body = a ++ b; joined = refl; encoded = (count, record { prefix = a; rest = b; joined = refl; first = number; second = w }) })
 
 pub object_deepens : {S : Type 0} {is_known : S → Type 0} {left : S → List ℕ} {failures : S → Failures} {old mid new : S} {i j k count : ℕ} {members : Vec (String Global × OwnedValue) Global} (v : Version) (levels below : ℕ) → levels ≡ suc below
-    → ((source : S) → is_known source → AllBytes (left source)) → reads.TakesLean is_known left failures old i mid j (λ x. x) (Ok count) (entry_count_at v)
-    → FindsDeep is_known left failures mid j new k (Ok members) (EncodesMembers v count) (NoMembers v count) → Deepens is_known left mid new (Ok members) (MembersWithin v below) (AmongMembers v below count)
+    → ((source : S) → is_known source → AllBytes (left source)) → reads.TakesIf reads.MayStopLean is_known left failures old i mid j (λ x. x) (Ok count) (entry_count_at v)
+    → FindsDeepBy is_known left failures mid j new k (Ok members) (EncodesMembers v count) (NoMembers v count) → Deepens is_known left mid new (Ok members) (MembersWithin v below) (AmongMembers v below count)
     → Deepens is_known left old new (Ok (Object members)) (BehindWithin v types.Object levels) (OpensBehind v types.Object levels)
 object_deepens {is_known = is_known} {left = left} {old = old} {mid = mid} {new = new} {count = count} {members = members} v levels below is are_bytes part q h =
     let p = finds_part are_bytes (entry_count_agrees v) part in
@@ -301,7 +301,7 @@ object_deepens {is_known = is_known} {left = left} {old = old} {mid = mid} {new 
     (λ t. begins_then (left old) (left mid) (left new) (λ a b r w. object_within v below count a b members r (q.found (p.stays_known t)).encoded.many w) (p.found t) (h.within (p.stays_known t))))
 
 pub object_deepens_fails : {S : Type 0} {is_known : S → Type 0} {left : S → List ℕ} {old mid new : S} {i j count : ℕ} {e : DeserializeError} (failures : S → Failures) (v : Version) (levels below : ℕ) → levels ≡ suc below
-    → ((source : S) → is_known source → AllBytes (left source)) → reads.TakesLean is_known left failures old i mid j (λ x. x) (Ok count) (entry_count_at v)
+    → ((source : S) → is_known source → AllBytes (left source)) → reads.TakesIf reads.MayStopLean is_known left failures old i mid j (λ x. x) (Ok count) (entry_count_at v)
     → Deepens {X = Vec (String Global × OwnedValue) Global} is_known left mid new (Err e) (MembersWithin v below) (AmongMembers v below count)
     → Deepens is_known left old new (Err e) (BehindWithin v types.Object levels) (OpensBehind v types.Object levels)
 object_deepens_fails {is_known = is_known} {left = left} {old = old} {new = new} {count = count} {e = e} failures v levels below is are_bytes part h =

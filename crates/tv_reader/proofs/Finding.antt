@@ -20,7 +20,7 @@ use Rattle.tv_reader.specs.Error.{read_error, store_stop, tree_stop, StoreMaySto
 use Rattle.tv_reader.specs.Error as store
 use Rattle.tv_reader.specs.declared.error.DeserializeError.{DeserializeError}
 use Rattle.tv_reader.specs.declared.error.DeserializeError.TheVariants as errors
-use Rattle.tv_reader.specs.Finds.{Refuses, GivesStop, Found, FindsBy, FindsIf, Finds, FindsRoomy, FindsDeep, FindsLean}
+use Rattle.tv_reader.specs.Finds.{Refuses, GivesStop, Found, FindsBy, FindsIf, FindsDeepBy}
 
 -- ---- bytes that show an error
 
@@ -180,7 +180,7 @@ part_found view agrees x old new small e = let p = agrees.sound old (view x, new
 -- a part was read
 pub finds_part : {S X Y : Type 0} {May : ReadError → ℕ → Type 0} {is_known : S → Type 0} {left : S → List ℕ} {failures : S → Failures} {old new : S} {i k : ℕ} {view : X → Y} {x : X} {reading : List ℕ → Result (Y × List ℕ) (Cause × List ℕ)} {Encodes : List ℕ → Y → Type 0} {HasError : List ℕ → Cause → Type 0}
     → ((source : S) → is_known source → AllBytes (left source)) → Agrees UnexpectedEnd reading Encodes HasError → TakesIf May is_known left failures old i new k view (Ok x) reading
-    → Finds is_known left failures old i new k (Ok x) (λ b x. Encodes b (view x)) (λ w f. ⊥)
+    → FindsIf StoreMayStop is_known left failures old i new k (Ok x) (λ b x. Encodes b (view x)) (λ w f. ⊥)
 finds_part {left = left} {old = old} {new = new} {view = view} {x = x} are_bytes agrees h =
     record { found = λ t. part_found view agrees x (left old) (left new) (are_bytes old t) (read_ok h t); taken = h.taken; stays_known = h.stays_known; counts = h.counts; rises = h.rises; may_stop = tt }
 
@@ -224,8 +224,8 @@ read_found view agrees x old new small e = let p = agrees.sound old (view x, new
 
 -- a part was read
 pub finds_read : {S X Y : Type 0} {is_known : S → Type 0} {left : S → List ℕ} {failures : S → Failures} {old new : S} {i k : ℕ} {view : X → Y} {x : X} {reading : List ℕ → Result (Y × List ℕ) (Refusal × List ℕ)} {Encodes : List ℕ → Y → Type 0} {HasError : List ℕ → Refusal → Type 0}
-    → ((source : S) → is_known source → AllBytes (left source)) → Agrees (corrupted UnexpectedEnd) reading Encodes HasError → store.TakesLean is_known left failures old i new k view (Ok x) reading
-    → Finds is_known left failures old i new k (Ok x) (λ b x. Encodes b (view x)) (λ w f. ⊥)
+    → ((source : S) → is_known source → AllBytes (left source)) → Agrees (corrupted UnexpectedEnd) reading Encodes HasError → store.TakesIf store.StoreMayStopLean is_known left failures old i new k view (Ok x) reading
+    → FindsIf StoreMayStop is_known left failures old i new k (Ok x) (λ b x. Encodes b (view x)) (λ w f. ⊥)
 finds_read {left = left} {old = old} {new = new} {view = view} {x = x} are_bytes agrees h =
     record { found = λ t. read_found view agrees x (left old) (left new) (are_bytes old t) (read_ok h t); taken = h.taken; stays_known = h.stays_known; counts = h.counts; rises = h.rises; may_stop = tt }
 
@@ -243,7 +243,7 @@ read_shown Never Q agrees map old taken new count small joined h = h
 -- a part was refused
 pub finds_read_fails : {S X Y Z : Type 0} {is_known : S → Type 0} {left : S → List ℕ} {failures : S → Failures} {old new : S} {i k : ℕ} {view : X → Y} {e : DeserializeError} {reading : List ℕ → Result (Y × List ℕ) (Refusal × List ℕ)} {Encodes : List ℕ → Y → Type 0} {HasError : List ℕ → Refusal → Type 0}
     (B : List ℕ → Z → Type 0) (Q : List ℕ → Refusal → Type 0) → ((source : S) → is_known source → AllBytes (left source)) → Agrees (corrupted UnexpectedEnd) reading Encodes HasError → ((w : List ℕ) (r : Refusal) → HasError w r → Q w r)
-    → store.TakesLean is_known left failures old i new k view (Err e) reading → FindsLean is_known left failures old i new k (Err e) B Q
+    → store.TakesIf store.StoreMayStopLean is_known left failures old i new k view (Err e) reading → FindsIf StoreMayStopLean is_known left failures old i new k (Err e) B Q
 finds_read_fails {left = left} {old = old} {new = new} {k = k} {e = e} B Q are_bytes agrees map h =
     record { found = λ t. let p = h.taken t in read_shown (store_stop e) Q agrees map (left old) p.prefix (left new) k (are_bytes old t) p.joined (h.gives t p.prefix p.joined); taken = h.taken; stays_known = h.stays_known; counts = h.counts; rises = h.rises; may_stop = h.may_stop }
 
@@ -257,7 +257,7 @@ finds_ok stop May p = record { found = p.found; taken = p.taken; stays_known = p
 -- a part of a tree was read
 pub finds_part_deep : {S X Y : Type 0} {May : ReadError → ℕ → Type 0} {is_known : S → Type 0} {left : S → List ℕ} {failures : S → Failures} {old new : S} {i k : ℕ} {view : X → Y} {x : X} {reading : List ℕ → Result (Y × List ℕ) (Cause × List ℕ)} {Encodes : List ℕ → Y → Type 0} {HasError : List ℕ → Cause → Type 0}
     → ((source : S) → is_known source → AllBytes (left source)) → Agrees UnexpectedEnd reading Encodes HasError → TakesIf May is_known left failures old i new k view (Ok x) reading
-    → FindsDeep is_known left failures old i new k (Ok x) (λ b x. Encodes b (view x)) (λ w f. ⊥)
+    → FindsDeepBy is_known left failures old i new k (Ok x) (λ b x. Encodes b (view x)) (λ w f. ⊥)
 finds_part_deep are_bytes agrees h = finds_ok tree_stop StoreMayStopDeep (finds_part are_bytes agrees h)
 
 -- an error that another reader tells is told so of a tree too
@@ -271,7 +271,7 @@ calm old new errors.TooDeep h = absurd h
 calm old new _ h = λ same. cc
 
 pub roomy_deep : {S X : Type 0} {is_known : S → Type 0} {left : S → List ℕ} {failures : S → Failures} {old new : S} {i k : ℕ} (result : Result X DeserializeError) {R : List ℕ → X → Type 0} {I : List ℕ → Refusal → Type 0}
-    → FindsRoomy is_known left failures old i new k result R I → FindsDeep is_known left failures old i new k result R I
+    → FindsIf StoreMayStopRoomy is_known left failures old i new k result R I → FindsDeepBy is_known left failures old i new k result R I
 roomy_deep (Ok x) p = finds_ok tree_stop StoreMayStopDeep p
 roomy_deep {left = left} {failures = failures} {old = old} {new = new} {k = k} (Err e) {I = I} p =
     let same = told_so e (calm (failures old) (failures new) e p.counts) in

@@ -16,8 +16,8 @@ use Rattle.tv_format.specs.Content.{no_content, truth_content, unsigned_content,
 use Rattle.tv_format.specs.InputError.{Refusal, corrupted, no_text_key, ErrorInContent, no_extension, ErrorInCodedKey, ErrorInKey, corrupt, key_ends, key_no_extension, in_key, value_ends, in_count}
 use Rattle.tv_format.specs.Leaves.{form, scale}
 use Rattle.tv_format.specs.Version.{Version, V3, Scaled}
-use Rattle.tv_reader.specs.Error.{read_error, store_stop}
-use Rattle.tv_reader.specs.Finds.{FindsLean}
+use Rattle.tv_reader.specs.Error.{read_error, store_stop, StoreMayStopLean}
+use Rattle.tv_reader.specs.Finds.{FindsIf}
 use Rattle.tv_reader.specs.HeadReading.{head_part, form_head_at, type_head_at, head_at}
 use Rattle.tv_reader.specs.Heads.{HeadPart, leaf_head, length_head, array_head, object_head, tokenized_head, legacy_head, EncodesHead, CodedLength}
 use Rattle.tv_reader.specs.Kinds.{kind_at}
@@ -136,15 +136,15 @@ abbrev pub HeadEncoded : DocStoreVersion → List ℕ → Head → Type 0
 HeadEncoded version b head = EncodesHead (version_of version) b (head_part head)
 
 pub head_found : {S : Type 0} {is_known : S → Type 0} {left : S → List ℕ} {failures : S → Failures} {old mid new : S} {i j k : ℕ} {kind : ValueType} {head : Head} (version : DocStoreVersion)
-    → ((source : S) → is_known source → AllBytes (left source)) → reads.TakesLean is_known left failures old i mid j (λ x. x) (Ok kind) kind_at
-    → reads.TakesLean is_known left failures mid j new k head_part (Ok head) (head_at (version_of version) kind) → FindsLean is_known left failures old i new k (Ok head) (HeadEncoded version) (NoValue (version_of version))
+    → ((source : S) → is_known source → AllBytes (left source)) → reads.TakesIf reads.MayStopLean is_known left failures old i mid j (λ x. x) (Ok kind) kind_at
+    → reads.TakesIf reads.MayStopLean is_known left failures mid j new k head_part (Ok head) (head_at (version_of version) kind) → FindsIf StoreMayStopLean is_known left failures old i new k (Ok head) (HeadEncoded version) (NoValue (version_of version))
 head_found {kind = kind} {head = head} version are_bytes part h =
     finds_behind (HeadEncoded version) (NoValue (version_of version)) are_bytes value_ends (held_error leaves.PreTokStr (no_extension refl)) part
     (finds_as head _ _ (λ a p. head_encoded version kind a (head_part head) p) (finds_part are_bytes (head_agrees (version_of version) kind) h))
 
 pub head_fails : {S : Type 0} {is_known : S → Type 0} {left : S → List ℕ} {failures : S → Failures} {old mid new : S} {i j k : ℕ} {kind : ValueType} {e : ReadError} (version : DocStoreVersion)
-    → ((source : S) → is_known source → AllBytes (left source)) → reads.TakesLean is_known left failures old i mid j (λ x. x) (Ok kind) kind_at
-    → reads.TakesLean {X = Head} is_known left failures mid j new k head_part (Err e) (head_at (version_of version) kind) → FindsLean {X = Head} is_known left failures old i new k (Err (read_error e)) (HeadEncoded version) (NoValue (version_of version))
+    → ((source : S) → is_known source → AllBytes (left source)) → reads.TakesIf reads.MayStopLean is_known left failures old i mid j (λ x. x) (Ok kind) kind_at
+    → reads.TakesIf {X = Head} reads.MayStopLean is_known left failures mid j new k head_part (Err e) (head_at (version_of version) kind) → FindsIf {X = Head} StoreMayStopLean is_known left failures old i new k (Err (read_error e)) (HeadEncoded version) (NoValue (version_of version))
 head_fails {kind = kind} version are_bytes part h =
     finds_behind (HeadEncoded version) (NoValue (version_of version)) are_bytes value_ends (held_error leaves.PreTokStr (no_extension refl)) part
     (finds_part_fails _ _ raised_lean are_bytes (head_agrees (version_of version) kind) (head_refused version kind) h)
@@ -152,32 +152,32 @@ head_fails {kind = kind} version are_bytes part h =
 -- ---- heads of keys
 
 pub key_length_found : {S : Type 0} {is_known : S → Type 0} {left : S → List ℕ} {failures : S → Failures} {old mid new : S} {i j k n : ℕ} {kind : ValueType}
-    → ((source : S) → is_known source → AllBytes (left source)) → kind ≡ types.String → reads.TakesLean is_known left failures old i mid j (λ x. x) (Ok kind) kind_at
-    → reads.TakesLean is_known left failures mid j new k (λ x. x) (Ok n) vint_at → FindsLean is_known left failures old i new k (Ok n) CodedLength ErrorInCodedKey
+    → ((source : S) → is_known source → AllBytes (left source)) → kind ≡ types.String → reads.TakesIf reads.MayStopLean is_known left failures old i mid j (λ x. x) (Ok kind) kind_at
+    → reads.TakesIf reads.MayStopLean is_known left failures mid j new k (λ x. x) (Ok n) vint_at → FindsIf StoreMayStopLean is_known left failures old i new k (Ok n) CodedLength ErrorInCodedKey
 key_length_found {n = n} are_bytes is part h =
     finds_behind CodedLength ErrorInCodedKey are_bytes key_ends key_no_extension part
     (finds_as n _ _ (λ a t. subst (λ z. CodedLength (coded z ++ a) n) (sym is) (record { body = a; joined = refl; encoded = t })) (finds_part are_bytes vint_agrees h))
 
 pub key_length_fails : {S : Type 0} {is_known : S → Type 0} {left : S → List ℕ} {failures : S → Failures} {old mid new : S} {i j k : ℕ} {kind : ValueType} {e : ReadError}
-    → ((source : S) → is_known source → AllBytes (left source)) → kind ≡ types.String → reads.TakesLean is_known left failures old i mid j (λ x. x) (Ok kind) kind_at
-    → reads.TakesLean {X = ℕ} is_known left failures mid j new k (λ x. x) (Err e) vint_at → FindsLean {X = ℕ} is_known left failures old i new k (Err (read_error e)) CodedLength ErrorInCodedKey
+    → ((source : S) → is_known source → AllBytes (left source)) → kind ≡ types.String → reads.TakesIf reads.MayStopLean is_known left failures old i mid j (λ x. x) (Ok kind) kind_at
+    → reads.TakesIf {X = ℕ} reads.MayStopLean is_known left failures mid j new k (λ x. x) (Err e) vint_at → FindsIf {X = ℕ} StoreMayStopLean is_known left failures old i new k (Err (read_error e)) CodedLength ErrorInCodedKey
 key_length_fails are_bytes is part h =
     finds_behind CodedLength ErrorInCodedKey are_bytes key_ends key_no_extension part
     (finds_part_fails _ _ raised_lean are_bytes vint_agrees (λ w c f. subst (λ z. ErrorInCodedKey (coded z ++ w) (corrupted c)) (sym is) (in_key (in_sized (inl f)))) h)
 
 pub key_length_refused : {S : Type 0} {is_known : S → Type 0} {left : S → List ℕ} {failures : S → Failures} {old mid : S} {i j : ℕ} {kind : ValueType}
-    → ((source : S) → is_known source → AllBytes (left source)) → kind ≢ types.String → reads.TakesLean is_known left failures old i mid j (λ x. x) (Ok kind) kind_at
-    → FindsLean is_known left failures old i mid j (Err (errors.TypeMismatch types.String kind)) CodedLength ErrorInCodedKey
+    → ((source : S) → is_known source → AllBytes (left source)) → kind ≢ types.String → reads.TakesIf reads.MayStopLean is_known left failures old i mid j (λ x. x) (Ok kind) kind_at
+    → FindsIf StoreMayStopLean is_known left failures old i mid j (Err (errors.TypeMismatch types.String kind)) CodedLength ErrorInCodedKey
 key_length_refused {is_known = is_known} {left = left} {failures = failures} {mid = mid} {j = j} {kind = kind} are_bytes other part =
     finds_behind CodedLength ErrorInCodedKey are_bytes key_ends key_no_extension part
     (finds_refused store_stop end is_known left failures mid j (errors.TypeMismatch types.String kind) (no_text_key (type_code kind)) _ _ refl ((tt, λ is. cc), λ is. cc) (λ e. cc) (λ w. other_key kind w other))
 
 -- without a code
 pub plain_length_fails : {S : Type 0} {is_known : S → Type 0} {left : S → List ℕ} {failures : S → Failures} {old new : S} {i k : ℕ} {e : ReadError}
-    → ((source : S) → is_known source → AllBytes (left source)) → reads.TakesLean {X = ℕ} is_known left failures old i new k (λ x. x) (Err e) vint_at
-    → FindsLean {X = ℕ} is_known left failures old i new k (Err (read_error e)) VNum (ErrorInKey V3)
+    → ((source : S) → is_known source → AllBytes (left source)) → reads.TakesIf {X = ℕ} reads.MayStopLean is_known left failures old i new k (λ x. x) (Err e) vint_at
+    → FindsIf {X = ℕ} StoreMayStopLean is_known left failures old i new k (Err (read_error e)) VNum (ErrorInKey V3)
 plain_length_fails are_bytes h = finds_part_fails _ _ raised_lean are_bytes vint_agrees (λ w c f. corrupt (in_sized (inl f))) h
 
 pub plain_length_found : {S : Type 0} {is_known : S → Type 0} {left : S → List ℕ} {failures : S → Failures} {old new : S} {i k n : ℕ}
-    → ((source : S) → is_known source → AllBytes (left source)) → reads.TakesLean is_known left failures old i new k (λ x. x) (Ok n) vint_at → FindsLean is_known left failures old i new k (Ok n) VNum (ErrorInKey V3)
+    → ((source : S) → is_known source → AllBytes (left source)) → reads.TakesIf reads.MayStopLean is_known left failures old i new k (λ x. x) (Ok n) vint_at → FindsIf StoreMayStopLean is_known left failures old i new k (Ok n) VNum (ErrorInKey V3)
 plain_length_found {n = n} are_bytes h = finds_as n _ _ (λ a t. t) (finds_part are_bytes vint_agrees h)

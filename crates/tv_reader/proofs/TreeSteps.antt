@@ -31,8 +31,8 @@ use Rattle.tv_value.specs.declared.owned_value.OwnedValue.{OwnedValue, Array, Ob
 use Rattle.tv_format.proofs.SingleLeaves.{key_single}
 use Rattle.tv_format.proofs.Lists.{elements-length, entries-length, encodes_push, entries_push}
 use Rattle.tv_reader.specs.Counts.{half_of, half_at, entry_count_at}
-use Rattle.tv_reader.specs.Error.{read_error, store_stop, tree_stop, StoreMayStopDeep}
-use Rattle.tv_reader.specs.Finds.{FindsRoomy, FindsDeep}
+use Rattle.tv_reader.specs.Error.{read_error, store_stop, tree_stop, StoreMayStopDeep, StoreMayStopRoomy}
+use Rattle.tv_reader.specs.Finds.{FindsIf, FindsDeepBy}
 use Rattle.tv_reader.specs.Kinds.{kind_at}
 use Rattle.tv_reader.specs.Leaves.{is_leaf_type, leaf_at}
 use Rattle.tv_reader.specs.Trees.{EncodesValue, NoValue, EncodesBehind, NoneBehind, EncodesItems, NoItems, EncodesMember, NoMember, EncodesMembers, NoMembers, CodedKey, EncodesTwice, ErrorInTwice, in_number, odd_number, EncodesEntryCount, ErrorInEntryCount, in_count_number, odd_count_number}
@@ -54,22 +54,22 @@ end = corrupted UnexpectedEnd
 -- ---- keys
 
 pub key_found : {S : Type 0} {is_known : S → Type 0} {left : S → List ℕ} {failures : S → Failures} {old mid new : S} {i j k : ℕ} {kind : ValueType} {key : String Global}
-    → ((source : S) → is_known source → AllBytes (left source)) → kind ≡ types.String → reads.TakesLean is_known left failures old i mid j (λ x. x) (Ok kind) kind_at
-    → reads.TakesBy is_known left failures mid j new k (λ s. string_bytes s) (Ok key) text_at → FindsRoomy is_known left failures old i new k (Ok key) CodedKey ErrorInCodedKey
+    → ((source : S) → is_known source → AllBytes (left source)) → kind ≡ types.String → reads.TakesIf reads.MayStopLean is_known left failures old i mid j (λ x. x) (Ok kind) kind_at
+    → reads.TakesIf reads.MayStop is_known left failures mid j new k (λ s. string_bytes s) (Ok key) text_at → FindsIf StoreMayStopRoomy is_known left failures old i new k (Ok key) CodedKey ErrorInCodedKey
 key_found {key = key} are_bytes is part text_part =
     finds_behind CodedKey ErrorInCodedKey are_bytes key_ends key_no_extension part
     (finds_as key _ _ (λ a t. subst (λ z. CodedKey (coded z ++ a) key) (sym is) (record { body = a; joined = refl; encoded = t })) (finds_part are_bytes text_agrees text_part))
 
 pub key_text_fails : {S : Type 0} {is_known : S → Type 0} {left : S → List ℕ} {failures : S → Failures} {old mid new : S} {i j k : ℕ} {kind : ValueType} {e : ReadError}
-    → ((source : S) → is_known source → AllBytes (left source)) → kind ≡ types.String → reads.TakesLean is_known left failures old i mid j (λ x. x) (Ok kind) kind_at
-    → reads.TakesBy {X = String Global} is_known left failures mid j new k (λ s. string_bytes s) (Err e) text_at → FindsRoomy {X = String Global} is_known left failures old i new k (Err (read_error e)) CodedKey ErrorInCodedKey
+    → ((source : S) → is_known source → AllBytes (left source)) → kind ≡ types.String → reads.TakesIf reads.MayStopLean is_known left failures old i mid j (λ x. x) (Ok kind) kind_at
+    → reads.TakesIf {X = String Global} reads.MayStop is_known left failures mid j new k (λ s. string_bytes s) (Err e) text_at → FindsIf {X = String Global} StoreMayStopRoomy is_known left failures old i new k (Err (read_error e)) CodedKey ErrorInCodedKey
 key_text_fails are_bytes is part text_part =
     finds_behind CodedKey ErrorInCodedKey are_bytes key_ends key_no_extension part
     (finds_part_fails _ _ raised_roomy are_bytes text_agrees (λ w c f. subst (λ z. ErrorInCodedKey (coded z ++ w) (corrupted c)) (sym is) (in_key f)) text_part)
 
 pub key_refused : {S : Type 0} {is_known : S → Type 0} {left : S → List ℕ} {failures : S → Failures} {old mid : S} {i j : ℕ} {kind : ValueType}
-    → ((source : S) → is_known source → AllBytes (left source)) → kind ≢ types.String → reads.TakesLean is_known left failures old i mid j (λ x. x) (Ok kind) kind_at
-    → FindsRoomy is_known left failures old i mid j (Err (errors.TypeMismatch types.String kind)) CodedKey ErrorInCodedKey
+    → ((source : S) → is_known source → AllBytes (left source)) → kind ≢ types.String → reads.TakesIf reads.MayStopLean is_known left failures old i mid j (λ x. x) (Ok kind) kind_at
+    → FindsIf StoreMayStopRoomy is_known left failures old i mid j (Err (errors.TypeMismatch types.String kind)) CodedKey ErrorInCodedKey
 key_refused {is_known = is_known} {left = left} {failures = failures} {mid = mid} {j = j} {kind = kind} are_bytes other part =
     finds_behind CodedKey ErrorInCodedKey are_bytes key_ends key_no_extension part
     (finds_refused store_stop end is_known left failures mid j (errors.TypeMismatch types.String kind) (no_text_key (type_code kind)) _ _ refl (tt, λ is. cc) (λ e. cc) (λ w. other_key kind w other))
@@ -80,12 +80,12 @@ KeyEncoded v b key = Key v b (string_bytes key)
 
 -- without a code
 pub plain_key_found : {S : Type 0} {is_known : S → Type 0} {left : S → List ℕ} {failures : S → Failures} {old new : S} {i k : ℕ} {key : String Global}
-    → ((source : S) → is_known source → AllBytes (left source)) → reads.TakesBy is_known left failures old i new k (λ s. string_bytes s) (Ok key) text_at → FindsRoomy is_known left failures old i new k (Ok key) (KeyEncoded V3) (ErrorInKey V3)
+    → ((source : S) → is_known source → AllBytes (left source)) → reads.TakesIf reads.MayStop is_known left failures old i new k (λ s. string_bytes s) (Ok key) text_at → FindsIf StoreMayStopRoomy is_known left failures old i new k (Ok key) (KeyEncoded V3) (ErrorInKey V3)
 plain_key_found {key = key} are_bytes h = finds_as key _ _ (λ a t. t) (finds_part are_bytes text_agrees h)
 
 pub plain_key_fails : {S : Type 0} {is_known : S → Type 0} {left : S → List ℕ} {failures : S → Failures} {old new : S} {i k : ℕ} {e : ReadError}
-    → ((source : S) → is_known source → AllBytes (left source)) → reads.TakesBy {X = String Global} is_known left failures old i new k (λ s. string_bytes s) (Err e) text_at
-    → FindsRoomy {X = String Global} is_known left failures old i new k (Err (read_error e)) (KeyEncoded V3) (ErrorInKey V3)
+    → ((source : S) → is_known source → AllBytes (left source)) → reads.TakesIf {X = String Global} reads.MayStop is_known left failures old i new k (λ s. string_bytes s) (Err e) text_at
+    → FindsIf {X = String Global} StoreMayStopRoomy is_known left failures old i new k (Err (read_error e)) (KeyEncoded V3) (ErrorInKey V3)
 plain_key_fails are_bytes h = finds_part_fails _ _ raised_roomy are_bytes text_agrees (λ w c f. corrupt f) h
 
 -- where there are no bytes, their end is the error
@@ -157,13 +157,13 @@ entry_count_agrees V3 = agrees_too (λ whole. refl) (λ whole n small h. h) (λ 
 -- ---- leaves
 
 pub leaf_found : {S : Type 0} {is_known : S → Type 0} {left : S → List ℕ} {failures : S → Failures} {old new : S} {i k : ℕ} {value : OwnedValue} (v : Version) (kind : ValueType)
-    → ((source : S) → is_known source → AllBytes (left source)) → reads.TakesBy is_known left failures old i new k owned_tree (Ok value) (leaf_at v kind)
-    → FindsRoomy is_known left failures old i new k (Ok value) (EncodesBehind v kind) (NoneBehind v kind)
+    → ((source : S) → is_known source → AllBytes (left source)) → reads.TakesIf reads.MayStop is_known left failures old i new k owned_tree (Ok value) (leaf_at v kind)
+    → FindsIf StoreMayStopRoomy is_known left failures old i new k (Ok value) (EncodesBehind v kind) (NoneBehind v kind)
 leaf_found {value = value} v kind are_bytes h = finds_as value _ _ (λ a p. leaf_encoded v kind a (owned_tree value) p) (finds_part are_bytes (leaf_agrees v kind) h)
 
 pub leaf_fails : {S : Type 0} {is_known : S → Type 0} {left : S → List ℕ} {failures : S → Failures} {old new : S} {i k : ℕ} {e : ReadError} (v : Version) (kind : ValueType)
-    → ((source : S) → is_known source → AllBytes (left source)) → is_leaf_type kind ≡ true → reads.TakesBy is_known left failures old i new k owned_tree (Err e) (leaf_at v kind)
-    → FindsRoomy is_known left failures old i new k (Err (read_error e)) (EncodesBehind v kind) (NoneBehind v kind)
+    → ((source : S) → is_known source → AllBytes (left source)) → is_leaf_type kind ≡ true → reads.TakesIf reads.MayStop is_known left failures old i new k owned_tree (Err e) (leaf_at v kind)
+    → FindsIf StoreMayStopRoomy is_known left failures old i new k (Err (read_error e)) (EncodesBehind v kind) (NoneBehind v kind)
 leaf_fails v kind are_bytes is h = finds_part_fails _ _ raised_roomy are_bytes (leaf_agrees v kind) (leaf_refused v kind is) h
 
 -- ---- legacy objects
@@ -172,19 +172,19 @@ legacy_encoded : (v : Version) (a : List ℕ) (t : Tree) → LegacyTree a t → 
 legacy_encoded v a t h = subst (Encodes Legacy v (8 ∷ a)) (sym h.is) (inr (record { body = a; joined = refl; encoded = h.encoded }))
 
 pub legacy_found : {S : Type 0} {is_known : S → Type 0} {left : S → List ℕ} {failures : S → Failures} {old new : S} {i k : ℕ} {value : OwnedValue} (v : Version)
-    → ((source : S) → is_known source → AllBytes (left source)) → reads.TakesBy is_known left failures old i new k owned_tree (Ok value) legacy_at
-    → FindsRoomy is_known left failures old i new k (Ok value) (EncodesBehind v types.JSONObject) (NoneBehind v types.JSONObject)
+    → ((source : S) → is_known source → AllBytes (left source)) → reads.TakesIf reads.MayStop is_known left failures old i new k owned_tree (Ok value) legacy_at
+    → FindsIf StoreMayStopRoomy is_known left failures old i new k (Ok value) (EncodesBehind v types.JSONObject) (NoneBehind v types.JSONObject)
 legacy_found {value = value} v are_bytes h = finds_as value _ _ (λ a p. legacy_encoded v a (owned_tree value) p) (finds_part are_bytes legacy_agrees h)
 
 pub legacy_fails : {S : Type 0} {is_known : S → Type 0} {left : S → List ℕ} {failures : S → Failures} {old new : S} {i k : ℕ} {e : ReadError} (v : Version)
-    → ((source : S) → is_known source → AllBytes (left source)) → reads.TakesBy is_known left failures old i new k owned_tree (Err e) legacy_at
-    → FindsRoomy is_known left failures old i new k (Err (read_error e)) (EncodesBehind v types.JSONObject) (NoneBehind v types.JSONObject)
+    → ((source : S) → is_known source → AllBytes (left source)) → reads.TakesIf reads.MayStop is_known left failures old i new k owned_tree (Err e) legacy_at
+    → FindsIf StoreMayStopRoomy is_known left failures old i new k (Err (read_error e)) (EncodesBehind v types.JSONObject) (NoneBehind v types.JSONObject)
 legacy_fails v are_bytes h = finds_part_fails _ _ raised_roomy are_bytes legacy_agrees (λ w c f. in_legacy f) h
 
 -- a value, by its type and what stands behind it
 pub value_then : {S : Type 0} {is_known : S → Type 0} {left : S → List ℕ} {failures : S → Failures} {old mid new : S} {i j k : ℕ} {kind : ValueType} {result : Result OwnedValue DeserializeError} (v : Version)
-    → ((source : S) → is_known source → AllBytes (left source)) → reads.TakesLean is_known left failures old i mid j (λ x. x) (Ok kind) kind_at
-    → FindsDeep is_known left failures mid j new k result (EncodesBehind v kind) (NoneBehind v kind) → FindsDeep is_known left failures old i new k result (EncodesValue v) (NoValue v)
+    → ((source : S) → is_known source → AllBytes (left source)) → reads.TakesIf reads.MayStopLean is_known left failures old i mid j (λ x. x) (Ok kind) kind_at
+    → FindsDeepBy is_known left failures mid j new k result (EncodesBehind v kind) (NoneBehind v kind) → FindsDeepBy is_known left failures old i new k result (EncodesValue v) (NoValue v)
 value_then v are_bytes part h = finds_behind (EncodesValue v) (NoValue v) are_bytes value_ends (held_error leaves.PreTokStr (no_extension refl)) part h
 
 -- ---- arrays
@@ -204,8 +204,8 @@ array_refused : (v : Version) (n : ℕ) (a w : List ℕ) (r : Refusal) → VNum 
 array_refused v n a w r number f = in_element n f.before a f.prefix f.rest (ap (λ (l : List ℕ). a ++ l) f.joined) number f.encoded f.fewer f.error
 
 pub array_found : {S : Type 0} {is_known : S → Type 0} {left : S → List ℕ} {failures : S → Failures} {old mid new : S} {i j k n : ℕ} {items : Vec OwnedValue Global} (v : Version)
-    → ((source : S) → is_known source → AllBytes (left source)) → reads.TakesLean is_known left failures old i mid j (λ x. x) (Ok n) vint_at
-    → FindsDeep is_known left failures mid j new k (Ok items) (EncodesItems v n) (NoItems v n) → FindsDeep is_known left failures old i new k (Ok (Array items)) (EncodesBehind v types.Array) (NoneBehind v types.Array)
+    → ((source : S) → is_known source → AllBytes (left source)) → reads.TakesIf reads.MayStopLean is_known left failures old i mid j (λ x. x) (Ok n) vint_at
+    → FindsDeepBy is_known left failures mid j new k (Ok items) (EncodesItems v n) (NoItems v n) → FindsDeepBy is_known left failures old i new k (Ok (Array items)) (EncodesBehind v types.Array) (NoneBehind v types.Array)
 array_found {n = n} {items = items} v are_bytes part h =
     finds_as (Array items) _ _ (λ a s. subst (Encodes Legacy v (12 ∷ a)) (sym (owned-Array items)) s)
     (finds_then (λ b xs. Encodes Legacy v (12 ∷ b) (array (elements (map owned_tree xs.items)))) (λ w r. NoValue v (12 ∷ w) r)
@@ -213,15 +213,15 @@ array_found {n = n} {items = items} v are_bytes part h =
     (finds_part_deep are_bytes vint_agrees part) h)
 
 pub array_fails : {S : Type 0} {is_known : S → Type 0} {left : S → List ℕ} {failures : S → Failures} {old mid new : S} {i j k n : ℕ} {e : DeserializeError} (v : Version)
-    → ((source : S) → is_known source → AllBytes (left source)) → reads.TakesLean is_known left failures old i mid j (λ x. x) (Ok n) vint_at
-    → FindsDeep {X = Vec OwnedValue Global} is_known left failures mid j new k (Err e) (EncodesItems v n) (NoItems v n) → FindsDeep is_known left failures old i new k (Err e) (EncodesBehind v types.Array) (NoneBehind v types.Array)
+    → ((source : S) → is_known source → AllBytes (left source)) → reads.TakesIf reads.MayStopLean is_known left failures old i mid j (λ x. x) (Ok n) vint_at
+    → FindsDeepBy {X = Vec OwnedValue Global} is_known left failures mid j new k (Err e) (EncodesItems v n) (NoItems v n) → FindsDeepBy is_known left failures old i new k (Err e) (EncodesBehind v types.Array) (NoneBehind v types.Array)
 array_fails {n = n} v are_bytes part h =
     finds_then (EncodesBehind v types.Array) (NoneBehind v types.Array)
     (λ a b y r s. absurd s) (λ a w c r f. array_refused v n a w c r f) (λ a f r _ _ start byte last. in_count (number_early a n r start byte last))
     (finds_part_deep are_bytes vint_agrees part) (finds_fails (λ b y. ⊥) (NoItems v n) (λ w c f. f) h)
 
 pub array_count_fails : {S : Type 0} {is_known : S → Type 0} {left : S → List ℕ} {failures : S → Failures} {old new : S} {i k : ℕ} {e : ReadError} (v : Version)
-    → ((source : S) → is_known source → AllBytes (left source)) → reads.TakesLean is_known left failures old i new k (λ x. x) (Err e) vint_at → FindsRoomy is_known left failures old i new k (Err (read_error e)) (EncodesBehind v types.Array) (NoneBehind v types.Array)
+    → ((source : S) → is_known source → AllBytes (left source)) → reads.TakesIf reads.MayStopLean is_known left failures old i new k (λ x. x) (Err e) vint_at → FindsIf StoreMayStopRoomy is_known left failures old i new k (Err (read_error e)) (EncodesBehind v types.Array) (NoneBehind v types.Array)
 array_count_fails v are_bytes h = finds_part_fails _ _ raised_roomy are_bytes vint_agrees (λ w c f. in_count f) (lean h)
 
 -- one element more
@@ -245,16 +245,16 @@ item_refused v m n a w items r less p f = record {
 }
 
 pub items_more : {S : Type 0} {is_known : S → Type 0} {left : S → List ℕ} {failures : S → Failures} {old mid new : S} {i j k m : ℕ} {items : Vec OwnedValue Global} {y : OwnedValue} (v : Version) (more : Vec OwnedValue Global)
-    → more.items ≡ items.items ++ y ∷ [] → FindsDeep is_known left failures old i mid j (Ok items) (EncodesItems v m) (λ w r. ⊥) → FindsDeep is_known left failures mid j new k (Ok y) (EncodesValue v) (NoValue v)
-    → FindsDeep is_known left failures old i new k (Ok more) (EncodesItems v (m + 1)) (λ w r. ⊥)
+    → more.items ≡ items.items ++ y ∷ [] → FindsDeepBy is_known left failures old i mid j (Ok items) (EncodesItems v m) (λ w r. ⊥) → FindsDeepBy is_known left failures mid j new k (Ok y) (EncodesValue v) (NoValue v)
+    → FindsDeepBy is_known left failures old i new k (Ok more) (EncodesItems v (m + 1)) (λ w r. ⊥)
 items_more {m = m} {items = items} {y = y} v more is p q =
     finds_as more _ _ (λ a s. s refl)
     (finds_then (λ b z. z ≡ y → EncodesItems v (m + 1) b more) (λ w r. Unit {0})
     (λ a b z r s e. item_more v m a b items more z (is ∙ ap (λ (u : OwnedValue). items.items ++ u ∷ []) (sym e)) r s) (λ a w c r f. tt) (λ a f r _ _ start byte last. tt) p q)
 
 pub items_fail : {S : Type 0} {is_known : S → Type 0} {left : S → List ℕ} {failures : S → Failures} {old mid new : S} {i j k m n : ℕ} {items : Vec OwnedValue Global} {e : DeserializeError} (v : Version)
-    → m < n → FindsDeep is_known left failures old i mid j (Ok items) (EncodesItems v m) (λ w r. ⊥) → FindsDeep {X = OwnedValue} is_known left failures mid j new k (Err e) (EncodesValue v) (NoValue v)
-    → FindsDeep {X = Vec OwnedValue Global} is_known left failures old i new k (Err e) (EncodesItems v n) (NoItems v n)
+    → m < n → FindsDeepBy is_known left failures old i mid j (Ok items) (EncodesItems v m) (λ w r. ⊥) → FindsDeepBy {X = OwnedValue} is_known left failures mid j new k (Err e) (EncodesValue v) (NoValue v)
+    → FindsDeepBy {X = Vec OwnedValue Global} is_known left failures old i new k (Err e) (EncodesItems v n) (NoItems v n)
 items_fail {m = m} {n = n} {items = items} v less p q =
     finds_then (EncodesItems v n) (NoItems v n) (λ a b z r s. absurd s) (λ a w c r f. item_refused v m n a w items c less r f) (λ a f r other nothing start byte last. absurd (other (value_ended refl nothing)))
     p (finds_fails (λ b z. ⊥) (NoValue v) (λ w c f. f) q)
@@ -280,9 +280,9 @@ entry_count_refused version w c (in_count_number f) = in_entry_count f
 entry_count_refused version w _ (odd_count_number n prefix rest joined number none) = odd_count n prefix rest joined number none
 
 pub object_found : {S : Type 0} {is_known : S → Type 0} {left : S → List ℕ} {failures : S → Failures} {old mid new : S} {i j k n : ℕ} {members : Vec (String Global × OwnedValue) Global} (version : DocStoreVersion)
-    → ((source : S) → is_known source → AllBytes (left source)) → reads.TakesLean is_known left failures old i mid j (λ x. x) (Ok n) (entry_count_at (version_of version))
-    → FindsDeep is_known left failures mid j new k (Ok members) (EncodesMembers (version_of version) n) (NoMembers (version_of version) n)
-    → FindsDeep is_known left failures old i new k (Ok (Object members)) (EncodesBehind (version_of version) types.Object) (NoneBehind (version_of version) types.Object)
+    → ((source : S) → is_known source → AllBytes (left source)) → reads.TakesIf reads.MayStopLean is_known left failures old i mid j (λ x. x) (Ok n) (entry_count_at (version_of version))
+    → FindsDeepBy is_known left failures mid j new k (Ok members) (EncodesMembers (version_of version) n) (NoMembers (version_of version) n)
+    → FindsDeepBy is_known left failures old i new k (Ok (Object members)) (EncodesBehind (version_of version) types.Object) (NoneBehind (version_of version) types.Object)
 object_found {n = n} {members = members} version are_bytes part h =
     finds_as (Object members) _ _ (λ a s. subst (Encodes Legacy (version_of version) (13 ∷ a)) (sym (owned-Object members)) s)
     (finds_then (λ b xs. Encodes Legacy (version_of version) (13 ∷ b) (object (entries (owned_entries xs.items)))) (λ w r. NoValue (version_of version) (13 ∷ w) r)
@@ -290,36 +290,36 @@ object_found {n = n} {members = members} version are_bytes part h =
     (finds_part_deep are_bytes (entry_count_agrees (version_of version)) part) h)
 
 pub object_fails : {S : Type 0} {is_known : S → Type 0} {left : S → List ℕ} {failures : S → Failures} {old mid new : S} {i j k n : ℕ} {e : DeserializeError} (version : DocStoreVersion)
-    → ((source : S) → is_known source → AllBytes (left source)) → reads.TakesLean is_known left failures old i mid j (λ x. x) (Ok n) (entry_count_at (version_of version))
-    → FindsDeep {X = Vec (String Global × OwnedValue) Global} is_known left failures mid j new k (Err e) (EncodesMembers (version_of version) n) (NoMembers (version_of version) n)
-    → FindsDeep is_known left failures old i new k (Err e) (EncodesBehind (version_of version) types.Object) (NoneBehind (version_of version) types.Object)
+    → ((source : S) → is_known source → AllBytes (left source)) → reads.TakesIf reads.MayStopLean is_known left failures old i mid j (λ x. x) (Ok n) (entry_count_at (version_of version))
+    → FindsDeepBy {X = Vec (String Global × OwnedValue) Global} is_known left failures mid j new k (Err e) (EncodesMembers (version_of version) n) (NoMembers (version_of version) n)
+    → FindsDeepBy is_known left failures old i new k (Err e) (EncodesBehind (version_of version) types.Object) (NoneBehind (version_of version) types.Object)
 object_fails {n = n} version are_bytes part h =
     finds_then (EncodesBehind (version_of version) types.Object) (NoneBehind (version_of version) types.Object)
     (λ a b y r s. absurd s) (λ a w c r f. object_refused version n a w c r f) (λ a f r _ _ start byte last. in_entry_count (number_early a (entry_total (version_of version) n) r start byte last))
     (finds_part_deep are_bytes (entry_count_agrees (version_of version)) part) (finds_fails (λ b y. ⊥) (NoMembers (version_of version) n) (λ w c f. f) h)
 
 pub object_count_fails : {S : Type 0} {is_known : S → Type 0} {left : S → List ℕ} {failures : S → Failures} {old new : S} {i k : ℕ} {e : ReadError} (version : DocStoreVersion)
-    → ((source : S) → is_known source → AllBytes (left source)) → reads.TakesLean is_known left failures old i new k (λ x. x) (Err e) (entry_count_at (version_of version))
-    → FindsRoomy is_known left failures old i new k (Err (read_error e)) (EncodesBehind (version_of version) types.Object) (NoneBehind (version_of version) types.Object)
+    → ((source : S) → is_known source → AllBytes (left source)) → reads.TakesIf reads.MayStopLean is_known left failures old i new k (λ x. x) (Err e) (entry_count_at (version_of version))
+    → FindsIf StoreMayStopRoomy is_known left failures old i new k (Err (read_error e)) (EncodesBehind (version_of version) types.Object) (NoneBehind (version_of version) types.Object)
 object_count_fails version are_bytes h = finds_part_fails _ _ raised_roomy are_bytes (entry_count_agrees (version_of version)) (entry_count_refused version) (lean h)
 
 -- ---- members
 
 pub member_found : {S : Type 0} {is_known : S → Type 0} {left : S → List ℕ} {failures : S → Failures} {old mid new : S} {i j k : ℕ} {key : String Global} {value : OwnedValue} (version : DocStoreVersion)
-    → FindsRoomy is_known left failures old i mid j (Ok key) (KeyEncoded (version_of version)) (ErrorInKey (version_of version)) → FindsDeep is_known left failures mid j new k (Ok value) (EncodesValue (version_of version)) (NoValue (version_of version))
-    → FindsDeep is_known left failures old i new k (Ok (key, value)) (EncodesMember (version_of version)) (NoMember (version_of version))
+    → FindsIf StoreMayStopRoomy is_known left failures old i mid j (Ok key) (KeyEncoded (version_of version)) (ErrorInKey (version_of version)) → FindsDeepBy is_known left failures mid j new k (Ok value) (EncodesValue (version_of version)) (NoValue (version_of version))
+    → FindsDeepBy is_known left failures old i new k (Ok (key, value)) (EncodesMember (version_of version)) (NoMember (version_of version))
 member_found {key = key} {value = value} version p q =
     finds_as (key, value) _ _ (λ a s. s)
     (finds_then (λ b x. EncodesMember (version_of version) b (key, x)) (λ w r. Unit {0})
     (λ a b x r s. record { prefix = a; rest = b; joined = refl; first = r; second = s }) (λ a w c r f. tt) (λ a f r _ _ start byte last. tt) (finds_ok tree_stop StoreMayStopDeep p) q)
 
 pub member_key_fails : {S : Type 0} {is_known : S → Type 0} {left : S → List ℕ} {failures : S → Failures} {old new : S} {i k : ℕ} {e : DeserializeError} (version : DocStoreVersion)
-    → FindsRoomy {X = String Global} is_known left failures old i new k (Err e) (KeyEncoded (version_of version)) (ErrorInKey (version_of version)) → FindsDeep {X = String Global × OwnedValue} is_known left failures old i new k (Err e) (EncodesMember (version_of version)) (NoMember (version_of version))
+    → FindsIf {X = String Global} StoreMayStopRoomy is_known left failures old i new k (Err e) (KeyEncoded (version_of version)) (ErrorInKey (version_of version)) → FindsDeepBy {X = String Global × OwnedValue} is_known left failures old i new k (Err e) (EncodesMember (version_of version)) (NoMember (version_of version))
 member_key_fails {e = e} version p = finds_fails _ _ (λ w c f. inl f) (roomy_deep (Err e) p)
 
 pub member_value_fails : {S : Type 0} {is_known : S → Type 0} {left : S → List ℕ} {failures : S → Failures} {old mid new : S} {i j k : ℕ} {key : String Global} {e : DeserializeError} (version : DocStoreVersion)
-    → FindsRoomy is_known left failures old i mid j (Ok key) (KeyEncoded (version_of version)) (ErrorInKey (version_of version)) → FindsDeep {X = OwnedValue} is_known left failures mid j new k (Err e) (EncodesValue (version_of version)) (NoValue (version_of version))
-    → FindsDeep {X = String Global × OwnedValue} is_known left failures old i new k (Err e) (EncodesMember (version_of version)) (NoMember (version_of version))
+    → FindsIf StoreMayStopRoomy is_known left failures old i mid j (Ok key) (KeyEncoded (version_of version)) (ErrorInKey (version_of version)) → FindsDeepBy {X = OwnedValue} is_known left failures mid j new k (Err e) (EncodesValue (version_of version)) (NoValue (version_of version))
+    → FindsDeepBy {X = String Global × OwnedValue} is_known left failures old i new k (Err e) (EncodesMember (version_of version)) (NoMember (version_of version))
 member_value_fails {key = key} version p q =
     finds_then (EncodesMember (version_of version)) (NoMember (version_of version)) (λ a b x r s. absurd s)
     (λ a w c r f. inr (string_bytes key, record { prefix = a; rest = w; joined = refl; first = r; second = f }))
@@ -360,16 +360,16 @@ member_refused v m n a w members r less p f =
     ]
 
 pub members_more : {S : Type 0} {is_known : S → Type 0} {left : S → List ℕ} {failures : S → Failures} {old mid new : S} {i j k m : ℕ} {members : Vec (String Global × OwnedValue) Global} {y : String Global × OwnedValue} (version : DocStoreVersion) (more : Vec (String Global × OwnedValue) Global)
-    → more.items ≡ members.items ++ y ∷ [] → FindsDeep is_known left failures old i mid j (Ok members) (EncodesMembers (version_of version) m) (λ w r. ⊥) → FindsDeep is_known left failures mid j new k (Ok y) (EncodesMember (version_of version)) (NoMember (version_of version))
-    → FindsDeep is_known left failures old i new k (Ok more) (EncodesMembers (version_of version) (m + 1)) (λ w r. ⊥)
+    → more.items ≡ members.items ++ y ∷ [] → FindsDeepBy is_known left failures old i mid j (Ok members) (EncodesMembers (version_of version) m) (λ w r. ⊥) → FindsDeepBy is_known left failures mid j new k (Ok y) (EncodesMember (version_of version)) (NoMember (version_of version))
+    → FindsDeepBy is_known left failures old i new k (Ok more) (EncodesMembers (version_of version) (m + 1)) (λ w r. ⊥)
 members_more {m = m} {members = members} {y = y} version more is p q =
     finds_as more _ _ (λ a s. s refl)
     (finds_then (λ b z. z ≡ y → EncodesMembers (version_of version) (m + 1) b more) (λ w r. Unit {0})
     (λ a b z r s e. member_more version m a b members more z (is ∙ ap (λ (u : String Global × OwnedValue). members.items ++ u ∷ []) (sym e)) r s) (λ a w c r f. tt) (λ a f r _ _ start byte last. tt) p q)
 
 pub members_fail : {S : Type 0} {is_known : S → Type 0} {left : S → List ℕ} {failures : S → Failures} {old mid new : S} {i j k m n : ℕ} {members : Vec (String Global × OwnedValue) Global} {e : DeserializeError} (version : DocStoreVersion)
-    → m < n → FindsDeep is_known left failures old i mid j (Ok members) (EncodesMembers (version_of version) m) (λ w r. ⊥) → FindsDeep {X = String Global × OwnedValue} is_known left failures mid j new k (Err e) (EncodesMember (version_of version)) (NoMember (version_of version))
-    → FindsDeep {X = Vec (String Global × OwnedValue) Global} is_known left failures old i new k (Err e) (EncodesMembers (version_of version) n) (NoMembers (version_of version) n)
+    → m < n → FindsDeepBy is_known left failures old i mid j (Ok members) (EncodesMembers (version_of version) m) (λ w r. ⊥) → FindsDeepBy {X = String Global × OwnedValue} is_known left failures mid j new k (Err e) (EncodesMember (version_of version)) (NoMember (version_of version))
+    → FindsDeepBy {X = Vec (String Global × OwnedValue) Global} is_known left failures old i new k (Err e) (EncodesMembers (version_of version) n) (NoMembers (version_of version) n)
 members_fail {m = m} {n = n} {members = members} version less p q =
     finds_then (EncodesMembers (version_of version) n) (NoMembers (version_of version) n) (λ a b z r s. absurd s) (λ a w c r f. member_refused (version_of version) m n a w members c less r f)
     (λ a f r other nothing start byte last. absurd (other (member_ended version f nothing)))
@@ -377,6 +377,6 @@ members_fail {m = m} {n = n} {members = members} version less p q =
 
 -- ---- a list that is one too many
 
-pub too_deep : {S X : Type 0} (is_known : S → Type 0) (left : S → List ℕ) (failures : S → Failures) (p : S) (i : ℕ) (B : List ℕ → X → Type 0) (Q : List ℕ → Refusal → Type 0) → FindsDeep is_known left failures p i p i (Err errors.TooDeep) B Q
+pub too_deep : {S X : Type 0} (is_known : S → Type 0) (left : S → List ℕ) (failures : S → Failures) (p : S) (i : ℕ) (B : List ℕ → X → Type 0) (Q : List ℕ → Refusal → Type 0) → FindsDeepBy is_known left failures p i p i (Err errors.TooDeep) B Q
 too_deep is_known left failures p i B Q =
     finds_short {May0 = StoreMayStopDeep} errors.TooDeep B Q refl (inr refl) (finds_nothing tree_stop end is_known left failures p i refl (λ w (x : i ≡ i). Unit {0}) (λ w r. Unit {0}) tt)

@@ -4,6 +4,7 @@ use Rattle.tv_base.specs.declared.cause.Cause.{Cause}
 use Rattle.tv_base.specs.declared.cause.Cause.TheVariants.{UnexpectedEnd, TooLong}
 use Rattle.tv_base.specs.declared.read_error.ReadError.{ReadError}
 use Rattle.tv_base.specs.declared.read_error.ReadError.TheVariants as reads
+use Rattle.tv_base.specs.declared.source.ByteSource.{Ghosts}
 use Rattle.tv_base.specs.Source.{Failures}
 use Rattle.tv_base.specs.Stop.{Stop, Takes}
 use Rattle.tv_base.specs.Stop.Stop.{InputError, Uncounted, Failed, Short, Never}
@@ -68,7 +69,11 @@ pub data IsRefusal : DeserializeError → Refusal → Type 0 where
   is_corrupted : {c : Cause} → IsRefusal (errors.CorruptedValue c) (corrupted c)
   is_no_text : {actual : ValueType} → IsRefusal (errors.TypeMismatch types.String actual) (no_text_key (type_code actual))
 
--- what a lean reader of the store returned and did, by a reading of lists
-abbrev pub TakesLean : {S X Y : Type 0} (is_known : S → Type 0) (left : S → List ℕ) (failures : S → Failures) (old : S) (old_count : ℕ) (new : S) (new_count : ℕ) (view : X → Y) (result : Result X DeserializeError) (reading : List ℕ → Result (Y × List ℕ) (Refusal × List ℕ)) → Type 0
-TakesLean is_known left failures old old_count new new_count view result reading =
-    Takes store_stop StoreMayStopLean (told is_known) (λ p. left p.source) (λ p. p.count) (λ p. failures p.source) (record { source = old; count = old_count }) (record { source = new; count = new_count }) view result reading
+-- what a reader of the store returned and did, by a reading of lists
+abbrev pub TakesIf : {S X Y : Type 0} (May : DeserializeError → ℕ → Type 0) (is_known : S → Type 0) (left : S → List ℕ) (failures : S → Failures) (old : S) (old_count : ℕ) (new : S) (new_count : ℕ) (view : X → Y) (result : Result X DeserializeError) (reading : List ℕ → Result (Y × List ℕ) (Refusal × List ℕ)) → Type 0
+TakesIf May is_known left failures old old_count new new_count view result reading =
+    Takes store_stop May (told is_known) (λ p. left p.source) (λ p. p.count) (λ p. failures p.source) (record { source = old; count = old_count }) (record { source = new; count = new_count }) view result reading
+
+-- a lean reader of a source, as contracts say it
+abbrev pub TakesLean : {S X Y : Type 0} (source : Ghosts S) (old : S) (old_count : ℕ) (new : S) (new_count : ℕ) (view : X → Y) (result : Result X DeserializeError) (reading : List ℕ → Result (Y × List ℕ) (Refusal × List ℕ)) → Type 0
+TakesLean source old old_count new new_count view result reading = TakesIf StoreMayStopLean source.is_known source.left source.failures old old_count new new_count view result reading

@@ -1,6 +1,7 @@
 -- What a reader gives, where it is told by the grammar of the bytes and not by a reading of lists.
 use Rattle.std.specs.Prelude.{◌≡◌, ℕ, ◌-◌, ◌^◌, ◌≤◌, List, Result, Ok, Err, IfErr}
 use Rattle.tv_base.specs.declared.cause.Cause.TheVariants.{UnexpectedEnd}
+use Rattle.tv_base.specs.declared.source.ByteSource.{Ghosts}
 use Rattle.tv_base.specs.Parts.{Begins}
 use Rattle.tv_base.specs.ReadsAs.{Shows, EndsEarly}
 use Rattle.tv_base.specs.Source.{Failures}
@@ -42,17 +43,23 @@ pub record FindsBy {S E F X : Type 0} (stop : E → Stop F) (MayStop : E → ℕ
 abbrev pub FindsIf : {S X : Type 0} (May : DeserializeError → ℕ → Type 0) (is_known : S → Type 0) (left : S → List ℕ) (failures : S → Failures) (old : S) (old_count : ℕ) (new : S) (new_count : ℕ) (result : Result X DeserializeError) (Encodes : List ℕ → X → Type 0) (HasError : List ℕ → Refusal → Type 0) → Type 0
 FindsIf May is_known left failures old old_count new new_count result Encodes HasError = FindsBy store_stop May (corrupted UnexpectedEnd) is_known left failures old old_count new new_count result Encodes HasError
 
-abbrev pub Finds : {S X : Type 0} (is_known : S → Type 0) (left : S → List ℕ) (failures : S → Failures) (old : S) (old_count : ℕ) (new : S) (new_count : ℕ) (result : Result X DeserializeError) (Encodes : List ℕ → X → Type 0) (HasError : List ℕ → Refusal → Type 0) → Type 0
-Finds is_known left failures old old_count new new_count result Encodes HasError = FindsIf StoreMayStop is_known left failures old old_count new new_count result Encodes HasError
+-- the same of a reader of trees, to a depth
+abbrev pub FindsDeepBy : {S X : Type 0} (is_known : S → Type 0) (left : S → List ℕ) (failures : S → Failures) (old : S) (old_count : ℕ) (new : S) (new_count : ℕ) (result : Result X DeserializeError) (Encodes : List ℕ → X → Type 0) (HasError : List ℕ → Refusal → Type 0) → Type 0
+FindsDeepBy is_known left failures old old_count new new_count result Encodes HasError = FindsBy tree_stop StoreMayStopDeep (corrupted UnexpectedEnd) is_known left failures old old_count new new_count result Encodes HasError
+
+-- ---- as contracts say it, of a source
+
+abbrev pub Finds : {S X : Type 0} (source : Ghosts S) (old : S) (old_count : ℕ) (new : S) (new_count : ℕ) (result : Result X DeserializeError) (Encodes : List ℕ → X → Type 0) (HasError : List ℕ → Refusal → Type 0) → Type 0
+Finds source old old_count new new_count result Encodes HasError = FindsIf StoreMayStop source.is_known source.left source.failures old old_count new new_count result Encodes HasError
 
 -- a reader that fills no heap
-abbrev pub FindsRoomy : {S X : Type 0} (is_known : S → Type 0) (left : S → List ℕ) (failures : S → Failures) (old : S) (old_count : ℕ) (new : S) (new_count : ℕ) (result : Result X DeserializeError) (Encodes : List ℕ → X → Type 0) (HasError : List ℕ → Refusal → Type 0) → Type 0
-FindsRoomy is_known left failures old old_count new new_count result Encodes HasError = FindsIf StoreMayStopRoomy is_known left failures old old_count new new_count result Encodes HasError
+abbrev pub FindsRoomy : {S X : Type 0} (source : Ghosts S) (old : S) (old_count : ℕ) (new : S) (new_count : ℕ) (result : Result X DeserializeError) (Encodes : List ℕ → X → Type 0) (HasError : List ℕ → Refusal → Type 0) → Type 0
+FindsRoomy source old old_count new new_count result Encodes HasError = FindsIf StoreMayStopRoomy source.is_known source.left source.failures old old_count new new_count result Encodes HasError
 
 -- a reader of trees, to a depth
-abbrev pub FindsDeep : {S X : Type 0} (is_known : S → Type 0) (left : S → List ℕ) (failures : S → Failures) (old : S) (old_count : ℕ) (new : S) (new_count : ℕ) (result : Result X DeserializeError) (Encodes : List ℕ → X → Type 0) (HasError : List ℕ → Refusal → Type 0) → Type 0
-FindsDeep is_known left failures old old_count new new_count result Encodes HasError = FindsBy tree_stop StoreMayStopDeep (corrupted UnexpectedEnd) is_known left failures old old_count new new_count result Encodes HasError
+abbrev pub FindsDeep : {S X : Type 0} (source : Ghosts S) (old : S) (old_count : ℕ) (new : S) (new_count : ℕ) (result : Result X DeserializeError) (Encodes : List ℕ → X → Type 0) (HasError : List ℕ → Refusal → Type 0) → Type 0
+FindsDeep source old old_count new new_count result Encodes HasError = FindsDeepBy source.is_known source.left source.failures old old_count new new_count result Encodes HasError
 
 -- a lean reader, which takes no memory
-abbrev pub FindsLean : {S X : Type 0} (is_known : S → Type 0) (left : S → List ℕ) (failures : S → Failures) (old : S) (old_count : ℕ) (new : S) (new_count : ℕ) (result : Result X DeserializeError) (Encodes : List ℕ → X → Type 0) (HasError : List ℕ → Refusal → Type 0) → Type 0
-FindsLean is_known left failures old old_count new new_count result Encodes HasError = FindsIf StoreMayStopLean is_known left failures old old_count new new_count result Encodes HasError
+abbrev pub FindsLean : {S X : Type 0} (source : Ghosts S) (old : S) (old_count : ℕ) (new : S) (new_count : ℕ) (result : Result X DeserializeError) (Encodes : List ℕ → X → Type 0) (HasError : List ℕ → Refusal → Type 0) → Type 0
+FindsLean source old old_count new new_count result Encodes HasError = FindsIf StoreMayStopLean source.is_known source.left source.failures old old_count new new_count result Encodes HasError

@@ -78,7 +78,7 @@ fn take_lent_token<'t, S: ByteSource>(
     count: &mut u64,
     text: &'t mut String,
 ) -> Result<TokenRef<'t>, ReadError>
-    ensures takes { TakesBy S.is_known S.left S.failures source.old count.old source.new count.new
+    ensures takes { TakesBy S.ByteSource source.old count.old source.new count.new
         (λ token. ref_of token) result token_at }
 {
     let offset_from = take_vint(source, count)?;
@@ -102,7 +102,7 @@ fn gather_tokens<G: Gathers, S: ByteSource>(
     count: &mut u64,
     announced: u64,
 ) -> Result<G, ReadError>
-    ensures takes { TakesBy S.is_known S.left S.failures source.old count.old source.new count.new
+    ensures takes { TakesBy S.ByteSource source.old count.old source.new count.new
         (λ ts. G.tokens ts) result (tokens_at announced) }
 {
     let mut tokens = G::none(alloc);
@@ -121,7 +121,7 @@ fn gather_counted_tokens<G: Gathers, S: ByteSource>(
     source: &mut S,
     count: &mut u64,
 ) -> Result<G, ReadError>
-    ensures takes { TakesBy S.is_known S.left S.failures source.old count.old source.new count.new
+    ensures takes { TakesBy S.ByteSource source.old count.old source.new count.new
         (λ ts. G.tokens ts) result counted_tokens_at }
 {
     let announced = take_vint(source, count)?;
@@ -135,7 +135,7 @@ pub(crate) fn gather_tokenized<G: Gathers, S: ByteSource>(
     source: &mut S,
     count: &mut u64,
 ) -> Result<(String, G), ReadError>
-    ensures takes { TakesBy S.is_known S.left S.failures source.old count.old source.new count.new
+    ensures takes { TakesBy S.ByteSource source.old count.old source.new count.new
         (λ x. (string_bytes x.0, G.tokens x.1)) result tokenized_at }
 {
     let text = take_string(alloc, source, count)?;
@@ -153,7 +153,7 @@ pub fn take_gathered<S: ByteSource>(
     count: &mut u64,
     version: DocStoreVersion,
 ) -> Result<(String, EncodedTokens), DeserializeError>
-    ensures finds { FindsRoomy S.is_known S.left S.failures source.old count.old source.new
+    ensures finds { FindsRoomy S.ByteSource source.old count.old source.new
         count.new result (EncodesTokenized (version_of version))
         (NoneBehind (version_of version) types.PreTokStr) }
 {

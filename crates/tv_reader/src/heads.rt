@@ -45,7 +45,7 @@ pub fn take_head<S: ByteSource>(
     count: &mut u64,
     version: DocStoreVersion,
 ) -> Result<Head, DeserializeError>
-    ensures finds { FindsLean S.is_known S.left S.failures source.old count.old source.new count.new
+    ensures finds { FindsLean S.ByteSource source.old count.old source.new count.new
         result (λ b head. EncodesHead (version_of version) b (head_part head))
         (NoValue (version_of version)) }
     ensures few { count.new ≤ count.old + 18 }
@@ -64,7 +64,7 @@ pub fn take_key_head<S: ByteSource>(
     count: &mut u64,
     version: DocStoreVersion,
 ) -> Result<u64, DeserializeError>
-    ensures finds { FindsLean S.is_known S.left S.failures source.old count.old source.new count.new
+    ensures finds { FindsLean S.ByteSource source.old count.old source.new count.new
         result (EncodesKeyHead (version_of version)) (ErrorInKey (version_of version)) }
     ensures few { count.new ≤ count.old + 12 }
 {
@@ -82,7 +82,7 @@ fn take_coded_key_head<S: ByteSource>(
     source: &mut S,
     count: &mut u64,
 ) -> Result<u64, DeserializeError>
-    ensures finds { FindsLean S.is_known S.left S.failures source.old count.old source.new count.new
+    ensures finds { FindsLean S.ByteSource source.old count.old source.new count.new
         result CodedLength ErrorInCodedKey }
     ensures few { count.new ≤ count.old + 12 }
 {
@@ -106,7 +106,7 @@ pub fn take_document_head<S: ByteSource>(
     source: &mut S,
     count: &mut u64,
 ) -> Result<u64, DeserializeError>
-    ensures finds { FindsLean S.is_known S.left S.failures source.old count.old source.new count.new
+    ensures finds { FindsLean S.ByteSource source.old count.old source.new count.new
         result VNum (Corrupt ErrorInNumber) }
     ensures few { count.new ≤ count.old + 10 }
 {

@@ -11,7 +11,7 @@ use tv_base::{ByteSource, Cause, ReadError};
 
 #[tactic(auto, unfolding(crate::specs::Kinds::extension_at))]
 fn take_extension<S: ByteSource>(source: &mut S, count: &mut u64) -> Result<ValueType, ReadError>
-    ensures takes { TakesLean S.is_known S.left S.failures source.old count.old source.new count.new
+    ensures takes { TakesLean S.ByteSource source.old count.old source.new count.new
         (λ x. x) result extension_at }
     ensures rises { OnOk result (count.old < count.new) }
     ensures few { count.new ≤ count.old + 1 }
@@ -28,7 +28,7 @@ fn take_extension<S: ByteSource>(source: &mut S, count: &mut u64) -> Result<Valu
 /// above 13, and `Corrupted(UnknownExtCode)` at an extension other than 0.
 #[tactic(auto, using(tv_base::proofs::TakeSteps::Taken_then), unfolding(crate::specs::Kinds::kind_at))]
 pub fn take_kind<S: ByteSource>(source: &mut S, count: &mut u64) -> Result<ValueType, ReadError>
-    ensures takes { TakesLean S.is_known S.left S.failures source.old count.old source.new count.new
+    ensures takes { TakesLean S.ByteSource source.old count.old source.new count.new
         (λ x. x) result kind_at }
     ensures rises { OnOk result (count.old < count.new) }
     ensures few { count.new ≤ count.old + 2 }

@@ -42,7 +42,7 @@ pub fn take_date<S: ByteSource>(
     count: &mut u64,
     version: DocStoreVersion,
 ) -> Result<DateTime, ReadError>
-    ensures takes { TakesLean S.is_known S.left S.failures source.old count.old source.new count.new
+    ensures takes { TakesLean S.ByteSource source.old count.old source.new count.new
         (λ d. d.nanoseconds) result (date_at (version_of version)) }
     ensures few { count.new ≤ count.old + 8 }
 {
@@ -66,7 +66,7 @@ pub fn take_ip_address<S: ByteSource>(
     source: &mut S,
     count: &mut u64,
 ) -> Result<Ipv6Addr, ReadError>
-    ensures takes { TakesLean S.is_known S.left S.failures source.old count.old source.new count.new
+    ensures takes { TakesLean S.ByteSource source.old count.old source.new count.new
         (λ a. ipv6_bits a) result u128_at }
     ensures few { count.new ≤ count.old + 16 }
 {
@@ -83,7 +83,7 @@ pub fn take_tokenized<S: ByteSource>(
     source: &mut S,
     count: &mut u64,
 ) -> Result<PreTokenizedString, ReadError>
-    ensures takes { TakesBy S.is_known S.left S.failures source.old count.old source.new count.new
+    ensures takes { TakesBy S.ByteSource source.old count.old source.new count.new
         (λ s. (string_bytes s.text, map token_of s.tokens.items)) result tokenized_at }
 {
     let (text, tokens) = gather_tokenized::<Vec<Token>, S>(alloc, source, count)?;

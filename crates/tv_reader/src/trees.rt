@@ -35,7 +35,7 @@ use tv_value::owned_value::OwnedValue;
 // Errors: those of `take_vint`, and `Corrupted(OddObject)` where the number is odd.
 #[tactic(auto, using(tv_base::proofs::TakeSteps::Taken_then), unfolding(crate::specs::Counts::half_at))]
 fn take_half<S: ByteSource>(source: &mut S, count: &mut u64) -> Result<u64, ReadError>
-    ensures takes { reads.TakesLean S.is_known S.left S.failures source.old count.old source.new
+    ensures takes { reads.TakesLean S.ByteSource source.old count.old source.new
         count.new (λ x. x) result half_at }
     ensures few { count.new ≤ count.old + 10 }
 {
@@ -56,7 +56,7 @@ pub fn take_entry_count<S: ByteSource>(
     count: &mut u64,
     version: DocStoreVersion,
 ) -> Result<u64, ReadError>
-    ensures takes { reads.TakesLean S.is_known S.left S.failures source.old count.old source.new
+    ensures takes { reads.TakesLean S.ByteSource source.old count.old source.new
         count.new (λ x. x) result (entry_count_at (version_of version)) }
     ensures few { count.new ≤ count.old + 10 }
 {
@@ -76,7 +76,7 @@ pub fn take_key<S: ByteSource>(
     count: &mut u64,
     version: DocStoreVersion,
 ) -> Result<String, DeserializeError>
-    ensures finds { FindsRoomy S.is_known S.left S.failures source.old count.old source.new
+    ensures finds { FindsRoomy S.ByteSource source.old count.old source.new
         count.new result (λ b key. Key (version_of version) b (string_bytes key))
         (ErrorInKey (version_of version)) }
 {
@@ -97,7 +97,7 @@ fn take_coded_key<S: ByteSource>(
     source: &mut S,
     count: &mut u64,
 ) -> Result<String, DeserializeError>
-    ensures finds { FindsRoomy S.is_known S.left S.failures source.old count.old source.new
+    ensures finds { FindsRoomy S.ByteSource source.old count.old source.new
         count.new result CodedKey ErrorInCodedKey }
 {
     let kind = take_kind(source, count)?;
@@ -121,7 +121,7 @@ pub fn take_legacy_object<S: ByteSource>(
     source: &mut S,
     count: &mut u64,
 ) -> Result<OwnedValue, DeserializeError>
-    ensures finds { (v : Version) → FindsRoomy S.is_known S.left S.failures source.old count.old
+    ensures finds { (v : Version) → FindsRoomy S.ByteSource source.old count.old
         source.new count.new result (EncodesBehind v types.JSONObject)
         (NoneBehind v types.JSONObject) }
 {
@@ -153,7 +153,7 @@ pub fn take_tree<S: ByteSource>(
     version: DocStoreVersion,
     levels: u32,
 ) -> Result<OwnedValue, DeserializeError>
-    ensures finds { FindsDeep S.is_known S.left S.failures source.old count.old source.new count.new
+    ensures finds { FindsDeep S.ByteSource source.old count.old source.new count.new
         result (EncodesValue (version_of version)) (NoValue (version_of version)) }
     ensures within { S.is_known source.old → IfOk result
         (λ made. Begins (λ b. EncodesWithin (version_of version) levels b (owned_tree made))
@@ -178,7 +178,7 @@ pub fn take_behind<S: ByteSource>(
     kind: ValueType,
     levels: u32,
 ) -> Result<OwnedValue, DeserializeError>
-    ensures finds { FindsDeep S.is_known S.left S.failures source.old count.old source.new count.new
+    ensures finds { FindsDeep S.ByteSource source.old count.old source.new count.new
         result (EncodesBehind (version_of version) kind) (NoneBehind (version_of version) kind) }
     ensures within { S.is_known source.old → IfOk result
         (λ made. Begins
@@ -219,7 +219,7 @@ fn take_items<S: ByteSource>(
     announced: u64,
     levels: u32,
 ) -> Result<Vec<OwnedValue>, DeserializeError>
-    ensures finds { FindsDeep S.is_known S.left S.failures source.old count.old source.new count.new
+    ensures finds { FindsDeep S.ByteSource source.old count.old source.new count.new
         result (EncodesItems (version_of version) announced)
         (NoItems (version_of version) announced) }
     ensures within { S.is_known source.old → IfOk result (λ made. Begins
@@ -246,7 +246,7 @@ fn take_member<S: ByteSource>(
     version: DocStoreVersion,
     levels: u32,
 ) -> Result<(String, OwnedValue), DeserializeError>
-    ensures finds { FindsDeep S.is_known S.left S.failures source.old count.old source.new count.new
+    ensures finds { FindsDeep S.ByteSource source.old count.old source.new count.new
         result (EncodesMember (version_of version)) (NoMember (version_of version)) }
     ensures within { S.is_known source.old → IfOk result (λ made. Begins
         (Then (λ b. Key (version_of version) b (string_bytes made.0))
@@ -271,7 +271,7 @@ fn take_members<S: ByteSource>(
     announced: u64,
     levels: u32,
 ) -> Result<Vec<(String, OwnedValue)>, DeserializeError>
-    ensures finds { FindsDeep S.is_known S.left S.failures source.old count.old source.new count.new
+    ensures finds { FindsDeep S.ByteSource source.old count.old source.new count.new
         result (EncodesMembers (version_of version) announced)
         (NoMembers (version_of version) announced) }
     ensures within { S.is_known source.old → IfOk result (λ made. Begins

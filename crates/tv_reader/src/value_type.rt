@@ -120,7 +120,7 @@ pub(crate) fn take_head_behind<S: ByteSource>(
     version: DocStoreVersion,
     kind: ValueType,
 ) -> Result<Head, ReadError>
-    ensures takes { TakesLean S.is_known S.left S.failures source.old count.old source.new count.new
+    ensures takes { TakesLean S.ByteSource source.old count.old source.new count.new
         head_part result (head_at (version_of version) kind) }
     ensures few { count.new ≤ count.old + 16 }
 {
@@ -159,7 +159,7 @@ pub fn take_leaf<S: ByteSource>(
     kind: ValueType,
 ) -> Result<OwnedValue, ReadError>
     requires { IsTrue (is_leaf_type kind) }
-    ensures takes { TakesBy S.is_known S.left S.failures source.old count.old source.new count.new
+    ensures takes { TakesBy S.ByteSource source.old count.old source.new count.new
         owned_tree result (leaf_at (version_of version) kind) }
     ensures single { IfOk result (λ value. IsSingle (owned_tree value)) }
 {

@@ -17,8 +17,8 @@ use Rattle.tv_format.specs.InputError.{Refusal, corrupted, Corrupt, corrupt, Err
 use Rattle.tv_format.specs.Tree.{leaf, text, facet}
 use Rattle.tv_format.specs.Version.{Version, V1, V2}
 use Rattle.tv_format.specs.declared.leaf_type.LeafType.TheVariants as leaves
-use Rattle.tv_reader.specs.Error.{store_stop}
-use Rattle.tv_reader.specs.Finds.{FindsIf, FindsRoomy}
+use Rattle.tv_reader.specs.Error.{store_stop, StoreMayStopRoomy}
+use Rattle.tv_reader.specs.Finds.{FindsIf}
 use Rattle.tv_reader.specs.Kinds.{kind_at}
 use Rattle.tv_reader.specs.Trees.{NoValue}
 use Rattle.tv_reader.specs.ValueType.{coded}
@@ -43,18 +43,18 @@ end = corrupted UnexpectedEnd
 pub finds_after : {S X Y : Type 0} {May : DeserializeError → ℕ → Type 0} {is_known : S → Type 0} {left : S → List ℕ} {failures : S → Failures} {old mid new : S} {i j k : ℕ} {x : X} {result : Result Y DeserializeError}
     {R : List ℕ → X → Type 0} {I : List ℕ → Refusal → Type 0} {A : List ℕ → Y → Type 0} {P : List ℕ → Refusal → Type 0} (B : List ℕ → Y → Type 0) (Q : List ℕ → Refusal → Type 0)
     → ((r : Refusal) → P [] r → r ≡ end) → ((a b : List ℕ) (y : Y) → R a x → A b y → B (a ++ b) y) → ((a w : List ℕ) (r : Refusal) → R a x → P w r → Q (a ++ w) r)
-    → FindsIf May is_known left failures old i mid j (Ok x) R I → FindsRoomy is_known left failures mid j new k result A P → FindsRoomy is_known left failures old i new k result B Q
+    → FindsIf May is_known left failures old i mid j (Ok x) R I → FindsIf StoreMayStopRoomy is_known left failures mid j new k result A P → FindsIf StoreMayStopRoomy is_known left failures old i new k result B Q
 finds_after B Q ended join behind p h = finds_then B Q join behind (λ a f r other nothing start byte last. absurd (other (ended f nothing))) p h
 
 -- the same reading in other words
 pub finds_map : {S X : Type 0} {is_known : S → Type 0} {left : S → List ℕ} {failures : S → Failures} {old new : S} {i k : ℕ} {A : List ℕ → X → Type 0} {P : List ℕ → Refusal → Type 0} (B : List ℕ → X → Type 0) (Q : List ℕ → Refusal → Type 0) (result : Result X DeserializeError)
-    → ((a : List ℕ) (x : X) → A a x → B a x) → ((w : List ℕ) (r : Refusal) → P w r → Q w r) → FindsRoomy is_known left failures old i new k result A P → FindsRoomy is_known left failures old i new k result B Q
+    → ((a : List ℕ) (x : X) → A a x → B a x) → ((w : List ℕ) (r : Refusal) → P w r → Q w r) → FindsIf StoreMayStopRoomy is_known left failures old i new k result A P → FindsIf StoreMayStopRoomy is_known left failures old i new k result B Q
 finds_map B Q (Ok x) is refused p = finds_as x B Q (λ a h. is a x h) p
 finds_map B Q (Err e) is refused p = finds_fails B Q refused p
 
 -- nothing stands before it
 pub finds_first : {S X Y : Type 0} {May : DeserializeError → ℕ → Type 0} {is_known : S → Type 0} {left : S → List ℕ} {failures : S → Failures} {old mid new : S} {i j k : ℕ} {x : X} {result : Result Y DeserializeError} {R : List ℕ → X → Type 0} {I : List ℕ → Refusal → Type 0} {A : List ℕ → Y → Type 0} {P : List ℕ → Refusal → Type 0}
-    → ((r : Refusal) → P [] r → r ≡ end) → ((a : List ℕ) → R a x → a ≡ []) → FindsIf May is_known left failures old i mid j (Ok x) R I → FindsRoomy is_known left failures mid j new k result A P → FindsRoomy is_known left failures old i new k result A P
+    → ((r : Refusal) → P [] r → r ≡ end) → ((a : List ℕ) → R a x → a ≡ []) → FindsIf May is_known left failures old i mid j (Ok x) R I → FindsIf StoreMayStopRoomy is_known left failures mid j new k result A P → FindsIf StoreMayStopRoomy is_known left failures old i new k result A P
 finds_first {A = A} {P = P} ended none p h =
     finds_after A P ended (λ a b y r s. subst (λ l. A (l ++ b) y) (sym (none a r)) s) (λ a w f r s. subst (λ l. P (l ++ w) f) (sym (none a r)) s) p h
 
@@ -66,7 +66,7 @@ prefix_lent old new lent n lend within p = sym (take-append-le n lent lend.0 wit
 
 module _ {S X : Type 0} {is_known : S → Type 0} {left : S → List ℕ} {failures : S → Failures} (Encodes : List ℕ → X → Type 0) (x : X) where
   pub passed_over : {os ns : S} {i k : ℕ} (lent : List ℕ) (n : ℕ) → (is_known os → IsPrefix lent (left os)) → n ≤ length lent → ((a : List ℕ) → take n lent ≡ a → length a ≡ n → Encodes a x) → (is_known os → Passes (left os) (left ns) n true) → (is_known os → is_known ns) → failures ns ≡ failures os → k ≡ i + n
-      → FindsRoomy is_known left failures os i ns k (Ok x) Encodes Nothing
+      → FindsIf StoreMayStopRoomy is_known left failures os i ns k (Ok x) Encodes Nothing
   passed_over {os = os} {ns = ns} lent n lend within is pass told same counted = record {
     found = λ t. let p = pass t in record { prefix = p.0; joined = p.1; encoded = is p.0 (prefix_lent (left os) (left ns) lent n (lend t) within p) p.2 };
     taken = λ t. let p = pass t in record { prefix = p.0; joined = p.1; counted = omega (arith, counted, p.2) };
@@ -77,7 +77,7 @@ module _ {S X : Type 0} {is_known : S → Type 0} {left : S → List ℕ} {failu
   }
 
   -- they weren't, and nothing was
-  pub not_passed : {os ns : S} {i : ℕ} → Encodes [] x → (is_known os → left ns ≡ left os) → (is_known os → is_known ns) → failures ns ≡ failures os → FindsRoomy is_known left failures os i ns i (Ok x) Encodes Nothing
+  pub not_passed : {os ns : S} {i : ℕ} → Encodes [] x → (is_known os → left ns ≡ left os) → (is_known os → is_known ns) → failures ns ≡ failures os → FindsIf StoreMayStopRoomy is_known left failures os i ns i (Ok x) Encodes Nothing
   not_passed {i = i} is pass told same = record {
     found = λ t. record { prefix = []; joined = sym (pass t); encoded = is };
     taken = λ t. record { prefix = []; joined = sym (pass t); counted = omega arith };
@@ -119,8 +119,8 @@ more_bytes n a w _ missing most sum within (corrupt {c} f) =
 
 -- what a loop has passed over, and one piece more
 pub piece_passed : {S X : Type 0} {May : DeserializeError → ℕ → Type 0} {is_known : S → Type 0} {left : S → List ℕ} {failures : S → Failures} {old mid new : S} {i j k : ℕ} {x : X} {P : List ℕ → Refusal → Type 0} (n missing most : ℕ) → most ≤ missing
-    → FindsRoomy is_known left failures old i mid j (Ok (tt {0})) (λ b _. length b + missing ≡ n) Nothing → FindsIf May is_known left failures mid j new k (Ok x) (λ b _. length b ≡ most) P
-    → FindsRoomy is_known left failures old i new k (Ok (tt {0})) (λ b _. length b + (missing - most) ≡ n) Nothing
+    → FindsIf StoreMayStopRoomy is_known left failures old i mid j (Ok (tt {0})) (λ b _. length b + missing ≡ n) Nothing → FindsIf May is_known left failures mid j new k (Ok x) (λ b _. length b ≡ most) P
+    → FindsIf StoreMayStopRoomy is_known left failures old i new k (Ok (tt {0})) (λ b _. length b + (missing - most) ≡ n) Nothing
 piece_passed n missing most within p h =
     finds_then (λ b _. length b + (missing - most) ≡ n) Nothing (λ a b y r s. omega (arith, length-append a b, r, s, within)) (λ a w f r never. never) (λ a f r other never start byte last. never)
     p (finds_as (tt {0}) (λ b _. length b ≡ most) Nothing (λ a s. s) h)
@@ -129,8 +129,8 @@ sized_behind : (n : ℕ) (a w : List ℕ) (r : Refusal) → VNum a n → Corrupt
 sized_behind n a w _ number (corrupt f) = corrupt (inr (n, record { prefix = a; rest = w; joined = refl; first = number; second = f }))
 
 pub sized_then : {S X : Type 0} {is_known : S → Type 0} {left : S → List ℕ} {failures : S → Failures} {old mid new : S} {i j k n : ℕ} {result : Result X DeserializeError}
-    → ((source : S) → is_known source → AllBytes (left source)) → reads.TakesLean is_known left failures old i mid j (λ x. x) (Ok n) vint_at → FindsRoomy is_known left failures mid j new k result (λ b _. length b ≡ n) (Corrupt (ErrorInBytes n))
-    → FindsRoomy is_known left failures old i new k result (λ b _. IsSized b) (Corrupt ErrorInSized)
+    → ((source : S) → is_known source → AllBytes (left source)) → reads.TakesIf reads.MayStopLean is_known left failures old i mid j (λ x. x) (Ok n) vint_at → FindsIf StoreMayStopRoomy is_known left failures mid j new k result (λ b _. length b ≡ n) (Corrupt (ErrorInBytes n))
+    → FindsIf StoreMayStopRoomy is_known left failures old i new k result (λ b _. IsSized b) (Corrupt ErrorInSized)
 sized_then {n = n} are_bytes part h =
     finds_after (λ b _. IsSized b) (Corrupt ErrorInSized) (bytes_ended n) (λ a b y number many. (b, record { size = a; joined = refl; number = subst (VNum a) (sym many) number })) (sized_behind n) (finds_part are_bytes vint_agrees part) h
 
@@ -138,7 +138,7 @@ sized_then {n = n} are_bytes part h =
 
 -- all its bytes are there, and they are none
 pub no_text_of : {S X : Type 0} {is_known : S → Type 0} {left : S → List ℕ} {failures : S → Failures} {old new : S} {i k : ℕ} (n : ℕ) (B : List ℕ → X → Type 0) (is_text : Bool) → is_text ≡ false
-    → FindsRoomy is_known left failures old i new k (Ok is_text) (Tested n) (Corrupt (ErrorInBytes n)) → FindsRoomy is_known left failures old i new k (Err (errors.CorruptedValue NotUtf8)) B (ErrorInTextOf n)
+    → FindsIf StoreMayStopRoomy is_known left failures old i new k (Ok is_text) (Tested n) (Corrupt (ErrorInBytes n)) → FindsIf StoreMayStopRoomy is_known left failures old i new k (Err (errors.CorruptedValue NotUtf8)) B (ErrorInTextOf n)
 no_text_of {is_known = is_known} {left = left} {failures = failures} {new = new} {k = k} n B is_text none p =
     finds_then B (ErrorInTextOf n) (λ a b y r s. absurd s)
     (λ a w r t is. subst (ErrorInTextOf n (a ++ w)) (sym is) (text_is_none a w refl t.many (λ u. no (sym none ∙ t.tested.1 u))))
@@ -155,8 +155,8 @@ text_behind n a w _ number (text_is_none content rest joined many none) =
     corrupt (no_text content (a ++ content) rest (ap (λ (l : List ℕ). a ++ l) joined ∙ sym (append_assoc a content rest)) (record { size = a; joined = refl; number = subst (VNum a) (sym many) number }) none)
 
 pub text_then : {S X : Type 0} {is_known : S → Type 0} {left : S → List ℕ} {failures : S → Failures} {old mid new : S} {i j k n : ℕ} {result : Result X DeserializeError}
-    → ((source : S) → is_known source → AllBytes (left source)) → reads.TakesLean is_known left failures old i mid j (λ x. x) (Ok n) vint_at → FindsRoomy is_known left failures mid j new k result (λ b _. IsTextOf n b) (ErrorInTextOf n)
-    → FindsRoomy is_known left failures old i new k result (λ b _. IsText b) (Corrupt ErrorInText)
+    → ((source : S) → is_known source → AllBytes (left source)) → reads.TakesIf reads.MayStopLean is_known left failures old i mid j (λ x. x) (Ok n) vint_at → FindsIf StoreMayStopRoomy is_known left failures mid j new k result (λ b _. IsTextOf n b) (ErrorInTextOf n)
+    → FindsIf StoreMayStopRoomy is_known left failures old i new k result (λ b _. IsText b) (Corrupt ErrorInText)
 text_then {n = n} are_bytes part h =
     finds_after (λ b _. IsText b) (Corrupt ErrorInText) (text_ended n) (λ a b y number t. (b, record { sized = record { size = a; joined = refl; number = subst (VNum a) (sym t.many) number }; utf8 = t.utf8 })) (text_behind n) (finds_part are_bytes vint_agrees part) h
 
@@ -166,8 +166,8 @@ in_coded_key : (w : List ℕ) (r : Refusal) → Corrupt ErrorInText w r → Erro
 in_coded_key w _ (corrupt f) = in_key f
 
 pub coded_text_then : {S X : Type 0} {is_known : S → Type 0} {left : S → List ℕ} {failures : S → Failures} {old mid new : S} {i j k : ℕ} {kind : ValueType} (result : Result X DeserializeError)
-    → ((source : S) → is_known source → AllBytes (left source)) → kind ≡ types.String → reads.TakesLean is_known left failures old i mid j (λ x. x) (Ok kind) kind_at
-    → FindsRoomy is_known left failures mid j new k result (λ b _. IsText b) (Corrupt ErrorInText) → FindsRoomy is_known left failures old i new k result (λ b _. IsCodedText b) ErrorInCodedKey
+    → ((source : S) → is_known source → AllBytes (left source)) → kind ≡ types.String → reads.TakesIf reads.MayStopLean is_known left failures old i mid j (λ x. x) (Ok kind) kind_at
+    → FindsIf StoreMayStopRoomy is_known left failures mid j new k result (λ b _. IsText b) (Corrupt ErrorInText) → FindsIf StoreMayStopRoomy is_known left failures old i new k result (λ b _. IsCodedText b) ErrorInCodedKey
 coded_text_then {kind = kind} result are_bytes is part h =
     finds_behind (λ b _. IsCodedText b) ErrorInCodedKey are_bytes key_ends key_no_extension part
     (finds_map (λ b _. IsCodedText (coded kind ++ b)) (λ w r. ErrorInCodedKey (coded kind ++ w) r) result
@@ -176,11 +176,11 @@ coded_text_then {kind = kind} result are_bytes is part h =
 
 -- a key of versions 1 and 2
 pub older_key : {S : Type 0} {is_known : S → Type 0} {left : S → List ℕ} {failures : S → Failures} {old new : S} {i k : ℕ} (version : DocStoreVersion) (result : Result (Unit {0}) DeserializeError) → (version ≡ stores.V1) ⊎ (version ≡ stores.V2)
-    → FindsRoomy is_known left failures old i new k result (λ b _. IsCodedText b) ErrorInCodedKey → FindsRoomy is_known left failures old i new k result (λ b _. Before (version_of version) kinds.Entry b) (ErrorInKey (version_of version))
+    → FindsIf StoreMayStopRoomy is_known left failures old i new k result (λ b _. IsCodedText b) ErrorInCodedKey → FindsIf StoreMayStopRoomy is_known left failures old i new k result (λ b _. Before (version_of version) kinds.Entry b) (ErrorInKey (version_of version))
 older_key {is_known = is_known} {left = left} {failures = failures} {old = old} {new = new} {i = i} {k = k} version result (inl e) h =
-    subst (λ z. FindsRoomy is_known left failures old i new k result (λ b _. Before (version_of z) kinds.Entry b) (ErrorInKey (version_of z))) (sym e) (finds_map (λ b _. Before V1 kinds.Entry b) (ErrorInKey V1) result (λ a x t. t) (λ w r f. f) h)
+    subst (λ z. FindsIf StoreMayStopRoomy is_known left failures old i new k result (λ b _. Before (version_of z) kinds.Entry b) (ErrorInKey (version_of z))) (sym e) (finds_map (λ b _. Before V1 kinds.Entry b) (ErrorInKey V1) result (λ a x t. t) (λ w r f. f) h)
 older_key {is_known = is_known} {left = left} {failures = failures} {old = old} {new = new} {i = i} {k = k} version result (inr e) h =
-    subst (λ z. FindsRoomy is_known left failures old i new k result (λ b _. Before (version_of z) kinds.Entry b) (ErrorInKey (version_of z))) (sym e) (finds_map (λ b _. Before V2 kinds.Entry b) (ErrorInKey V2) result (λ a x t. t) (λ w r f. f) h)
+    subst (λ z. FindsIf StoreMayStopRoomy is_known left failures old i new k result (λ b _. Before (version_of z) kinds.Entry b) (ErrorInKey (version_of z))) (sym e) (finds_map (λ b _. Before V2 kinds.Entry b) (ErrorInKey V2) result (λ a x t. t) (λ w r f. f) h)
 
 -- ---- values
 

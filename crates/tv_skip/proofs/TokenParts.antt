@@ -13,13 +13,14 @@ use Rattle.tv_format.specs.InputError.{Refusal, corrupted, Corrupt, corrupt, Err
 use Rattle.tv_format.specs.Tree.{Token, leaf, tokenized}
 use Rattle.tv_format.specs.Version.{Version}
 use Rattle.tv_format.specs.declared.leaf_type.LeafType.TheVariants as leaves
-use Rattle.tv_reader.specs.Finds.{FindsIf, FindsRoomy}
+use Rattle.tv_reader.specs.Finds.{FindsIf}
 use Rattle.tv_reader.specs.Trees.{NoValue}
 use Rattle.tv_reader.specs.declared.error.DeserializeError.{DeserializeError}
 use Rattle.tv_reader.proofs.BehindKinds.{held_error}
 use Rattle.tv_reader.proofs.Finding.{finds_fails}
 use Rattle.tv_skip.specs.Skip.{IsNumber, IsText, IsTextAndNumber, IsToken, AreTokens, ErrorInTextAndNumber, ErrorInTokens, AreCounted, ErrorInCounted, IsTokenized, IsValue}
 use Rattle.tv_skip.proofs.Passing.{end, finds_after}
+use Rattle.tv_reader.specs.Error.{StoreMayStopRoomy}
 
 -- ---- one part, and what is behind it
 
@@ -35,8 +36,8 @@ ends_corrupt G ended _ (corrupt {c} f) = ap corrupted (ended c f)
 
 pub part_then : {S X Y A : Type 0} {May : DeserializeError → ℕ → Type 0} {is_known : S → Type 0} {left : S → List ℕ} {failures : S → Failures} {old mid new : S} {i j k : ℕ} {x : X} {result : Result Y DeserializeError} {I : List ℕ → Refusal → Type 0}
     (F : List ℕ → Cause → Type 0) (R : List ℕ → A → Type 0) (G : List ℕ → Cause → Type 0) (More : List ℕ → Type 0) → EndsFirst G
-    → FindsIf May is_known left failures old i mid j (Ok x) (λ b _. (z : A) × R b z) I → FindsRoomy is_known left failures mid j new k result (λ b _. More b) (Corrupt G)
-    → FindsRoomy is_known left failures old i new k result (λ b _. Then (λ a. (z : A) × R a z) More b) (Corrupt (InThen F R (λ _. G)))
+    → FindsIf May is_known left failures old i mid j (Ok x) (λ b _. (z : A) × R b z) I → FindsIf StoreMayStopRoomy is_known left failures mid j new k result (λ b _. More b) (Corrupt G)
+    → FindsIf StoreMayStopRoomy is_known left failures old i new k result (λ b _. Then (λ a. (z : A) × R a z) More b) (Corrupt (InThen F R (λ _. G)))
 part_then F R G More ended p h =
     finds_after (λ b _. Then (λ a. (z : _) × R a z) More b) (Corrupt (InThen F R (λ _. G))) (ends_corrupt G ended)
     (λ a b y q s. record { prefix = a; rest = b; joined = refl; first = q; second = s }) (λ a w r q f. in_later F R G q.0 a w r q.1 f) p h
@@ -46,7 +47,7 @@ in_first F R G w _ (corrupt f) = corrupt (inl f)
 
 pub part_fails : {S X Y A : Type 0} {is_known : S → Type 0} {left : S → List ℕ} {failures : S → Failures} {old new : S} {i k : ℕ} {e : DeserializeError} {B : List ℕ → X → Type 0}
     (F : List ℕ → Cause → Type 0) (R : List ℕ → A → Type 0) (G : List ℕ → Cause → Type 0) (C : List ℕ → Y → Type 0)
-    → FindsRoomy {X = X} is_known left failures old i new k (Err e) B (Corrupt F) → FindsRoomy {X = Y} is_known left failures old i new k (Err e) C (Corrupt (InThen F R (λ _. G)))
+    → FindsIf {X = X} StoreMayStopRoomy is_known left failures old i new k (Err e) B (Corrupt F) → FindsIf {X = Y} StoreMayStopRoomy is_known left failures old i new k (Err e) C (Corrupt (InThen F R (λ _. G)))
 part_fails F R G C h = finds_fails C (Corrupt (InThen F R (λ _. G))) (in_first F R G) h
 
 -- ---- errors of no bytes

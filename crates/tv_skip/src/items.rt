@@ -64,8 +64,7 @@ fn pass_buffered_items<S: ByteSource>(
     version: DocStoreVersion,
     items: ItemsLeft,
 ) -> ItemsLeft
-    ensures finds { FindsRoomy S.is_known S.left S.failures source.old count.old source.new
-        count.new (Ok result)
+    ensures finds { FindsRoomy S.ByteSource source.old count.old source.new count.new (Ok result)
         (λ b left. Passed (version_of version) (items ∷ []) (left ∷ []) b) Nothing }
 {
     let Some(known) = written(version) else {
@@ -109,7 +108,7 @@ fn skip_before<S: ByteSource>(
     scratch: &mut Vec<u8>,
     kind: ItemKind,
 ) -> Result<(), DeserializeError>
-    ensures finds { FindsRoomy S.is_known S.left S.failures source.old count.old source.new
+    ensures finds { FindsRoomy S.ByteSource source.old count.old source.new
         count.new result (λ b _. Before (version_of version) kind b)
         (ErrorBefore (version_of version) kind) }
 {
@@ -132,7 +131,7 @@ fn skip_behind<S: ByteSource>(
     scratch: &mut Vec<u8>,
     kind: ValueType,
 ) -> Result<Option<ItemsLeft>, DeserializeError>
-    ensures finds { FindsRoomy S.is_known S.left S.failures source.old count.old source.new
+    ensures finds { FindsRoomy S.ByteSource source.old count.old source.new
         count.new result (λ b opened. Opens (version_of version) (coded kind ++ b) opened)
         (λ b r. NoValue (version_of version) (coded kind ++ b) r) }
 {
@@ -182,7 +181,7 @@ fn skip_head<S: ByteSource>(
     version: DocStoreVersion,
     scratch: &mut Vec<u8>,
 ) -> Result<Option<ItemsLeft>, DeserializeError>
-    ensures finds { FindsRoomy S.is_known S.left S.failures source.old count.old source.new
+    ensures finds { FindsRoomy S.ByteSource source.old count.old source.new
         count.new result (Opens (version_of version)) (NoValue (version_of version)) }
     ensures rises { OnOk result (count.old < count.new) }
 {
@@ -199,7 +198,7 @@ fn skip_item<S: ByteSource>(
     scratch: &mut Vec<u8>,
     kind: ItemKind,
 ) -> Result<Option<ItemsLeft>, DeserializeError>
-    ensures finds { FindsRoomy S.is_known S.left S.failures source.old count.old source.new
+    ensures finds { FindsRoomy S.ByteSource source.old count.old source.new
         count.new result (OpensItem (version_of version) kind)
         (ErrorInItem (version_of version) kind) }
     ensures rises { OnOk result (count.old < count.new) }
@@ -216,7 +215,7 @@ fn skip_items<S: ByteSource>(
     version: DocStoreVersion,
     first: ItemsLeft,
 ) -> Result<(), DeserializeError>
-    ensures finds { FindsRoomy S.is_known S.left S.failures source.old count.old source.new
+    ensures finds { FindsRoomy S.ByteSource source.old count.old source.new
         count.new result (λ b _. AreLeft (version_of version) (first ∷ []) b)
         (ErrorInLeft (version_of version) (first ∷ [])) }
 {
@@ -249,7 +248,7 @@ pub fn pass_value<S: ByteSource>(
     count: &mut u64,
     version: DocStoreVersion,
 ) -> Result<(), DeserializeError>
-    ensures finds { FindsRoomy S.is_known S.left S.failures source.old count.old source.new
+    ensures finds { FindsRoomy S.ByteSource source.old count.old source.new
         count.new result (λ b _. IsValue (version_of version) b) (NoValue (version_of version)) }
 {
     let one = ItemsLeft {
@@ -268,7 +267,7 @@ pub fn pass_document<S: ByteSource>(
     count: &mut u64,
     version: DocStoreVersion,
 ) -> Result<(), DeserializeError>
-    ensures finds { FindsRoomy S.is_known S.left S.failures source.old count.old source.new
+    ensures finds { FindsRoomy S.ByteSource source.old count.old source.new
         count.new result (λ b _. IsDocument (version_of version) b)
         (ErrorInDocument Legacy ErrorInLegacy (version_of version)) }
 {

@@ -17,7 +17,7 @@ use tv_reader::{DeserializeError, DocStoreVersion, ValueType};
 
 // Passes over so many bytes if they are buffered and can be counted, and says whether it did.
 fn pass_buffered<S: ByteSource>(source: &mut S, count: &mut u64, len: u64) -> bool
-    ensures finds { FindsRoomy S.is_known S.left S.failures source.old count.old source.new
+    ensures finds { FindsRoomy S.ByteSource source.old count.old source.new
         count.new (Ok result) (PassesBytes len) Nothing }
 {
     let lent = source.buffered();
@@ -40,7 +40,7 @@ fn is_utf8(bytes: &[u8]) -> bool
 
 // Passes over so many bytes if they are buffered and can be counted, and says whether they are UTF-8. They are tested where they lie.
 fn test_buffered<S: ByteSource>(source: &mut S, count: &mut u64, len: u64) -> Option<bool>
-    ensures finds { FindsRoomy S.is_known S.left S.failures source.old count.old source.new
+    ensures finds { FindsRoomy S.ByteSource source.old count.old source.new
         count.new (Ok result) (MayTest len) Nothing }
 {
     let lent = source.buffered();
@@ -62,7 +62,7 @@ fn test_bytes<S: ByteSource>(
     scratch: &mut Vec<u8>,
     len: u64,
 ) -> Result<bool, DeserializeError>
-    ensures finds { FindsRoomy S.is_known S.left S.failures source.old count.old source.new
+    ensures finds { FindsRoomy S.ByteSource source.old count.old source.new
         count.new result (Tested len) (Corrupt (ErrorInBytes len)) }
 {
     if let Some(is_text) = test_buffered(source, count, len) {
@@ -80,7 +80,7 @@ fn skip_text_of<S: ByteSource>(
     scratch: &mut Vec<u8>,
     len: u64,
 ) -> Result<(), DeserializeError>
-    ensures finds { FindsRoomy S.is_known S.left S.failures source.old count.old source.new
+    ensures finds { FindsRoomy S.ByteSource source.old count.old source.new
         count.new result (λ b _. IsTextOf len b) (ErrorInTextOf len) }
 {
     if test_bytes(source, count, scratch, len)? {
@@ -96,7 +96,7 @@ pub(crate) fn skip_text<S: ByteSource>(
     count: &mut u64,
     scratch: &mut Vec<u8>,
 ) -> Result<(), DeserializeError>
-    ensures finds { FindsRoomy S.is_known S.left S.failures source.old count.old source.new
+    ensures finds { FindsRoomy S.ByteSource source.old count.old source.new
         count.new result (λ b _. IsText b) (Corrupt ErrorInText) }
 {
     let len = take_vint(source, count)?;
@@ -113,7 +113,7 @@ fn skip_piece<S: ByteSource>(
     len: u64,
 ) -> Result<(), DeserializeError>
     requires { len ≤ 256 }
-    ensures finds { FindsRoomy S.is_known S.left S.failures source.old count.old source.new
+    ensures finds { FindsRoomy S.ByteSource source.old count.old source.new
         count.new result (λ b _. length b ≡ len) (Corrupt (ErrorInBytes len)) }
 {
     let mut piece = [0; PIECE as usize];
@@ -127,7 +127,7 @@ fn skip_by_reads<S: ByteSource>(
     count: &mut u64,
     len: u64,
 ) -> Result<(), DeserializeError>
-    ensures finds { FindsRoomy S.is_known S.left S.failures source.old count.old source.new
+    ensures finds { FindsRoomy S.ByteSource source.old count.old source.new
         count.new result (λ b _. length b ≡ len) (Corrupt (ErrorInBytes len)) }
 {
     let mut missing = len;
@@ -145,7 +145,7 @@ fn skip_bytes<S: ByteSource>(
     count: &mut u64,
     len: u64,
 ) -> Result<(), DeserializeError>
-    ensures finds { FindsRoomy S.is_known S.left S.failures source.old count.old source.new
+    ensures finds { FindsRoomy S.ByteSource source.old count.old source.new
         count.new result (λ b _. length b ≡ len) (Corrupt (ErrorInBytes len)) }
 {
     if pass_buffered(source, count, len) {
@@ -159,7 +159,7 @@ pub(crate) fn skip_sized<S: ByteSource>(
     source: &mut S,
     count: &mut u64,
 ) -> Result<(), DeserializeError>
-    ensures finds { FindsRoomy S.is_known S.left S.failures source.old count.old source.new
+    ensures finds { FindsRoomy S.ByteSource source.old count.old source.new
         count.new result (λ b _. IsSized b) (Corrupt ErrorInSized) }
 {
     let len = take_vint(source, count)?;
@@ -172,7 +172,7 @@ fn skip_coded_text<S: ByteSource>(
     count: &mut u64,
     scratch: &mut Vec<u8>,
 ) -> Result<(), DeserializeError>
-    ensures finds { FindsRoomy S.is_known S.left S.failures source.old count.old source.new
+    ensures finds { FindsRoomy S.ByteSource source.old count.old source.new
         count.new result (λ b _. IsCodedText b) ErrorInCodedKey }
 {
     let kind = take_kind(source, count)?;
@@ -192,7 +192,7 @@ pub(crate) fn skip_key<S: ByteSource>(
     scratch: &mut Vec<u8>,
     version: DocStoreVersion,
 ) -> Result<(), DeserializeError>
-    ensures finds { FindsRoomy S.is_known S.left S.failures source.old count.old source.new
+    ensures finds { FindsRoomy S.ByteSource source.old count.old source.new
         count.new result (λ b _. Before (version_of version) kinds.Entry b)
         (ErrorInKey (version_of version)) }
 {

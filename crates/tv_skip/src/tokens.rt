@@ -15,7 +15,7 @@ use tv_reader::DeserializeError;
 
 // Passes over a number of variable length.
 fn skip_number<S: ByteSource>(source: &mut S, count: &mut u64) -> Result<(), DeserializeError>
-    ensures finds { FindsRoomy S.is_known S.left S.failures source.old count.old source.new
+    ensures finds { FindsRoomy S.ByteSource source.old count.old source.new
         count.new result (λ b _. IsNumber b) (Corrupt ErrorInNumber) }
 {
     take_vint(source, count)?;
@@ -28,7 +28,7 @@ fn skip_text_and_number<S: ByteSource>(
     count: &mut u64,
     scratch: &mut Vec<u8>,
 ) -> Result<(), DeserializeError>
-    ensures finds { FindsRoomy S.is_known S.left S.failures source.old count.old source.new
+    ensures finds { FindsRoomy S.ByteSource source.old count.old source.new
         count.new result (λ b _. IsTextAndNumber b) (Corrupt ErrorInTextAndNumber) }
 {
     skip_text(source, count, scratch)?;
@@ -41,7 +41,7 @@ fn skip_token<S: ByteSource>(
     count: &mut u64,
     scratch: &mut Vec<u8>,
 ) -> Result<(), DeserializeError>
-    ensures finds { FindsRoomy S.is_known S.left S.failures source.old count.old source.new
+    ensures finds { FindsRoomy S.ByteSource source.old count.old source.new
         count.new result (λ b _. IsToken b) (Corrupt ErrorInToken) }
 {
     skip_number(source, count)?;
@@ -57,7 +57,7 @@ fn skip_tokens<S: ByteSource>(
     scratch: &mut Vec<u8>,
     announced: u64,
 ) -> Result<(), DeserializeError>
-    ensures finds { FindsRoomy S.is_known S.left S.failures source.old count.old source.new
+    ensures finds { FindsRoomy S.ByteSource source.old count.old source.new
         count.new result (λ b _. AreTokens announced b) (Corrupt (ErrorInTokens announced)) }
 {
     for _ in 0..announced {
@@ -72,7 +72,7 @@ fn skip_counted_tokens<S: ByteSource>(
     count: &mut u64,
     scratch: &mut Vec<u8>,
 ) -> Result<(), DeserializeError>
-    ensures finds { FindsRoomy S.is_known S.left S.failures source.old count.old source.new
+    ensures finds { FindsRoomy S.ByteSource source.old count.old source.new
         count.new result (λ b _. AreCounted b) (Corrupt ErrorInCounted) }
 {
     let announced = take_vint(source, count)?;
@@ -85,7 +85,7 @@ pub(crate) fn skip_tokenized<S: ByteSource>(
     count: &mut u64,
     scratch: &mut Vec<u8>,
 ) -> Result<(), DeserializeError>
-    ensures finds { FindsRoomy S.is_known S.left S.failures source.old count.old source.new
+    ensures finds { FindsRoomy S.ByteSource source.old count.old source.new
         count.new result (λ b _. IsTokenized b) (Corrupt ErrorInTokenized) }
 {
     skip_text(source, count, scratch)?;

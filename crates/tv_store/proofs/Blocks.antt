@@ -1,5 +1,5 @@
 -- The end of a block: no bytes begin with no document, and no other bytes are called an end.
-use Rattle.std.proofs.Common.{◌≡◌, ℕ, ◌+◌, ◌-◌, ◌<◌, Bool, true, false, List, [], ◌∷◌, ◌++◌, length, Result, Ok, Err, refl, sym, ap, subst, ◌∙◌, arith, inl, length-append}
+use Rattle.std.proofs.Common.{◌≡◌, ℕ, ◌<◌, Bool, true, false, List, [], ◌∷◌, ◌++◌, length, Result, Ok, Err, refl, sym, ap, subst, ◌∙◌, arith, inl, length-append}
 use Rattle.std.specs.Prelude.{IsErrOf}
 use Rattle.tv_base.specs.declared.cause.Cause.TheVariants.{UnexpectedEnd}
 use Rattle.tv_base.specs.ErrorInPart.{number_ends}
@@ -18,7 +18,7 @@ use Rattle.tv_format.specs.Version.{Version}
 use Rattle.tv_format.proofs.SingleTrees.{single_document}
 use Rattle.tv_legacy.specs.Legacy.{Legacy, ErrorInLegacy}
 use Rattle.tv_legacy.proofs.Unique.{one_legacy, legacy_excludes, single_legacy}
-use Rattle.tv_reader.specs.Finds.{Finds}
+use Rattle.tv_reader.specs.Finds.{FindsIf}
 use Rattle.tv_reader.specs.declared.error.DeserializeError.{DeserializeError}
 use Rattle.tv_reader.specs.declared.error.DeserializeError.TheVariants as errors
 use Rattle.tv_reader.specs.declared.value_type.ValueType.TheVariants as types
@@ -27,6 +27,7 @@ use Rattle.tv_store.specs.Documents.{EncodesRead, NoDocument, in_place}
 use Rattle.tv_store.proofs.InPlace.{error_placed}
 use Rattle.tv_store.specs.Reading.{documents}
 use Rattle.tv_store.proofs.Promises.{end, FoundAs, told_cause, excluded}
+use Rattle.tv_reader.specs.Error.{StoreMayStop}
 
 -- ---- what the call returned, and what reading a document would have
 
@@ -35,10 +36,14 @@ as_error result document e is = ap (λ r. as_read r document) is
 
 -- what was read in a place is what the call says of it
 pub of_place : {S : Type 0} (is_known : S → Type 0) (left : S → List ℕ) (failures : S → Failures) (old new : S) (count : ℕ) (v : Version) (read : Result (Unit {0}) DeserializeError) (result : Result Bool DeserializeError) (document : CompactDoc)
-    → ((d : CompactDoc) → as_read result d ≡ in_place read d) → Finds is_known left failures old 0 new count (in_place read document) (EncodesRead v) (NoDocument v)
-    → Finds is_known left failures old 0 new count (as_read result document) (EncodesRead v) (NoDocument v)
+    → ((d : CompactDoc) → as_read result d ≡ in_place read d) → FindsIf StoreMayStop is_known left failures old 0 new count read (λ b _. EncodesRead v b document) (NoDocument v)
+    → FindsIf StoreMayStop is_known left failures old 0 new count (as_read result document) (EncodesRead v) (NoDocument v)
 of_place is_known left failures old new count v read result document same h =
-    subst (λ (r : Result CompactDoc DeserializeError). Finds is_known left failures old 0 new count r (EncodesRead v) (NoDocument v)) (sym (same document)) h
+    subst (λ (r : Result CompactDoc DeserializeError). FindsIf StoreMayStop is_known left failures old 0 new count r (EncodesRead v) (NoDocument v)) (sym (same document)) (placed read h)
+  where
+    placed : (read : Result (Unit {0}) DeserializeError) → FindsIf StoreMayStop is_known left failures old 0 new count read (λ b _. EncodesRead v b document) (NoDocument v) → FindsIf StoreMayStop is_known left failures old 0 new count (in_place read document) (EncodesRead v) (NoDocument v)
+    placed (Ok x) h = record { found = h.found; taken = h.taken; stays_known = h.stays_known; counts = h.counts; rises = h.rises; may_stop = h.may_stop }
+    placed (Err e) h = record { found = h.found; taken = h.taken; stays_known = h.stays_known; counts = h.counts; rises = h.rises; may_stop = h.may_stop }
 
 pub place_error : {D : Type 0} (read : Result (Unit {0}) DeserializeError) (result : Result Bool DeserializeError) (document : D) (e : DeserializeError) → as_read result document ≡ in_place read document → IsErrOf result e → IsErrOf read e
 place_error read result document e same is = error_placed read document e (sym same ∙ as_error result document e is)

@@ -1,10 +1,10 @@
 -- Documents that are read one behind the other within limits.
-use Rattle.std.proofs.Common.{◌≡◌, ℕ, ◌+◌, ◌-◌, ◌^◌, ◌<◌, Bool, true, false, List, [], ◌∷◌, ◌++◌, length, Option, Some, None, Result, Ok, Err, refl, sym, ap, subst, ◌∙◌, arith, inl, inr, length-append}
+use Rattle.std.proofs.Common.{◌≡◌, ℕ, ◌+◌, ◌<◌, Bool, true, false, List, [], ◌∷◌, ◌++◌, length, Option, Some, None, Result, Ok, Err, refl, sym, ap, subst, ◌∙◌, arith, inl, inr, length-append}
 use Rattle.std.specs.Prelude.{◌≢◌, IfErr, IsErrOf, OnOk, OnErr}
 use Rattle.tv_base.specs.declared.cause.Cause.TheVariants.{UnexpectedEnd}
 use Rattle.tv_base.specs.declared.source.ByteSource.{Ghosts}
 use Rattle.tv_base.specs.Source.{Failures}
-use Rattle.tv_base.specs.Stop.{Counts, CountsStop, Taken}
+use Rattle.tv_base.specs.Stop.{Counts, Taken}
 use Rattle.tv_builder.specs.Builder.{built, state_of}
 use Rattle.tv_builder.specs.Prefix.{Encoded}
 use Rattle.tv_builder.specs.State.{State}
@@ -18,11 +18,10 @@ use Rattle.tv_heap.specs.Weight.{document_weight}
 use Rattle.tv_legacy.specs.Legacy.{Legacy}
 use Rattle.tv_reader.specs.Error.{store_stop}
 use Rattle.tv_reader.specs.Finds.{GivesStop}
-use Rattle.tv_reader.specs.declared.error.DeserializeError.{DeserializeError}
 use Rattle.tv_reader.specs.declared.error.DeserializeError.TheVariants as errors
-use Rattle.tv_store.specs.Blocks.{as_read_within, SaysEnd, SaysEndWithin}
-use Rattle.tv_store.specs.Documents.{BeginsWith, NoDocument, IsReadingError, in_place}
-use Rattle.tv_store.specs.Limits.{IsPast, IsLarge, PassesDepth, IsAll, Comes, IsLimitedError, StopsWithin, limited_stop}
+use Rattle.tv_store.specs.Blocks.{as_read_within, SaysEndWithin}
+use Rattle.tv_store.specs.Documents.{BeginsWith, NoDocument, in_place}
+use Rattle.tv_store.specs.Limits.{IsPast, PassesDepth, Comes, StopsWithin, limited_stop}
 use Rattle.tv_store.specs.declared.limits.LimitedReadError.{LimitedReadError}
 use Rattle.tv_store.specs.declared.limits.LimitedReadError.TheVariants as limited
 use Rattle.tv_store.specs.declared.limits.ReadLimit.TheVariants as limit

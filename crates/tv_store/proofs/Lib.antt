@@ -1,6 +1,7 @@
 pub mod Room
 pub mod GivenSteps
 pub mod Promises
+pub mod Resuming
 pub mod Stores
 pub mod StoredLaws
 pub mod WriterSteps

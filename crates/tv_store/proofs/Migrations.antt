@@ -1,53 +1,109 @@
 -- What comes of a document that is read in one version and written in another.
-use Rattle.std.proofs.Common.{◌≡◌, ℕ, List, Result, Ok, Err, Some, None, refl, sym, ◌∙◌, ap}
+use Rattle.std.proofs.Common.{◌≡◌, ℕ, ◌≤◌, List, ◌++◌, Result, Ok, Err, Some, None, refl, sym, ◌∙◌, ap, subst}
 use Rattle.std.specs.Prelude.{IsErrOf}
-use Rattle.tv_base.specs.Sink.{Begins, Halts}
+use Rattle.tv_base.specs.declared.sink.ByteSink.{Ghosts as Sink}
+use Rattle.tv_base.specs.declared.source.ByteSource.{Ghosts as Source}
+use Rattle.tv_base.specs.ReadsAs.{Known, IsReadUnless}
+use Rattle.tv_base.specs.Sink.{WritesBy}
 use Rattle.tv_base.specs.Source.{Failures}
 use Rattle.tv_base.specs.Stop.{CountsStop}
-use Rattle.tv_reader.specs.declared.error.DeserializeError.{DeserializeError}
-use Rattle.tv_reader.specs.declared.error.DeserializeError.TheVariants as errors
-use Rattle.tv_store.specs.Migrate.{AppendsMigrated, IsMemory, source_stop}
-use Rattle.tv_store.specs.declared.migration.MigrateError.{MigrateError}
-use Rattle.tv_store.specs.declared.migration.MigrateError.TheVariants.{Read, Write}
-use Rattle.tv_store.specs.declared.round_trip.RoundTripError.{RoundTripError}
-use Rattle.tv_store.specs.declared.round_trip.RoundTripError.TheVariants as trips
+use Rattle.tv_doc.specs.Document.{document_of}
+use Rattle.tv_doc.specs.declared.document.CompactDoc.{CompactDoc}
+use Rattle.tv_format.specs.Encoding.{EncodesDocument}
+use Rattle.tv_format.specs.Short.{short_document, IsDocument}
+use Rattle.tv_format.specs.Tree.{Document}
 use Rattle.tv_format.specs.Version.{Version, IsWritten}
 use Rattle.tv_format.specs.WriteVersion.{written_version}
 use Rattle.tv_format.specs.declared.version.WriteVersion.{WriteVersion}
 use Rattle.tv_format.specs.declared.version.WriteVersion.TheVariants as versions
+use Rattle.tv_heap.specs.Room.{document_room}
+use Rattle.tv_legacy.specs.Legacy.{Legacy}
+use Rattle.tv_reader.specs.Error.{store_stop}
+use Rattle.tv_reader.specs.declared.error.DeserializeError.{DeserializeError}
+use Rattle.tv_reader.specs.declared.error.DeserializeError.TheVariants as errors
+use Rattle.tv_store.specs.Documents.{BeginsWith, SaysNothing}
+use Rattle.tv_store.specs.Migrate.{IsMemory, Migrates, Rewrites, sink_stop}
+use Rattle.tv_store.specs.Reading.{ReadsDocument}
+use Rattle.tv_store.specs.declared.migration.MigrateError.{MigrateError}
+use Rattle.tv_store.specs.declared.migration.MigrateError.TheVariants.{Read, Write}
+use Rattle.tv_store.specs.declared.round_trip.RoundTripError.{RoundTripError}
+use Rattle.tv_store.specs.declared.round_trip.RoundTripError.TheVariants as trips
 use Rattle.tv_writer.specs.Error.{write_stop, IsIoOrMemory}
 use Rattle.tv_writer.specs.declared.error.SerializeError.{SerializeError}
 use Rattle.tv_writer.specs.declared.error.SerializeError.TheVariants as writes
 
--- ---- what is read and isn't written
+-- ---- writing, in the errors of migrating
 
--- a beginning of the text is appended
-pub unwritten_begins : (e : SerializeError) (text old new : List ℕ) → IsIoOrMemory e → Halts (write_stop e) old new (Ok text) → Begins old new text
-unwritten_begins (writes.Io kind) text old new is h = h
-unwritten_begins writes.Memory text old new is h = h
-unwritten_begins _ text old new is h = absurd is
+pub rewritten : {K : Type 0} {sink : Sink K} {old new : K} {x y : Unit {0}} {text : List ℕ} → WritesBy write_stop sink.is_known sink.held sink.failures old new (Ok x) (Ok text) → WritesBy sink_stop sink.is_known sink.held sink.failures old new (Ok y) (Ok text)
+rewritten h = record { appends = h.appends; stays_known = h.stays_known; counts = h.counts }
 
-pub unwritten_appends : (e : SerializeError) (text rest left old new : List ℕ) → IsIoOrMemory e → left ≡ rest → Begins old new text → AppendsMigrated {T = Unit {0}} (Err (Write e)) text rest left old new
-unwritten_appends (writes.Io kind) text rest left old new is same h = (same, h)
-unwritten_appends writes.Memory text rest left old new is same h = (same, h)
-unwritten_appends _ text rest left old new is same h = absurd is
+pub unwritten : {K : Type 0} {sink : Sink K} {old new : K} {e : SerializeError} {text : List ℕ} → WritesBy {T = Unit {0}} write_stop sink.is_known sink.held sink.failures old new (Err e) (Ok text) → WritesBy {T = Unit {0}} sink_stop sink.is_known sink.held sink.failures old new (Err (Write e)) (Ok text)
+unwritten h = record { appends = h.appends; stays_known = h.stays_known; counts = h.counts }
 
-pub read_of : {T : Type 0} (r : Result T MigrateError) (y : MigrateError) (x e : DeserializeError) → r ≡ Err y → y ≡ Read x → IsErrOf r (Read e) → x ≡ e
-read_of r y x e is same told = cc
+-- ---- what the promise of migrating gives
 
--- ---- migrating in memory
+-- A prefix of the bytes encodes a document in the one version, and the rest is left. The document has an encoding in the other, and this
+-- text is its shortest.
+pub record Transcribes (from to : Version) (bytes rest text : List ℕ) : Type 0 where
+  pub document : Document
+  pub read : BeginsWith from bytes rest document
+  pub valid : IsDocument document
+  pub written : text ≡ short_document to document
 
-none_is : {A : Type 0} {x : A} → None ≡ Some x → ⊥
-none_is e = cc
+read_is : {T : Type 0} (e f : DeserializeError) → IsErrOf {T = T} (Err (Read e)) (Read f) → e ≡ f
+read_is e f is = cc
 
--- where no read fails and what is encoded has room, only memory is left
-pub only_memory : (e : MigrateError) (text rest left old new : List ℕ) (f g : Failures) → AppendsMigrated {T = Unit {0}} (Err e) text rest left old new → g.last ≡ None → CountsStop (source_stop e) f g → IsMemory e
-only_memory (Read (errors.Io k)) text rest left old new f g h last counts = absurd (none_is (sym last ∙ counts.kept))
-only_memory (Read errors.Memory) text rest left old new f g h last counts = tt
-only_memory (Read _) text rest left old new f g h last counts = absurd h
-only_memory (Write (writes.Io k)) text rest left old new f g h last counts = tt
-only_memory (Write writes.Memory) text rest left old new f g h last counts = tt
-only_memory (Write _) text rest left old new f g h last counts = absurd h
+module _ {S K : Type 0} (from to : Version) (source : Source S) (old new : S) (sink : Sink K) (begun ended : K) where
+  transcribed_at : (read : Result CompactDoc DeserializeError) (x : Unit {0}) → ReadsDocument from source old new document_of read → Rewrites to sink begun ended read (Ok x) → source.is_known old → sink.is_known begun
+      → (text : List ℕ) × (sink.held ended ≡ sink.held begun ++ text) × Transcribes from to (source.left old) (source.left new) text
+  transcribed_at (Ok d) x reads w known told = (short_document to (document_of d), w.1.appends told, record { document = document_of d; read = reads.found known; valid = w.0; written = refl })
+  transcribed_at (Err e) x reads w known told = absurd (cc)
+
+  unread_at : (read : Result CompactDoc DeserializeError) (result : Result (Unit {0}) MigrateError) (e : DeserializeError) → ReadsDocument from source old new document_of read → Rewrites to sink begun ended read result → IsErrOf result (Read e) → ReadsDocument from source old new document_of (Err e) × (ended ≡ begun)
+  unread_at (Err f) result e reads w is = (subst (λ z. ReadsDocument from source old new document_of (Err z)) (read_is f e (sym w.0 ∙ is)) reads, w.1)
+  unread_at (Ok d) (Ok x) e reads w is = absurd (cc)
+  unread_at (Ok d) (Err (Read f)) e reads w is = absurd w.2
+  unread_at (Ok d) (Err (Write f)) e reads w is = absurd (cc)
+
+  all_at : (read : Result CompactDoc DeserializeError) (x : Unit {0}) (d : Document) (rest left : List ℕ) → sink.is_known begun → IsReadUnless SaysNothing document_of read d rest left → Rewrites to sink begun ended read (Ok x) → (left ≡ rest) × (sink.held ended ≡ sink.held begun ++ short_document to d)
+  all_at (Ok d) x e rest left told a w = (a.1, w.1.appends told ∙ ap (λ z. sink.held begun ++ short_document to z) a.0)
+  all_at (Err f) x e rest left told a w = absurd (cc)
+
+  written_at : (read : Result CompactDoc DeserializeError) (e : SerializeError) → Rewrites to sink begun ended read (Err (Write e)) → IsIoOrMemory e
+  written_at (Ok d) e w = w.2
+  written_at (Err f) e w = absurd (cc)
+
+module _ {S K : Type 0} {from to : Version} {source : Source S} {old new : S} {sink : Sink K} {begun ended : K} {result : Result (Unit {0}) MigrateError} (m : Migrates from to source old new sink begun ended result) where
+  -- what was migrated
+  pub transcribed : {x : Unit {0}} → result ≡ Ok x → source.is_known old → sink.is_known begun → (text : List ℕ) × (sink.held ended ≡ sink.held begun ++ text) × Transcribes from to (source.left old) (source.left new) text
+  transcribed {x = x} is known told = transcribed_at from to source old new sink begun ended m.read x m.reads (subst (λ z. Rewrites to sink begun ended m.read z) is m.rewrites) known told
+
+  -- what couldn't be read
+  pub unread : (e : DeserializeError) → IsErrOf result (Read e) → ReadsDocument from source old new document_of (Err e) × (ended ≡ begun)
+  unread e is = unread_at from to source old new sink begun ended m.read result e m.reads m.rewrites is
+
+  -- what a prefix encodes that has room is appended
+  pub all_migrated : {x : Unit {0}} → result ≡ Ok x → Known source old → sink.is_known begun → (d : Document) (prefix rest : List ℕ) → source.left old ≡ prefix ++ rest → EncodesDocument Legacy from prefix d → document_room d ≤ 4294967295 → (source.left new ≡ rest) × (sink.held ended ≡ sink.held begun ++ short_document to d)
+  all_migrated {x = x} is known told d prefix rest joined encoded small =
+      all_at from to source old new sink begun ended m.read x d rest (source.left new) told (m.reads.only known d prefix rest joined encoded small) (subst (λ z. Rewrites to sink begun ended m.read z) is m.rewrites)
+
+  -- where no read fails and what is encoded has room, only memory is left
+  pub only_memory : (e : MigrateError) → result ≡ Err e → Known source old → (d : Document) (prefix rest : List ℕ) → source.left old ≡ prefix ++ rest → EncodesDocument Legacy from prefix d → document_room d ≤ 4294967295 → (source.failures new).last ≡ None → IsMemory e
+  only_memory (Write e) is known d prefix rest joined encoded small last = written e (written_at from to source old new sink begun ended m.read e (subst (λ z. Rewrites to sink begun ended m.read z) is m.rewrites))
+    where
+      written : (e : SerializeError) → IsIoOrMemory e → IsMemory (Write e)
+      written (writes.Io k) may = tt
+      written writes.Memory may = tt
+      written _ may = absurd may
+  only_memory (Read e) is known d prefix rest joined encoded small last = let r = (unread e is).0 in left e (source.failures old) (source.failures new) (r.only known d prefix rest joined encoded small) last r.failures
+    where
+      none_is : {A : Type 0} {x : A} → None ≡ Some x → ⊥
+      none_is e = cc
+
+      left : (e : DeserializeError) (f g : Failures) → SaysNothing e → g.last ≡ None → CountsStop (store_stop e) f g → IsMemory (Read e)
+      left (errors.Io k) f g may last counts = absurd (none_is (sym last ∙ counts.kept))
+      left errors.Memory f g may last counts = tt
+      left _ f g may last counts = absurd may
 
 pub is_written : (to : WriteVersion) → IsWritten (written_version to)
 is_written versions.V2 = tt

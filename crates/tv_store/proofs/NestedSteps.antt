@@ -2,10 +2,11 @@
 use Rattle.std.proofs.Common.{◌≡◌, ℕ, ◌<◌, ◌+◌, ◌*◌, List, [], ◌∷◌, ◌++◌, length, Ok, Err, Option, Some, None, refl, sym, ap, subst, ◌∙◌, append_assoc, arith}
 use Rattle.std.proofs.lemmas.List.{append-nil, length-append}
 use Rattle.tv_base.specs.Source.{Failures}
-use Rattle.tv_base.specs.Sink.{Writes, WritesBy}
+use Rattle.tv_base.specs.Sink.{WritesBy}
+use Rattle.tv_base.specs.Writing.{io_stop}
 use Rattle.tv_base.proofs.Written.{Written, Written-step}
 use Rattle.tv_format.specs.Version.{Version}
-use Rattle.tv_store.specs.Nested.{WritesBefore, bytes_left, all_left, met_left, inner_left}
+use Rattle.tv_store.specs.Nested.{WritesBeforeBy, bytes_left, all_left, met_left, inner_left}
 use Rattle.tv_store.specs.declared.encoded_writer.Open.{Open}
 use Rattle.tv_writer.specs.Error.{write_stop}
 use Rattle.tv_writer.specs.declared.error.SerializeError.TheVariants.{Memory}
@@ -48,7 +49,7 @@ two_fewer v all others after list outer inner is then fewer =
 
 -- the next part was written but for what is left of it
 pub Written-before : {S T : Type 0} {is_known : S → Type 0} {held : S → List ℕ} {failures : S → Failures} {old mid new : S} {text rest : List ℕ} {x : T} {part : List ℕ} (left : T → List ℕ) (others after : List ℕ)
-    → rest ≡ part ++ after → left x ≡ others → Written is_known held failures old mid text rest → WritesBefore is_known held failures mid new (Ok x) left part → Written is_known held failures old new text (others ++ after)
+    → rest ≡ part ++ after → left x ≡ others → Written is_known held failures old mid text rest → WritesBeforeBy is_known held failures mid new (Ok x) left part → Written is_known held failures old new text (others ++ after)
 Written-before {x = x} left others after cut same h w =
     Written-step w.0 (others ++ after) (cut ∙ ap (λ (l : List ℕ). l ++ after) (w.1 ∙ ap (λ (l : List ℕ). w.0 ++ l) same) ∙ append_assoc w.0 others after) h w.2
 
@@ -57,7 +58,7 @@ pub Written-as : {S : Type 0} {is_known : S → Type 0} {held : S → List ℕ} 
 Written-as {is_known = is_known} {held = held} {failures = failures} {old = old} {now = now} {text = text} h same = subst (λ (l : List ℕ). Written is_known held failures old now text l) (sym same) h
 
 -- what was written so far is what comes before what is left
-pub prefix_of : {S : Type 0} {is_known : S → Type 0} {held : S → List ℕ} {failures : S → Failures} {old now : S} {text rest : List ℕ} → Written is_known held failures old now text rest → (prefix : List ℕ) × (text ≡ prefix ++ rest) × Writes {T = Unit {0}} is_known held failures old now (Ok tt) prefix
+pub prefix_of : {S : Type 0} {is_known : S → Type 0} {held : S → List ℕ} {failures : S → Failures} {old now : S} {text rest : List ℕ} → Written is_known held failures old now text rest → (prefix : List ℕ) × (text ≡ prefix ++ rest) × WritesBy {T = Unit {0}} io_stop is_known held failures old now (Ok tt) (Ok prefix)
 prefix_of h = (h.done, h.parts, record { appends = h.appended; stays_known = h.stays_known; counts = h.counts })
 
 -- all was written

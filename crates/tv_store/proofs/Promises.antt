@@ -1,5 +1,5 @@
 -- From the bytes that were taken to what is promised of what was read.
-use Rattle.std.proofs.Common.{◌≡◌, ℕ, ◌-◌, ◌^◌, ◌<◌, ◌≤◌, List, ◌++◌, Result, Ok, Err, refl, sym, ap, subst, ◌∙◌, arith}
+use Rattle.std.proofs.Common.{◌≡◌, ℕ, ◌-◌, ◌^◌, ◌<◌, ◌≤◌, List, ◌++◌, Result, Ok, Err, refl, sym, ap, subst, ◌∙◌, arith, length, length-append}
 use Rattle.std.specs.Prelude.{IfOk, IfErr, IsErrOf}
 use Rattle.std.proofs.lemmas.List.{append_cancel_left}
 use Rattle.std.proofs.lemmas.Result.{IfErr-at_err}
@@ -8,7 +8,9 @@ use Rattle.tv_base.specs.declared.cause.Cause.TheVariants.{UnexpectedEnd, TooLon
 use Rattle.tv_base.specs.declared.source.ByteSource.{Ghosts}
 use Rattle.tv_base.specs.Parts.{Begins}
 use Rattle.tv_base.specs.Source.{Failures}
-use Rattle.tv_base.specs.Stop.{CountsStop, Counts}
+use Rattle.tv_base.specs.ReadsAs.{Grammar, IsReadUnless, Known, Reads}
+use Rattle.tv_base.specs.Stop.{Stop, CountsStop, Counts}
+use Rattle.tv_base.specs.Stop.Stop.{InputError, Uncounted}
 use Rattle.tv_base.proofs.ByGrammar.{few_taken}
 use Rattle.tv_chosen.specs.ChosenFields.{chosen}
 use Rattle.tv_chosen.proofs.RoomChosen.{chosen_has_room}
@@ -23,7 +25,9 @@ use Rattle.tv_format.proofs.Trees.{one_document, one_tree}
 use Rattle.tv_heap.specs.Room.{document_room}
 use Rattle.tv_legacy.specs.Legacy.{Legacy, ErrorInLegacy}
 use Rattle.tv_legacy.proofs.Unique.{one_legacy, legacy_excludes}
-use Rattle.tv_reader.specs.Error.{key_stop, store_stop, IsRefusal, is_corrupted, is_no_text, StoreMayStop, StoreMayStopRoomy}
+use Rattle.tv_reader.specs.Error.{key_stop, store_stop, StoreMayStopRoomy, IsRefusal}
+use Rattle.tv_reader.specs.Error.IsRefusal.{is_corrupted, is_no_text}
+use Rattle.tv_reader.specs.ValueType.{type_code}
 use Rattle.tv_reader.specs.Finds.{Refuses, GivesStop, Found, FindsIf}
 use Rattle.tv_reader.specs.Trees.{NoValue}
 use Rattle.tv_reader.specs.declared.error.DeserializeError.{DeserializeError}
@@ -31,8 +35,8 @@ use Rattle.tv_reader.specs.declared.error.DeserializeError.TheVariants as errors
 use Rattle.tv_reader.specs.declared.value_type.ValueType.{ValueType}
 use Rattle.tv_reader.specs.declared.value_type.ValueType.TheVariants as types
 use Rattle.tv_skip.specs.Skip.{IsDocument, IsValue}
-use Rattle.tv_store.specs.Documents.{IsReadUnless, IsReadingError, NoDocument, SaysNothing, in_place}
-use Rattle.tv_store.specs.Reading.{Grammar, Reads, reading, documents, chosen_pairs, passed}
+use Rattle.tv_store.specs.Documents.{IsReadingError, NoDocument, SaysNothing, in_place}
+use Rattle.tv_store.specs.Reading.{reading, documents, chosen_pairs, passed}
 use Rattle.tv_value.specs.declared.field.Field.{Field}
 
 abbrev pub end : Refusal
@@ -44,10 +48,6 @@ end = corrupted UnexpectedEnd
 pub told_cause : (P : List ℕ → Refusal → Type 0) (c : Cause) (old new : List ℕ) (count : ℕ) → count < 2 ^ 64 - 1 → GivesStop end P old new count (store_stop (errors.CorruptedValue c)) → Refuses end P old new (corrupted c)
 told_cause P TooLong old new count few h = absurd (omega (arith, few, h.0))
 told_cause P c old new count few h = h
-
-pub told : (P : List ℕ → Refusal → Type 0) (e : DeserializeError) (r : Refusal) (old new : List ℕ) (count : ℕ) → IsRefusal e r → count < 2 ^ 64 - 1 → GivesStop end P old new count (store_stop e) → Refuses end P old new r
-told P _ _ old new count is_corrupted few h = told_cause P _ old new count few h
-told P _ _ old new count is_no_text few h = h
 
 -- ---- which errors come
 
@@ -73,7 +73,7 @@ no_heap_full result count may is = (IfErr-at_err (λ e. StoreMayStopRoomy e coun
 -- ---- one reading
 
 -- of these bytes: what is encoded is one value, is no refusal, and has no room only where there is none
-pub record IsSingle {Y : Type 0} (grammar : Grammar Y) (old : List ℕ) : Type 0 where
+pub record IsSingle {Y : Type 0} (grammar : Grammar Refusal Y) (old : List ℕ) : Type 0 where
   pub same : (a b x y : List ℕ) (m n : Y) → grammar.Encodes a m → grammar.Encodes b n → a ++ x ≡ b ++ y → (a ≡ b) × (m ≡ n)
   pub excludes : (a x : List ℕ) (m : Y) (r : Refusal) → old ≡ a ++ x → grammar.Encodes a m → grammar.HasError old r → ⊥
   pub fits : (a x : List ℕ) (m : Y) → old ≡ a ++ x → grammar.Encodes a m → grammar.NoRoom old → grammar.HasRoom m → ⊥
@@ -117,7 +117,7 @@ single_values v old = record {
 -- ---- what is found is what is promised
 
 -- an error where a prefix encodes what has room
-pub excused : {Y : Type 0} (grammar : Grammar Y) (e : DeserializeError) (old new : List ℕ) (count : ℕ) → IsSingle grammar old → GivesStop end grammar.HasError old new count (store_stop e) → (e ≡ errors.HeapFull → grammar.NoRoom old) → count < 2 ^ 64 - 1
+pub excused : {Y : Type 0} (grammar : Grammar Refusal Y) (e : DeserializeError) (old new : List ℕ) (count : ℕ) → IsSingle grammar old → GivesStop end grammar.HasError old new count (store_stop e) → (e ≡ errors.HeapFull → grammar.NoRoom old) → count < 2 ^ 64 - 1
     → (y : Y) (prefix rest : List ℕ) → old ≡ prefix ++ rest → grammar.Encodes prefix y → grammar.HasRoom y → SaysNothing e
 excused grammar (errors.CorruptedValue c) old new count single h full few y prefix rest joined encoded small = single.excludes prefix rest y (corrupted c) joined encoded (told_cause grammar.HasError c old new count few h).stands
 excused grammar (errors.TypeMismatch types.String actual) old new count single h full few y prefix rest joined encoded small = single.excludes prefix rest y (no_text_key _) joined encoded h.stands
@@ -126,16 +126,17 @@ excused grammar (errors.Io k) old new count single h full few y prefix rest join
 excused grammar errors.Memory old new count single h full few y prefix rest joined encoded small = tt
 excused grammar _ old new count single h full few y prefix rest joined encoded small = h
 
-abbrev pub FoundAs : {X Y : Type 0} → Grammar Y → (X → Y) → Result X DeserializeError → List ℕ → List ℕ → ℕ → Type 0
+abbrev pub FoundAs : {X Y : Type 0} → Grammar Refusal Y → (X → Y) → Result X DeserializeError → List ℕ → List ℕ → ℕ → Type 0
 FoundAs grammar view result old new count = Found store_stop end (λ b x. grammar.Encodes b (view x)) grammar.HasError old new count result
 
-module _ {X Y : Type 0} (grammar : Grammar Y) (view : X → Y) where
+module _ {X Y : Type 0} (grammar : Grammar Refusal Y) (view : X → Y) where
   found_by : (result : Result X DeserializeError) (old new : List ℕ) (count : ℕ) → FoundAs grammar view result old new count → IfOk result (λ x. Begins (λ b. grammar.Encodes b (view x)) old new)
   found_by (Ok x) old new count h = h
   found_by (Err e) old new count h = tt
 
-  pub refused_by : (result : Result X DeserializeError) (old new : List ℕ) (count : ℕ) → count < 2 ^ 64 - 1 → FoundAs grammar view result old new count → (e : DeserializeError) (r : Refusal) → IsErrOf result e → IsRefusal e r → Refuses end grammar.HasError old new r
-  refused_by result old new count few h e r is refusal = told grammar.HasError e r old new count refusal few (subst (λ z. FoundAs grammar view z old new count) is h)
+  -- what was left shows why an error stopped the reader
+  pub stopped_by : (result : Result X DeserializeError) (old new : List ℕ) (count : ℕ) (e : DeserializeError) {s : Stop Refusal} → FoundAs grammar view result old new count → IsErrOf result e → store_stop e ≡ s → GivesStop end grammar.HasError old new count s
+  stopped_by result old new count e h is says = subst (GivesStop end grammar.HasError old new count) says (subst (λ z. FoundAs grammar view z old new count) is h)
 
   pub only_by : (result : Result X DeserializeError) (old new : List ℕ) (count : ℕ) → IsSingle grammar old → FoundAs grammar view result old new count → (IsErrOf result errors.HeapFull → grammar.NoRoom old) → count < 2 ^ 64 - 1
       → (y : Y) (prefix rest : List ℕ) → old ≡ prefix ++ rest → grammar.Encodes prefix y → grammar.HasRoom y → IsReadUnless SaysNothing view result y rest new
@@ -145,27 +146,45 @@ module _ {X Y : Type 0} (grammar : Grammar Y) (view : X → Y) where
   only_by (Err e) old new count single h full few y prefix rest joined encoded small = excused grammar e old new count single h (λ is. full (ap (λ z. Err z) is)) few y prefix rest joined encoded small
 
   -- a reader that stops where it may
-  pub reads_of : {S : Type 0} (source : Ghosts S) {old new : S} {count : ℕ} (result : Result X DeserializeError) (May : DeserializeError → ℕ → Type 0) → ((e : DeserializeError) → May e count → StoreMayStop e count) → IsSingle grammar (source.left old)
+  pub reads_of : {S : Type 0} (source : Ghosts S) {old new : S} {count : ℕ} {May : DeserializeError → ℕ → Type 0} (result : Result X DeserializeError) → IsSingle grammar (source.left old)
       → FindsIf May source.is_known source.left source.failures old 0 new count result (λ b x. grammar.Encodes b (view x)) grammar.HasError → (source.is_known old → IsErrOf result errors.HeapFull → grammar.NoRoom (source.left old)) → Reads reading grammar source old new view result
-  reads_of source {old = old} {new = new} {count = count} result May may single h room = record {
+  reads_of source {old = old} {new = new} {count = count} result single h room = record {
     found = λ known. found_by result (source.left old) (source.left new) count (h.found known);
     only = λ known. only_by result (source.left old) (source.left new) count single (h.found known.0) (room known.0) (few_taken known.1 (h.taken known.0));
-    error = λ known e r is refusal. (refused_by result (source.left old) (source.left new) count (few_taken known.1 (h.taken known.0)) (h.found known.0) e r is refusal).stands;
-    full = room;
-    errors = errors_by result (source.failures old) (source.failures new) h.counts;
-    shows = λ known e r is refusal. (refused_by result (source.left old) (source.left new) count (few_taken known.1 (h.taken known.0)) (h.found known.0) e r is refusal).shows;
-    taken = λ known. let t = h.taken known in (t.prefix, t.joined);
-    too_long = λ known is.
+    error = λ known e r is says. (stopped_by result (source.left old) (source.left new) count e {s = InputError r} (h.found known) is says).stands;
+    shows = λ known e r is says. (stopped_by result (source.left old) (source.left new) count e {s = InputError r} (h.found known) is says).shows;
+    too_long = λ known e r is says.
         let t = h.taken known in
-        let most : count ≡ 2 ^ 64 - 1 = may (errors.CorruptedValue TooLong) (IfErr-at_err (λ e. May e count) is h.may_stop) in
+        let most : count ≡ 2 ^ 64 - 1 = (stopped_by result (source.left old) (source.left new) count e {s = Uncounted r} (h.found known) is says).0 in
         (t.prefix, t.joined, omega (arith, t.counted, most));
+    ends_early = λ known e r is says. (stopped_by result (source.left old) (source.left new) count e {s = Uncounted r} (h.found known) is says).1;
+    full = λ known e is full. room known (is ∙ ap (λ x. Err x) full);
+    errors = errors_by result (source.failures old) (source.failures new) h.counts;
+    taken = λ known. let t = h.taken known in (t.prefix, t.joined);
     failures = h.counts;
     stays_known = h.stays_known;
   }
 
+-- ---- what is said of fewer bytes than can be counted
+
+pub never_long : {Y S X : Type 0} {grammar : Grammar Refusal Y} {source : Ghosts S} {old new : S} {view : X → Y} {result : Result X DeserializeError} → Known source old → Reads reading grammar source old new view result → (e : DeserializeError) (r : Refusal) → IsErrOf result e → store_stop e ≡ Uncounted r → ⊥
+never_long {source = source} {new = new} known h e r is says = let t = h.too_long known.0 e r is says in omega (arith, known.1, ap length t.1, length-append t.0 (source.left new), t.2)
+
+refused_cause : {Y S X : Type 0} {grammar : Grammar Refusal Y} {source : Ghosts S} {old new : S} {view : X → Y} {result : Result X DeserializeError} → Known source old → Reads reading grammar source old new view result → (c : Cause) → IsErrOf result (errors.CorruptedValue c) → grammar.HasError (source.left old) (corrupted c)
+refused_cause known h TooLong is = absurd (never_long known h (errors.CorruptedValue TooLong) end is refl)
+refused_cause known h c is = h.error known.0 (errors.CorruptedValue c) (corrupted c) is refl
+
+pub refusal_is_true : {Y S X : Type 0} {grammar : Grammar Refusal Y} {source : Ghosts S} {old new : S} {view : X → Y} {result : Result X DeserializeError} → Known source old → Reads reading grammar source old new view result → (e : DeserializeError) (r : Refusal) → IsErrOf result e → IsRefusal e r → grammar.HasError (source.left old) r
+refusal_is_true known h _ _ is (is_corrupted {c = c}) = refused_cause known h c is
+refusal_is_true known h _ _ is (is_no_text {actual = actual}) = h.error known.0 (errors.TypeMismatch types.String actual) (no_text_key (type_code actual)) is refl
+
 -- ---- in place of what is there
 
-pub finds_placed : {S D : Type 0} {May : DeserializeError → ℕ → Type 0} {is_known : S → Type 0} {left : S → List ℕ} {failures : S → Failures} {old new : S} {i k : ℕ} (result : Result (Unit {0}) DeserializeError) (document : D) (A : List ℕ → D → Type 0) (H : List ℕ → Refusal → Type 0)
-    → FindsIf May is_known left failures old i new k (in_place result document) A H → FindsIf May is_known left failures old i new k result (λ b _. A b document) H
-finds_placed (Ok x) document A H h = record { found = h.found; taken = h.taken; stays_known = h.stays_known; counts = h.counts; rises = h.rises; may_stop = h.may_stop }
-finds_placed (Err e) document A H h = record { found = h.found; taken = h.taken; stays_known = h.stays_known; counts = h.counts; rises = h.rises; may_stop = h.may_stop }
+module _ {S D : Type 0} {May : DeserializeError → ℕ → Type 0} {is_known : S → Type 0} {left : S → List ℕ} {failures : S → Failures} {old new : S} {i k : ℕ} (result : Result (Unit {0}) DeserializeError) (document : D) (A : List ℕ → D → Type 0) (H : List ℕ → Refusal → Type 0) where
+  -- what was read was put in the place of a document
+  pub finds_put : {read : Result D DeserializeError} → in_place result document ≡ read → FindsIf May is_known left failures old i new k read A H → FindsIf May is_known left failures old i new k result (λ b _. A b document) H
+  finds_put same h = placed result (subst (λ r. FindsIf May is_known left failures old i new k r A H) (sym same) h)
+    where
+      placed : (result : Result (Unit {0}) DeserializeError) → FindsIf May is_known left failures old i new k (in_place result document) A H → FindsIf May is_known left failures old i new k result (λ b _. A b document) H
+      placed (Ok x) h = record { found = h.found; taken = h.taken; stays_known = h.stays_known; counts = h.counts; rises = h.rises; may_stop = h.may_stop }
+      placed (Err e) h = record { found = h.found; taken = h.taken; stays_known = h.stays_known; counts = h.counts; rises = h.rises; may_stop = h.may_stop }

@@ -5,7 +5,9 @@ use Rattle.std.specs.List.{AllByRecursion}
 use Rattle.std.proofs.lemmas.List.{map-append}
 use Rattle.std.proofs.lemmas.List.Sums.{sum_by-cons}
 use Rattle.tv_base.specs.Source.{Failures}
+use Rattle.tv_base.specs.declared.cause.Cause.TheVariants.{UnexpectedEnd, TooLong}
 use Rattle.tv_base.specs.Stop.{CountsStop}
+use Rattle.tv_base.specs.Stop.Stop.{InputError, Uncounted}
 use Rattle.tv_doc.specs.Additions.{Addition, Runs, accepted, pair_of, IsEmpty}
 use Rattle.tv_doc.specs.Belongs.{Belongs}
 use Rattle.tv_doc.specs.Document.{document_of, places_of, Adds, IsUnchanged, ReadsAt}
@@ -17,12 +19,11 @@ use Rattle.tv_doc.proofs.Additions.{runs_keep, unchanged_same, unchanged_from, a
 use Rattle.tv_builder.proofs.Documents.{read_at, none_at, place_at, no_place}
 use Rattle.tv_field.specs.Entry.{Entry}
 use Rattle.tv_heap.specs.Room.{room, document_room}
-use Rattle.tv_reader.specs.Error.{store_stop, IsRefusal}
-use Rattle.tv_reader.specs.Error.IsRefusal.{is_corrupted, is_no_text}
+use Rattle.tv_reader.specs.Error.{store_stop}
 use Rattle.tv_reader.specs.ValueType.{type_code}
 use Rattle.tv_reader.specs.declared.error.DeserializeError.{DeserializeError}
 use Rattle.tv_reader.specs.declared.error.DeserializeError.TheVariants as errors
-use Rattle.tv_reader.specs.declared.value_type.ValueType.{ValueType}
+use Rattle.tv_reader.specs.declared.value_type.ValueType.TheVariants as types
 use Rattle.tv_store.specs.Documents.{IsReadingError, SaysNothing}
 use Rattle.tv_store.specs.RoundTrip.{asked, given, IsCalled, IsKept}
 use Rattle.tv_format.specs.InputError.{Refusal, corrupted, no_text_key}
@@ -119,23 +120,24 @@ kept_belongs schema values new h k =
 
 -- ---- what reading back returns
 
--- where the bytes aren't refused and no read fails, only memory and room are left
-pub only_short : (e : DeserializeError) (f g : Failures) → ((r : Refusal) → IsRefusal e r → ⊥) → IsReadingError e → g.last ≡ None → CountsStop (store_stop e) f g
+-- where the bytes aren't refused, more can be counted and no read fails, only memory and room are left
+pub only_short : (e : DeserializeError) (f g : Failures) → ((r : Refusal) → store_stop e ≡ InputError r → ⊥) → ((r : Refusal) → store_stop e ≡ Uncounted r → ⊥) → IsReadingError e → g.last ≡ None → CountsStop (store_stop e) f g
     → (e ≡ errors.Memory) ⊎ (e ≡ errors.HeapFull)
-only_short (errors.CorruptedValue c) f g error reading last counts = absurd (error (corrupted c) is_corrupted)
-only_short (errors.TypeMismatch expected actual) f g error reading last counts =
-    absurd (error (no_text_key (type_code actual)) (subst (λ (t : ValueType). IsRefusal (errors.TypeMismatch t actual) (no_text_key (type_code actual))) (sym reading) is_no_text))
-only_short errors.HeapFull f g error reading last counts = inr refl
-only_short (errors.Io k) f g error reading last counts = absurd (none_is (sym last ∙ counts.kept))
+only_short (errors.CorruptedValue TooLong) f g error long reading last counts = absurd (long (corrupted UnexpectedEnd) refl)
+only_short (errors.CorruptedValue c) f g error long reading last counts = absurd (error (corrupted c) refl)
+only_short (errors.TypeMismatch types.String actual) f g error long reading last counts = absurd (error (no_text_key (type_code actual)) refl)
+only_short errors.HeapFull f g error long reading last counts = inr refl
+only_short (errors.Io k) f g error long reading last counts = absurd (none_is (sym last ∙ counts.kept))
   where
     none_is : {A : Type 0} {x : A} → None ≡ Some x → ⊥
     none_is e = cc
-only_short errors.Memory f g error reading last counts = inl refl
-only_short (errors.UnsupportedType t) f g error reading last counts = absurd reading
-only_short (errors.Custom s) f g error reading last counts = absurd reading
-only_short (errors.UnsupportedVersion m n) f g error reading last counts = absurd reading
-only_short errors.AlreadyFailed f g error reading last counts = absurd reading
-only_short errors.TooDeep f g error reading last counts = absurd reading
+only_short errors.Memory f g error long reading last counts = inl refl
+only_short (errors.TypeMismatch expected actual) f g error long reading last counts = absurd counts
+only_short (errors.UnsupportedType t) f g error long reading last counts = absurd reading
+only_short (errors.Custom s) f g error long reading last counts = absurd reading
+only_short (errors.UnsupportedVersion m n) f g error long reading last counts = absurd reading
+only_short errors.AlreadyFailed f g error long reading last counts = absurd reading
+only_short errors.TooDeep f g error long reading last counts = absurd reading
 
 pub above : (n m : ℕ) → (n ≤ m → ⊥) → m < n
 above n m not = omega (arith, not)

@@ -6,13 +6,11 @@ use Rattle.tv_base.specs.Number.{Groups, last, more}
 use Rattle.tv_base.specs.Parts.{Begins}
 use Rattle.tv_base.specs.Source.{Failures}
 use Rattle.tv_base.specs.Stop.{Taken}
+use Rattle.tv_base.specs.Stop.Stop.{InputError}
 use Rattle.tv_doc.specs.declared.document.CompactDoc.{CompactDoc}
-use Rattle.tv_format.specs.Encoding.{EncodesDocument}
-use Rattle.tv_format.specs.Tree.{Document}
 use Rattle.tv_format.specs.Version.{Version}
-use Rattle.tv_legacy.specs.Legacy.{Legacy}
-use Rattle.tv_reader.specs.Error.{is_corrupted}
-use Rattle.tv_reader.specs.Finds.{FindsRoomy}
+use Rattle.tv_reader.specs.Error.{StoreMayStopRoomy}
+use Rattle.tv_reader.specs.Finds.{FindsIf}
 use Rattle.tv_reader.specs.declared.error.DeserializeError.{DeserializeError}
 use Rattle.tv_reader.specs.declared.error.DeserializeError.TheVariants as errors
 use Rattle.tv_skip.specs.Skip.{IsDocument}
@@ -20,13 +18,13 @@ use Rattle.tv_store.specs.Blocks.{as_passed, SaysEnd}
 use Rattle.tv_store.specs.Documents.{NoDocument}
 use Rattle.tv_store.specs.Reading.{passed}
 use Rattle.tv_store.proofs.Blocks.{at_end}
-use Rattle.tv_store.proofs.Promises.{end, FoundAs, refused_by}
+use Rattle.tv_store.proofs.Promises.{end, FoundAs, stopped_by}
 
 -- what was passed over is what the call says of it
 pub of_pass : {S : Type 0} {is_known : S → Type 0} {left : S → List ℕ} {failures : S → Failures} {old new : S} {count : ℕ} (v : Version) (read : Result (Unit {0}) DeserializeError) (result : Result Bool DeserializeError) → as_passed result ≡ read
-    → FindsRoomy is_known left failures old 0 new count read (λ b _. IsDocument v b) (NoDocument v) → FindsRoomy is_known left failures old 0 new count (as_passed result) (λ b _. IsDocument v b) (NoDocument v)
+    → FindsIf StoreMayStopRoomy is_known left failures old 0 new count read (λ b _. IsDocument v b) (NoDocument v) → FindsIf StoreMayStopRoomy is_known left failures old 0 new count (as_passed result) (λ b _. IsDocument v b) (NoDocument v)
 of_pass {is_known = is_known} {left = left} {failures = failures} {old = old} {new = new} {count = count} v read result same h =
-    subst (λ (r : Result (Unit {0}) DeserializeError). FindsRoomy is_known left failures old 0 new count r (λ b _. IsDocument v b) (NoDocument v)) (sym same) h
+    subst (λ (r : Result (Unit {0}) DeserializeError). FindsIf StoreMayStopRoomy is_known left failures old 0 new count r (λ b _. IsDocument v b) (NoDocument v)) (sym same) h
 
 abbrev FoundPassed : Version → Result (Unit {0}) DeserializeError → List ℕ → List ℕ → ℕ → Type 0
 FoundPassed v result old new count = FoundAs (passed (IsDocument v) (NoDocument v)) (λ (x : Unit {0}). x) result old new count
@@ -46,7 +44,7 @@ next_found v result old new count h is = subst (λ z. FoundPassed v (as_passed z
 
 pub next_end : (v : Version) (result : Result Bool DeserializeError) (old new : List ℕ) (count : ℕ) → FoundPassed v (as_passed result) old new count → Taken old new 0 count → count ≡ 0 → result ≡ Ok false → old ≡ []
 next_end v result old new count h t none is =
-    let r = refused_by (passed (IsDocument v) (NoDocument v)) (λ (x : Unit {0}). x) (as_passed result) old new count (omega (arith, none)) h (errors.CorruptedValue UnexpectedEnd) end (ap (λ z. as_passed z) is) is_corrupted in
+    let r = stopped_by (passed (IsDocument v) (NoDocument v)) (λ (x : Unit {0}). x) (as_passed result) old new count (errors.CorruptedValue UnexpectedEnd) {s = InputError end} h (ap (λ z. as_passed z) is) refl in
     no_bytes old t.prefix new t.joined (r.shows.all refl) (omega (arith, t.counted, none))
   where
     no_bytes : (old prefix new : List ℕ) → old ≡ prefix ++ new → new ≡ [] → length prefix ≡ 0 → old ≡ []

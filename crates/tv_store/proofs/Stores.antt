@@ -6,7 +6,8 @@ use Rattle.std.proofs.lemmas.List.Concat.{flat_map-cons}
 use Rattle.std.specs.declared.io.ErrorKind.{ErrorKind}
 use Rattle.tv_base.specs.Number.{four_bytes}
 use Rattle.tv_base.specs.Source.{Failures}
-use Rattle.tv_base.specs.Sink.{Writes, WritesBy}
+use Rattle.tv_base.specs.Sink.{WritesBy}
+use Rattle.tv_base.specs.Writing.{io_stop}
 use Rattle.tv_field.specs.Entry.{Entry}
 use Rattle.tv_format.specs.Tree.{Tree, Document}
 use Rattle.tv_format.specs.Short.{short, short_pair}
@@ -52,9 +53,9 @@ pair_next v field t bytes rest d cut is = ap (flat_map (short_pair v)) cut ∙ f
 
 -- what the sink told, in the words of the store
 pub writes_for : {S T U : Type 0} {is_known : S → Type 0} {held : S → List ℕ} {failures : S → Failures} {old new : S} {kind : ErrorKind} {text : List ℕ}
-    → Writes {T = T} is_known held failures old new (Err kind) text → WritesBy {T = U} write_stop is_known held failures old new (Err (write_error kind)) (Ok text)
+    → WritesBy {T = T} io_stop is_known held failures old new (Err kind) (Ok text) → WritesBy {T = U} write_stop is_known held failures old new (Err (write_error kind)) (Ok text)
 writes_for w = record { appends = w.appends; stays_known = w.stays_known; counts = w.counts }
 
 pub writes_all : {S T U : Type 0} {is_known : S → Type 0} {held : S → List ℕ} {failures : S → Failures} {old new : S} {x : T} {y : U} {text : List ℕ}
-    → Writes is_known held failures old new (Ok x) text → WritesBy write_stop is_known held failures old new (Ok y) (Ok text)
+    → WritesBy io_stop is_known held failures old new (Ok x) (Ok text) → WritesBy write_stop is_known held failures old new (Ok y) (Ok text)
 writes_all w = record { appends = w.appends; stays_known = w.stays_known; counts = w.counts }

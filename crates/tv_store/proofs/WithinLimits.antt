@@ -1,23 +1,24 @@
 -- Steps within limits, one after the other.
 use Rattle.std.proofs.Common.{◌≡◌, ℕ, ◌+◌, ◌-◌, ◌^◌, ◌<◌, ◌≤◌, Bool, List, [], ◌++◌, length, take, drop, Option, Some, None, Result, Ok, Err, refl, sym, ◌∙◌, ap, subst, arith, rules, append-nil, take_at, length-append, inl, inr}
-use Rattle.std.specs.Prelude.{◌↔◌, IsTrue, IsSome, IfOk, IfErr, IsErrOf}
+use Rattle.std.specs.Prelude.{◌↔◌, ◌≢◌, IsTrue, IsSome, IfOk, IfErr, IsErrOf}
 use Rattle.std.proofs.lemmas.Bool.{cases_lt}
 use Rattle.std.proofs.lemmas.List.{length-take, take-append-drop}
 use lib.Seq.{take-append-le}
 use Rattle.tv_base.specs.declared.cause.Cause.TheVariants.{UnexpectedEnd, TooLong}
 use Rattle.tv_base.specs.Parts.{Begins}
 use Rattle.tv_base.specs.declared.source.ByteSource.{Ghosts}
-use Rattle.tv_base.specs.ReadsAs.{EndsEarly, TakesMost}
+use Rattle.tv_base.specs.ReadsAs.{EndsEarly, IsReadUnless}
 use Rattle.tv_base.specs.Source.{Failures}
 use Rattle.tv_base.specs.Stop.{Stop, CountsStop, Counts, Taken}
+use Rattle.tv_base.specs.Stop.Stop.{InputError, Uncounted, Short}
 use Rattle.tv_builder.specs.Builder.{built, state_of, heap_so_far}
 use Rattle.tv_builder.specs.State.{State, in_lists, IsState, lists_of}
 use Rattle.tv_doc.specs.Document.{document_of}
 use Rattle.tv_doc.specs.declared.document.CompactDoc.{CompactDoc}
 use Rattle.tv_builder.specs.Prefix.{Encoded}
 use Rattle.tv_legacy.specs.Legacy.{Legacy}
-use Rattle.tv_reader.specs.Error.{store_stop, IsRefusal}
-use Rattle.tv_reader.specs.Finds.{Finds, GivesStop, Refuses}
+use Rattle.tv_reader.specs.Error.{store_stop, StoreMayStop}
+use Rattle.tv_reader.specs.Finds.{GivesStop, FindsIf}
 use Rattle.tv_reader.specs.declared.error.DeserializeError.{DeserializeError}
 use Rattle.tv_reader.specs.declared.error.DeserializeError.TheVariants as errors
 use Rattle.tv_reader.specs.declared.value_type.ValueType.TheVariants as types
@@ -35,11 +36,11 @@ use Rattle.tv_decoder.proofs.BufferedPairs.{none_passed}
 use Rattle.tv_decoder.proofs.States.{is_state}
 use Rattle.tv_builder.proofs.PairBuilding.{heap_weighs}
 use Rattle.tv_decoder.proofs.WholeDocuments.{Goes, step_more, step_fails, step_takes, done_encodes, awaits_more}
-use Rattle.tv_store.proofs.Promises.{refused_by, only_by, excluded, excused, single_documents}
+use Rattle.tv_store.proofs.Promises.{only_by, excluded, excused, single_documents}
 use Rattle.tv_store.specs.Reading.{documents}
-use Rattle.tv_store.specs.Documents.{BeginsWith, IsReadUnless, NoDocument, HasNoRoom, IsReadingError}
-use Rattle.tv_store.specs.Limits.{IsPast, Checks, FindsWithin, IsDeep, PassesDepth, IsLarge, IsAll, Unread, Comes, IsLimitedError, MayPass, ReadsWithin, StopsWithin, AllNestWithinLimit, TestsDepth}
-use Rattle.tv_store.specs.Limits.{first_count, limited_stop, FindsPart, Told}
+use Rattle.tv_store.specs.Documents.{BeginsWith, NoDocument, HasNoRoom, IsReadingError}
+use Rattle.tv_store.specs.Limits.{IsPast, Checks, FindsWithinBy, IsDeep, PassesDepth, IsLarge, IsAll, Unread, Comes, IsLimitedError, MayPass, ReadsWithin, StopsWithin, AllNestWithinLimit, TestsDepth}
+use Rattle.tv_store.specs.Limits.{first_count, limited_stop, FindsPartBy, Told}
 use Rattle.tv_store.specs.declared.limits.ReadLimits.{ReadLimits}
 use Rattle.tv_store.specs.declared.limits.ReadLimit.{ReadLimit}
 use Rattle.tv_store.specs.declared.limits.ReadLimit.TheVariants as limit
@@ -57,21 +58,21 @@ pub not_done : (r : Reading) → parts_read r ≡ [] → ¬ IsDone r
 not_done r e = not_done_at r.announced r.field (built r.builder) (state_of r.builder) r.finished e
 
 module _ {S : Type 0} {is_known : S → Type 0} {left : S → List ℕ} {failures : S → Failures} where
-  pub begins : (v : Version) (r : Reading) (source : S) (i : ℕ) → Finds is_known left failures source i source i (Ok r) (Goes v r) Nothing
+  pub begins : (v : Version) (r : Reading) (source : S) (i : ℕ) → FindsIf StoreMayStop is_known left failures source i source i (Ok r) (Goes v r) Nothing
   begins v r source i = none_passed (Goes v r) r (λ bytes p. subst (λ z. Encoded Legacy v z (parts_read r)) (sym (append-nil bytes)) p)
 
 module _ {S : Type 0} {is_known : S → Type 0} {left : S → List ℕ} {failures : S → Failures} (v w : Version) (same : w ≡ v) (begun r : Reading) where
-  pub goes_on : {old mid new : S} {i j k : ℕ} (step : Step) (legacy : Bool) (after : Reading) → Finds is_known left failures old i mid j (Ok r) (Goes v begun) Nothing
-      → Finds is_known left failures mid j new k (Ok step) (λ b _. Stepped w legacy r after b) (NoPrefix w r) → Finds is_known left failures old i new k (Ok after) (Goes v begun) Nothing
+  pub goes_on : {old mid new : S} {i j k : ℕ} (step : Step) (legacy : Bool) (after : Reading) → FindsIf StoreMayStop is_known left failures old i mid j (Ok r) (Goes v begun) Nothing
+      → FindsIf StoreMayStop is_known left failures mid j new k (Ok step) (λ b _. Stepped w legacy r after b) (NoPrefix w r) → FindsIf StoreMayStop is_known left failures old i new k (Ok after) (Goes v begun) Nothing
   goes_on step legacy after p h =
       step_more v begun r tt legacy after p (finds_as tt (λ b _. Stepped v legacy r after b) (NoPrefix v r) (λ a s. subst (λ z. Stepped z legacy r after a) same s) h)
 
-  pub takes_one : {mid new : S} {j k : ℕ} (step : Step) (legacy : Bool) (after : Reading) → Finds is_known left failures mid j new k (Ok step) (λ b _. Stepped w legacy r after b) (NoPrefix w r) → is_known mid → j < k
+  pub takes_one : {mid new : S} {j k : ℕ} (step : Step) (legacy : Bool) (after : Reading) → FindsIf StoreMayStop is_known left failures mid j new k (Ok step) (λ b _. Stepped w legacy r after b) (NoPrefix w r) → is_known mid → j < k
   takes_one step legacy after h told = step_takes w begun r tt legacy after (finds_as tt (λ b _. Stepped w legacy r after b) (NoPrefix w r) (λ a s. s) h) told
 
   -- so many steps that no more can be counted
-  pub too_many : {X : Type 0} {old mid : S} {i j : ℕ} (counter : ℕ) (B : List ℕ → X → Type 0) → IsSound r → ¬ IsDone r → j < 2 ^ 64 → 2 ^ 64 - 1 ≤ counter → (is_known old → counter + i ≤ j) → Finds is_known left failures old i mid j (Ok r) (Goes v begun) Nothing
-      → FindsWithin is_known left failures old i mid j (Err (errors.CorruptedValue TooLong)) B (NoPrefix v begun)
+  pub too_many : {X : Type 0} {old mid : S} {i j : ℕ} (counter : ℕ) (B : List ℕ → X → Type 0) → IsSound r → ¬ IsDone r → j < 2 ^ 64 → 2 ^ 64 - 1 ≤ counter → (is_known old → counter + i ≤ j) → FindsIf StoreMayStop is_known left failures old i mid j (Ok r) (Goes v begun) Nothing
+      → FindsWithinBy is_known left failures old i mid j (Err (errors.CorruptedValue TooLong)) B (NoPrefix v begun)
   too_many counter B sound more below many counts p = record {
     found = λ told. (omega (arith, below, many, counts told), awaits_more v begun r sound more p told);
     taken = p.taken;
@@ -81,8 +82,8 @@ module _ {S : Type 0} {is_known : S → Type 0} {left : S → List ℕ} {failure
     may_stop = tt;
   }
 
-  pub fails : {old mid new : S} {i j k : ℕ} {X : Type 0} (e : DeserializeError) (legacy : Bool) (after : Reading) (B : List ℕ → X → Type 0) → IsSound r → ¬ IsDone r → Finds is_known left failures old i mid j (Ok r) (Goes v begun) Nothing
-      → Finds {X = Step} is_known left failures mid j new k (Err e) (λ b _. Stepped w legacy r after b) (NoPrefix w r) → FindsWithin is_known left failures old i new k (Err e) B (NoPrefix v begun)
+  pub fails : {old mid new : S} {i j k : ℕ} {X : Type 0} (e : DeserializeError) (legacy : Bool) (after : Reading) (B : List ℕ → X → Type 0) → IsSound r → ¬ IsDone r → FindsIf StoreMayStop is_known left failures old i mid j (Ok r) (Goes v begun) Nothing
+      → FindsIf {X = Step} StoreMayStop is_known left failures mid j new k (Err e) (λ b _. Stepped w legacy r after b) (NoPrefix w r) → FindsWithinBy is_known left failures old i new k (Err e) B (NoPrefix v begun)
   fails e legacy after B sound more p h =
       finds_any (λ f n may. tt) (finds_fails B (NoPrefix v begun) (λ a f q. q)
       (step_fails v begun r e legacy after sound more p (finds_fails (λ b _. Stepped v legacy r after b) (NoPrefix v r) (λ a f q. subst (λ z. NoPrefix z r a f) same q) h)))
@@ -249,7 +250,7 @@ part_stop e all (limited.Read f) most H G a b first from i j k begun ended told 
 part_stop e all (limited.Limit l) most H G a b first from i j k begun ended told is rises same to stop = tt
 
 module _ {S X : Type 0} {is_known : S → Type 0} {left : S → List ℕ} {failures : S → Failures} {old new : S} {from i j k : ℕ} (first : ℕ) (begun : from ≡ first + i) (ended : k ≡ j - first) where
-  pub part_read : (x : X) (A B : List ℕ → X → Type 0) (H G : List ℕ → Refusal → Type 0) → ((b : List ℕ) → A b x → B b x) → Finds is_known left failures old from new j (Ok x) A H → FindsPart is_known left failures old i new k (Ok x) B G
+  pub part_read : (x : X) (A B : List ℕ → X → Type 0) (H G : List ℕ → Refusal → Type 0) → ((b : List ℕ) → A b x → B b x) → FindsIf StoreMayStop is_known left failures old from new j (Ok x) A H → FindsPartBy is_known left failures old i new k (Ok x) B G
   part_read x A B H G to h = record {
     found = λ told. let f = h.found told in record { prefix = f.prefix; joined = f.joined; encoded = to f.prefix f.encoded };
     taken = λ told. recounted (left old) (left new) first from i j k begun ended h.rises (h.taken told);
@@ -260,7 +261,7 @@ module _ {S X : Type 0} {is_known : S → Type 0} {left : S → List ℕ} {failu
   }
 
   pub part_refused : (e : DeserializeError) (all : Bool) (said : LimitedReadError) (most : Option ℕ) (A B : List ℕ → X → Type 0) (H G : List ℕ → Refusal → Type 0) → Told all e said → first ≡ first_count most → IsTrue all ↔ (IsSome most × (j ≡ 2 ^ 64 - 1))
-      → ((b : List ℕ) (f : Refusal) → H b f → G b f) → Finds is_known left failures old from new j (Err e) A H → FindsPart is_known left failures old i new k (Err said) B G
+      → ((b : List ℕ) (f : Refusal) → H b f → G b f) → FindsIf StoreMayStop is_known left failures old from new j (Err e) A H → FindsPartBy is_known left failures old i new k (Err said) B G
   part_refused e all said most A B H G told is same to h = record {
     found = λ known. part_stop e all said most H G (left old) (left new) first from i j k begun ended told is h.rises same to (h.found known);
     taken = λ known. recounted (left old) (left new) first from i j k begun ended h.rises (h.taken known);
@@ -272,7 +273,7 @@ module _ {S X : Type 0} {is_known : S → Type 0} {left : S → List ℕ} {failu
 
 -- more bytes are needed for the part
 pub part_early : {S X : Type 0} {is_known : S → Type 0} {left : S → List ℕ} {failures : S → Failures} {old new : S} {from j : ℕ} (e : DeserializeError) (all : Bool) (said : LimitedReadError) (A : List ℕ → X → Type 0) (H G : List ℕ → Refusal → Type 0) → Told all e said → said ≡ limited.Limit limit.Bytes
-    → ((b : List ℕ) (f : Refusal) → H b f → G b f) → Finds is_known left failures old from new j (Err e) A H → is_known old → EndsEarly (corrupted UnexpectedEnd) G (left old) (left new)
+    → ((b : List ℕ) (f : Refusal) → H b f → G b f) → FindsIf StoreMayStop is_known left failures old from new j (Err e) A H → is_known old → EndsEarly (corrupted UnexpectedEnd) G (left old) (left new)
 part_early {left = left} {old = old} {new = new} {j = j} e all said A H G told is to h known =
     let both = subst (λ z. Told all e z) is told in
     early_map (λ f. f) (left old) (left new) (corrupted UnexpectedEnd) to (early_of H e (left old) (left new) j both.1 (h.found known))
@@ -346,14 +347,15 @@ longer_in v most taken old new split all early d prefix rest joined encoded =
 full_in : (v : Version) (limits : ReadLimits) (old new : List ℕ) (result : Result CompactDoc LimitedReadError) → Comes v limits old new result → IsErrOf result (limited.Read errors.HeapFull) → HasNoRoom v old
 full_in v limits old new result comes is = (subst (λ z. Comes v limits old new z) is comes).outcome.full refl
 
-refused_in : (v : Version) (limits : ReadLimits) (old new : List ℕ) (result : Result CompactDoc LimitedReadError) → length old < 2 ^ 64 - 1 → Comes v limits old new result
-    → (e : DeserializeError) (r : Refusal) → IsErrOf result (limited.Read e) → IsRefusal e r → Refuses (corrupted UnexpectedEnd) (NoDocument v) old new r
-refused_in v limits old new result few comes e r is refusal =
-    let h = subst (λ z. Comes v limits old new z) is comes in
-    refused_by (documents v) document_of (Err e) old new (length h.taken) (omega (arith, few, ap length h.joined, length-append h.taken new)) h.outcome.stop e r refl refusal
-
-long_in : (v : Version) (limits : ReadLimits) (old new : List ℕ) (result : Result CompactDoc LimitedReadError) → Comes v limits old new result → IsErrOf result (limited.Read (errors.CorruptedValue TooLong)) → TakesMost old new
-long_in v limits old new result comes is = let h = subst (λ z. Comes v limits old new z) is comes in (h.taken, h.joined, h.outcome.stop.0)
+-- why an error stopped the reader
+stopped_in : (v : Version) (limits : ReadLimits) (old new : List ℕ) (result : Result CompactDoc LimitedReadError) (comes : Comes v limits old new result) (e : LimitedReadError) {s : Stop Refusal} → s ≢ Short → IsErrOf result e → limited_stop e ≡ s → GivesStop (corrupted UnexpectedEnd) (NoDocument v) old new (length comes.taken) s
+stopped_in v limits old new (Ok d) comes e other is says = absurd (cc)
+stopped_in v limits old new (Err (limited.Read f)) comes e other is says =
+    let same : limited.Read f ≡ e = cc in
+    subst (GivesStop (corrupted UnexpectedEnd) (NoDocument v) old new (length comes.taken)) (ap limited_stop same ∙ says) comes.outcome.stop
+stopped_in v limits old new (Err (limited.Limit l)) comes e other is says =
+    let same : limited.Limit l ≡ e = cc in
+    absurd (other (sym says ∙ sym (ap limited_stop same)))
 
 only_in : (v : Version) (limits : ReadLimits) (old new : List ℕ) (result : Result CompactDoc LimitedReadError) → length old < 2 ^ 64 - 1 → Comes v limits old new result
     → (d : Document) (prefix rest : List ℕ) → old ≡ prefix ++ rest → EncodesDocument Legacy v prefix d → document_room d ≤ 4294967295 → IsReadUnless (MayPass limits.bytes prefix) document_of result d rest new
@@ -371,12 +373,15 @@ module _ {S : Type 0} (source : Ghosts S) (v : Version) (limits : ReadLimits) {o
   reads_within result comes may counts stays = record {
     found = λ known. found_in v limits (source.left old) (source.left new) result (comes known);
     only = λ known. only_in v limits (source.left old) (source.left new) result known.1 (comes known.0);
-    error = λ known e r is refusal. (refused_in v limits (source.left old) (source.left new) result known.1 (comes known.0) e r is refusal).stands;
-    full = λ known is. full_in v limits (source.left old) (source.left new) result (comes known) is;
+    error = λ known e r is says. (stopped_in v limits (source.left old) (source.left new) result (comes known) e {s = InputError r} (λ same. cc) is says).stands;
+    shows = λ known e r is says. (stopped_in v limits (source.left old) (source.left new) result (comes known) e {s = InputError r} (λ same. cc) is says).shows;
+    too_long = λ known e r is says.
+        let t = comes known in
+        (t.taken, t.joined, (stopped_in v limits (source.left old) (source.left new) result t e {s = Uncounted r} (λ same. cc) is says).0);
+    ends_early = λ known e r is says. (stopped_in v limits (source.left old) (source.left new) result (comes known) e {s = Uncounted r} (λ same. cc) is says).1;
+    full = λ known e is full. full_in v limits (source.left old) (source.left new) result (comes known) (is ∙ ap (λ x. Err x) full);
     errors = may;
-    shows = λ known e r is refusal. (refused_in v limits (source.left old) (source.left new) result known.1 (comes known.0) e r is refusal).shows;
     taken = λ known. let t = comes known in (t.taken, t.joined);
-    too_long = λ known is. long_in v limits (source.left old) (source.left new) result (comes known) is;
     failures = counts;
     stays_known = stays;
   }

@@ -1,5 +1,30 @@
--- What a decoder returns and leaves.
-use Rattle.std.specs.Prelude.{◌≡◌, Result}
+-- The promise of a step: what a step of a decoder does to the decoder and to its source, whatever its errors are.
+--
+-- A call that makes this promise does the following.
+--   refused    After a refusal it returns one error, and nothing happens.
+--   finished   Once all announced pairs are finished it says so, and nothing happens.
+--   finds      Else the bytes that it took encode the next part, which has come then; or they show why none has. It counts what it took.
+--   full       It says that there is no room only where what has come and the next part have none.
+--   done       It says that it was the last exactly where all announced pairs are finished then.
+--   live       After it succeeded, the decoder isn't refused.
+--   mark       After an error it is.
+--   version    The version stays.
+use Rattle.std.specs.Prelude.{◌≡◌, ◌↔◌, ℕ, List, length, true, false, Result, Ok, Err, IfOk, IsErrOf, OnOk, OnErr}
+use Rattle.tv_base.specs.declared.source.ByteSource.{Ghosts}
+use Rattle.tv_base.specs.ReadsAs.{Errors}
+use Rattle.tv_builder.specs.Prefix.{Encoded}
+use Rattle.tv_decoder.specs.Paid.{PaidBy}
+use Rattle.tv_decoder.specs.Prefix.{parts_read, IsDone, NoPrefix, NoRoomBehind}
+use Rattle.tv_decoder.specs.Steps.{Stepped}
+use Rattle.tv_format.specs.Encoding.{NoLegacy}
+use Rattle.tv_format.specs.InputError.{Refusal}
+use Rattle.tv_reader.specs.Error.{StoreMayStop}
+use Rattle.tv_reader.specs.Finds.{FindsBy}
+use Rattle.tv_reader.specs.Version.{version_of}
+use Rattle.tv_reader.specs.declared.error.DeserializeError.{DeserializeError}
+use Rattle.tv_reader.specs.declared.error.DeserializeError.TheVariants.{AlreadyFailed}
+use Rattle.tv_store.specs.Reading.{reading}
+use Rattle.tv_store.specs.declared.direct_decoder.DirectDecoder.{DirectDecoder}
 use Rattle.tv_store.specs.declared.direct_decoder.Step.{Step}
 use Rattle.tv_store.specs.declared.direct_decoder.Step.TheVariants.{More, Done}
 
@@ -12,3 +37,22 @@ pub record Rests {D S T E : Type 0} (old new : D) (source_old source_new : S) (r
   pub answers : result ≡ answer
   pub same : new ≡ old
   pub unread : source_new ≡ source_old
+
+pub record Steps {E S : Type 0} (kind : Errors Refusal E) (MayStop : E → ℕ → Type 0) (again : E) (source : Ghosts S) (source_old source_new : S) (old new : DirectDecoder) (result : Result Step E) : Type 0 where
+  pub refused : old.failed ≡ true → Rests old new source_old source_new result (Err again)
+  pub finished : old.failed ≡ false → IsDone old.reading → Rests old new source_old source_new result (Ok Done)
+  pub finds : old.failed ≡ false → ¬ IsDone old.reading → FindsBy kind.stop MayStop kind.end source.is_known source.left source.failures source_old old.count source_new new.count result (λ b _. Stepped (version_of old.version) new.legacy_seen old.reading new.reading b) (NoPrefix (version_of old.version) old.reading)
+  pub full : source.is_known source_old → (e : E) → IsErrOf result e → kind.IsFull e → NoRoomBehind (version_of old.version) old.reading (source.left source_old)
+  pub done : IfOk result (λ step. SaysDone step ↔ IsDone new.reading)
+  pub live : OnOk result (new.failed ≡ false)
+  pub mark : OnErr result (new.failed ≡ true)
+  pub version : new.version ≡ old.version
+
+-- a step without limits
+abbrev pub ReadsStep : {S : Type 0} (source : Ghosts S) (source_old source_new : S) (old new : DirectDecoder) (result : Result Step DeserializeError) → Type 0
+ReadsStep source source_old source_new old new result = Steps reading StoreMayStop AlreadyFailed source source_old source_new old new result
+
+-- Where what had come was paid for by the bytes that were read, what has come then is, too, unless an object as older stores hold it was met.
+abbrev pub StaysPaid : DirectDecoder → DirectDecoder → Type 0
+StaysPaid old new =
+    old.failed ≡ false → (bytes : List ℕ) → Encoded NoLegacy (version_of old.version) bytes (parts_read old.reading) → old.count ≡ length bytes → new.legacy_seen ≡ false → PaidBy new.reading.builder new.count

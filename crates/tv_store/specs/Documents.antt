@@ -1,15 +1,13 @@
 -- What reading a document returns.
-use Rattle.std.specs.Prelude.{◌≡◌, ℕ, List, Result, Ok, Err}
-use Rattle.tv_base.specs.declared.cause.Cause.TheVariants.{UnexpectedEnd}
+use Rattle.std.specs.Prelude.{◌≡◌, ℕ, List, Result}
 use Rattle.tv_base.specs.Parts.{Begins}
-use Rattle.tv_base.specs.ReadsAs.{Shows}
+use Rattle.tv_base.specs.ReadsAs.{IsReadUnless}
 use Rattle.tv_doc.specs.declared.document.CompactDoc.{CompactDoc}
 use Rattle.tv_doc.specs.Document.{document_of}
 use Rattle.tv_legacy.specs.Legacy.{Legacy}
 use Rattle.tv_reader.specs.declared.error.DeserializeError.{DeserializeError}
 use Rattle.tv_reader.specs.declared.error.DeserializeError.TheVariants as errors
 use Rattle.tv_reader.specs.declared.value_type.ValueType.TheVariants.{String}
-use Rattle.tv_format.specs.InputError.{Refusal, corrupted}
 use Rattle.tv_format.specs.Encoding.{EncodesDocument}
 use Rattle.tv_format.specs.Tree.{Document}
 use Rattle.tv_format.specs.Version.{Version}
@@ -31,18 +29,9 @@ SaysNothing (errors.Io k) = Unit {0}
 SaysNothing errors.Memory = Unit {0}
 SaysNothing _ = ⊥
 
--- this value is returned and this rest left, unless an error comes that may come all the same
-abbrev pub IsReadUnless : {X Y E : Type 0} → (E → Type 0) → (X → Y) → Result X E → Y → List ℕ → List ℕ → Type 0
-IsReadUnless MayComeStill view (Ok x) y rest left = (view x ≡ y) × (left ≡ rest)
-IsReadUnless MayComeStill view (Err e) y rest left = MayComeStill e
-
 -- this document is returned and this rest left, unless the source failed or memory was refused
 abbrev pub Answers : Result CompactDoc DeserializeError → Document → List ℕ → List ℕ → Type 0
 Answers result d rest left = IsReadUnless SaysNothing document_of result d rest left
-
--- just the bytes that show the refusal were taken
-abbrev pub ShowsRefusal : Version → List ℕ → List ℕ → Refusal → Type 0
-ShowsRefusal v old new r = Shows (corrupted UnexpectedEnd) (NoDocument v) old new r
 
 -- the errors that reading a document has
 abbrev pub IsReadingError : DeserializeError → Type 0

@@ -12,4 +12,3 @@ pub mod Nested
 pub mod Depth
 pub mod Limits
 pub use Rattle.tv_writer.specs.Serialized
-pub mod Chosen

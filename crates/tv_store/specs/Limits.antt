@@ -1,18 +1,18 @@
 -- What reading a document within limits returns.
-use Rattle.std.specs.Prelude.{◌≡◌, ◌⊎◌, ℕ, Bool, IsTrue, ◌+◌, ◌-◌, ◌^◌, ◌<◌, List, ◌++◌, length, Option, Some, None, Result, Ok, Err, IsErrOf, IsSome}
+use Rattle.std.specs.Prelude.{◌≡◌, ◌⊎◌, ℕ, Bool, IsTrue, ◌+◌, ◌-◌, ◌^◌, ◌<◌, List, ◌++◌, length, Option, Some, None, Result, Ok, Err, IsErrOf, IsSome, false}
 use Rattle.tv_base.specs.declared.cause.Cause.TheVariants.{UnexpectedEnd, TooLong}
 use Rattle.tv_base.specs.declared.source.ByteSource.{Ghosts}
 use Rattle.tv_base.specs.Parts.{Begins}
-use Rattle.tv_base.specs.ReadsAs.{EndsEarly}
+use Rattle.tv_base.specs.ReadsAs.{EndsEarly, Errors, Reads}
 use Rattle.tv_base.specs.Source.{Failures}
-use Rattle.tv_base.specs.Stop.{Stop}
+use Rattle.tv_base.specs.Stop.{Stop, CountsStop}
 use Rattle.tv_base.specs.Stop.Stop.{Short}
 use Rattle.tv_builder.specs.Behind.{open_parts}
 use Rattle.tv_builder.specs.Builder.{built, state_of, heap_so_far}
 use Rattle.tv_builder.specs.Prefix.{Encoded}
 use Rattle.tv_builder.specs.State.{State, IsState, lists_of}
 use Rattle.tv_decoder.specs.Kept.{Grows, KeepsPairs}
-use Rattle.tv_decoder.specs.Prefix.{parts_read, IsSound, HasNoRoom}
+use Rattle.tv_decoder.specs.Prefix.{parts_read, IsDone, IsSound, HasNoRoom, NoPrefix}
 use Rattle.tv_decoder.specs.declared.reading.Reading.{Reading}
 use Rattle.tv_builder.specs.Weight.{state_weight}
 use Rattle.tv_heap.specs.Weight.{document_weight}
@@ -21,6 +21,7 @@ use Rattle.tv_doc.specs.declared.document.CompactDoc.{CompactDoc}
 use Rattle.tv_legacy.specs.Legacy.{Legacy}
 use Rattle.tv_reader.specs.Error.{store_stop}
 use Rattle.tv_reader.specs.Finds.{FindsBy, GivesStop}
+use Rattle.tv_reader.specs.Version.{version_of}
 use Rattle.tv_reader.specs.declared.error.DeserializeError.{DeserializeError}
 use Rattle.tv_reader.specs.declared.error.DeserializeError.TheVariants as errors
 use Rattle.tv_format.specs.Encoding.{EncodesDocument}
@@ -29,7 +30,12 @@ use Rattle.tv_format.specs.Tree.{Document}
 use Rattle.tv_format.specs.Version.{Version}
 use Rattle.tv_value.specs.Nesting.{AllNestWithin}
 use Rattle.tv_store.specs.Documents.{SaysNothing, NoDocument, IsReadingError}
-use Rattle.tv_store.specs.Reading.{Errors, Reads, documents}
+use Rattle.tv_store.specs.Blocks.{as_read_within}
+use Rattle.tv_store.specs.Decoder.{Steps}
+use Rattle.tv_store.specs.Reading.{documents, resumed}
+use Rattle.tv_store.specs.declared.block.BlockReader.{BlockReader}
+use Rattle.tv_store.specs.declared.direct_decoder.DirectDecoder.{DirectDecoder}
+use Rattle.tv_store.specs.declared.direct_decoder.Step.{Step}
 use Rattle.tv_store.specs.declared.limits.ReadLimits.{ReadLimits}
 use Rattle.tv_store.specs.declared.limits.ReadLimit.{ReadLimit}
 use Rattle.tv_store.specs.declared.limits.ReadLimit.TheVariants as limit
@@ -65,8 +71,12 @@ Told took_all e (limited.Limit limit.Depth) = ⊥
 
 -- ---- what is found
 
-abbrev pub FindsWithin : {S X : Type 0} (is_known : S → Type 0) (left : S → List ℕ) (failures : S → Failures) (old : S) (old_count : ℕ) (new : S) (new_count : ℕ) (result : Result X DeserializeError) (Encodes : List ℕ → X → Type 0) (HasError : List ℕ → Refusal → Type 0) → Type 0
-FindsWithin is_known left failures old old_count new new_count result Encodes HasError = FindsBy store_stop (λ _ _. Unit {0}) (corrupted UnexpectedEnd) is_known left failures old old_count new new_count result Encodes HasError
+abbrev pub FindsWithinBy : {S X : Type 0} (is_known : S → Type 0) (left : S → List ℕ) (failures : S → Failures) (old : S) (old_count : ℕ) (new : S) (new_count : ℕ) (result : Result X DeserializeError) (Encodes : List ℕ → X → Type 0) (HasError : List ℕ → Refusal → Type 0) → Type 0
+FindsWithinBy is_known left failures old old_count new new_count result Encodes HasError = FindsBy store_stop (λ _ _. Unit {0}) (corrupted UnexpectedEnd) is_known left failures old old_count new new_count result Encodes HasError
+
+-- the same, as contracts say it, of a source
+abbrev pub FindsWithin : {S X : Type 0} (source : Ghosts S) (old : S) (old_count : ℕ) (new : S) (new_count : ℕ) (result : Result X DeserializeError) (Encodes : List ℕ → X → Type 0) (HasError : List ℕ → Refusal → Type 0) → Type 0
+FindsWithin source old old_count new new_count result Encodes HasError = FindsWithinBy source.is_known source.left source.failures old old_count new new_count result Encodes HasError
 
 -- why it stopped, as its source sees it
 abbrev pub limited_stop : LimitedReadError → Stop Refusal
@@ -74,8 +84,11 @@ limited_stop (limited.Read e) = store_stop e
 limited_stop (limited.Limit l) = Short
 
 -- the same of a part, where a limit may be passed
-abbrev pub FindsPart : {S X : Type 0} (is_known : S → Type 0) (left : S → List ℕ) (failures : S → Failures) (old : S) (old_count : ℕ) (new : S) (new_count : ℕ) (result : Result X LimitedReadError) (Encodes : List ℕ → X → Type 0) (HasError : List ℕ → Refusal → Type 0) → Type 0
-FindsPart is_known left failures old old_count new new_count result Encodes HasError = FindsBy limited_stop (λ _ _. Unit {0}) (corrupted UnexpectedEnd) is_known left failures old old_count new new_count result Encodes HasError
+abbrev pub FindsPartBy : {S X : Type 0} (is_known : S → Type 0) (left : S → List ℕ) (failures : S → Failures) (old : S) (old_count : ℕ) (new : S) (new_count : ℕ) (result : Result X LimitedReadError) (Encodes : List ℕ → X → Type 0) (HasError : List ℕ → Refusal → Type 0) → Type 0
+FindsPartBy is_known left failures old old_count new new_count result Encodes HasError = FindsBy limited_stop (λ _ _. Unit {0}) (corrupted UnexpectedEnd) is_known left failures old old_count new new_count result Encodes HasError
+
+abbrev pub FindsPart : {S X : Type 0} (source : Ghosts S) (old : S) (old_count : ℕ) (new : S) (new_count : ℕ) (result : Result X LimitedReadError) (Encodes : List ℕ → X → Type 0) (HasError : List ℕ → Refusal → Type 0) → Type 0
+FindsPart source old old_count new new_count result Encodes HasError = FindsPartBy source.is_known source.left source.failures old old_count new new_count result Encodes HasError
 
 -- no limit is passed but that of the bytes, and that one where just as many were taken
 abbrev pub IsCapped : Option ℕ → ℕ → LimitedReadError → Type 0
@@ -180,12 +193,17 @@ MayPass most prefix (limited.Limit limit.Bytes) = IsPast most (length prefix)
 MayPass most prefix (limited.Limit l) = Unit {0}
 
 -- the errors of reading within limits
-abbrev pub within : ReadLimits → Errors LimitedReadError
-within limits = record { told = λ e. limited.Read e; stop = limited_stop; MayCome = IsLimitedError limits; MayComeStill = MayPass limits.bytes }
+abbrev pub within : ReadLimits → Errors Refusal LimitedReadError
+within limits = record { end = corrupted UnexpectedEnd; stop = limited_stop; IsFull = λ e. e ≡ limited.Read errors.HeapFull; MayCome = IsLimitedError limits; MayComeStill = MayPass limits.bytes; IsCounted = λ e. CountsStop (limited_stop e) }
 
 -- a document is read within limits
 abbrev pub ReadsWithin : Version → ReadLimits → {S : Type 0} (source : Ghosts S) (old new : S) (result : Result CompactDoc LimitedReadError) → Type 0
 ReadsWithin v limits source old new result = Reads (within limits) (documents v) source old new document_of result
+
+-- a reader of blocks read the next document within limits
+abbrev pub ReadsNextWithin : ReadLimits → {S : Type 0} (source : Ghosts S) (source_old source_new : S) (old new : BlockReader) (result : Result Bool LimitedReadError) → Type 0
+ReadsNextWithin limits source source_old source_new old new result =
+    Reads (resumed old.failed (limited.Read errors.AlreadyFailed) (within limits)) (documents (version_of old.version)) source source_old source_new document_of (as_read_within result new.document)
 
 -- what was taken where a limit is passed, and that no more was than may be, whatever is returned
 pub record StopsWithin {S X : Type 0} (v : Version) (limits : ReadLimits) (source : Ghosts S) (old new : S) (result : Result X LimitedReadError) : Type 0 where
@@ -195,3 +213,22 @@ pub record StopsWithin {S X : Type 0} (v : Version) (limits : ReadLimits) (sourc
   -- a document needs more
   pub ends : source.is_known old → IsErrOf result (limited.Limit limit.Bytes) → EndsEarly (corrupted UnexpectedEnd) (NoDocument v) (source.left old) (source.left new)
   pub most : source.is_known old → Begins (λ b. ¬ IsPast limits.bytes (length b)) (source.left old) (source.left new)
+
+-- ---- a step within limits
+
+abbrev pub ReadsStepWithin : ReadLimits → {S : Type 0} (source : Ghosts S) (source_old source_new : S) (old new : DirectDecoder) (result : Result Step LimitedReadError) → Type 0
+ReadsStepWithin limits source source_old source_new old new result = Steps (within limits) (λ _ _. Unit {0}) (limited.Read errors.AlreadyFailed) source source_old source_new old new result
+
+-- Where the part passes the limit of the bytes, and not more were taken before, what was taken of the part ends too early.
+abbrev pub EndsPart : ReadLimits → {S : Type 0} (source : Ghosts S) (source_old source_new : S) (old : DirectDecoder) (result : Result Step LimitedReadError) → Type 0
+EndsPart limits source source_old source_new old result =
+    old.failed ≡ false → ¬ IsDone old.reading → ¬ IsPast limits.bytes old.count → source.is_known source_old → IsErrOf result (limited.Limit limit.Bytes)
+    → EndsEarly (corrupted UnexpectedEnd) (NoPrefix (version_of old.version) old.reading) (source.left source_old) (source.left source_new)
+
+-- A part that has come is within the limits, or the limit that is told is passed.
+abbrev pub TestsPart : ReadLimits → DirectDecoder → DirectDecoder → Result Step LimitedReadError → Type 0
+TestsPart limits old new result =
+    old.failed ≡ false → ¬ IsDone old.reading → TestsLimits limits old.count new.count (length (heap_so_far new.reading.builder)) (length (lists_of (state_of new.reading.builder))) result
+
+abbrev pub LeavesPart : DirectDecoder → DirectDecoder → Result Step LimitedReadError → Type 0
+LeavesPart old new result = old.failed ≡ false → ¬ IsDone old.reading → Leaves old.reading new.reading result

@@ -1,50 +1,45 @@
 -- What comes of a document that is read in one version and written in another.
-use Rattle.std.specs.Prelude.{◌≡◌, ℕ, List, ◌++◌, Result, Ok, Err}
-use Rattle.tv_base.specs.Sink.{Begins}
+--
+-- A call that makes this promise reads a document as `read_document` does, and returns its error if there is none; then nothing is written.
+-- A document that was read is written in the other version, in the shortest encoding. After an error of writing the sink holds a beginning of
+-- that, and the source stands behind the document.
+use Rattle.std.specs.Prelude.{◌≡◌, Result, Ok, Err, IfErr}
+use Rattle.tv_base.specs.declared.sink.ByteSink.{Ghosts as Sink}
+use Rattle.tv_base.specs.declared.source.ByteSource.{Ghosts as Source}
+use Rattle.tv_base.specs.Sink.{WritesBy}
 use Rattle.tv_base.specs.Stop.{Stop}
-use Rattle.tv_base.specs.Stop.Stop.{Short}
-use Rattle.tv_reader.specs.Error.{store_stop}
+use Rattle.tv_base.specs.Stop.Stop.{Never}
+use Rattle.tv_doc.specs.Document.{document_of}
+use Rattle.tv_doc.specs.declared.document.CompactDoc.{CompactDoc}
+use Rattle.tv_format.specs.Short.{short_document, IsDocument}
+use Rattle.tv_format.specs.Version.{Version}
+use Rattle.tv_reader.specs.declared.error.DeserializeError.{DeserializeError}
 use Rattle.tv_reader.specs.declared.error.DeserializeError.TheVariants as errors
-use Rattle.tv_store.specs.Documents.{BeginsWith, IsReadingError, SaysNothing}
+use Rattle.tv_store.specs.Reading.{ReadsDocument}
 use Rattle.tv_store.specs.declared.migration.MigrateError.{MigrateError}
 use Rattle.tv_store.specs.declared.migration.MigrateError.TheVariants.{Read, Write}
-use Rattle.tv_format.specs.InputError.{Refusal}
-use Rattle.tv_format.specs.Short.{short_document, IsDocument}
-use Rattle.tv_format.specs.Tree.{Document}
-use Rattle.tv_format.specs.Version.{Version}
 use Rattle.tv_writer.specs.Error.{Unwritten, write_stop, IsIoOrMemory}
 use Rattle.tv_writer.specs.declared.error.SerializeError.TheVariants as writes
 
--- A prefix of the bytes encodes a document in the one version, and the rest is left. The document has an encoding in the other, and P
--- holds of that.
-pub record Transcribes (from to : Version) (bytes rest : List ℕ) (P : List ℕ → Type 0) : Type 0 where
-  pub document : Document
-  pub read : BeginsWith from bytes rest document
-  pub valid : IsDocument document
-  pub written : P (short_document to document)
-
--- This text is appended and this rest left, unless the source or the sink failed or memory was refused. Where the sink failed, or memory
--- was refused in writing, a beginning of the text is appended.
-abbrev pub AppendsMigrated : {T : Type 0} → Result T MigrateError → List ℕ → List ℕ → List ℕ → List ℕ → List ℕ → Type 0
-AppendsMigrated (Ok x) text rest left old new = (left ≡ rest) × (new ≡ old ++ text)
-AppendsMigrated (Err (Write (writes.Io kind))) text rest left old new = (left ≡ rest) × Begins old new text
-AppendsMigrated (Err (Write writes.Memory)) text rest left old new = (left ≡ rest) × Begins old new text
-AppendsMigrated (Err (Write _)) text rest left old new = ⊥
-AppendsMigrated (Err (Read e)) text rest left old new = SaysNothing e
-
--- the errors that a migration has
-abbrev pub IsMigrationError : MigrateError → Type 0
-IsMigrationError (Read e) = IsReadingError e
-IsMigrationError (Write e) = IsIoOrMemory e
-
--- why it stopped, as its source sees it, and as its sink does
-abbrev pub source_stop : MigrateError → Stop Refusal
-source_stop (Read e) = store_stop e
-source_stop (Write e) = Short
-
+-- why writing stopped
 abbrev pub sink_stop : MigrateError → Stop Unwritten
-sink_stop (Read e) = Short
+sink_stop (Read e) = Never
 sink_stop (Write e) = write_stop e
+
+-- the sink failed, or memory was refused in writing
+abbrev pub IsUnwritten : MigrateError → Type 0
+IsUnwritten (Read e) = ⊥
+IsUnwritten (Write e) = IsIoOrMemory e
+
+-- what is written of what was read
+abbrev pub Rewrites : {K : Type 0} → Version → Sink K → K → K → Result CompactDoc DeserializeError → Result (Unit {0}) MigrateError → Type 0
+Rewrites to sink old new (Ok d) result = IsDocument (document_of d) × WritesBy sink_stop sink.is_known sink.held sink.failures old new result (Ok (short_document to (document_of d))) × IfErr result IsUnwritten
+Rewrites to sink old new (Err e) result = (result ≡ Err (Read e)) × (new ≡ old)
+
+pub record Migrates {S K : Type 0} (from to : Version) (source : Source S) (source_old source_new : S) (sink : Sink K) (sink_old sink_new : K) (result : Result (Unit {0}) MigrateError) : Type 0 where
+  pub read : Result CompactDoc DeserializeError
+  pub reads : ReadsDocument from source source_old source_new document_of read
+  pub rewrites : Rewrites to sink sink_old sink_new read result
 
 -- no more memory could be had
 abbrev pub IsMemory : MigrateError → Type 0

@@ -1,8 +1,10 @@
 -- What is left to be written of lists that are open, and what is written of it up to a list within them.
 use Rattle.std.specs.Prelude.{◌≡◌, ℕ, List, [], ◌∷◌, ◌++◌, Result, Ok, Err, Option, Some, None}
 use Rattle.std.specs.declared.io.ErrorKind.{ErrorKind}
-use Rattle.tv_base.specs.Sink.{Writes}
+use Rattle.tv_base.specs.declared.sink.ByteSink.{Ghosts}
+use Rattle.tv_base.specs.Sink.{WritesBy}
 use Rattle.tv_base.specs.Source.{Failures}
+use Rattle.tv_base.specs.Writing.{io_stop}
 use Rattle.tv_format.specs.Short.{short_elements, short_entries}
 use Rattle.tv_format.specs.Tree.{array, object, elements, entries}
 use Rattle.tv_format.specs.Version.{Version}
@@ -33,9 +35,13 @@ inner_left v None = []
 inner_left v (Some both) = bytes_left v both.1 ++ bytes_left v both.0
 
 -- a prefix of the text was written, and the rest is what is left; or the sink failed, and a beginning of the text was written
-abbrev pub WritesBefore : {S T : Type 0} (is_known : S → Type 0) (held : S → List ℕ) (failures : S → Failures) (old new : S) (result : Result T ErrorKind) (left : T → List ℕ) (text : List ℕ) → Type 0
-WritesBefore is_known held failures old new (Ok x) left text = (prefix : List ℕ) × (text ≡ prefix ++ left x) × Writes {T = Unit {0}} is_known held failures old new (Ok tt) prefix
-WritesBefore is_known held failures old new (Err kind) left text = Writes {T = Unit {0}} is_known held failures old new (Err kind) text
+abbrev pub WritesBeforeBy : {S T : Type 0} (is_known : S → Type 0) (held : S → List ℕ) (failures : S → Failures) (old new : S) (result : Result T ErrorKind) (left : T → List ℕ) (text : List ℕ) → Type 0
+WritesBeforeBy is_known held failures old new (Ok x) left text = (prefix : List ℕ) × (text ≡ prefix ++ left x) × WritesBy {T = Unit {0}} io_stop is_known held failures old new (Ok tt) (Ok prefix)
+WritesBeforeBy is_known held failures old new (Err kind) left text = WritesBy {T = Unit {0}} io_stop is_known held failures old new (Err kind) (Ok text)
+
+-- the same, as contracts say it, of a sink
+abbrev pub WritesBefore : {S T : Type 0} (sink : Ghosts S) (old new : S) (result : Result T ErrorKind) (left : T → List ℕ) (text : List ℕ) → Type 0
+WritesBefore sink old new result left text = WritesBeforeBy sink.is_known sink.held sink.failures old new result left text
 
 -- a value without children
 abbrev pub IsSingle : Encoded → Type 0

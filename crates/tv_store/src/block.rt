@@ -1,6 +1,6 @@
 //! Documents that stand one behind the other, read in the memory of one.
 
-ghost use Rattle.std.specs.Prelude.{◌≡◌, ◌≢◌, ◌<◌, ◌++◌, [], ℕ, List, length, true, false, Ok, Err, IsErrOf, OnOk, OnErr};
+ghost use Rattle.std.specs.Prelude.{◌≡◌, ◌≢◌, ◌<◌, [], length, true, false, Ok, Err, IsErrOf, OnOk, OnErr};
 ghost use Rattle.tv_base.specs.declared.cause.Cause.TheVariants.{UnexpectedEnd};
 ghost use Rattle.tv_doc.specs.Document.{document_of, heap_of};
 ghost use Rattle.tv_doc.specs.declared.document.CompactDoc.{CompactDoc};
@@ -9,8 +9,8 @@ ghost use Rattle.tv_reader.specs.declared.error.DeserializeError.TheVariants.{Al
 ghost use Rattle.tv_reader.specs.declared.error.DeserializeError.TheVariants.{CorruptedValue, HeapFull};
 ghost use Rattle.tv_store.specs.Blocks.{as_read, as_read_within, as_passed, SaysEnd, SaysEndWithin};
 ghost use Rattle.tv_store.specs.Documents.{in_place};
-ghost use Rattle.tv_store.specs.Limits.{AllNestWithinLimit, IsPast, ReadsWithin, StopsWithin};
-ghost use Rattle.tv_store.specs.Reading.{PassesDocument, ReadsDocument};
+ghost use Rattle.tv_store.specs.Limits.{AllNestWithinLimit, IsPast, ReadsNextWithin, StopsWithin};
+ghost use Rattle.tv_store.specs.Reading.{PassesNext, ReadsNext};
 ghost use Rattle.tv_store.specs.declared.limits.LimitedReadError.TheVariants.{Read};
 
 use crate::de::take_in_place;
@@ -102,9 +102,7 @@ impl BlockReader {
         ensures mark { OnErr result (self.new.failed ≡ true) }
 
         // a document is read, where the end is read as one that is cut off
-        ensures reads { self.old.failed ≡ false
-            → ReadsDocument (version_of self.old.version) S.ByteSource source.old source.new
-            document_of (as_read result self.new.document) }
+        ensures reads { ReadsNext S.ByteSource source.old source.new self.old self.new result }
         ensures fewer { S.is_known source.old → result ≡ Ok true
             → length (S.left source.new) < length (S.left source.old) }
         ensures none { self.old.failed ≡ false → result ≢ Ok true
@@ -115,11 +113,6 @@ impl BlockReader {
             → S.left source.old ≡ [] }
         ensures ended { self.old.failed ≡ false → S.is_known source.old → S.left source.old ≡ []
             → SaysEnd result }
-
-        // a slice of what was left is taken, and after a refusal none
-        ensures taken { S.is_known source.old
-            → (prefix : List ℕ) × (S.left source.old ≡ prefix ++ S.left source.new) }
-        ensures stays_known { S.is_known source.old → S.is_known source.new }
         ensures version { self.new.version ≡ self.old.version }
     {
         if self.failed {
@@ -173,9 +166,8 @@ impl BlockReader {
         ensures mark { OnErr result (self.new.failed ≡ true) }
 
         // a document is read, where the end is read as one that is cut off; each tree and the heap are within their limits
-        ensures reads { self.old.failed ≡ false
-            → ReadsWithin (version_of self.old.version) limits S.ByteSource source.old source.new
-            (as_read_within result self.new.document) }
+        ensures reads { ReadsNextWithin limits S.ByteSource source.old source.new self.old self.new
+            result }
         ensures fewer { S.is_known source.old → result ≡ Ok true
             → length (S.left source.new) < length (S.left source.old) }
         ensures shallow { result ≡ Ok true
@@ -194,11 +186,6 @@ impl BlockReader {
             → S.left source.old ≡ [] }
         ensures ended { self.old.failed ≡ false → S.is_known source.old → S.left source.old ≡ []
             → SaysEndWithin limits result }
-
-        // a slice of what was left is taken, and after a refusal none
-        ensures taken { S.is_known source.old
-            → (prefix : List ℕ) × (S.left source.old ≡ prefix ++ S.left source.new) }
-        ensures stays_known { S.is_known source.old → S.is_known source.new }
         ensures version { self.new.version ≡ self.old.version }
     {
         if self.failed {
@@ -231,9 +218,7 @@ impl BlockReader {
         ensures mark { OnErr result (self.new.failed ≡ true) }
 
         // a document is passed over, where the end is read as one that is cut off
-        ensures reads { self.old.failed ≡ false
-            → PassesDocument (version_of self.old.version) S.ByteSource source.old source.new
-            (as_passed result) }
+        ensures reads { PassesNext S.ByteSource source.old source.new self.old result }
         ensures fewer { S.is_known source.old → result ≡ Ok true
             → length (S.left source.new) < length (S.left source.old) }
         ensures no_heap { ¬ IsErrOf result HeapFull }
@@ -244,11 +229,6 @@ impl BlockReader {
         ensures ended { self.old.failed ≡ false → S.is_known source.old → S.left source.old ≡ []
             → SaysEnd result }
         ensures document { self.new.document ≡ self.old.document }
-
-        // a slice of what was left is taken, and after a refusal none
-        ensures taken { S.is_known source.old
-            → (prefix : List ℕ) × (S.left source.old ≡ prefix ++ S.left source.new) }
-        ensures stays_known { S.is_known source.old → S.is_known source.new }
         ensures version { self.new.version ≡ self.old.version }
     {
         if self.failed {

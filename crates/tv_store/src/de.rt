@@ -3,7 +3,6 @@
 ghost use Rattle.std.specs.Prelude.{◌≡◌, [], IsErrOf, OnErr};
 ghost use Rattle.tv_doc.specs.Document.{document_of};
 ghost use Rattle.tv_decoder.specs.Prefix.{HasNoRoom};
-ghost use Rattle.tv_builder.specs.HeldPairs.{document_of as pairs_of};
 ghost use Rattle.tv_reader.specs.Finds.{Finds};
 ghost use Rattle.tv_reader.specs.Version.{version_of};
 ghost use Rattle.tv_reader.specs.declared.error.DeserializeError.TheVariants.{HeapFull};
@@ -19,55 +18,15 @@ use tv_decoder::document::{take_document, take_document_into};
 use tv_doc::document::CompactDoc;
 pub use tv_reader::version::DocStoreVersion;
 
-// Takes a document, with the count of the bytes that were taken.
-#[inline(always)]
-fn take_compact<S: ByteSource>(
-    alloc: Global,
-    source: &mut S,
-    count: &mut u64,
-    version: DocStoreVersion,
-) -> Result<CompactDoc, DeserializeError>
-    ensures finds { Finds S.is_known S.left S.failures source.old count.old source.new count.new
-        result (EncodesRead (version_of version)) (NoDocument (version_of version)) }
-    ensures full { S.is_known source.old → IsErrOf result HeapFull
-        → HasNoRoom (version_of version) (S.left source.old) }
-{
-    match take_document(alloc, source, count, version) {
-        Ok(values) => Ok(CompactDoc::from_pairs(values)),
-        Err(error) => Err(error),
-    }
-}
-
-// The same, in the memory of pairs that were taken off.
-#[inline(always)]
-fn take_compact_into<S: ByteSource>(
-    alloc: Global,
-    empty: HeapPairs,
-    source: &mut S,
-    count: &mut u64,
-    version: DocStoreVersion,
-) -> Result<CompactDoc, DeserializeError>
-    requires { pairs_of empty ≡ [] }
-    ensures finds { Finds S.is_known S.left S.failures source.old count.old source.new count.new
-        result (EncodesRead (version_of version)) (NoDocument (version_of version)) }
-    ensures full { S.is_known source.old → IsErrOf result HeapFull
-        → HasNoRoom (version_of version) (S.left source.old) }
-{
-    match take_document_into(alloc, empty, source, count, version) {
-        Ok(values) => Ok(CompactDoc::from_pairs(values)),
-        Err(error) => Err(error),
-    }
-}
-
 // Puts what was read in the document's place. After an error the document stays.
 pub(crate) fn put_read(
     document: &mut CompactDoc,
-    read: Result<CompactDoc, DeserializeError>,
+    read: Result<HeapPairs, DeserializeError>,
 ) -> Result<(), DeserializeError>
-    ensures put { in_place result document.new ≡ read }
+    ensures put { in_place result document.new.values ≡ read }
     ensures stays { OnErr result (document.new ≡ document.old) }
 {
-    *document = read?;
+    *document = CompactDoc::from_pairs(read?);
     Ok(())
 }
 
@@ -81,16 +40,15 @@ pub(crate) fn take_in_place<S: ByteSource>(
     count: &mut u64,
     version: DocStoreVersion,
 ) -> Result<(), DeserializeError>
-    ensures finds { Finds S.is_known S.left S.failures source.old count.old source.new count.new
-        (in_place result document.new) (EncodesRead (version_of version))
-        (NoDocument (version_of version)) }
+    ensures finds { Finds S.ByteSource source.old count.old source.new count.new result
+        (λ b _. EncodesRead (version_of version) b document.new) (NoDocument (version_of version)) }
     ensures full { S.is_known source.old → IsErrOf result HeapFull
         → HasNoRoom (version_of version) (S.left source.old) }
     ensures none { OnErr result (document_of document.new ≡ []) }
 {
     let mut empty = replace(document, CompactDoc::new(alloc)).into_pairs();
     empty.clear();
-    let read = take_compact_into(alloc, empty, source, count, version);
+    let read = take_document_into(alloc, empty, source, count, version);
     put_read(document, read)
 }
 
@@ -121,7 +79,10 @@ pub fn read_document<S: ByteSource>(
         result }
 {
     let mut count = 0;
-    take_compact(alloc, source, &mut count, version)
+    match take_document(alloc, source, &mut count, version) {
+        Ok(pairs) => Ok(CompactDoc::from_pairs(pairs)),
+        Err(error) => Err(error),
+    }
 }
 
 /// Reads a document as `read_document` does, in place of one that is there and in its memory, so that a loop over many documents takes

@@ -1,23 +1,14 @@
 //! A decoder of documents with a stack of its own, which is lent its source for each step.
 
-ghost use Rattle.std.specs.Prelude.{◌≡◌, ◌↔◌, ◌-◌, List, ℕ, [], length, true, false, Ok, Err};
-ghost use Rattle.std.specs.Prelude.{IfOk, OnOk, OnErr, IsErrOf, IsTrue};
-ghost use Rattle.tv_decoder.specs.Prefix.{parts_read, IsSound, IsDone, NoPrefix, NoRoomBehind};
-ghost use Rattle.tv_decoder.specs.Paid.{PaidBy};
+ghost use Rattle.std.specs.Prelude.{◌≡◌, ◌↔◌, [], length, true, false, OnOk, OnErr, IsTrue};
+ghost use Rattle.tv_decoder.specs.Prefix.{parts_read, IsSound, IsDone};
 ghost use Rattle.tv_decoder.specs.Kept.{Grows, KeepsPairs};
 ghost use Rattle.tv_decoder.specs.Sound.{SoundUnless-prop};
-ghost use Rattle.tv_decoder.specs.Steps.{Stepped, Sees, IsFew};
+ghost use Rattle.tv_decoder.specs.Steps.{Sees, IsFew};
 ghost use Rattle.tv_builder.specs.Builder.{built, state_of, heap_so_far, kept_heap};
 ghost use Rattle.tv_builder.specs.HeldPairs.{document_of as pairs_of};
 ghost use Rattle.tv_doc.specs.Document.{document_of, heap_of};
-ghost use Rattle.tv_builder.specs.Prefix.{Encoded};
 ghost use Rattle.tv_builder.specs.State.{lists_of, children_of};
-ghost use Rattle.tv_reader.specs.Finds.{Finds};
-ghost use Rattle.tv_reader.specs.Version.{version_of};
-ghost use Rattle.tv_reader.specs.declared.error.DeserializeError.TheVariants.{AlreadyFailed};
-ghost use Rattle.tv_reader.specs.declared.error.DeserializeError.TheVariants.{CorruptedValue};
-ghost use Rattle.tv_reader.specs.declared.error.DeserializeError.TheVariants.{HeapFull};
-ghost use Rattle.tv_format.specs.Encoding.{NoLegacy};
 
 use std::alloc::Global;
 use tv_base::ByteSource;
@@ -67,7 +58,7 @@ pub struct DirectDecoder {
 }
 
 impl DirectDecoder {
-    ghost use Rattle.tv_store.specs.Decoder.{SaysDone, Rests};
+    ghost use Rattle.tv_store.specs.Decoder.{ReadsStep, StaysPaid};
 
     /// A decoder of a document of this version. It reads nothing and takes no memory.
     pub fn new(alloc: Global, version: DocStoreVersion) -> DirectDecoder
@@ -113,24 +104,8 @@ impl DirectDecoder {
     /// Errors: `AlreadyFailed` after a refusal; `CorruptedValue` and `TypeMismatch` with the first error in the bytes; `HeapFull` where
     /// what has come needs more room than 4294967295 bytes; `Io` where the source failed; `Memory`.
     pub fn step<S: ByteSource>(&mut self, source: &mut S) -> Result<Step, DeserializeError>
-        // after a refusal, and once all is read, nothing happens
-        ensures refused { self.old.failed ≡ true
-            → Rests self.old self.new source.old source.new result (Err AlreadyFailed) }
-        ensures finished { self.old.failed ≡ false → IsDone self.old.reading
-            → Rests self.old self.new source.old source.new result (Ok Step.Done) }
-
-        // what was taken, and what has come then; or what is malformed
-        ensures finds { self.old.failed ≡ false → ¬ IsDone self.old.reading
-            → Finds S.is_known S.left S.failures source.old self.old.count source.new self.new.count
-            result
-            (λ b _. Stepped (version_of self.old.version) self.new.legacy_seen self.old.reading
-            self.new.reading b)
-            (NoPrefix (version_of self.old.version) self.old.reading) }
-        ensures full { S.is_known source.old → IsErrOf result HeapFull
-            → NoRoomBehind (version_of self.old.version) self.old.reading (S.left source.old) }
-        ensures done { IfOk result (λ step. SaysDone step ↔ IsDone self.new.reading) }
-        ensures live { OnOk result (self.new.failed ≡ false) }
-        ensures mark { OnErr result (self.new.failed ≡ true) }
+        // what was taken, and what has come then; or why nothing has
+        ensures steps { ReadsStep S.ByteSource source.old source.new self.old self.new result }
 
         // at most 4096 bytes were taken, also where they are refused, unless a value is taken whole
         ensures few { S.is_known source.old
@@ -143,11 +118,7 @@ impl DirectDecoder {
         // objects of older stores, and what is paid for by the bytes that were read
         ensures seen { S.is_known source.old
             → Sees self.old.reading (S.left source.old) self.old.legacy_seen self.new.legacy_seen }
-        ensures paid { S.is_known source.old → self.old.failed ≡ false → (bytes : List ℕ)
-            → Encoded NoLegacy (version_of self.old.version) bytes (parts_read self.old.reading)
-            → self.old.count ≡ length bytes → self.new.legacy_seen ≡ false
-            → PaidBy self.new.reading.builder self.new.count }
-        ensures version { self.new.version ≡ self.old.version }
+        ensures paid { S.is_known source.old → StaysPaid self.old self.new }
     {
         if self.failed {
             return Err(DeserializeError::AlreadyFailed);

@@ -4,7 +4,7 @@
 //! and a beginning of what was to be written.
 
 ghost use Rattle.std.specs.Prelude.{◌∷◌, ◌<◌, length, Ok, IfErr, IfOk, IfSome};
-ghost use Rattle.tv_base.specs.Sink.{Writes};
+ghost use Rattle.tv_base.specs.Writing.{Writes};
 ghost use Rattle.tv_format.specs.Short.{short_elements, short_entries};
 ghost use Rattle.tv_format.specs.Tree.{array, object, elements, entries};
 ghost use Rattle.tv_format.specs.Version.{Version};
@@ -35,7 +35,7 @@ pub(crate) const LEVELS: u32 = 64;
 #[inline]
 #[tactic(auto, using(tv_writer::proofs::Coded::Coded_then))]
 fn write_behind<K: ByteSink>(sink: &mut K, code: u8, content: &[u8]) -> Result<(), io::ErrorKind>
-    ensures { Writes K.is_known K.held K.failures sink.old sink.new result (code ∷ content.now) }
+    ensures { Writes K.ByteSink sink.old sink.new result (code ∷ content.now) }
 {
     write_code(sink, code)?;
     write_all(sink, content)
@@ -44,7 +44,7 @@ fn write_behind<K: ByteSink>(sink: &mut K, code: u8, content: &[u8]) -> Result<(
 // A text and its tokens, as they are encoded behind their two codes.
 #[tactic(auto, using(tv_base::proofs::Written::Writes_then, tv_base::proofs::Written::Writes_prefix))]
 fn write_encoded_tokens<K: ByteSink>(sink: &mut K, content: &[u8]) -> Result<(), io::ErrorKind>
-    ensures { Writes K.is_known K.held K.failures sink.old sink.new result (7 ∷ 0 ∷ content.now) }
+    ensures { Writes K.ByteSink sink.old sink.new result (7 ∷ 0 ∷ content.now) }
 {
     write_all(sink, &[EXT_CODE, TOK_STR_EXT_CODE])?;
     write_all(sink, content)
@@ -54,7 +54,7 @@ fn write_encoded_tokens<K: ByteSink>(sink: &mut K, content: &[u8]) -> Result<(),
 #[inline(always)]
 fn write_single<K: ByteSink>(sink: &mut K, encoded: Encoded<'_>) -> Result<(), io::ErrorKind>
     requires { IsSingle encoded }
-    ensures { (v : Version) → Writes K.is_known K.held K.failures sink.old sink.new result
+    ensures { (v : Version) → Writes K.ByteSink sink.old sink.new result
         (encoded_bytes v encoded.entry) }
 {
     match encoded {
@@ -84,7 +84,7 @@ fn write_head<'a, K: ByteSink>(
 ) -> Result<Option<Open<'a>>, io::ErrorKind>
     requires { HasFewEntries encoded }
     ensures writes { let v = written_version version in
-        WritesBefore K.is_known K.held K.failures sink.old sink.new result (met_left v)
+        WritesBefore K.ByteSink sink.old sink.new result (met_left v)
         (encoded_bytes v encoded.entry) }
     ensures fewer { let v = written_version version in
         IfOk result
@@ -115,7 +115,7 @@ fn write_items_to_list<'a, K: ByteSink>(
     items: CompactDocArrayIter<'a>,
 ) -> Result<Option<(Open<'a>, Open<'a>)>, io::ErrorKind>
     ensures writes { let v = written_version version in
-        WritesBefore K.is_known K.held K.failures sink.old sink.new result (inner_left v)
+        WritesBefore K.ByteSink sink.old sink.new result (inner_left v)
         (short_elements v (elements items.entry.held.0)) }
     ensures fewer { let v = written_version version in
         IfOk result
@@ -139,7 +139,7 @@ fn write_members_to_list<'a, K: ByteSink>(
     members: CompactDocObjectIter<'a>,
 ) -> Result<Option<(Open<'a>, Open<'a>)>, io::ErrorKind>
     ensures writes { let v = written_version version in
-        WritesBefore K.is_known K.held K.failures sink.old sink.new result (inner_left v)
+        WritesBefore K.ByteSink sink.old sink.new result (inner_left v)
         (short_entries v (entries members.entry.held.0)) }
     ensures fewer { let v = written_version version in
         IfOk result
@@ -164,8 +164,7 @@ fn write_to_list<'a, K: ByteSink>(
     list: Open<'a>,
 ) -> Result<Option<(Open<'a>, Open<'a>)>, io::ErrorKind>
     ensures writes { let v = written_version version in
-        WritesBefore K.is_known K.held K.failures sink.old sink.new result (inner_left v)
-        (bytes_left v list.entry) }
+        WritesBefore K.ByteSink sink.old sink.new result (inner_left v) (bytes_left v list.entry) }
     ensures fewer { let v = written_version version in
         IfOk result
         (λ met. IfSome met (λ both. length (inner_left v met) < length (bytes_left v list.entry))) }
@@ -184,7 +183,7 @@ fn write_nested<K: ByteSink>(
     version: WriteVersion,
     first: Open<'_>,
 ) -> Result<(), SerializeError>
-    ensures writes { store.Writes K.is_known K.held K.failures sink.old sink.new result
+    ensures writes { store.Writes K.ByteSink sink.old sink.new result
         (Ok (bytes_left (written_version version) first.entry)) }
     ensures errors { IfErr result IsIoOrMemory }
 {
@@ -214,7 +213,7 @@ pub(crate) fn write_encoded<K: ByteSink>(
     levels: u32,
 ) -> Result<(), SerializeError>
     requires { HasFewEntries encoded }
-    ensures writes { store.Writes K.is_known K.held K.failures sink.old sink.new result
+    ensures writes { store.Writes K.ByteSink sink.old sink.new result
         (Ok (encoded_bytes (written_version version) encoded.entry)) }
     ensures errors { IfErr result IsIoOrMemory }
     ensures lean { HeldNestsWithin levels encoded.entry → IfErr result IsIo }
@@ -245,7 +244,7 @@ fn write_encoded_items<K: ByteSink>(
     items: CompactDocArrayIter<'_>,
     levels: u32,
 ) -> Result<(), SerializeError>
-    ensures writes { store.Writes K.is_known K.held K.failures sink.old sink.new result
+    ensures writes { store.Writes K.ByteSink sink.old sink.new result
         (Ok (short_elements (written_version version) (elements items.entry.held.0))) }
     ensures errors { IfErr result IsIoOrMemory }
     ensures lean { NestsWithin levels (array (elements items.entry.held.0)) → IfErr result IsIo }
@@ -269,7 +268,7 @@ fn write_encoded_members<K: ByteSink>(
     members: CompactDocObjectIter<'_>,
     levels: u32,
 ) -> Result<(), SerializeError>
-    ensures writes { store.Writes K.is_known K.held K.failures sink.old sink.new result
+    ensures writes { store.Writes K.ByteSink sink.old sink.new result
         (Ok (short_entries (written_version version) (entries members.entry.held.0))) }
     ensures errors { IfErr result IsIoOrMemory }
     ensures lean { NestsWithin levels (object (entries members.entry.held.0)) → IfErr result IsIo }

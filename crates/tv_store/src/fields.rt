@@ -1,15 +1,13 @@
 //! Reading chosen fields of documents out of the store.
 
 ghost use Rattle.std.specs.Prelude.{◌≡◌, [], IsErrOf, OnErr};
-ghost use Rattle.tv_builder.specs.HeldPairs.{document_of as pairs_of};
 ghost use Rattle.tv_chosen.specs.ChosenFields.{HasNoRoomChosen};
 ghost use Rattle.tv_doc.specs.Document.{document_of};
 ghost use Rattle.tv_reader.specs.Finds.{Finds};
 ghost use Rattle.tv_reader.specs.Version.{version_of};
 ghost use Rattle.tv_reader.specs.declared.error.DeserializeError.TheVariants.{HeapFull};
-ghost use Rattle.tv_store.specs.Chosen.{EncodesChosenRead};
-ghost use Rattle.tv_store.specs.Documents.{NoDocument, in_place};
-ghost use Rattle.tv_store.specs.Reading.{ReadsFields};
+ghost use Rattle.tv_store.specs.Documents.{NoDocument};
+ghost use Rattle.tv_store.specs.Reading.{EncodesChosenPairs, ReadsFields};
 
 use crate::de::put_read;
 use crate::error::DeserializeError;
@@ -22,28 +20,6 @@ use tv_doc::document::CompactDoc;
 use tv_reader::version::DocStoreVersion;
 use tv_value::field::Field;
 
-// Takes the chosen fields of a document, in the memory of pairs that were taken off, with the count of the bytes that were taken.
-fn take_fields<S: ByteSource>(
-    alloc: Global,
-    empty: HeapPairs,
-    source: &mut S,
-    count: &mut u64,
-    version: DocStoreVersion,
-    fields: &[Field],
-) -> Result<CompactDoc, DeserializeError>
-    requires { pairs_of empty ≡ [] }
-    ensures finds { Finds S.is_known S.left S.failures source.old count.old source.new count.new
-        result (EncodesChosenRead (version_of version) fields.now)
-        (NoDocument (version_of version)) }
-    ensures full { S.is_known source.old → IsErrOf result HeapFull
-        → HasNoRoomChosen (version_of version) fields.now (S.left source.old) }
-{
-    match take_chosen_into(alloc, empty, source, count, version, fields) {
-        Ok(values) => Ok(CompactDoc::from_pairs(values)),
-        Err(error) => Err(error),
-    }
-}
-
 // Takes the chosen fields in place of a document that is there and in its memory, with the count of the bytes that were taken. After an
 // error the document has no pairs.
 fn take_fields_in_place<S: ByteSource>(
@@ -54,8 +30,8 @@ fn take_fields_in_place<S: ByteSource>(
     version: DocStoreVersion,
     fields: &[Field],
 ) -> Result<(), DeserializeError>
-    ensures finds { Finds S.is_known S.left S.failures source.old count.old source.new count.new
-        (in_place result document.new) (EncodesChosenRead (version_of version) fields.now)
+    ensures finds { Finds S.ByteSource source.old count.old source.new count.new result
+        (λ b _. EncodesChosenPairs (version_of version) fields.now b (document_of document.new))
         (NoDocument (version_of version)) }
     ensures full { S.is_known source.old → IsErrOf result HeapFull
         → HasNoRoomChosen (version_of version) fields.now (S.left source.old) }
@@ -63,7 +39,7 @@ fn take_fields_in_place<S: ByteSource>(
 {
     let mut empty = replace(document, CompactDoc::new(alloc)).into_pairs();
     empty.clear();
-    let read = take_fields(alloc, empty, source, count, version, fields);
+    let read = take_chosen_into(alloc, empty, source, count, version, fields);
     put_read(document, read)
 }
 
@@ -99,7 +75,10 @@ pub fn read_fields<S: ByteSource>(
 {
     let mut count = 0;
     let empty = HeapPairs::new(alloc);
-    take_fields(alloc, empty, source, &mut count, version, fields)
+    match take_chosen_into(alloc, empty, source, &mut count, version, fields) {
+        Ok(pairs) => Ok(CompactDoc::from_pairs(pairs)),
+        Err(error) => Err(error),
+    }
 }
 
 /// Reads chosen fields as `read_fields` does, in place of a document that is there and in its memory, so that a loop over many documents

@@ -19,9 +19,10 @@ ghost use Rattle.tv_format.specs.InputError.{corrupted};
 ghost use Rattle.tv_store.specs.Limits.{Checks, FindsWithin, IsPast};
 ghost use Rattle.tv_store.specs.Limits.{AllNestWithinLimit, TestsDepth};
 ghost use Rattle.tv_store.specs.Limits.{Comes, IsLimitedError, limited_stop};
-ghost use Rattle.tv_store.specs.Limits.{first_count, FindsPart, IsCapped, Leaves, TestsLimits};
+ghost use Rattle.tv_store.specs.Limits.{first_count, FindsPart, IsCapped};
 ghost use Rattle.tv_store.specs.Limits.{ReadsWithin, StopsWithin, Told};
-ghost use Rattle.tv_store.specs.Decoder.{SaysDone, Rests};
+ghost use Rattle.tv_store.specs.Limits.{EndsPart, LeavesPart, ReadsStepWithin, TestsPart};
+ghost use Rattle.tv_store.specs.Decoder.{SaysDone};
 ghost use Rattle.tv_decoder.specs.Kept.{Grows, KeepsPairs};
 ghost use Rattle.tv_store.specs.Documents.{in_place};
 ghost use Rattle.tv_store.specs.declared.limits.LimitedReadError.{LimitedReadError};
@@ -169,7 +170,7 @@ fn step_capped<S: ByteSource>(
     requires live { decoder.old.failed ≡ false }
     requires more { ¬ IsDone decoder.old.reading }
     requires within { ¬ IsPast most decoder.old.count }
-    ensures finds { FindsPart S.is_known S.left S.failures source.old decoder.old.count source.new
+    ensures finds { FindsPart S.ByteSource source.old decoder.old.count source.new
         decoder.new.count result
         (λ b _. Stepped (version_of decoder.old.version) decoder.new.legacy_seen
         decoder.old.reading decoder.new.reading b)
@@ -209,11 +210,10 @@ fn take_within<S: ByteSource>(
 ) -> Result<Option<ReadLimit>, DeserializeError>
     requires live { decoder.old.failed ≡ false }
     requires more { ¬ IsDone decoder.old.reading }
-    ensures finds { FindsWithin S.is_known S.left S.failures source.old decoder.old.count source.new
+    ensures finds { FindsWithin S.ByteSource source.old decoder.old.count source.new
         decoder.new.count result
         (λ b _. Advances Legacy (version_of decoder.old.version) decoder.old.reading
-        decoder.new.reading b)
-        (NoPrefix (version_of decoder.old.version) decoder.old.reading) }
+        decoder.new.reading b) (NoPrefix (version_of decoder.old.version) decoder.old.reading) }
     ensures full { S.is_known source.old → IsErrOf result HeapFull
         → NoRoomBehind (version_of decoder.old.version) decoder.old.reading (S.left source.old) }
     ensures checked { IfOk result
@@ -331,45 +331,18 @@ impl DirectDecoder {
         source: &mut S,
         limits: ReadLimits,
     ) -> Result<Step, LimitedReadError>
-        // after a refusal, and once all is read, nothing happens
-        ensures refused { self.old.failed ≡ true
-            → Rests self.old self.new source.old source.new result (Err (Read AlreadyFailed)) }
-        ensures finished { self.old.failed ≡ false → IsDone self.old.reading
-            → Rests self.old self.new source.old source.new result (Ok Step.Done) }
-
-        // what was taken, and what has come then; or what is malformed
-        ensures finds { self.old.failed ≡ false → ¬ IsDone self.old.reading
-            → FindsPart S.is_known S.left S.failures source.old self.old.count source.new
-            self.new.count result
-            (λ b _. Stepped (version_of self.old.version) self.new.legacy_seen self.old.reading
-            self.new.reading b)
-            (NoPrefix (version_of self.old.version) self.old.reading) }
-        ensures full { self.old.failed ≡ false → S.is_known source.old → IsErrOf result (Read HeapFull)
-            → NoRoomBehind (version_of self.old.version) self.old.reading (S.left source.old) }
-        ensures done { IfOk result (λ step. SaysDone step ↔ IsDone self.new.reading) }
-
-        // the limit of the bytes is told where what was taken of the part ends too early, or where more were taken before
-        ensures ends { self.old.failed ≡ false → ¬ IsDone self.old.reading
-            → ¬ IsPast limits.bytes self.old.count → S.is_known source.old
-            → IsErrOf result (Limit ReadLimit.Bytes)
-            → EndsEarly (corrupted UnexpectedEnd)
-            (NoPrefix (version_of self.old.version) self.old.reading) (S.left source.old)
-            (S.left source.new) }
+        // what was taken, and what has come then; or why nothing has
+        ensures steps { ReadsStepWithin limits S.ByteSource source.old source.new self.old self.new
+            result }
 
         // a limit is passed exactly where it is told
-        ensures limits { self.old.failed ≡ false → ¬ IsDone self.old.reading
-            → TestsLimits limits self.old.count self.new.count
-            (length (heap_so_far self.new.reading.builder))
-            (length (lists_of (state_of self.new.reading.builder))) result }
+        ensures ends { EndsPart limits S.ByteSource source.old source.new self.old result }
+        ensures limits { TestsPart limits self.old self.new result }
         ensures most { ¬ IsPast limits.bytes self.old.count
             → ¬ IsPast limits.bytes self.new.count }
 
         // the heap grows at its end, or ends behind the finished pairs after a refusal; these are kept
-        ensures leaves { self.old.failed ≡ false → ¬ IsDone self.old.reading
-            → Leaves self.old.reading self.new.reading result }
-        ensures live { OnOk result (self.new.failed ≡ false) }
-        ensures mark { OnErr result (self.new.failed ≡ true) }
-        ensures version { self.new.version ≡ self.old.version }
+        ensures leaves { LeavesPart self.old self.new result }
     {
         if self.has_failed() {
             return Err(LimitedReadError::Read(DeserializeError::AlreadyFailed));

@@ -1,21 +1,9 @@
 //! Documents that are read in one version of the store and written in another.
 
-ghost use Rattle.std.specs.Prelude.{◌≡◌, ◌≤◌, ◌++◌, ℕ, List, Err, IfOk, IfErr, IsErrOf};
-ghost use Rattle.tv_base.specs.ReadsAs.{Known};
-ghost use Rattle.tv_base.specs.Sink.{Begins};
-ghost use Rattle.tv_base.specs.Stop.{Counts};
-ghost use Rattle.tv_doc.specs.Document.{document_of};
-ghost use Rattle.tv_format.specs.Encoding.{EncodesDocument};
-ghost use Rattle.tv_format.specs.Short.{short_document};
-ghost use Rattle.tv_format.specs.Tree.{Document};
+ghost use Rattle.std.specs.Prelude.{◌≡◌};
 ghost use Rattle.tv_format.specs.WriteVersion.{written_version};
-ghost use Rattle.tv_heap.specs.Room.{document_room};
-ghost use Rattle.tv_legacy.specs.Legacy.{Legacy};
 ghost use Rattle.tv_reader.specs.Version.{version_of};
-ghost use Rattle.tv_reader.specs.declared.error.DeserializeError.{DeserializeError};
-ghost use Rattle.tv_store.specs.Migrate.{AppendsMigrated, IsMigrationError, Transcribes};
-ghost use Rattle.tv_store.specs.Migrate.{sink_stop, source_stop};
-ghost use Rattle.tv_store.specs.Reading.{ReadsDocument};
+ghost use Rattle.tv_store.specs.Migrate.{Migrates};
 ghost use Rattle.tv_store.specs.declared.migration.MigrateError.{MigrateError};
 ghost use Rattle.tv_writer.specs.declared.error.SerializeError.{SerializeError};
 
@@ -77,41 +65,8 @@ pub fn migrate<S: ByteSource, K: ByteSink>(
     sink: &mut K,
     to: WriteVersion,
 ) -> Result<(), MigrateError>
-    // a prefix of the bytes encodes the document that is appended, and the rest is left
-    ensures migrated { S.is_known source.old → K.is_known sink.old
-        → IfOk result
-        (λ _. Transcribes (version_of from) (written_version to) (S.left source.old) (S.left source.new)
-        (λ text. K.held sink.new ≡ K.held sink.old ++ text)) }
-
-    // wherever a prefix encodes a document that has room, that one is appended
-    ensures only { Known S.is_known S.left source.old → K.is_known sink.old
-        → (d : Document) (prefix rest : List ℕ) → S.left source.old ≡ prefix ++ rest
-        → EncodesDocument Legacy (version_of from) prefix d → document_room d ≤ 4294967295
-        → AppendsMigrated result (short_document (written_version to) d) rest (S.left source.new)
-        (K.held sink.old) (K.held sink.new) }
-
-    // what can't be read is refused as reading refuses it, and nothing is written
-    ensures unread { (e : DeserializeError) → IsErrOf result (MigrateError.Read e)
-        → ReadsDocument (version_of from) S.ByteSource source.old source.new document_of (Err e)
-        × (sink.new ≡ sink.old) }
-
-    // where the sink failed or memory was refused in writing, the document was read, and a beginning of it is appended
-    ensures unwritten { S.is_known source.old → K.is_known sink.old → (e : SerializeError)
-        → IsErrOf result (MigrateError.Write e)
-        → Transcribes (version_of from) (written_version to) (S.left source.old) (S.left source.new)
-        (Begins (K.held sink.old) (K.held sink.new)) }
-    ensures errors { IfErr result IsMigrationError }
-
-    // after every error too a slice of what was left was taken
-    ensures taken { S.is_known source.old
-        → (prefix : List ℕ) × (S.left source.old ≡ prefix ++ S.left source.new) }
-
-    // the source and the sink failed exactly where their counts of failures rose, with the kind that they returned
-    ensures source_failures { Counts source_stop result (S.failures source.old)
-        (S.failures source.new) }
-    ensures sink_failures { Counts sink_stop result (K.failures sink.old) (K.failures sink.new) }
-    ensures source_stays_known { S.is_known source.old → S.is_known source.new }
-    ensures sink_stays_known { K.is_known sink.old → K.is_known sink.new }
+    ensures { Migrates (version_of from) (written_version to) S.ByteSource source.old source.new
+        K.ByteSink sink.old sink.new result }
 {
     documents_are_valid();
     let document = read_document(alloc, source, from)?;

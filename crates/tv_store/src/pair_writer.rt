@@ -6,7 +6,7 @@
 ghost use Rattle.std.specs.Prelude.{◌∷◌, ◌++◌, Ok, IfErr};
 ghost use Rattle.std.specs.List.{flat_map};
 ghost use Rattle.tv_base.specs.Number.{four_bytes, eight_bytes};
-ghost use Rattle.tv_base.specs.Sink.{Writes};
+ghost use Rattle.tv_base.specs.Writing.{Writes};
 ghost use Rattle.tv_doc.specs.Document.{document_of};
 ghost use Rattle.tv_heap.specs.Encoded.{encoded_bytes, HasFewEntries, IsTokenized};
 ghost use Rattle.tv_heap.specs.Value.{tree_of};
@@ -45,7 +45,7 @@ fn write_field_bytes<K: ByteSink>(
     code: u8,
     content: &[u8],
 ) -> Result<(), io::ErrorKind>
-    ensures { Writes K.is_known K.held K.failures sink.old sink.new result
+    ensures { Writes K.ByteSink sink.old sink.new result
         (four_bytes field.id ++ (code ∷ content.now)) }
 {
     let [a, b, c, d] = field.field_id().to_le_bytes();
@@ -61,7 +61,7 @@ fn write_field_u64<K: ByteSink>(
     code: u8,
     number: u64,
 ) -> Result<(), io::ErrorKind>
-    ensures { Writes K.is_known K.held K.failures sink.old sink.new result
+    ensures { Writes K.ByteSink sink.old sink.new result
         (four_bytes field.id ++ (code ∷ eight_bytes number)) }
 {
     let [a, b, c, d] = field.field_id().to_le_bytes();
@@ -79,7 +79,7 @@ fn write_field_encoded<K: ByteSink>(
     encoded: Encoded<'_>,
 ) -> Result<(), SerializeError>
     requires { HasFewEntries encoded }
-    ensures writes { store.Writes K.is_known K.held K.failures sink.old sink.new result
+    ensures writes { store.Writes K.ByteSink sink.old sink.new result
         (Ok (four_bytes field.id ++ encoded_bytes (written_version version) encoded.entry)) }
     ensures errors { IfErr result IsIoOrMemory }
     ensures lean { HeldNestsWithin 64 encoded.entry → IfErr result IsIo }
@@ -98,7 +98,7 @@ pub(crate) fn write_pair<K: ByteSink>(
     encoded: Encoded<'_>,
 ) -> Result<(), SerializeError>
     requires { HasFewEntries encoded }
-    ensures writes { store.Writes K.is_known K.held K.failures sink.old sink.new result
+    ensures writes { store.Writes K.ByteSink sink.old sink.new result
         (Ok (four_bytes field.id ++ encoded_bytes (written_version version) encoded.entry)) }
     ensures errors { IfErr result IsIoOrMemory }
     ensures lean { HeldNestsWithin 64 encoded.entry → IfErr result IsIo }
@@ -116,7 +116,7 @@ fn write_stored_leaf<K: ByteSink>(
     sink: &mut K,
     leaf: &ReferenceValueLeaf<'_>,
 ) -> Result<(), io::ErrorKind>
-    ensures { Writes K.is_known K.held K.failures sink.old sink.new result
+    ensures { Writes K.ByteSink sink.old sink.new result
         (short_leaf (leaf_written (leaf_of leaf.now))) }
 {
     match leaf {
@@ -133,7 +133,7 @@ fn write_field_text<K: ByteSink>(
     value: CompactDocValue<'_>,
 ) -> Result<(), io::ErrorKind>
     requires { IsTokenized (tree_of value) }
-    ensures { (v : Version) → Writes K.is_known K.held K.failures sink.old sink.new result
+    ensures { (v : Version) → Writes K.ByteSink sink.old sink.new result
         (short_pair v (field.id, tree_written (tree_of value.entry))) }
 {
     write_u32(sink, field.field_id())?;
@@ -152,7 +152,7 @@ pub(crate) fn write_stored_pair<K: ByteSink>(
     field: Field,
     value: CompactDocValue<'_>,
 ) -> Result<(), SerializeError>
-    ensures writes { store.Writes K.is_known K.held K.failures sink.old sink.new result
+    ensures writes { store.Writes K.ByteSink sink.old sink.new result
         (Ok (short_pair (written_version version) (field.id, tree_written (tree_of value.entry)))) }
     ensures errors { IfErr result IsIoOrMemory }
     ensures lean { NestsWithin 64 (tree_of value.entry) → IfErr result IsIo }
@@ -170,7 +170,7 @@ fn write_pairs<K: ByteSink>(
     version: WriteVersion,
     document: &CompactDoc,
 ) -> Result<(), SerializeError>
-    ensures writes { store.Writes K.is_known K.held K.failures sink.old sink.new result
+    ensures writes { store.Writes K.ByteSink sink.old sink.new result
         (Ok (flat_map (short_pair (written_version version)) (document_of document.now))) }
     ensures errors { IfErr result IsIoOrMemory }
     ensures lean { AllNestWithin 64 (document_of document.now) → IfErr result IsIo }
@@ -188,7 +188,7 @@ pub(crate) fn write_document<K: ByteSink>(
     version: WriteVersion,
     document: &CompactDoc,
 ) -> Result<(), SerializeError>
-    ensures writes { store.Writes K.is_known K.held K.failures sink.old sink.new result
+    ensures writes { store.Writes K.ByteSink sink.old sink.new result
         (Ok (short_document (written_version version) (document_of document.now))) }
     ensures errors { IfErr result IsIoOrMemory }
     ensures lean { AllNestWithin 64 (document_of document.now) → IfErr result IsIo }

@@ -1,12 +1,15 @@
 -- How many facets are at or below each child of a facet. All are given by their encoded texts.
-use Rattle.std.specs.Prelude.{ℕ, ◌≡◌, ◌≢◌, ◌<◌, ◌&&◌, Bool, true, false, List, [], ◌∷◌, ◌++◌, length, map, bytes_eq}
+use Rattle.std.specs.Prelude.{ℕ, ◌≡◌, ◌≢◌, ◌<◌, ◌↔◌, ◌&&◌, Bool, true, false, List, [], ◌∷◌, ◌++◌, length, map, bytes_eq, Result, Err, IfOk, IfErr}
 use Rattle.std.specs.Borrow.{Bor}
+use Rattle.std.specs.Global.{Vec}
 use Rattle.std.specs.List.{AllByRecursion, filter}
 use Rattle.std.specs.List.Sorted.{IsSortedByKey, IsStrictlySortedBy}
 use Rattle.std.specs.Ordering.{nat_cmp}
 use Rattle.std.specs.Cmp.Lexicographic.{slice_cmp}
 use Rattle.tv_base.specs.Facet.{steps}
 use Rattle.tv_term.specs.declared.facet_counts.FacetCount.{FacetCount}
+use Rattle.tv_term.specs.declared.facet_counts.FacetCountsError.{FacetCountsError}
+use Rattle.tv_term.specs.declared.facet_counts.FacetCountsError.TheVariants.{Memory, NotRising}
 
 -- whether the first texts of the second list are those of the first one
 abbrev pub begins_with : List (List ℕ) → List (List ℕ) → Bool
@@ -46,3 +49,12 @@ pub record AreChildCounts (ancestor : List ℕ) (facets : List (List ℕ)) (coun
   pub rising : IsStrictlySortedBy (slice_cmp nat_cmp) (map (λ entry. entry.0) counts)
   -- at or below any other child there is no facet
   pub others : (child : List ℕ) → IsChild ancestor child → AllByRecursion (λ entry. entry.0 ≢ child) counts → count_within child facets ≡ 0
+
+-- What a call promises that counts facets.
+--   counts      On success it returns the children of the ancestor and their counts.
+--   not_rising  Its error is `NotRising` exactly where the facets aren't in rising order.
+--   memory      Where they are, the only error is `Memory`.
+pub record CountsChildren (ancestor : List ℕ) (facets : List (Bor (List ℕ))) (result : Result (Vec FacetCount) FacetCountsError) : Type 0 where
+  pub counts : IfOk result (λ counts. AreChildCounts ancestor (map (λ facet. facet.now) facets) (map entry_of counts.items))
+  pub not_rising : (result ≡ Err NotRising) ↔ (¬ AreRising facets)
+  pub memory : AreRising facets → IfErr result (λ error. error ≡ Memory)

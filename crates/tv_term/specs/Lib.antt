@@ -5,6 +5,7 @@ pub mod FastValue
 pub mod FastValueLaws
 pub mod Range
 pub mod Segments
+pub mod Making
 pub mod FacetCounting
 pub mod ChildPlaces
 pub mod Printed

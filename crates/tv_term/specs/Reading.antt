@@ -1,7 +1,8 @@
 -- What the bytes of a value, which begin with the code of its type, are read as.
-use Rattle.std.specs.Prelude.{ℕ, ℤ, pos, ◌+◌, ◌-◌, ◌-ℤ◌, ◌^◌, ◌≡◌, ◌==◌, Bool, not, if◌then◌else◌, List, [], ◌∷◌, ◌++◌, length, take, drop, position, Option, None, Some, IsUtf8}
+use Rattle.std.specs.Prelude.{ℕ, ℤ, pos, ◌+◌, ◌-◌, ◌-ℤ◌, ◌^◌, ◌≡◌, ◌==◌, Bool, not, if◌then◌else◌, List, [], ◌∷◌, ◌++◌, length, take, drop, position, Option, None, Some, IsUtf8, slice_get}
 use Rattle.std.specs.Option.{option_and_then, option_map}
 use Rattle.std.specs.Int.{w32, w64, w128, from_be_bytes}
+use Rattle.tv_field.specs.Entry.{Entry}
 use Rattle.tv_options.specs.Types.{code, type_of_code}
 use Rattle.tv_options.specs.declared.types.TypeTag.{TypeTag}
 use Rattle.tv_options.specs.declared.types.TypeTag.TheVariants as tag
@@ -74,6 +75,42 @@ abbrev pub ReadsText : Option (List ℕ) → Option (List ℕ) → Type 0
 ReadsText bytes None = (found : List ℕ) → bytes ≡ Some found → ¬ IsUtf8 found
 ReadsText bytes (Some text) = (bytes ≡ Some text) × IsUtf8 text
 
+-- ---- what each reader of a value reads
+
+-- `as_u64` reads a whole number without a sign.
+abbrev pub unsigned_of : List ℕ → Option ℕ
+unsigned_of bytes = number_of tag.U64 bytes
+
+-- `as_i64` reads a whole number with a sign.
+abbrev pub signed_of : List ℕ → Option ℤ
+signed_of bytes = option_map signed_at (number_of tag.I64 bytes)
+
+-- `as_bool` reads a truth value.
+abbrev pub truth_of : List ℕ → Option Bool
+truth_of bytes = option_map is_true (number_of tag.Bool bytes)
+
+-- `as_date` reads the nanoseconds of a date.
+abbrev pub date_of : List ℕ → Option ℤ
+date_of bytes = option_map signed_at (number_of tag.Date bytes)
+
+-- `as_bytes` reads bytes.
+abbrev pub bytes_of : List ℕ → Option (List ℕ)
+bytes_of bytes = payload_of tag.Bytes bytes
+
+-- `as_str` reads a text.
+abbrev pub ReadsStr : List ℕ → Option (List ℕ) → Type 0
+ReadsStr bytes found = ReadsText (payload_of tag.Str bytes) found
+
+-- `as_facet` reads the encoded text of a facet.
+abbrev pub ReadsFacet : List ℕ → Option (List ℕ) → Type 0
+ReadsFacet bytes found = ReadsText (payload_of tag.Facet bytes) found
+
+-- ---- the paths of terms
+
+-- `get_json_path` reads the path of a term of a JSON field.
+abbrev pub ReadsPath : List ℕ → Option (List ℕ) → Type 0
+ReadsPath bytes found = ReadsText (json_path (value_of bytes)) found
+
 -- the path behind a dot
 abbrev pub dotted : Option (List ℕ) → List ℕ
 dotted None = []
@@ -82,3 +119,7 @@ dotted (Some path) = 46 ∷ path
 -- the field's name, and behind a dot the path, if there is one and it is a text
 abbrev pub IsFullPath : List ℕ → List ℕ → List ℕ → Type 0
 IsFullPath name bytes text = (path : Option (List ℕ)) × ReadsText (json_path bytes) path × (text ≡ name ++ dotted path)
+
+-- This is the full path of a term whose field is one of the schema.
+abbrev pub IsFullPathIn : List Entry → List ℕ → List ℕ → Type 0
+IsFullPathIn schema bytes text = (entry : Entry) → slice_get schema (field_of bytes) ≡ Some entry → IsFullPath entry.name (value_of bytes) text

@@ -1,11 +1,10 @@
 //! How many facets lie at or below each child of a facet.
 
 ghost use Rattle.std.specs.Prelude.{◌≡◌, ◌≢◌, ◌<◌, ◌≤◌, ◌+◌, ◌^◌, ◌↔◌, ℕ, length, map};
-ghost use Rattle.std.specs.Prelude.{slice_index, option_map, Err, IfErr, IfOk, IfSome, IsTrue, MatchOption};
-ghost use Rattle.tv_term.specs.FacetCounting.{AreRising, AreChildCounts, entry_of};
+ghost use Rattle.std.specs.Prelude.{slice_index, option_map, IfOk, IfSome, IsTrue, MatchOption};
+ghost use Rattle.tv_term.specs.FacetCounting.{AreRising, CountsChildren, entry_of};
 ghost use Rattle.tv_term.specs.ChildPlaces.{front, entries, HasNoChild, IsChildAbove, CountsOne};
 ghost use Rattle.tv_term.specs.declared.facet_counts.FacetCountsError.TheVariants.{Memory};
-ghost use Rattle.tv_term.specs.declared.facet_counts.FacetCountsError.TheVariants.{NotRising};
 
 use std::alloc::{AllocError, Global};
 use thiserror::Error;
@@ -63,11 +62,7 @@ pub fn count_child_facets<'a>(
     ancestor: &[u8],
     facets: &[&'a [u8]],
 ) -> Result<Vec<FacetCount<'a>>, FacetCountsError>
-    ensures counts { IfOk result (λ counts. AreChildCounts ancestor.now
-        (map (λ facet. facet.now) facets.now)
-        (map entry_of counts.items)) }
-    ensures not_rising { (result ≡ Err NotRising) ↔ (¬ AreRising facets.now) }
-    ensures memory { AreRising facets.now → IfErr result (λ error. error ≡ Memory) }
+    ensures { CountsChildren ancestor.now facets.now result }
 {
     if !are_rising(facets) {
         return Err(FacetCountsError::NotRising);

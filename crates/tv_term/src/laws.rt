@@ -3,8 +3,7 @@
 //! returns `NulInPath` exactly where the path has U+0000, and else has that error.
 
 ghost use Rattle.std.specs.Prelude.{◌≡◌, ◌↔◌, ℕ, ℤ, FitsSigned, Bool, List, [], ◌<◌, ◌^◌, ◌++◌};
-ghost use Rattle.std.specs.Prelude.{◌∷◌, Some, IfOk, IfErr, IsTrue, IsUtf8, option_map};
-ghost use Rattle.std.specs.Prelude.{string_bytes};
+ghost use Rattle.std.specs.Prelude.{◌∷◌, Some, IsTrue, IsUtf8, option_map};
 ghost use Rattle.std.specs.Int.{to_be_bytes, w64, w128};
 ghost use Rattle.std.specs.Net.Addr.{IsIpv6Addr, ipv6_bits, ipv6_segments, segments_of};
 ghost use Rattle.std.specs.Option.{option_copied};
@@ -15,10 +14,11 @@ ghost use Rattle.tv_options.specs.declared.types.TypeTag.TheVariants as tag;
 ghost use Rattle.tv_term.specs.FastValue.{IsFastType};
 ghost use Rattle.tv_term.specs.Key.{TermValue, Text, Unsigned, Signed, Truth, Date, Facet, Bytes};
 ghost use Rattle.tv_term.specs.Key.{Address, Json, Fits, HasNoZero, IsTerm, IsJsonTerm, Appends};
+ghost use Rattle.tv_term.specs.Making.{GivesExactly, GivesAtPath, GivesTermAtPath, GivesTextAtPath};
 ghost use Rattle.tv_term.specs.Key.{type_of, coded, term, value_cmp};
-ghost use Rattle.tv_term.specs.Reading.{number_of, address_of, payload_of, signed_at, is_true};
+ghost use Rattle.tv_term.specs.Reading.{unsigned_of, signed_of, truth_of, date_of, bytes_of};
+ghost use Rattle.tv_term.specs.Reading.{address_of, payload_of};
 ghost use Rattle.tv_term.specs.Reading.{json_parts, json_type, json_path};
-ghost use Rattle.tv_term.specs.declared.term_error.TermError.TheVariants.{Memory, NulInPath};
 
 use crate::fast_value::FastValue;
 use crate::term::Term;
@@ -72,8 +72,7 @@ pub fn signed_terms_compare_as_numbers(
     one: i64,
     other: i64,
 ) -> Result<Ordering, TermError>
-    ensures order { IfOk result (λ order. order ≡ int_cmp one other) }
-    ensures memory { IfErr result (λ error. error ≡ Memory) }
+    ensures { GivesExactly (int_cmp one other) result }
 {
     let one = Term::from_field_i64(alloc, field, one)?;
     let other = Term::from_field_i64(alloc, field, other)?;
@@ -88,10 +87,7 @@ pub fn appended_texts_make_terms(
     expand_dots: bool,
     text: &str,
 ) -> Result<Term, TermError>
-    ensures made { IfOk result
-        (λ made. IsTerm made field.id (Json (joined_path expand_dots path.now) (Text text.now))) }
-    ensures nul { (result ≡ Err NulInPath) ↔ (¬ HasNoZero path.now) }
-    ensures memory { HasNoZero path.now → IfErr result (λ error. error ≡ Memory) }
+    ensures { GivesTermAtPath field.id expand_dots path.now (Text text.now) result }
 {
     let mut term = Term::from_field_json_path(alloc, field, path, expand_dots)?;
     term.append_type_and_str(text)?;
@@ -106,11 +102,7 @@ pub fn appended_fast_values_make_terms<T: FastValue>(
     expand_dots: bool,
     value: T,
 ) -> Result<Term, TermError>
-    ensures made { IfOk result
-        (λ made. IsTerm made field.id
-        (Json (joined_path expand_dots path.now) (T.as_value value))) }
-    ensures nul { (result ≡ Err NulInPath) ↔ (¬ HasNoZero path.now) }
-    ensures memory { HasNoZero path.now → IfErr result (λ error. error ≡ Memory) }
+    ensures { GivesTermAtPath field.id expand_dots path.now (T.as_value value) result }
 {
     let mut term = Term::from_field_json_path(alloc, field, path, expand_dots)?;
     term.append_type_and_fast_value(value)?;
@@ -126,9 +118,7 @@ pub fn appended_fast_values_compare_as_values<T: FastValue>(
     one: T,
     other: T,
 ) -> Result<Ordering, TermError>
-    ensures order { IfOk result (λ order. order ≡ T.cmp one other) }
-    ensures nul { (result ≡ Err NulInPath) ↔ (¬ HasNoZero path.now) }
-    ensures memory { HasNoZero path.now → IfErr result (λ error. error ≡ Memory) }
+    ensures { GivesAtPath path.now (T.cmp one other) result }
 {
     let one = appended_fast_values_make_terms(alloc, field, path, expand_dots, one)?;
     let other = appended_fast_values_make_terms(alloc, field, path, expand_dots, other)?;
@@ -143,10 +133,7 @@ pub fn json_paths_are_read_back(
     expand_dots: bool,
     text: &str,
 ) -> Result<Option<String>, TermError>
-    ensures path { IfOk result
-        (λ found. option_map string_bytes found ≡ Some (joined_path expand_dots path.now)) }
-    ensures nul { (result ≡ Err NulInPath) ↔ (¬ HasNoZero path.now) }
-    ensures memory { HasNoZero path.now → IfErr result (λ error. error ≡ Memory) }
+    ensures { GivesTextAtPath path.now (joined_path expand_dots path.now) result }
 {
     let mut term = Term::from_field_json_path(alloc, field, path, expand_dots)?;
     term.append_type_and_str(text)?;
@@ -161,9 +148,7 @@ pub fn appended_texts_are_read_back(
     expand_dots: bool,
     text: &str,
 ) -> Result<Option<String>, TermError>
-    ensures text { IfOk result (λ found. option_map string_bytes found ≡ Some text.now) }
-    ensures nul { (result ≡ Err NulInPath) ↔ (¬ HasNoZero path.now) }
-    ensures memory { HasNoZero path.now → IfErr result (λ error. error ≡ Memory) }
+    ensures { GivesTextAtPath path.now text.now result }
 {
     let term = appended_texts_make_terms(alloc, field, path, expand_dots, text)?;
     match text_behind_path(&term) {
@@ -197,9 +182,7 @@ pub fn appended_numbers_are_read_back(
     expand_dots: bool,
     number: i64,
 ) -> Result<Option<i64>, TermError>
-    ensures number { IfOk result (λ found. found ≡ Some number) }
-    ensures nul { (result ≡ Err NulInPath) ↔ (¬ HasNoZero path.now) }
-    ensures memory { HasNoZero path.now → IfErr result (λ error. error ≡ Memory) }
+    ensures { GivesAtPath path.now (Some number) result }
 {
     let term = appended_fast_values_make_terms(alloc, field, path, expand_dots, number)?;
     Ok(number_behind_path(&term))
@@ -253,17 +236,14 @@ pub fn joined_paths_have_no_zero()
 /// What the readers of value bytes return for the bytes of a value of their type is that value. The path of a value of a JSON
 /// field has no U+0000 by its definition.
 pub fn written_values_are_read()
-    ensures unsigned { (n : ℕ) → n < 2 ^ 64 → number_of tag.U64 (coded (Unsigned n)) ≡ Some n }
-    ensures signed { (z : ℤ) → FitsSigned w64 z
-        → option_map signed_at (number_of tag.I64 (coded (Signed z))) ≡ Some z }
-    ensures truth { (b : Bool)
-        → option_map is_true (number_of tag.Bool (coded (Truth b))) ≡ Some b }
-    ensures date { (z : ℤ) → FitsSigned w64 z
-        → option_map signed_at (number_of tag.Date (coded (Date z))) ≡ Some z }
+    ensures unsigned { (n : ℕ) → n < 2 ^ 64 → unsigned_of (coded (Unsigned n)) ≡ Some n }
+    ensures signed { (z : ℤ) → FitsSigned w64 z → signed_of (coded (Signed z)) ≡ Some z }
+    ensures truth { (b : Bool) → truth_of (coded (Truth b)) ≡ Some b }
+    ensures date { (z : ℤ) → FitsSigned w64 z → date_of (coded (Date z)) ≡ Some z }
     ensures text { (text : List ℕ) → payload_of tag.Str (coded (Text text)) ≡ Some text }
     ensures facet { (encoded : List ℕ)
         → payload_of tag.Facet (coded (Facet encoded)) ≡ Some encoded }
-    ensures bytes { (bytes : List ℕ) → payload_of tag.Bytes (coded (Bytes bytes)) ≡ Some bytes }
+    ensures bytes { (bytes : List ℕ) → bytes_of (coded (Bytes bytes)) ≡ Some bytes }
     ensures address { (a : Ipv6Addr) → IsIpv6Addr a
         → option_map (λ n. segments_of (to_be_bytes w128 n))
         (address_of (coded (Address (ipv6_bits a))))

@@ -1,14 +1,12 @@
 //! Ranges of terms, as a term dictionary goes over them.
 
-ghost use Rattle.std.specs.Prelude.{◌≡◌, ◌↔◌, ◌≤◌, ◌<◌, ◌+◌, ℕ, IsTrue, IfOk, OnOk, length, option_map};
-ghost use Rattle.std.specs.Prelude.{slice_index, IfErr, Err};
-ghost use Rattle.tv_base.specs.JsonPath.{joined_path};
-ghost use Rattle.tv_term.specs.Key.{HasNoZero};
+ghost use Rattle.std.specs.Prelude.{◌≡◌, ◌↔◌, ◌≤◌, ◌<◌, ◌+◌, ℕ, IsTrue, IfOk, length, option_map};
+ghost use Rattle.std.specs.Prelude.{slice_index};
+ghost use Rattle.tv_term.specs.Making.{GivesPathRange, GivesRange, GivesRangeIf, OnlyMemory};
 ghost use Rattle.tv_term.specs.Range.{EndsPrefix, HasPrefixed, HasTerms, IsIn, BeginsWith};
-ghost use Rattle.tv_term.specs.Range.{IsOfField, IsOfType, HasTextPrefix, IsAtPath, IsBelowFacet, HasLonger};
+ghost use Rattle.tv_term.specs.Range.{IsOfField, IsOfType, HasTextPrefix, IsBelowFacet, HasLonger};
 ghost use Rattle.tv_term.specs.Range.{IsBetween, IsTypedTerm, IsBehindTerm, StartsAt, EndsAt};
 ghost use Rattle.std.specs.Range.Bound.{bound_map};
-ghost use Rattle.tv_term.specs.declared.term_error.TermError.TheVariants.{Memory, NulInPath};
 
 use crate::fast_value::FastValue;
 use crate::term::Term;
@@ -84,8 +82,7 @@ impl TermRange {
         value_type: Type,
         payload: &[u8],
     ) -> Result<TermRange, TermError>
-        ensures terms { IfOk result (HasTerms (BeginsWith field.id value_type payload.now)) }
-        ensures memory { IfErr result (λ error. error ≡ Memory) }
+        ensures { GivesRange (BeginsWith field.id value_type payload.now) result }
     {
         let least = Term::from_payload(alloc, field, value_type, payload)?;
         Ok(TermRange::of_prefix(alloc, least.serialized_term())?)
@@ -136,16 +133,14 @@ impl Term {
         field: Field,
         value_type: Type,
     ) -> Result<TermRange, TermError>
-        ensures terms { IfOk result (HasTerms (IsOfType field.id value_type)) }
-        ensures memory { IfErr result (λ error. error ≡ Memory) }
+        ensures { GivesRange (IsOfType field.id value_type) result }
     {
         TermRange::of_payload(alloc, field, value_type, &[])
     }
 
     /// The terms of a field whose values are texts that begin with a text. (Not in tantivy.) The only error is `Memory`.
     pub fn prefix_range(alloc: Global, field: Field, prefix: &str) -> Result<TermRange, TermError>
-        ensures terms { IfOk result (HasTerms (HasTextPrefix field.id prefix.now)) }
-        ensures memory { IfErr result (λ error. error ≡ Memory) }
+        ensures { GivesRange (HasTextPrefix field.id prefix.now) result }
     {
         TermRange::of_payload(alloc, field, Type::Str, prefix.as_bytes())
     }
@@ -158,10 +153,7 @@ impl Term {
         json_path: &str,
         expand_dots: bool,
     ) -> Result<TermRange, TermError>
-        ensures terms { IfOk result
-            (HasTerms (IsAtPath field.id (joined_path expand_dots json_path.now))) }
-        ensures nul { (result ≡ Err NulInPath) ↔ (¬ HasNoZero json_path.now) }
-        ensures memory { HasNoZero json_path.now → IfErr result (λ error. error ≡ Memory) }
+        ensures { GivesPathRange field.id expand_dots json_path.now result }
     {
         let least = Term::from_field_json_path(alloc, field, json_path, expand_dots)?;
         Ok(TermRange::of_prefix(alloc, least.serialized_term())?)
@@ -174,8 +166,7 @@ impl Term {
         field: Field,
         facet: &Facet,
     ) -> Result<TermRange, TermError>
-        ensures terms { IfOk result (HasTerms (IsBelowFacet field.id facet.now)) }
-        ensures memory { IfErr result (λ error. error ≡ Memory) }
+        ensures { GivesRange (IsBelowFacet field.id facet.now) result }
     {
         let upper = Term::from_facet(alloc, field, facet)?;
         if facet.is_root() {
@@ -193,10 +184,9 @@ impl Term {
         field: Field,
         values: &B,
     ) -> Result<TermRange, TermError>
-        ensures terms { B.has_bounds values.now → IfOk result (HasTerms
+        ensures { GivesRangeIf (B.has_bounds values.now)
             (IsBetween field.id T.type_tag (bound_map T.as_value (B.start_bound values.now))
-            (bound_map T.as_value (B.end_bound values.now)))) }
-        ensures memory { IfErr result (λ error. error ≡ Memory) }
+            (bound_map T.as_value (B.end_bound values.now))) result }
     {
         let start = start_at(alloc, field, values.start_bound())?;
         let end = end_at(alloc, field, values.end_bound())?;
@@ -208,7 +198,7 @@ impl Term {
 fn bytes_of<T: FastValue>(alloc: Global, field: Field, value: T) -> Result<Vec<u8>, TermError>
     ensures typed { IfOk result
         (λ bytes. IsTypedTerm field.id T.type_tag (T.as_value value) bytes.items) }
-    ensures memory { IfErr result (λ error. error ≡ Memory) }
+    ensures memory { OnlyMemory result }
 {
     Ok(Term::from_fast_value(alloc, field, value)?.into_bytes())
 }
@@ -217,7 +207,7 @@ fn bytes_of<T: FastValue>(alloc: Global, field: Field, value: T) -> Result<Vec<u
 fn bytes_behind<T: FastValue>(alloc: Global, field: Field, value: T) -> Result<Vec<u8>, TermError>
     ensures behind { IfOk result
         (λ bytes. IsBehindTerm field.id T.type_tag (T.as_value value) bytes.items) }
-    ensures memory { IfErr result (λ error. error ≡ Memory) }
+    ensures memory { OnlyMemory result }
 {
     let mut term = Term::from_fast_value(alloc, field, value)?;
     term.append_bytes(&[0])?;
@@ -232,7 +222,7 @@ fn start_at<T: FastValue>(
 ) -> Result<Vec<u8>, TermError>
     ensures starts { IfOk result (λ start. StartsAt field.id T.type_tag
         (bound_map (λ x. T.as_value x.now) bound.entry) start.items) }
-    ensures memory { IfErr result (λ error. error ≡ Memory) }
+    ensures memory { OnlyMemory result }
 {
     match bound {
         Bound::Included(value) => bytes_of(alloc, field, *value),
@@ -251,7 +241,7 @@ fn end_at<T: FastValue>(
 ) -> Result<Option<Vec<u8>>, TermError>
     ensures ends { IfOk result
         (EndsAt field.id T.type_tag (bound_map (λ x. T.as_value x.now) bound.entry)) }
-    ensures memory { IfErr result (λ error. error ≡ Memory) }
+    ensures memory { OnlyMemory result }
 {
     match bound {
         Bound::Included(value) => Ok(Some(bytes_behind(alloc, field, *value)?)),

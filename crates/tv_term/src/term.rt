@@ -1,25 +1,21 @@
 //! Terms.
 
 ghost use Rattle.std.specs.Prelude.{◌≡◌, ◌<◌, ◌≤◌, ◌+◌, ◌^◌, ◌++◌, ◌∷◌, ◌↔◌, [], length, take};
-ghost use Rattle.std.specs.Prelude.{drop, IfOk, IfErr, MatchResult, MatchBool, OnOk, OnErr, IsTrue};
-ghost use Rattle.std.specs.Prelude.{slice_get, slice_index, option_map, string_bytes, vec_capacity};
+ghost use Rattle.std.specs.Prelude.{drop, IfOk, MatchResult, MatchBool, OnOk, OnErr, IsTrue};
+ghost use Rattle.std.specs.Prelude.{slice_index, option_map, string_bytes, vec_capacity};
 ghost use Rattle.std.specs.Prelude.{Some};
 ghost use Rattle.std.specs.Int.{to_be_bytes, w32};
 ghost use Rattle.std.specs.Net.Addr.{ipv6_bits};
 ghost use Rattle.std.specs.Option.{option_copied};
-ghost use Rattle.tv_base.specs.JsonPath.{joined_path};
 ghost use Rattle.tv_options.specs.Types.{code, type_of_code};
-ghost use Rattle.tv_field.specs.Entry.{Entry};
-ghost use Rattle.tv_date.specs.DateTime.{truncated};
-ghost use Rattle.tv_date.specs.declared.date_time.DateTimePrecision.TheVariants.{Seconds};
-ghost use Rattle.tv_term.specs.Key.{IsTerm, IsJsonTerm, HasNoZero, Appends};
+ghost use Rattle.tv_term.specs.Key.{HasNoZero};
 ghost use Rattle.tv_term.specs.Segments.{HaveNoZero, joined_segments};
 ghost use Rattle.tv_term.specs.Key.{Text, Unsigned, Signed, Truth};
 ghost use Rattle.tv_term.specs.Key.{Date, Facet as FacetValue, Bytes, Address};
-ghost use Rattle.tv_term.specs.Reading.{field_of, value_of, json_path, ReadsText, IsFullPath};
-ghost use Rattle.tv_term.specs.Reading.{dotted};
-ghost use Rattle.tv_term.specs.declared.term_error.TermError.TheVariants.{TooShort, Memory};
-ghost use Rattle.tv_term.specs.declared.term_error.TermError.TheVariants.{NulInPath};
+ghost use Rattle.tv_term.specs.Making.{AppendsValue, GivesExactly, GivesPathTerm};
+ghost use Rattle.tv_term.specs.Making.{GivesSegmentsTerm, GivesTerm, OnlyMemory, indexed_date};
+ghost use Rattle.tv_term.specs.Reading.{field_of, value_of, ReadsPath, IsFullPathIn, dotted};
+ghost use Rattle.tv_term.specs.declared.term_error.TermError.TheVariants.{TooShort};
 
 use crate::fast_value::FastValue;
 use crate::term_error::TermError;
@@ -99,8 +95,7 @@ impl Term {
 
     /// A term of field 0 with the type's code 0, which is no type's, and no value bytes, with room for as many value bytes.
     pub fn with_capacity(alloc: Global, capacity: usize) -> Result<Term, TermError>
-        ensures made { IfOk result (λ made. made ≡ 0 ∷ 0 ∷ 0 ∷ 0 ∷ 0 ∷ []) }
-        ensures memory { IfErr result (λ error. error ≡ Memory) }
+        ensures { GivesExactly (0 ∷ 0 ∷ 0 ∷ 0 ∷ 0 ∷ []) result }
     {
         Ok(Term {
             bytes: bytes_with_room(alloc, capacity)?,
@@ -119,11 +114,7 @@ impl Term {
         json_path: &str,
         expand_dots: bool,
     ) -> Result<Term, TermError>
-        ensures made { IfOk result
-            (λ made. IsJsonTerm made field.id (joined_path expand_dots json_path.now)) }
-        ensures has_no_nul { OnOk result (HasNoZero json_path.now) }
-        ensures nul { (result ≡ Err NulInPath) ↔ (¬ HasNoZero json_path.now) }
-        ensures memory { HasNoZero json_path.now → IfErr result (λ error. error ≡ Memory) }
+        ensures { GivesPathTerm field.id expand_dots json_path.now result }
     {
         if has_nul(json_path) {
             return Err(TermError::NulInPath);
@@ -143,9 +134,7 @@ impl Term {
         field: Field,
         segments: &[&str],
     ) -> Result<Term, TermError>
-        ensures made { IfOk result (λ made. IsJsonTerm made field.id (joined_segments segments.now)) }
-        ensures nul { (result ≡ Err NulInPath) ↔ (¬ HaveNoZero segments.now) }
-        ensures memory { HaveNoZero segments.now → IfErr result (λ error. error ≡ Memory) }
+        ensures { GivesSegmentsTerm field.id segments.now result }
     {
         if has_nul_among(segments) {
             return Err(TermError::NulInPath);
@@ -158,24 +147,21 @@ impl Term {
 
     /// The term of a whole number without a sign.
     pub fn from_field_u64(alloc: Global, field: Field, unsigned: u64) -> Result<Term, TermError>
-        ensures made { IfOk result (λ made. IsTerm made field.id (Unsigned unsigned)) }
-        ensures memory { IfErr result (λ error. error ≡ Memory) }
+        ensures { GivesTerm field.id (Unsigned unsigned) result }
     {
         Term::from_fast_value(alloc, field, unsigned)
     }
 
     /// The term of a whole number with a sign.
     pub fn from_field_i64(alloc: Global, field: Field, signed: i64) -> Result<Term, TermError>
-        ensures made { IfOk result (λ made. IsTerm made field.id (Signed signed)) }
-        ensures memory { IfErr result (λ error. error ≡ Memory) }
+        ensures { GivesTerm field.id (Signed signed) result }
     {
         Term::from_fast_value(alloc, field, signed)
     }
 
     /// The term of a truth value.
     pub fn from_field_bool(alloc: Global, field: Field, truth: bool) -> Result<Term, TermError>
-        ensures made { IfOk result (λ made. IsTerm made field.id (Truth truth)) }
-        ensures memory { IfErr result (λ error. error ≡ Memory) }
+        ensures { GivesTerm field.id (Truth truth) result }
     {
         Term::from_fast_value(alloc, field, truth)
     }
@@ -183,8 +169,7 @@ impl Term {
     /// The term of a date, to the nanosecond. Dates are indexed to the second alone: a term that searches is
     /// `from_field_date_for_search`'s.
     pub fn from_field_date(alloc: Global, field: Field, date: DateTime) -> Result<Term, TermError>
-        ensures made { IfOk result (λ made. IsTerm made field.id (Date date.nanoseconds)) }
-        ensures memory { IfErr result (λ error. error ≡ Memory) }
+        ensures { GivesTerm field.id (Date date.nanoseconds) result }
     {
         Term::from_fast_value(alloc, field, date)
     }
@@ -195,9 +180,7 @@ impl Term {
         field: Field,
         date: DateTime,
     ) -> Result<Term, TermError>
-        ensures made { IfOk result
-            (λ made. IsTerm made field.id (Date (truncated Seconds date.nanoseconds))) }
-        ensures memory { IfErr result (λ error. error ≡ Memory) }
+        ensures { GivesTerm field.id (indexed_date date.nanoseconds) result }
     {
         Term::from_field_date(alloc, field, date.truncate(DATE_TIME_PRECISION_INDEXED))
     }
@@ -208,8 +191,7 @@ impl Term {
         field: Field,
         address: Ipv6Addr,
     ) -> Result<Term, TermError>
-        ensures made { IfOk result (λ made. IsTerm made field.id (Address (ipv6_bits address))) }
-        ensures memory { IfErr result (λ error. error ≡ Memory) }
+        ensures { GivesTerm field.id (Address (ipv6_bits address)) result }
     {
         let number = address.to_bits();
         Term::from_payload(alloc, field, Type::IpAddr, &number.to_be_bytes())
@@ -217,8 +199,7 @@ impl Term {
 
     /// The term of a facet: its encoded text.
     pub fn from_facet(alloc: Global, field: Field, facet: &Facet) -> Result<Term, TermError>
-        ensures made { IfOk result (λ made. IsTerm made field.id (FacetValue facet.now)) }
-        ensures memory { IfErr result (λ error. error ≡ Memory) }
+        ensures { GivesTerm field.id (FacetValue facet.now) result }
     {
         let encoded = facet.encoded_str().as_bytes();
         Term::from_payload(alloc, field, Type::Facet, encoded)
@@ -226,16 +207,14 @@ impl Term {
 
     /// The term of a text.
     pub fn from_field_text(alloc: Global, field: Field, text: &str) -> Result<Term, TermError>
-        ensures made { IfOk result (λ made. IsTerm made field.id (Text text.now)) }
-        ensures memory { IfErr result (λ error. error ≡ Memory) }
+        ensures { GivesTerm field.id (Text text.now) result }
     {
         Term::from_payload(alloc, field, Type::Str, text.as_bytes())
     }
 
     /// The term of bytes.
     pub fn from_field_bytes(alloc: Global, field: Field, bytes: &[u8]) -> Result<Term, TermError>
-        ensures made { IfOk result (λ made. IsTerm made field.id (Bytes bytes.now)) }
-        ensures memory { IfErr result (λ error. error ≡ Memory) }
+        ensures { GivesTerm field.id (Bytes bytes.now) result }
     {
         Term::from_payload(alloc, field, Type::Bytes, bytes)
     }
@@ -246,8 +225,7 @@ impl Term {
         field: Field,
         value: T,
     ) -> Result<Term, TermError>
-        ensures made { IfOk result (λ made. IsTerm made field.id (T.as_value value)) }
-        ensures memory { IfErr result (λ error. error ≡ Memory) }
+        ensures { GivesTerm field.id (T.as_value value) result }
     {
         Term::from_payload(alloc, field, T::to_type(), &value.to_u64().to_be_bytes())
     }
@@ -262,7 +240,7 @@ impl Term {
         ensures made { IfOk result
             (λ made. made ≡ to_be_bytes w32 field.id ++ code value_type ∷ payload.now) }
         ensures field { field.id < 2 ^ 32 }
-        ensures memory { IfErr result (λ error. error ≡ Memory) }
+        ensures memory { OnlyMemory result }
     {
         let mut bytes = Vec::with_capacity(alloc, payload.len() + 5)?;
         bytes.extend_from_slice(&field.field_id().to_be_bytes())?;
@@ -289,8 +267,7 @@ impl Term {
 
     /// The same term, in memory of its own.
     pub fn try_clone(&self, alloc: Global) -> Result<Term, TermError>
-        ensures made { IfOk result (λ made. made ≡ self.now) }
-        ensures memory { IfErr result (λ error. error ≡ Memory) }
+        ensures { GivesExactly self.now result }
     {
         Ok(Term {
             bytes: Vec::from_slice(alloc, self.bytes.as_slice())?,
@@ -381,8 +358,7 @@ impl Term {
     ///
     /// Errors: memory was refused. Then the term is as it was.
     pub fn append_type_and_fast_value<T: FastValue>(&mut self, value: T) -> Result<(), AllocError>
-        ensures appended { OnOk result (Appends self.old self.new (T.as_value value)) }
-        ensures unchanged { OnErr result (self.new ≡ self.old) }
+        ensures { AppendsValue self.old self.new (T.as_value value) result }
     {
         self.append_typed(T::to_type(), &value.to_u64().to_be_bytes())
     }
@@ -391,8 +367,7 @@ impl Term {
     ///
     /// Errors: memory was refused. Then the term is as it was.
     pub fn append_type_and_str(&mut self, text: &str) -> Result<(), AllocError>
-        ensures appended { OnOk result (Appends self.old self.new (Text text.now)) }
-        ensures unchanged { OnErr result (self.new ≡ self.old) }
+        ensures { AppendsValue self.old self.new (Text text.now) result }
     {
         self.append_typed(Type::Str, text.as_bytes())
     }
@@ -440,8 +415,7 @@ impl Term {
     ///
     /// Errors: memory was refused.
     pub fn get_json_path(&self, alloc: Global) -> Result<Option<String>, AllocError>
-        ensures { IfOk result
-            (λ found. ReadsText (json_path (value_of self.now)) (option_map string_bytes found)) }
+        ensures { IfOk result (λ found. ReadsPath self.now (option_map string_bytes found)) }
     {
         match self.value().json_path() {
             Some(path) => Ok(Some(String::from_str(alloc, path)?)),
@@ -455,9 +429,7 @@ impl Term {
     /// Errors: memory was refused.
     pub fn get_full_path(&self, alloc: Global, schema: &Schema) -> Result<String, AllocError>
         requires { field_of self.now < length schema.now }
-        ensures { IfOk result
-            (λ path. (entry : Entry) → slice_get schema.now (field_of self.now) ≡ Some entry
-            → IsFullPath entry.name (value_of self.now) (string_bytes path)) }
+        ensures { IfOk result (λ path. IsFullPathIn schema.now self.now (string_bytes path)) }
     {
         let name = schema.get_field_entry(self.field()).name();
         dotted(alloc, name, self.value().json_path())

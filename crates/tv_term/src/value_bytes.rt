@@ -4,11 +4,11 @@ ghost use Rattle.std.specs.Prelude.{◌≡◌, ◌<◌, ◌==◌, [], length, po
 ghost use Rattle.std.specs.Prelude.{MatchResult, slice_index};
 ghost use Rattle.std.specs.Int.{w128, to_be_bytes};
 ghost use Rattle.std.specs.Net.Addr.{ipv6_segments, segments_of};
-ghost use Rattle.std.specs.Option.{option_and_then, option_copied, option_map};
-ghost use Rattle.tv_options.specs.declared.types.TypeTag.TheVariants as tag;
-ghost use Rattle.tv_term.specs.Reading.{type_at, payload_of, number_of, address_of, signed_at};
-ghost use Rattle.tv_term.specs.Reading.{is_true, json_parts, json_path, json_type, cut_behind_zero};
-ghost use Rattle.tv_term.specs.Reading.{ReadsText, value_behind};
+ghost use Rattle.std.specs.Option.{option_copied, option_map};
+ghost use Rattle.tv_term.specs.Reading.{type_at, payload_of, number_of, address_of, json_parts};
+ghost use Rattle.tv_term.specs.Reading.{json_path, json_type, cut_behind_zero, value_behind};
+ghost use Rattle.tv_term.specs.Reading.{unsigned_of, signed_of, truth_of, date_of, bytes_of};
+ghost use Rattle.tv_term.specs.Reading.{ReadsText, ReadsStr, ReadsFacet};
 ghost use Rattle.tv_term.specs.declared.term_error.TermError.TheVariants.{TooShort};
 
 use crate::fast_value::FastValue;
@@ -77,29 +77,28 @@ impl<'a> ValueBytes<'a> {
 
     /// The number, exactly where the code is that of whole numbers without a sign and eight bytes follow.
     pub fn as_u64(&self) -> Option<u64>
-        ensures { result ≡ number_of tag.U64 self.now.serialized.now }
+        ensures { result ≡ unsigned_of self.now.serialized.now }
     {
         self.fast_value::<u64>()
     }
 
     /// The number, exactly where the code is that of whole numbers with a sign and eight bytes follow.
     pub fn as_i64(&self) -> Option<i64>
-        ensures { result ≡ option_map signed_at (number_of tag.I64 self.now.serialized.now) }
+        ensures { result ≡ signed_of self.now.serialized.now }
     {
         self.fast_value::<i64>()
     }
 
     /// Whether the number isn't 0, exactly where the code is that of truth values and eight bytes follow.
     pub fn as_bool(&self) -> Option<bool>
-        ensures { result ≡ option_map is_true (number_of tag.Bool self.now.serialized.now) }
+        ensures { result ≡ truth_of self.now.serialized.now }
     {
         self.fast_value::<bool>()
     }
 
     /// The date, exactly where the code is that of dates and eight bytes follow.
     pub fn as_date(&self) -> Option<DateTime>
-        ensures { option_map (λ date. date.nanoseconds) result
-            ≡ option_map signed_at (number_of tag.Date self.now.serialized.now) }
+        ensures { option_map (λ date. date.nanoseconds) result ≡ date_of self.now.serialized.now }
     {
         self.fast_value::<DateTime>()
     }
@@ -117,21 +116,21 @@ impl<'a> ValueBytes<'a> {
 
     /// The text, exactly where the code is that of texts and UTF-8 follows.
     pub fn as_str(&self) -> Option<&'a str>
-        ensures { ReadsText (payload_of tag.Str self.now.serialized.now) (option_copied result) }
+        ensures { ReadsStr self.now.serialized.now (option_copied result) }
     {
         self.text(Type::Str)
     }
 
     /// The bytes behind the code, exactly where that is the code of bytes.
     pub fn as_bytes(&self) -> Option<&'a [u8]>
-        ensures { option_copied result ≡ payload_of tag.Bytes self.now.serialized.now }
+        ensures { option_copied result ≡ bytes_of self.now.serialized.now }
     {
         self.payload(Type::Bytes)
     }
 
     /// The facet of the encoded text, exactly where the code is that of facets and UTF-8 follows. Errors: memory was refused.
     pub fn as_facet(&self, alloc: Global) -> Result<Option<Facet>, AllocError>
-        ensures { IfOk result (ReadsText (payload_of tag.Facet self.now.serialized.now)) }
+        ensures { IfOk result (ReadsFacet self.now.serialized.now) }
     {
         let Some(encoded) = self.text(Type::Facet) else {
             return Ok(None);

@@ -1,17 +1,13 @@
 //! Many terms, one after another in one buffer.
 
-ghost use Rattle.std.specs.Prelude.{◌≡◌, ◌≢◌, ◌<◌, ◌^◌, ◌++◌, ◌∷◌, ◌↔◌, [], IfErr, OnErr, OnOk, IsTrue, Err};
+ghost use Rattle.std.specs.Prelude.{◌≡◌, ◌≢◌, ◌<◌, ◌^◌, ◌++◌, ◌∷◌, ◌↔◌, [], OnErr, OnOk, IsTrue};
 ghost use Rattle.std.specs.Int.{to_be_bytes, w32};
 ghost use Rattle.std.specs.Net.Addr.{ipv6_bits};
-ghost use Rattle.tv_base.specs.JsonPath.{joined_path};
 ghost use Rattle.tv_options.specs.Types.{code};
-ghost use Rattle.tv_date.specs.DateTime.{truncated};
-ghost use Rattle.tv_date.specs.declared.date_time.DateTimePrecision.TheVariants.{Seconds};
-ghost use Rattle.tv_term.specs.Key.{IsTerm, IsJsonTerm, HasNoZero, Appends};
-ghost use Rattle.tv_term.specs.Segments.{HaveNoZero, joined_segments};
 ghost use Rattle.tv_term.specs.Key.{Text, Unsigned, Signed, Truth};
 ghost use Rattle.tv_term.specs.Key.{Date, Facet as FacetValue, Bytes, Address};
-ghost use Rattle.tv_term.specs.declared.term_error.TermError.TheVariants.{Memory, NulInPath};
+ghost use Rattle.tv_term.specs.Making.{Makes, MakesTerm, MakesPathTerm, MakesSegmentsTerm};
+ghost use Rattle.tv_term.specs.Making.{AppendsValue, OnlyMemory, indexed_date};
 
 use crate::fast_value::FastValue;
 use crate::term::{Term, has_nul, has_nul_among, push_segments};
@@ -96,61 +92,42 @@ impl TermWriter {
 
     /// Makes the term of a whole number without a sign.
     pub fn write_u64(&mut self, field: Field, unsigned: u64) -> Result<(), TermError>
-        ensures made { OnOk result (IsTerm self.new field.id (Unsigned unsigned)) }
-        ensures has_term { OnOk result (self.new ≢ []) }
-        ensures unchanged { OnErr result (self.new ≡ self.old) }
-        ensures memory { IfErr result (λ error. error ≡ Memory) }
+        ensures { MakesTerm self.old self.new field.id (Unsigned unsigned) result }
     {
         self.write_fast_value(field, unsigned)
     }
 
     /// Makes the term of a whole number with a sign.
     pub fn write_i64(&mut self, field: Field, signed: i64) -> Result<(), TermError>
-        ensures made { OnOk result (IsTerm self.new field.id (Signed signed)) }
-        ensures has_term { OnOk result (self.new ≢ []) }
-        ensures unchanged { OnErr result (self.new ≡ self.old) }
-        ensures memory { IfErr result (λ error. error ≡ Memory) }
+        ensures { MakesTerm self.old self.new field.id (Signed signed) result }
     {
         self.write_fast_value(field, signed)
     }
 
     /// Makes the term of a truth value.
     pub fn write_bool(&mut self, field: Field, truth: bool) -> Result<(), TermError>
-        ensures made { OnOk result (IsTerm self.new field.id (Truth truth)) }
-        ensures has_term { OnOk result (self.new ≢ []) }
-        ensures unchanged { OnErr result (self.new ≡ self.old) }
-        ensures memory { IfErr result (λ error. error ≡ Memory) }
+        ensures { MakesTerm self.old self.new field.id (Truth truth) result }
     {
         self.write_fast_value(field, truth)
     }
 
     /// Makes the term of a date, to the nanosecond, as `Term::from_field_date` does.
     pub fn write_date(&mut self, field: Field, date: DateTime) -> Result<(), TermError>
-        ensures made { OnOk result (IsTerm self.new field.id (Date date.nanoseconds)) }
-        ensures has_term { OnOk result (self.new ≢ []) }
-        ensures unchanged { OnErr result (self.new ≡ self.old) }
-        ensures memory { IfErr result (λ error. error ≡ Memory) }
+        ensures { MakesTerm self.old self.new field.id (Date date.nanoseconds) result }
     {
         self.write_fast_value(field, date)
     }
 
     /// Makes the term of a date as it is indexed: cut to the second, towards 1970.
     pub fn write_date_for_search(&mut self, field: Field, date: DateTime) -> Result<(), TermError>
-        ensures made { OnOk result
-            (IsTerm self.new field.id (Date (truncated Seconds date.nanoseconds))) }
-        ensures has_term { OnOk result (self.new ≢ []) }
-        ensures unchanged { OnErr result (self.new ≡ self.old) }
-        ensures memory { IfErr result (λ error. error ≡ Memory) }
+        ensures { MakesTerm self.old self.new field.id (indexed_date date.nanoseconds) result }
     {
         self.write_date(field, date.truncate(DATE_TIME_PRECISION_INDEXED))
     }
 
     /// Makes the term of an IP address.
     pub fn write_ip_addr(&mut self, field: Field, address: Ipv6Addr) -> Result<(), TermError>
-        ensures made { OnOk result (IsTerm self.new field.id (Address (ipv6_bits address))) }
-        ensures has_term { OnOk result (self.new ≢ []) }
-        ensures unchanged { OnErr result (self.new ≡ self.old) }
-        ensures memory { IfErr result (λ error. error ≡ Memory) }
+        ensures { MakesTerm self.old self.new field.id (Address (ipv6_bits address)) result }
     {
         let number = address.to_bits();
         self.write_payload(field, Type::IpAddr, &number.to_be_bytes())
@@ -158,40 +135,28 @@ impl TermWriter {
 
     /// Makes the term of a facet: its encoded text.
     pub fn write_facet(&mut self, field: Field, facet: &Facet) -> Result<(), TermError>
-        ensures made { OnOk result (IsTerm self.new field.id (FacetValue facet.now)) }
-        ensures has_term { OnOk result (self.new ≢ []) }
-        ensures unchanged { OnErr result (self.new ≡ self.old) }
-        ensures memory { IfErr result (λ error. error ≡ Memory) }
+        ensures { MakesTerm self.old self.new field.id (FacetValue facet.now) result }
     {
         self.write_encoded_facet(field, facet.encoded_str())
     }
 
     /// Makes the term of the facet that has this encoded text, as a document lends it.
     pub fn write_encoded_facet(&mut self, field: Field, encoded: &str) -> Result<(), TermError>
-        ensures made { OnOk result (IsTerm self.new field.id (FacetValue encoded.now)) }
-        ensures has_term { OnOk result (self.new ≢ []) }
-        ensures unchanged { OnErr result (self.new ≡ self.old) }
-        ensures memory { IfErr result (λ error. error ≡ Memory) }
+        ensures { MakesTerm self.old self.new field.id (FacetValue encoded.now) result }
     {
         self.write_payload(field, Type::Facet, encoded.as_bytes())
     }
 
     /// Makes the term of a text.
     pub fn write_text(&mut self, field: Field, text: &str) -> Result<(), TermError>
-        ensures made { OnOk result (IsTerm self.new field.id (Text text.now)) }
-        ensures has_term { OnOk result (self.new ≢ []) }
-        ensures unchanged { OnErr result (self.new ≡ self.old) }
-        ensures memory { IfErr result (λ error. error ≡ Memory) }
+        ensures { MakesTerm self.old self.new field.id (Text text.now) result }
     {
         self.write_payload(field, Type::Str, text.as_bytes())
     }
 
     /// Makes the term of bytes.
     pub fn write_bytes(&mut self, field: Field, bytes: &[u8]) -> Result<(), TermError>
-        ensures made { OnOk result (IsTerm self.new field.id (Bytes bytes.now)) }
-        ensures has_term { OnOk result (self.new ≢ []) }
-        ensures unchanged { OnErr result (self.new ≡ self.old) }
-        ensures memory { IfErr result (λ error. error ≡ Memory) }
+        ensures { MakesTerm self.old self.new field.id (Bytes bytes.now) result }
     {
         self.write_payload(field, Type::Bytes, bytes)
     }
@@ -206,13 +171,7 @@ impl TermWriter {
         json_path: &str,
         expand_dots: bool,
     ) -> Result<(), TermError>
-        ensures made { OnOk result
-            (IsJsonTerm self.new field.id (joined_path expand_dots json_path.now)) }
-        ensures has_term { OnOk result (self.new ≢ []) }
-        ensures unchanged { OnErr result (self.new ≡ self.old) }
-        ensures has_no_nul { OnOk result (HasNoZero json_path.now) }
-        ensures nul { (result ≡ Err NulInPath) ↔ (¬ HasNoZero json_path.now) }
-        ensures memory { HasNoZero json_path.now → IfErr result (λ error. error ≡ Memory) }
+        ensures { MakesPathTerm self.old self.new field.id expand_dots json_path.now result }
     {
         if has_nul(json_path) {
             return Err(TermError::NulInPath);
@@ -234,12 +193,7 @@ impl TermWriter {
     ///
     /// Errors: `NulInPath`, exactly where a segment has U+0000, and before memory is asked for; else `Memory`.
     pub fn write_json_segments(&mut self, field: Field, segments: &[&str]) -> Result<(), TermError>
-        ensures made { OnOk result
-            (IsJsonTerm self.new field.id (joined_segments segments.now)) }
-        ensures has_term { OnOk result (self.new ≢ []) }
-        ensures unchanged { OnErr result (self.new ≡ self.old) }
-        ensures nul { (result ≡ Err NulInPath) ↔ (¬ HaveNoZero segments.now) }
-        ensures memory { HaveNoZero segments.now → IfErr result (λ error. error ≡ Memory) }
+        ensures { MakesSegmentsTerm self.old self.new field.id segments.now result }
     {
         if has_nul_among(segments) {
             return Err(TermError::NulInPath);
@@ -260,9 +214,7 @@ impl TermWriter {
     /// a term of a JSON field it stands behind the path. There is a term, as `has_term` tests.
     pub fn append_fast_value<T: FastValue>(&mut self, value: T) -> Result<(), AllocError>
         requires { self.old ≢ [] }
-        ensures appended { OnOk result (Appends self.old self.new (T.as_value value)) }
-        ensures has_term { OnOk result (self.new ≢ []) }
-        ensures unchanged { OnErr result (self.new ≡ self.old) }
+        ensures { AppendsValue self.old self.new (T.as_value value) result }
     {
         match &mut self.term {
             Some(term) => term.append_type_and_fast_value(value),
@@ -274,9 +226,7 @@ impl TermWriter {
     /// behind the path. There is a term, as `has_term` tests.
     pub fn append_text(&mut self, text: &str) -> Result<(), AllocError>
         requires { self.old ≢ [] }
-        ensures appended { OnOk result (Appends self.old self.new (Text text.now)) }
-        ensures has_term { OnOk result (self.new ≢ []) }
-        ensures unchanged { OnErr result (self.new ≡ self.old) }
+        ensures { AppendsValue self.old self.new (Text text.now) result }
     {
         match &mut self.term {
             Some(term) => term.append_type_and_str(text),
@@ -286,10 +236,7 @@ impl TermWriter {
 
     // Makes the term of a value of eight bytes.
     fn write_fast_value<T: FastValue>(&mut self, field: Field, value: T) -> Result<(), TermError>
-        ensures made { OnOk result (IsTerm self.new field.id (T.as_value value)) }
-        ensures has_term { OnOk result (self.new ≢ []) }
-        ensures unchanged { OnErr result (self.new ≡ self.old) }
-        ensures memory { IfErr result (λ error. error ≡ Memory) }
+        ensures { MakesTerm self.old self.new field.id (T.as_value value) result }
     {
         self.write_payload(field, T::to_type(), &value.to_u64().to_be_bytes())
     }
@@ -301,12 +248,10 @@ impl TermWriter {
         value_type: Type,
         payload: &[u8],
     ) -> Result<(), TermError>
-        ensures made { OnOk result
-            (self.new ≡ to_be_bytes w32 field.id ++ code value_type ∷ payload.now) }
-        ensures has_term { OnOk result (self.new ≢ []) }
-        ensures unchanged { OnErr result (self.new ≡ self.old) }
+        ensures term { Makes
+            (λ bytes. bytes ≡ to_be_bytes w32 field.id ++ code value_type ∷ payload.now)
+            OnlyMemory self.old self.new result }
         ensures field { field.id < 2 ^ 32 }
-        ensures memory { IfErr result (λ error. error ≡ Memory) }
     {
         put(&mut self.term, self.alloc, field, value_type, payload)
     }
@@ -324,7 +269,7 @@ fn put(
         (held.new ≡ Some (to_be_bytes w32 field.id ++ code value_type ∷ payload.now)) }
     ensures unchanged { OnErr result (held.new ≡ held.old) }
     ensures field { field.id < 2 ^ 32 }
-    ensures memory { IfErr result (λ error. error ≡ Memory) }
+    ensures memory { OnlyMemory result }
 {
     match held {
         Some(term) => term.replace(field, value_type, payload)?,

@@ -8,14 +8,15 @@ use Rattle.tv_reader.specs.Version.{version_of}
 use Rattle.tv_reader.specs.declared.error.DeserializeError.{DeserializeError}
 use Rattle.tv_reader.specs.declared.error.DeserializeError.TheVariants as errors
 use Rattle.tv_reader.proofs.Depths.{opens_excludes}
-use Rattle.tv_typed.specs.Depths.{AmongRead, HasDepth}
+use Rattle.tv_typed.specs.Depths.{AmongRead, HasDepthBy}
 use Rattle.tv_typed.specs.Lists.{EncodesInto}
-use Rattle.tv_typed.specs.Typed.{Reads, Deserializes}
+use Rattle.tv_typed.specs.Typed.{ReadsIf, DeserializesBy}
 use Rattle.tv_typed.specs.declared.store_reader.StoreReader.{StoreReader}
+use Rattle.tv_reader.specs.Error.{StoreMayStop}
 
 -- what stands behind a part that was read, at the version and the depth that the reader had before
 pub deep_behind : {S X : Type 0} {is_known : S → Type 0} {left : S → List ℕ} {failures : S → Failures} {old mid : StoreReader S} {x : X} {R : List ℕ → X → Type 0} {Q : List ℕ → DeserializeError → Type 0} {P : Type 0} (behind : List ℕ) (Next : Version → ℕ → List ℕ → List ℕ → Type 0)
-    → Reads is_known left failures old mid (Ok x) R Q → (mid.has_failed ≡ false → is_known mid.source → P → Next (version_of mid.version) mid.levels (left mid.source) behind)
+    → ReadsIf StoreMayStop is_known left failures old mid (Ok x) R Q → (mid.has_failed ≡ false → is_known mid.source → P → Next (version_of mid.version) mid.levels (left mid.source) behind)
     → old.has_failed ≡ false → is_known old.source → P → Begins (λ b. R b x) (left old.source) (left mid.source) × Next (version_of old.version) old.levels (left mid.source) behind
 deep_behind {left = left} {old = old} {mid = mid} behind Next p h = λ is_open told is.
     let f = p.finds is_open in
@@ -26,7 +27,7 @@ deep_behind {left = left} {old = old} {mid = mid} behind Next p h = λ is_open t
 
 -- the next item has a value that is too deep
 pub among_fails : {S C X : Type 0} {is_known : S → Type 0} {left : S → List ℕ} {failures : S → Failures} {old mid : StoreReader S} {c : C} {m n : ℕ} {I : List ℕ → DeserializeError → Type 0} {P : Type 0} (Made : C → List X → Type 0) (Item : List ℕ → X → Type 0) (behind : List ℕ) (Next : Version → ℕ → List ℕ → List ℕ → Type 0)
-    → old.has_failed ≡ false → m < n → Deserializes is_known left failures old mid (Ok c) (EncodesInto Made Item m) I
+    → old.has_failed ≡ false → m < n → DeserializesBy is_known left failures old mid (Ok c) (EncodesInto Made Item m) I
     → (mid.has_failed ≡ false → is_known mid.source → P → Next (version_of mid.version) mid.levels (left mid.source) behind)
     → is_known old.source → P → AmongRead Item (Next (version_of old.version) old.levels) n (left old.source) behind
 among_fails {left = left} {old = old} {mid = mid} {n = n} Made Item behind Next is_open less p h = λ told is.
@@ -41,7 +42,7 @@ among_fails {left = left} {old = old} {mid = mid} {n = n} Made Item behind Next 
     }
 
 pub has_depth : {S X : Type 0} (is_known : S → Type 0) (left : S → List ℕ) (old : StoreReader S) (result : Result X DeserializeError) (code behind : List ℕ)
-    → (is_known old.source → IsErrOf result errors.TooDeep → Begins (λ b. Opens (version_of old.version) old.levels (code ++ b)) (left old.source) behind) → HasDepth is_known left old result code
+    → (is_known old.source → IsErrOf result errors.TooDeep → Begins (λ b. Opens (version_of old.version) old.levels (code ++ b)) (left old.source) behind) → HasDepthBy is_known left old result code
 has_depth is_known left old result code behind deep =
     λ is_open told t prefix rest joined within is.
     let d = deep told is in

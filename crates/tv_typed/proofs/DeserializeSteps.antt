@@ -25,10 +25,10 @@ use Rattle.tv_reader.specs.declared.error.DeserializeError.TheVariants as errors
 use Rattle.tv_reader.specs.declared.value_type.ValueType.{ValueType}
 use Rattle.tv_reader.proofs.BehindKinds.{kind_edge}
 use Rattle.tv_reader.proofs.Finding.{found_behind, stop_map}
-use Rattle.tv_typed.specs.Typed.{typed_stop, Reads, ReadsIf, Deserializes}
+use Rattle.tv_typed.specs.Typed.{typed_stop, ReadsIf, DeserializesBy}
 use Rattle.tv_typed.specs.Excluding.{leaf_type, leaf_excludes, tree_excludes, next_excludes}
 use Rattle.tv_typed.specs.Excluding.{with_legacy}
-use Rattle.tv_typed.specs.Values.{EncodesAs, EncodedAs, IsFixed, ReadsLeaf, IsLeaf, IsTree, EncodesLeaf, LeafRefused, TreeRefused, CodeRefused, in_code, NextRefused, RefusalsExclude, SparesBytes, IsReadOf, Only}
+use Rattle.tv_typed.specs.Values.{EncodesAs, EncodedAs, IsFixed, ReadsLeafBy, IsLeaf, IsTree, EncodesLeaf, LeafRefused, TreeRefused, CodeRefused, in_code, NextRefused, RefusalsExclude, SparesBytes, IsReadOf, OnlyBy}
 use Rattle.tv_typed.specs.declared.store_reader.StoreReader.{StoreReader}
 
 abbrev pub end : DeserializeError
@@ -46,7 +46,7 @@ found_map B C Q (Err e) old new count map h = h
 
 -- what is promised of a call that anyone writes, in the words of its type
 pub deserializes : {May : DeserializeError → ℕ → Type 0} {S X : Type 0} {is_known : S → Type 0} {left : S → List ℕ} {failures : S → Failures} {old new : StoreReader S} {result : Result X DeserializeError} {B : List ℕ → X → Type 0} {Q : List ℕ → DeserializeError → Type 0} (C : List ℕ → X → Type 0)
-    → ((b : List ℕ) (x : X) → B b x → C b x) → ReadsIf May is_known left failures old new result B Q → Deserializes is_known left failures old new result C Q
+    → ((b : List ℕ) (x : X) → B b x → C b x) → ReadsIf May is_known left failures old new result B Q → DeserializesBy is_known left failures old new result C Q
 deserializes {left = left} {old = old} {new = new} {result = result} {B = B} {Q = Q} C map h = record {
   closed = h.closed;
   unmarked = unmarked_by result _ h.marks;
@@ -70,7 +70,7 @@ pub goes_then : {S X Y : Type 0} {is_known : S → Type 0} {left : S → List �
     (B : List ℕ → Y → Type 0) (Q : List ℕ → DeserializeError → Type 0)
     → ((a b : List ℕ) (y : Y) → R a x → A b y → B (a ++ b) y) → ((a w : List ℕ) (c : DeserializeError) → R a x → P w c → Q (a ++ w) c)
     → ((a : List ℕ) (f : DeserializeError) → R a x → f ≢ end → P [] f → (start : List ℕ) (byte : ℕ) → a ≡ start ++ byte ∷ [] → Q start end)
-    → Deserializes is_known left failures old mid (Ok x) R I → Deserializes is_known left failures mid new result A P → Deserializes is_known left failures old new result B Q
+    → DeserializesBy is_known left failures old mid (Ok x) R I → DeserializesBy is_known left failures mid new result A P → DeserializesBy is_known left failures old new result B Q
 goes_then {left = left} {failures = failures} {old = old} {mid = mid} {new = new} {x = x} {result = result} {R = R} {A = A} {P = P} B Q join behind edge p h = record {
   closed = λ failed. absurd (not_ok x (p.closed failed).0);
   unmarked = h.unmarked;
@@ -84,7 +84,7 @@ goes_then {left = left} {failures = failures} {old = old} {mid = mid} {new = new
 
 -- the same of what is read, in other words
 pub goes_as : {S X Y : Type 0} {is_known : S → Type 0} {left : S → List ℕ} {failures : S → Failures} {old new : StoreReader S} {x : X} {R : List ℕ → X → Type 0} {I : List ℕ → DeserializeError → Type 0} (y : Y) (B : List ℕ → Y → Type 0) (Q : List ℕ → DeserializeError → Type 0)
-    → ((a : List ℕ) → R a x → B a y) → Deserializes is_known left failures old new (Ok x) R I → Deserializes is_known left failures old new (Ok y) B Q
+    → ((a : List ℕ) → R a x → B a y) → DeserializesBy is_known left failures old new (Ok x) R I → DeserializesBy is_known left failures old new (Ok y) B Q
 goes_as {x = x} y B Q map p = record {
   closed = λ failed. absurd (not_ok x (p.closed failed).0);
   unmarked = p.unmarked;
@@ -98,7 +98,7 @@ goes_as {x = x} y B Q map p = record {
 
 -- a refusal of a part is one of the whole
 pub goes_fails : {S X Y : Type 0} {is_known : S → Type 0} {left : S → List ℕ} {failures : S → Failures} {old new : StoreReader S} {e : DeserializeError} {R : List ℕ → X → Type 0} {P : List ℕ → DeserializeError → Type 0} (B : List ℕ → Y → Type 0) (Q : List ℕ → DeserializeError → Type 0)
-    → ((w : List ℕ) (c : DeserializeError) → P w c → Q w c) → Deserializes {X = X} is_known left failures old new (Err e) R P → Deserializes {X = Y} is_known left failures old new (Err e) B Q
+    → ((w : List ℕ) (c : DeserializeError) → P w c → Q w c) → DeserializesBy {X = X} is_known left failures old new (Err e) R P → DeserializesBy {X = Y} is_known left failures old new (Err e) B Q
 goes_fails {left = left} {old = old} {new = new} {e = e} {P = P} B Q map p = record {
   closed = λ failed. let c = p.closed failed in (err_for e errors.AlreadyFailed c.0, c.1, c.2);
   unmarked = tt;
@@ -112,7 +112,7 @@ goes_fails {left = left} {old = old} {new = new} {e = e} {P = P} B Q map p = rec
 
 -- what was read can't be kept, for want of memory
 pub goes_short : {S X Y : Type 0} {is_known : S → Type 0} {left : S → List ℕ} {failures : S → Failures} {old new : StoreReader S} {x : X} {R : List ℕ → X → Type 0} {I : List ℕ → DeserializeError → Type 0} (B : List ℕ → Y → Type 0) (Q : List ℕ → DeserializeError → Type 0)
-    → Deserializes is_known left failures old new (Ok x) R I → Deserializes {X = Y} is_known left failures old new (Err errors.Memory) B Q
+    → DeserializesBy is_known left failures old new (Ok x) R I → DeserializesBy {X = Y} is_known left failures old new (Err errors.Memory) B Q
 goes_short {x = x} B Q p = record {
   closed = λ failed. absurd (not_ok x (p.closed failed).0);
   unmarked = tt;
@@ -130,7 +130,7 @@ kept b c (Err e) p q = tt
 
 -- a refusal was marked
 pub goes_marked : {S X : Type 0} {is_known : S → Type 0} {left : S → List ℕ} {failures : S → Failures} {old new : StoreReader S} {result : Result X DeserializeError} {B : List ℕ → X → Type 0} {Q : List ℕ → DeserializeError → Type 0} (has_failed : Bool) → OnOk result (has_failed ≡ new.has_failed)
-    → Deserializes is_known left failures old new result B Q → Deserializes is_known left failures old (record new { has_failed = has_failed }) result B Q
+    → DeserializesBy is_known left failures old new result B Q → DeserializesBy is_known left failures old (record new { has_failed = has_failed }) result B Q
 goes_marked {new = new} {result = result} has_failed keeps p = record {
   closed = p.closed;
   unmarked = kept new.has_failed has_failed result p.unmarked keeps;
@@ -144,7 +144,7 @@ goes_marked {new = new} {result = result} has_failed keeps p = record {
 
 -- whether there was a refusal was marked
 pub goes_told : {S X : Type 0} {is_known : S → Type 0} {left : S → List ℕ} {failures : S → Failures} {old new : StoreReader S} {result : Result X DeserializeError} {B : List ℕ → X → Type 0} {Q : List ℕ → DeserializeError → Type 0} (has_failed : Bool) → has_failed ≡ is_err result
-    → Deserializes is_known left failures old new result B Q → Deserializes is_known left failures old (record new { has_failed = has_failed }) result B Q
+    → DeserializesBy is_known left failures old new result B Q → DeserializesBy is_known left failures old (record new { has_failed = has_failed }) result B Q
 goes_told {result = result} has_failed marks p = record {
   closed = p.closed;
   unmarked = unmarked_by result has_failed marks;
@@ -164,11 +164,11 @@ no_cons b rest e = absurd cc
 -- its code was taken, and then what stands behind it
 pub next_then : {S X : Type 0} {is_known : S → Type 0} {left : S → List ℕ} {failures : S → Failures} {old mid new : StoreReader S} {kind : ValueType} {result : Result X DeserializeError}
     (is : Tree → X → Type 0) (refused : Version → ValueType → List ℕ → DeserializeError → Type 0)
-    → Reads is_known left failures old mid (Ok kind) IsCoded CodeRefused → Deserializes is_known left failures mid new result (EncodedAs is (version_of mid.version) kind) (refused (version_of mid.version) kind)
-    → Deserializes is_known left failures old new result (EncodesAs is (version_of old.version)) (NextRefused refused (version_of old.version))
+    → ReadsIf StoreMayStop is_known left failures old mid (Ok kind) IsCoded CodeRefused → DeserializesBy is_known left failures mid new result (EncodedAs is (version_of mid.version) kind) (refused (version_of mid.version) kind)
+    → DeserializesBy is_known left failures old new result (EncodesAs is (version_of old.version)) (NextRefused refused (version_of old.version))
 next_then {is_known = is_known} {left = left} {failures = failures} {old = old} {mid = mid} {new = new} {kind = kind} {result = result} is refused p g =
     let v = version_of old.version in
-    let h = subst (λ z. Deserializes is_known left failures mid new result (EncodedAs is (version_of z) kind) (refused (version_of z) kind)) p.same_version g in
+    let h = subst (λ z. DeserializesBy is_known left failures mid new result (EncodedAs is (version_of z) kind) (refused (version_of z) kind)) p.same_version g in
     goes_then (EncodesAs is v) (NextRefused refused v)
     (λ a b x code s. (s.0, subst (λ w. Encodes Legacy v (w ++ b) s.0) (sym code) s.1, s.2))
     (λ a w c code f. inr (kind, record { prefix = a; rest = w; joined = refl; first = code; second = f }))
@@ -203,14 +203,14 @@ few_more old new count now t few = omega (arith, t.counted, ap length t.joined, 
 
 pub only_by : {S X : Type 0} {is_known : S → Type 0} {left : S → List ℕ} {failures : S → Failures} {old new : StoreReader S} {result : Result X DeserializeError} (is : Tree → X → Type 0) (v : Version) (code : List ℕ) (Q : List ℕ → DeserializeError → Type 0)
     → ((prefix rest : List ℕ) (e : DeserializeError) (t : Tree) (x : X) → Q (prefix ++ rest) e → Encodes NoLegacy v (code ++ prefix) t → is t x → ⊥)
-    → Deserializes is_known left failures old new result (λ b x. EncodesAs is v (code ++ b) x) Q → Only is_known left old new result is v code
+    → DeserializesBy is_known left failures old new result (λ b x. EncodesAs is v (code ++ b) x) Q → OnlyBy is_known left old new result is v code
 only_by {left = left} {old = old} {new = new} {result = result} is v code Q excludes h =
     λ is_open told few t x prefix rest joined encoded same.
     read_of is v code Q result (left old.source) (left new.source) new.count (few_more (left old.source) (left new.source) old.count new.count (h.taken is_open told) few) excludes (h.found is_open told) t x prefix rest joined encoded same
 
 -- a leaf behind the code of its type
 pub leaf_deserializes : {S X : Type 0} {is_known : S → Type 0} {left : S → List ℕ} {failures : S → Failures} {old new : StoreReader S} {result : Result X DeserializeError} {Q : List ℕ → DeserializeError → Type 0} (make : X → Leaf) (v : Version) (kind : ValueType)
-    → Reads is_known left failures old new result (EncodesLeaf v kind make) Q → Deserializes is_known left failures old new result (EncodedAs (IsLeaf make) v kind) Q
+    → ReadsIf StoreMayStop is_known left failures old new result (EncodesLeaf v kind make) Q → DeserializesBy is_known left failures old new result (EncodedAs (IsLeaf make) v kind) Q
 leaf_deserializes make v kind h = deserializes (EncodedAs (IsLeaf make) v kind) (λ b x p. (leaf (make x), p, refl)) h
 
 closed_calm : {X : Type 0} (result : Result X DeserializeError) → IsErrOf result errors.AlreadyFailed → IsErrOf result errors.TooDeep → ⊥
@@ -223,13 +223,13 @@ may_calm (Err _) count may is = absurd cc
 
 -- a read of no tree isn't too deep
 pub reads_calm : {S X : Type 0} {is_known : S → Type 0} {left : S → List ℕ} {failures : S → Failures} {old new : StoreReader S} {result : Result X DeserializeError} {B : List ℕ → X → Type 0} {Q : List ℕ → DeserializeError → Type 0} (has_failed : Bool) → old.has_failed ≡ has_failed
-    → Reads is_known left failures old new result B Q → IsErrOf result errors.TooDeep → ⊥
+    → ReadsIf StoreMayStop is_known left failures old new result B Q → IsErrOf result errors.TooDeep → ⊥
 reads_calm {result = result} true failed h = closed_calm result (h.closed failed).0
 reads_calm {new = new} {result = result} false is_open h = may_calm result new.count (h.finds is_open).may_stop
 
 pub reads_leaf : {S X : Type 0} {is_known : S → Type 0} {left : S → List ℕ} {failures : S → Failures} {old new : StoreReader S} {result : Result X DeserializeError} (expected : ValueType) (make : X → Leaf) → ((x : X) → leaf_type (make x) ≡ expected) → (kind : ValueType)
-    → Reads is_known left failures old new result (EncodesLeaf (version_of old.version) kind make) (LeafRefused expected (version_of old.version) kind) → (IsFixed (held_type expected) → ¬ IsErrOf result errors.Memory)
-    → ReadsLeaf is_known left failures expected make kind old new result
+    → ReadsIf StoreMayStop is_known left failures old new result (EncodesLeaf (version_of old.version) kind make) (LeafRefused expected (version_of old.version) kind) → (IsFixed (held_type expected) → ¬ IsErrOf result errors.Memory)
+    → ReadsLeafBy is_known left failures expected make kind old new result
 reads_leaf {old = old} expected make typed kind h spares =
     let v = version_of old.version in
     let as_type = leaf_deserializes make v kind h in
@@ -237,18 +237,18 @@ reads_leaf {old = old} expected make typed kind h spares =
 
 -- a value of any type behind its code
 pub tree_deserializes : {May : DeserializeError → ℕ → Type 0} {S : Type 0} {is_known : S → Type 0} {left : S → List ℕ} {failures : S → Failures} {old new : StoreReader S} {result : Result OwnedValue DeserializeError} {Q : List ℕ → DeserializeError → Type 0} (v : Version) (kind : ValueType)
-    → ReadsIf May is_known left failures old new result (EncodesBehind v kind) Q → Deserializes is_known left failures old new result (EncodedAs IsTree v kind) Q
+    → ReadsIf May is_known left failures old new result (EncodesBehind v kind) Q → DeserializesBy is_known left failures old new result (EncodedAs IsTree v kind) Q
 tree_deserializes v kind h = deserializes (EncodedAs IsTree v kind) (λ b x p. (owned_tree x, p, refl)) h
 
 pub tree_only : {May : DeserializeError → ℕ → Type 0} {S : Type 0} {is_known : S → Type 0} {left : S → List ℕ} {failures : S → Failures} {old new : StoreReader S} {result : Result OwnedValue DeserializeError} (v : Version) (kind : ValueType)
-    → ReadsIf May is_known left failures old new result (EncodesBehind v kind) (TreeRefused v kind) → Only is_known left old new result IsTree v (coded kind)
+    → ReadsIf May is_known left failures old new result (EncodesBehind v kind) (TreeRefused v kind) → OnlyBy is_known left old new result IsTree v (coded kind)
 tree_only v kind h = only_by IsTree v (coded kind) (TreeRefused v kind) (tree_excludes IsTree v kind) (tree_deserializes v kind h)
 
 -- the next value
 pub next_code_fails : {S X : Type 0} {is_known : S → Type 0} {left : S → List ℕ} {failures : S → Failures} {old new : StoreReader S} {e : DeserializeError} (is : Tree → X → Type 0) (refused : Version → ValueType → List ℕ → DeserializeError → Type 0) (v : Version)
-    → Reads {X = ValueType} is_known left failures old new (Err e) IsCoded CodeRefused → Deserializes {X = X} is_known left failures old new (Err e) (EncodesAs is v) (NextRefused refused v)
+    → ReadsIf {X = ValueType} StoreMayStop is_known left failures old new (Err e) IsCoded CodeRefused → DeserializesBy {X = X} is_known left failures old new (Err e) (EncodesAs is v) (NextRefused refused v)
 next_code_fails is refused v p = goes_fails (EncodesAs is v) (NextRefused refused v) (λ w c f. inl f) (deserializes IsCoded (λ b k c. c) p)
 
 pub next_only : {S X : Type 0} {is_known : S → Type 0} {left : S → List ℕ} {failures : S → Failures} {old new : StoreReader S} {result : Result X DeserializeError} (is : Tree → X → Type 0) (refused : Version → ValueType → List ℕ → DeserializeError → Type 0) → RefusalsExclude is refused → (v : Version)
-    → Deserializes is_known left failures old new result (EncodesAs is v) (NextRefused refused v) → Only is_known left old new result is v []
+    → DeserializesBy is_known left failures old new result (EncodesAs is v) (NextRefused refused v) → OnlyBy is_known left old new result is v []
 next_only is refused excludes v h = only_by is v [] (NextRefused refused v) (λ prefix rest e t x r p same. next_excludes is refused excludes v (prefix ++ rest) prefix rest e t x r refl p same) h

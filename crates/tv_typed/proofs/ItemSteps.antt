@@ -20,12 +20,13 @@ use Rattle.tv_reader.specs.declared.error.DeserializeError.{DeserializeError}
 use Rattle.tv_reader.specs.declared.error.DeserializeError.TheVariants as errors
 use Rattle.tv_reader.specs.declared.value_type.ValueType.{ValueType}
 use Rattle.tv_reader.specs.declared.value_type.ValueType.TheVariants as types
-use Rattle.tv_typed.specs.Typed.{Reads, Deserializes}
+use Rattle.tv_typed.specs.Typed.{ReadsIf, DeserializesBy}
 use Rattle.tv_typed.specs.Values.{EncodesAs, EncodedAs, NextRefused}
 use Rattle.tv_typed.specs.Lists.{ArrayOf, IsEntry, ObjectOf, GivesLast, Length, element_total, EncodesInto, EncodesEntry, LengthRefused, in_length, ItemsRefused, ArrayRefused, EntryRefused, ObjectRefused, NextItem, NextItemRefused}
 use Rattle.tv_typed.specs.declared.store_reader.StoreReader.{StoreReader}
 use Rattle.tv_typed.proofs.DeserializeSteps.{end, deserializes, goes_then, goes_as, goes_fails, goes_short}
 use Rattle.tv_typed.proofs.ListSteps.{at_version}
+use Rattle.tv_reader.specs.Error.{StoreMayStop}
 
 -- ---- one item after the other
 
@@ -34,7 +35,7 @@ both e = absurd cc
 
 -- none yet
 pub into_none : {S C X : Type 0} (is_known : S → Type 0) (left : S → List ℕ) (failures : S → Failures) (reader : StoreReader S) (c : C) (Made : C → List X → Type 0) (Item : List ℕ → X → Type 0) → reader.has_failed ≡ false → Made c []
-    → Deserializes is_known left failures reader reader (Ok c) (EncodesInto Made Item 0) (λ w e. ⊥)
+    → DeserializesBy is_known left failures reader reader (Ok c) (EncodesInto Made Item 0) (λ w e. ⊥)
 into_none is_known left failures reader c Made Item is_open made = record {
   closed = λ failed. absurd (both (sym is_open ∙ failed));
   unmarked = is_open;
@@ -48,7 +49,7 @@ into_none is_known left failures reader c Made Item is_open made = record {
 
 -- one more
 pub into_more : {S C X : Type 0} {is_known : S → Type 0} {left : S → List ℕ} {failures : S → Failures} {old mid new : StoreReader S} {c : C} {y : X} {m : ℕ} {R : List ℕ → DeserializeError → Type 0} (Made : C → List X → Type 0) (Item : List ℕ → X → Type 0) (d : C) → ((xs : List X) → Made c xs → Made d (xs ++ y ∷ []))
-    → Deserializes is_known left failures old mid (Ok c) (EncodesInto Made Item m) (λ w e. ⊥) → Deserializes is_known left failures mid new (Ok y) Item R → Deserializes is_known left failures old new (Ok d) (EncodesInto Made Item (m + 1)) (λ w e. ⊥)
+    → DeserializesBy is_known left failures old mid (Ok c) (EncodesInto Made Item m) (λ w e. ⊥) → DeserializesBy is_known left failures mid new (Ok y) Item R → DeserializesBy is_known left failures old new (Ok d) (EncodesInto Made Item (m + 1)) (λ w e. ⊥)
 into_more {y = y} {m = m} Made Item d more p q =
     goes_as d (EncodesInto Made Item (m + 1)) (λ w e. ⊥) (λ a s. s refl)
     (goes_then (λ b z. z ≡ y → EncodesInto Made Item (m + 1) b d) (λ w r. Unit {0})
@@ -66,22 +67,22 @@ behind_items Item Refused (x ∷ xs) (suc n) a w e fewer p f =
 -- the next one is refused
 pub into_fail : {S C D X : Type 0} {is_known : S → Type 0} {left : S → List ℕ} {failures : S → Failures} {old mid new : StoreReader S} {c : C} {e : DeserializeError} {m n : ℕ} (Made : C → List X → Type 0) (Item : List ℕ → X → Type 0) (Refused : List ℕ → DeserializeError → Type 0) (B : List ℕ → D → Type 0)
     → ((f : DeserializeError) → Refused [] f → f ≡ end) → m < n
-    → Deserializes is_known left failures old mid (Ok c) (EncodesInto Made Item m) (λ w e. ⊥) → Deserializes {X = X} is_known left failures mid new (Err e) Item Refused → Deserializes {X = D} is_known left failures old new (Err e) B (InEach Refused Item n)
+    → DeserializesBy is_known left failures old mid (Ok c) (EncodesInto Made Item m) (λ w e. ⊥) → DeserializesBy {X = X} is_known left failures mid new (Err e) Item Refused → DeserializesBy {X = D} is_known left failures old new (Err e) B (InEach Refused Item n)
 into_fail {n = n} Made Item Refused B ended fewer p q =
     goes_then B (InEach Refused Item n) (λ a b z r s. absurd s) (λ a w f r h. behind_items Item Refused r.0 n a w f (omega (arith, fewer, r.2)) r.3 h)
     (λ a f r other nothing start byte last. absurd (other (ended f nothing))) p (goes_fails (λ b z. ⊥) Refused (λ w f h. h) q)
 
 -- there is no memory for it
 pub into_short : {S C D X : Type 0} {is_known : S → Type 0} {left : S → List ℕ} {failures : S → Failures} {old mid new : StoreReader S} {c : C} {y : X} {m : ℕ} {R : List ℕ → DeserializeError → Type 0} (Made : C → List X → Type 0) (Item : List ℕ → X → Type 0) (B : List ℕ → D → Type 0) (Q : List ℕ → DeserializeError → Type 0)
-    → Deserializes is_known left failures old mid (Ok c) (EncodesInto Made Item m) (λ w e. ⊥) → Deserializes is_known left failures mid new (Ok y) Item R → Deserializes {X = D} is_known left failures old new (Err errors.Memory) B Q
+    → DeserializesBy is_known left failures old mid (Ok c) (EncodesInto Made Item m) (λ w e. ⊥) → DeserializesBy is_known left failures mid new (Ok y) Item R → DeserializesBy {X = D} is_known left failures old new (Err errors.Memory) B Q
 into_short Made Item B Q p q = goes_short B Q (goes_then (λ b z. Unit {0}) (λ w e. Unit {0}) (λ a b z r s. tt) (λ a w c r f. tt) (λ a f r _ _ start byte last. tt) p q)
 
 -- ---- the number, and then the items
 
 pub collection_then : {S C X : Type 0} {is_known : S → Type 0} {left : S → List ℕ} {failures : S → Failures} {old mid new : StoreReader S} {n : ℕ} {result : Result C DeserializeError} (collection : ValueType) (total : ℕ → ℕ) (kind : ValueType) (Made : C → List X → Type 0) (Item : List ℕ → X → Type 0) (Refused : List ℕ → DeserializeError → Type 0) (B : List ℕ → C → Type 0)
     → ((a b : List ℕ) (m : ℕ) (c : C) → Length collection total kind a m → EncodesInto Made Item m b c → B (a ++ b) c)
-    → Reads is_known left failures old mid (Ok n) (Length collection total kind) (LengthRefused collection total kind) → Deserializes is_known left failures mid new result (EncodesInto Made Item n) (InEach Refused Item n)
-    → Deserializes is_known left failures old new result B (ItemsRefused collection total Item Refused kind)
+    → ReadsIf StoreMayStop is_known left failures old mid (Ok n) (Length collection total kind) (LengthRefused collection total kind) → DeserializesBy is_known left failures mid new result (EncodesInto Made Item n) (InEach Refused Item n)
+    → DeserializesBy is_known left failures old new result B (ItemsRefused collection total Item Refused kind)
 collection_then {n = n} collection total kind Made Item Refused B make p h =
     goes_then B (ItemsRefused collection total Item Refused kind) (λ a b c r s. make a b n c r s)
     (λ a w e r f. inr (n, record { prefix = a; rest = w; joined = refl; first = r; second = f }))
@@ -89,7 +90,7 @@ collection_then {n = n} collection total kind Made Item Refused B make p h =
     (deserializes (Length collection total kind) (λ b k q. q) p) h
 
 pub collection_fails : {S C X : Type 0} {is_known : S → Type 0} {left : S → List ℕ} {failures : S → Failures} {old new : StoreReader S} {e : DeserializeError} (collection : ValueType) (total : ℕ → ℕ) (kind : ValueType) (Item : List ℕ → X → Type 0) (Refused : List ℕ → DeserializeError → Type 0) (B : List ℕ → C → Type 0)
-    → Reads {X = ℕ} is_known left failures old new (Err e) (Length collection total kind) (LengthRefused collection total kind) → Deserializes {X = C} is_known left failures old new (Err e) B (ItemsRefused collection total Item Refused kind)
+    → ReadsIf {X = ℕ} StoreMayStop is_known left failures old new (Err e) (Length collection total kind) (LengthRefused collection total kind) → DeserializesBy {X = C} is_known left failures old new (Err e) B (ItemsRefused collection total Item Refused kind)
 collection_fails collection total kind Item Refused B p = goes_fails B (ItemsRefused collection total Item Refused kind) (λ w c f. inl f) (deserializes (Length collection total kind) (λ b k q. q) p)
 
 -- ---- arrays
@@ -111,9 +112,9 @@ array_made is v kind a b n c r s =
     )
 
 pub array_then : {S X : Type 0} {is_known : S → Type 0} {left : S → List ℕ} {failures : S → Failures} {old mid new : StoreReader S} {n : ℕ} {result : Result (Vec X Global) DeserializeError} (is : Tree → X → Type 0) (refused : Version → ValueType → List ℕ → DeserializeError → Type 0) (kind : ValueType)
-    → Reads is_known left failures old mid (Ok n) (Length types.Array element_total kind) (LengthRefused types.Array element_total kind)
-    → Deserializes is_known left failures mid new result (EncodesInto (λ (items : Vec X Global) xs. items.items ≡ xs) (EncodesAs is (version_of mid.version)) n) (InEach (NextRefused refused (version_of mid.version)) (EncodesAs is (version_of mid.version)) n)
-    → Deserializes is_known left failures old new result (EncodedAs (λ t (items : Vec X Global). ArrayOf is t items.items) (version_of old.version) kind) (ArrayRefused is refused (version_of old.version) kind)
+    → ReadsIf StoreMayStop is_known left failures old mid (Ok n) (Length types.Array element_total kind) (LengthRefused types.Array element_total kind)
+    → DeserializesBy is_known left failures mid new result (EncodesInto (λ (items : Vec X Global) xs. items.items ≡ xs) (EncodesAs is (version_of mid.version)) n) (InEach (NextRefused refused (version_of mid.version)) (EncodesAs is (version_of mid.version)) n)
+    → DeserializesBy is_known left failures old new result (EncodedAs (λ t (items : Vec X Global). ArrayOf is t items.items) (version_of old.version) kind) (ArrayRefused is refused (version_of old.version) kind)
 array_then {X = X} {old = old} {n = n} is refused kind p h =
     let v = version_of old.version in
     collection_then types.Array element_total kind (λ (items : Vec X Global) xs. items.items ≡ xs) (EncodesAs is v) (NextRefused refused v) (EncodedAs (λ t (items : Vec X Global). ArrayOf is t items.items) v kind)
@@ -152,9 +153,9 @@ object_made is made_of Made make v kind a b n c r s =
 
 pub object_then : {S C X : Type 0} {is_known : S → Type 0} {left : S → List ℕ} {failures : S → Failures} {old mid new : StoreReader S} {n : ℕ} {result : Result C DeserializeError} (is : Tree → X → Type 0) (refused : Version → ValueType → List ℕ → DeserializeError → Type 0)
     (made_of : Tree → C → Type 0) (Made : C → List (String Global × X) → Type 0) → ((t : Tree) (c : C) (xs : List (String Global × X)) → Made c xs → ObjectOf is t xs → made_of t c) → (kind : ValueType)
-    → Reads is_known left failures old mid (Ok n) (Length types.Object (entry_total (version_of old.version)) kind) (LengthRefused types.Object (entry_total (version_of old.version)) kind)
-    → Deserializes is_known left failures mid new result (EncodesInto Made (EncodesEntry is (version_of mid.version)) n) (InEach (EntryRefused refused (version_of mid.version)) (EncodesEntry is (version_of mid.version)) n)
-    → Deserializes is_known left failures old new result (EncodedAs made_of (version_of old.version) kind) (ObjectRefused is refused (version_of old.version) kind)
+    → ReadsIf StoreMayStop is_known left failures old mid (Ok n) (Length types.Object (entry_total (version_of old.version)) kind) (LengthRefused types.Object (entry_total (version_of old.version)) kind)
+    → DeserializesBy is_known left failures mid new result (EncodesInto Made (EncodesEntry is (version_of mid.version)) n) (InEach (EntryRefused refused (version_of mid.version)) (EncodesEntry is (version_of mid.version)) n)
+    → DeserializesBy is_known left failures old new result (EncodedAs made_of (version_of old.version) kind) (ObjectRefused is refused (version_of old.version) kind)
 object_then {old = old} {n = n} is refused made_of Made make kind p h =
     let v = version_of old.version in
     collection_then types.Object (entry_total v) kind Made (EncodesEntry is v) (EntryRefused refused v) (EncodedAs made_of v kind) (λ a b m c r s. object_made is made_of Made make v kind a b m c r s) p
@@ -175,5 +176,5 @@ last_more old new key value put pairs last = λ q. put q ∙ ap (λ f. if bytes_
 
 -- there is a next one, and it is refused
 pub item_fails : {S X : Type 0} {is_known : S → Type 0} {left : S → List ℕ} {failures : S → Failures} {old new : StoreReader S} {e : DeserializeError} (Item : List ℕ → X → Type 0) (Refused : List ℕ → DeserializeError → Type 0) (position announced : ℕ) → position < announced
-    → Deserializes {X = X} is_known left failures old new (Err e) Item Refused → Deserializes {X = Option X} is_known left failures old new (Err e) (NextItem Item position announced) (NextItemRefused Refused position announced)
+    → DeserializesBy {X = X} is_known left failures old new (Err e) Item Refused → DeserializesBy {X = Option X} is_known left failures old new (Err e) (NextItem Item position announced) (NextItemRefused Refused position announced)
 item_fails Item Refused position announced fewer h = goes_fails (NextItem Item position announced) (NextItemRefused Refused position announced) (λ w c f. (fewer, f)) h

@@ -19,7 +19,7 @@ use Rattle.tv_format.specs.Version.{Version, V2}
 use Rattle.tv_value.specs.declared.owned_value.OwnedValue.{OwnedValue}
 use Rattle.tv_format.proofs.ShortEncodings.{short_encodes}
 use Rattle.tv_format.proofs.Trees.{one_tree}
-use Rattle.tv_reader.specs.Error.{is_corrupted}
+use Rattle.tv_reader.specs.Error.{is_corrupted, StoreMayStop}
 use Rattle.tv_reader.specs.Finds.{GivesStop, Found}
 use Rattle.tv_reader.specs.Trees.{EncodesBehind}
 use Rattle.tv_reader.specs.Version.{version_of}
@@ -31,7 +31,7 @@ use Rattle.tv_reader.specs.declared.version.DocStoreVersion.{DocStoreVersion}
 use Rattle.tv_reader.specs.declared.version.DocStoreVersion.TheVariants as stores
 use Rattle.tv_reader.proofs.Finding.{stop_map}
 use Rattle.tv_typed.specs.LegacyObjects.{Retold, as_it_is, past_the_end, EncodingRefused, ToldOf, OfEncoding, LegacyRefused, MembersRefused, in_legacy_object}
-use Rattle.tv_typed.specs.Typed.{typed_stop, Reads, Deserializes}
+use Rattle.tv_typed.specs.Typed.{typed_stop, ReadsIf, DeserializesBy}
 use Rattle.tv_typed.specs.Values.{EncodesAs, EncodedAs, TreeRefused, NextRefused}
 use Rattle.tv_typed.specs.declared.store_reader.StoreReader.{StoreReader}
 use Rattle.tv_typed.proofs.DeserializeSteps.{end, deserializes, goes_then, goes_fails, goes_short}
@@ -128,8 +128,8 @@ still_open (Ok x) b e = e
 still_open (Err e) b h = tt
 
 pub legacy_then : {S X : Type 0} {is_known : S → Type 0} {left : S → List ℕ} {failures : S → Failures} {old new : StoreReader S} {tree : OwnedValue} {content : List ℕ} {result : Result X DeserializeError} (is : Tree → X → Type 0) (refused : Version → ValueType → List ℕ → DeserializeError → Type 0) (v : Version)
-    → Reads is_known left failures old new (Ok tree) (EncodesBehind v types.JSONObject) (TreeRefused v types.JSONObject) → content ≡ short V2 (owned_tree tree) → IsValue (owned_tree tree) → OfEncoding (EncodesAs is V2) (NextRefused refused V2) content result
-    → Deserializes is_known left failures old new result (EncodedAs is v types.JSONObject) (LegacyRefused refused v)
+    → ReadsIf StoreMayStop is_known left failures old new (Ok tree) (EncodesBehind v types.JSONObject) (TreeRefused v types.JSONObject) → content ≡ short V2 (owned_tree tree) → IsValue (owned_tree tree) → OfEncoding (EncodesAs is V2) (NextRefused refused V2) content result
+    → DeserializesBy is_known left failures old new result (EncodedAs is v types.JSONObject) (LegacyRefused refused v)
 legacy_then {is_known = is_known} {left = left} {failures = failures} {new = new} {tree = tree} {content = content} {result = result} is refused v p same valid h =
     let t = owned_tree tree in
     goes_then {A = λ b x. (b ≡ []) × is t x} {P = λ w told. EncodingRefused (NextRefused refused V2) t told} (EncodedAs is v types.JSONObject) (LegacyRefused refused v)
@@ -149,11 +149,11 @@ legacy_then {is_known = is_known} {left = left} {failures = failures} {new = new
     })
 
 pub legacy_fails : {S X : Type 0} {is_known : S → Type 0} {left : S → List ℕ} {failures : S → Failures} {old new : StoreReader S} {e : DeserializeError} (is : Tree → X → Type 0) (refused : Version → ValueType → List ℕ → DeserializeError → Type 0) (v : Version)
-    → Reads {X = OwnedValue} is_known left failures old new (Err e) (EncodesBehind v types.JSONObject) (TreeRefused v types.JSONObject) → Deserializes {X = X} is_known left failures old new (Err e) (EncodedAs is v types.JSONObject) (LegacyRefused refused v)
+    → ReadsIf {X = OwnedValue} StoreMayStop is_known left failures old new (Err e) (EncodesBehind v types.JSONObject) (TreeRefused v types.JSONObject) → DeserializesBy {X = X} is_known left failures old new (Err e) (EncodedAs is v types.JSONObject) (LegacyRefused refused v)
 legacy_fails is refused v p = goes_fails (EncodedAs is v types.JSONObject) (LegacyRefused refused v) (λ w c f. inl f) (deserializes (EncodesBehind v types.JSONObject) (λ b x q. q) p)
 
 pub legacy_short : {S X : Type 0} {is_known : S → Type 0} {left : S → List ℕ} {failures : S → Failures} {old new : StoreReader S} {tree : OwnedValue} (is : Tree → X → Type 0) (refused : Version → ValueType → List ℕ → DeserializeError → Type 0) (v : Version)
-    → Reads is_known left failures old new (Ok tree) (EncodesBehind v types.JSONObject) (TreeRefused v types.JSONObject) → Deserializes {X = X} is_known left failures old new (Err errors.Memory) (EncodedAs is v types.JSONObject) (LegacyRefused refused v)
+    → ReadsIf StoreMayStop is_known left failures old new (Ok tree) (EncodesBehind v types.JSONObject) (TreeRefused v types.JSONObject) → DeserializesBy {X = X} is_known left failures old new (Err errors.Memory) (EncodedAs is v types.JSONObject) (LegacyRefused refused v)
 legacy_short is refused v p = goes_short (EncodedAs is v types.JSONObject) (LegacyRefused refused v) (deserializes (EncodesBehind v types.JSONObject) (λ b x q. q) p)
 
 -- ---- legacy objects among others
@@ -163,7 +163,7 @@ found_more A P Q (Ok x) old new count map h = h
 found_more A P Q (Err e) old new count map h = stop_map end P Q (typed_stop e) old new count map h
 
 pub goes_more : {S X : Type 0} {is_known : S → Type 0} {left : S → List ℕ} {failures : S → Failures} {old new : StoreReader S} {result : Result X DeserializeError} {A : List ℕ → X → Type 0} {P : List ℕ → DeserializeError → Type 0} (Q : List ℕ → DeserializeError → Type 0)
-    → ((w : List ℕ) (c : DeserializeError) → P w c → Q w c) → Deserializes is_known left failures old new result A P → Deserializes is_known left failures old new result A Q
+    → ((w : List ℕ) (c : DeserializeError) → P w c → Q w c) → DeserializesBy is_known left failures old new result A P → DeserializesBy is_known left failures old new result A Q
 goes_more {left = left} {old = old} {new = new} {result = result} {A = A} {P = P} Q map p = record {
   closed = p.closed;
   unmarked = p.unmarked;
@@ -176,6 +176,6 @@ goes_more {left = left} {old = old} {new = new} {result = result} {A = A} {P = P
 }
 
 pub legacy_among : {S X : Type 0} {is_known : S → Type 0} {left : S → List ℕ} {failures : S → Failures} {old new : StoreReader S} {result : Result X DeserializeError} (is : Tree → X → Type 0) (refused : Version → ValueType → List ℕ → DeserializeError → Type 0) (v : Version) (kind : ValueType) → kind ≡ types.JSONObject
-    → Deserializes is_known left failures old new result (EncodedAs is v types.JSONObject) (LegacyRefused refused v) → Deserializes is_known left failures old new result (EncodedAs is v kind) (MembersRefused refused v kind)
+    → DeserializesBy is_known left failures old new result (EncodedAs is v types.JSONObject) (LegacyRefused refused v) → DeserializesBy is_known left failures old new result (EncodedAs is v kind) (MembersRefused refused v kind)
 legacy_among {is_known = is_known} {left = left} {failures = failures} {old = old} {new = new} {result = result} is refused v kind same p =
-    goes_more (MembersRefused refused v kind) (λ w c f. in_legacy_object same f) (subst (λ k. Deserializes is_known left failures old new result (EncodedAs is v k) (LegacyRefused refused v)) (sym same) p)
+    goes_more (MembersRefused refused v kind) (λ w c f. in_legacy_object same f) (subst (λ k. DeserializesBy is_known left failures old new result (EncodedAs is v k) (LegacyRefused refused v)) (sym same) p)

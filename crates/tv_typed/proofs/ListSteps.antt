@@ -7,7 +7,7 @@ use Rattle.tv_base.specs.declared.cause.Cause.TheVariants.{UnexpectedEnd}
 use Rattle.tv_base.specs.declared.read_error.ReadError.{ReadError}
 use Rattle.tv_base.specs.Reading.{vint_at}
 use Rattle.tv_base.specs.Source.{AllBytes, Failures}
-use Rattle.tv_base.specs.Take.{TakesBy}
+use Rattle.tv_base.specs.Take.{TakesIf, MayStop}
 use Rattle.tv_base.proofs.Agrees.{no_last}
 use Rattle.tv_base.proofs.AgreeNumbers.{vint_agrees}
 use Rattle.tv_format.specs.InputError.{Refusal, corrupted, ErrorInKey}
@@ -15,8 +15,8 @@ use Rattle.tv_format.specs.Encoding.{Key}
 use Rattle.tv_format.specs.Tree.{Tree}
 use Rattle.tv_format.specs.Version.{Version, entry_total}
 use Rattle.tv_reader.specs.Counts.{entry_count_at}
-use Rattle.tv_reader.specs.Error.{IsRefusal, is_corrupted, is_no_text}
-use Rattle.tv_reader.specs.Finds.{FindsRoomy}
+use Rattle.tv_reader.specs.Error.{IsRefusal, is_corrupted, is_no_text, StoreMayStopRoomy, StoreMayStop}
+use Rattle.tv_reader.specs.Finds.{FindsIf}
 use Rattle.tv_reader.specs.Trees.{ErrorInEntryCount, in_count_number, odd_count_number}
 use Rattle.tv_reader.specs.ValueType.{coded, ErrorInCode, no_code, unknown_type, float_type, no_extension_code, unknown_extension}
 use Rattle.tv_reader.specs.Version.{version_of}
@@ -27,7 +27,7 @@ use Rattle.tv_reader.specs.declared.value_type.ValueType.TheVariants as types
 use Rattle.tv_reader.specs.declared.version.DocStoreVersion.{DocStoreVersion}
 use Rattle.tv_reader.proofs.AgreeKinds.{same_coded}
 use Rattle.tv_reader.proofs.TreeSteps.{entry_count_agrees, key_error_ended}
-use Rattle.tv_typed.specs.Typed.{raised, Reads, Deserializes, IsMismatch}
+use Rattle.tv_typed.specs.Typed.{raised, IsMismatch, ReadsIf, DeserializesBy}
 use Rattle.tv_typed.specs.Values.{EncodesAs, in_code, NextRefused}
 use Rattle.tv_typed.specs.Lists.{Length, element_total, EncodesEntry, LengthRefused, other_collection, in_length, no_total, KeyRefused, EntryRefused}
 use Rattle.tv_typed.specs.declared.store_reader.StoreReader.{StoreReader}
@@ -38,14 +38,14 @@ use Rattle.tv_typed.proofs.TypedSteps.{reads_mismatch, reads_then, told_reads}
 
 -- the reader was refused before, or a value of another type stands there
 pub length_mismatch : {S X : Type 0} (is_known : S → Type 0) (left : S → List ℕ) (failures : S → Failures) (old new : StoreReader S) (kind collection : ValueType) (total : ℕ → ℕ) (e : DeserializeError) (B : List ℕ → X → Type 0)
-    → IsMismatch old.has_failed kind collection (errors.UnsupportedType kind) e → new.source ≡ old.source → new.count ≡ old.count → new.version ≡ old.version → new.levels ≡ old.levels → new.has_failed ≡ true → Reads is_known left failures old new (Err e) B (LengthRefused collection total kind)
+    → IsMismatch old.has_failed kind collection (errors.UnsupportedType kind) e → new.source ≡ old.source → new.count ≡ old.count → new.version ≡ old.version → new.levels ≡ old.levels → new.has_failed ≡ true → ReadsIf StoreMayStop is_known left failures old new (Err e) B (LengthRefused collection total kind)
 length_mismatch is_known left failures old new kind collection total e B h source count version levels marks =
     reads_mismatch is_known left failures old new kind collection (errors.UnsupportedType kind) e B (LengthRefused collection total kind) refl tt (λ same. cc) (λ other w. other_collection other) h source count version levels marks
 
 pub elements_read : {S : Type 0} {is_known : S → Type 0} {left : S → List ℕ} {failures : S → Failures} {s : S} {k : ℕ} {answer : Result ℕ ReadError} (old mid new : StoreReader S) (result : Result ℕ DeserializeError) (kind : ValueType)
     → ((source : S) → is_known source → AllBytes (left source)) → kind ≡ types.Array → old.has_failed ≡ false → mid.source ≡ old.source → mid.count ≡ old.count → mid.version ≡ old.version → mid.levels ≡ old.levels
-    → TakesBy is_known left failures mid.source mid.count s k (λ x. x) answer vint_at → new.source ≡ s → new.count ≡ k → new.version ≡ mid.version → new.levels ≡ mid.levels → new.has_failed ≡ is_err result → result ≡ raised answer
-    → Reads is_known left failures old new result (Length types.Array element_total kind) (LengthRefused types.Array element_total kind)
+    → TakesIf MayStop is_known left failures mid.source mid.count s k (λ x. x) answer vint_at → new.source ≡ s → new.count ≡ k → new.version ≡ mid.version → new.levels ≡ mid.levels → new.has_failed ≡ is_err result → result ≡ raised answer
+    → ReadsIf StoreMayStop is_known left failures old new result (Length types.Array element_total kind) (LengthRefused types.Array element_total kind)
 elements_read old mid new result kind are_bytes is is_open source count version levels part source_new count_new version_new levels_new marks told =
     reads_then old mid new result (Length types.Array element_total kind) (LengthRefused types.Array element_total kind) are_bytes vint_agrees (λ a x h. (is, h)) (λ w c f. in_length is f)
     is_open source count version levels part source_new count_new version_new levels_new marks told
@@ -56,19 +56,19 @@ count_refused v kind w _ is (odd_count_number n prefix rest joined number none) 
 
 pub entries_read : {S : Type 0} {is_known : S → Type 0} {left : S → List ℕ} {failures : S → Failures} {s : S} {k : ℕ} {answer : Result ℕ ReadError} (old mid new : StoreReader S) (result : Result ℕ DeserializeError) (kind : ValueType)
     → ((source : S) → is_known source → AllBytes (left source)) → kind ≡ types.Object → old.has_failed ≡ false → mid.source ≡ old.source → mid.count ≡ old.count → mid.version ≡ old.version → mid.levels ≡ old.levels
-    → TakesBy is_known left failures mid.source mid.count s k (λ x. x) answer (entry_count_at (version_of mid.version)) → new.source ≡ s → new.count ≡ k → new.version ≡ mid.version → new.levels ≡ mid.levels → new.has_failed ≡ is_err result → result ≡ raised answer
-    → Reads is_known left failures old new result (Length types.Object (entry_total (version_of old.version)) kind) (LengthRefused types.Object (entry_total (version_of old.version)) kind)
+    → TakesIf MayStop is_known left failures mid.source mid.count s k (λ x. x) answer (entry_count_at (version_of mid.version)) → new.source ≡ s → new.count ≡ k → new.version ≡ mid.version → new.levels ≡ mid.levels → new.has_failed ≡ is_err result → result ≡ raised answer
+    → ReadsIf StoreMayStop is_known left failures old new result (Length types.Object (entry_total (version_of old.version)) kind) (LengthRefused types.Object (entry_total (version_of old.version)) kind)
 entries_read {is_known = is_known} {left = left} {failures = failures} {s = s} {k = k} {answer = answer} old mid new result kind are_bytes is is_open source count version levels part source_new count_new version_new levels_new marks told =
     let v = version_of old.version in
     reads_then old mid new result (Length types.Object (entry_total v) kind) (LengthRefused types.Object (entry_total v) kind) are_bytes (entry_count_agrees v)
     (λ a x h. (is, h)) (λ w c f. count_refused v kind w c is f)
-    is_open source count version levels (subst (λ z. TakesBy is_known left failures mid.source mid.count s k (λ x. x) answer (entry_count_at (version_of z))) version part) source_new count_new version_new levels_new marks told
+    is_open source count version levels (subst (λ z. TakesIf MayStop is_known left failures mid.source mid.count s k (λ x. x) answer (entry_count_at (version_of z))) version part) source_new count_new version_new levels_new marks told
 
 -- ---- keys
 
 pub key_reads : {S : Type 0} {is_known : S → Type 0} {left : S → List ℕ} {failures : S → Failures} {s : S} {k : ℕ} (old new : StoreReader S) (result : Result (String Global) DeserializeError)
-    → old.has_failed ≡ false → FindsRoomy is_known left failures old.source old.count s k result (λ b key. Key (version_of old.version) b (string_bytes key)) (ErrorInKey (version_of old.version)) → new.source ≡ s → new.count ≡ k → new.version ≡ old.version → new.levels ≡ old.levels → new.has_failed ≡ is_err result
-    → Reads is_known left failures old new result (λ b key. Key (version_of old.version) b (string_bytes key)) (KeyRefused (version_of old.version))
+    → old.has_failed ≡ false → FindsIf StoreMayStopRoomy is_known left failures old.source old.count s k result (λ b key. Key (version_of old.version) b (string_bytes key)) (ErrorInKey (version_of old.version)) → new.source ≡ s → new.count ≡ k → new.version ≡ old.version → new.levels ≡ old.levels → new.has_failed ≡ is_err result
+    → ReadsIf StoreMayStop is_known left failures old new result (λ b key. Key (version_of old.version) b (string_bytes key)) (KeyRefused (version_of old.version))
 key_reads old new result is_open h source count version levels marks =
     told_reads old new result (λ b key. Key (version_of old.version) b (string_bytes key)) (ErrorInKey (version_of old.version)) is_open h source count version levels marks
 
@@ -96,12 +96,12 @@ next_ended refused v e (inr p) = absurd (coded_some p.0 p.1.rest (p.1.joined ∙
 
 -- what a call promises in the version that the reader had before
 pub at_version : {S X : Type 0} {is_known : S → Type 0} {left : S → List ℕ} {failures : S → Failures} {mid new : StoreReader S} {result : Result X DeserializeError} (Item : Version → List ℕ → X → Type 0) (Refused : Version → List ℕ → DeserializeError → Type 0) (version : DocStoreVersion) → mid.version ≡ version
-    → Deserializes is_known left failures mid new result (Item (version_of mid.version)) (Refused (version_of mid.version)) → Deserializes is_known left failures mid new result (Item (version_of version)) (Refused (version_of version))
-at_version {is_known = is_known} {left = left} {failures = failures} {mid = mid} {new = new} {result = result} Item Refused version same h = subst (λ z. Deserializes is_known left failures mid new result (Item (version_of z)) (Refused (version_of z))) same h
+    → DeserializesBy is_known left failures mid new result (Item (version_of mid.version)) (Refused (version_of mid.version)) → DeserializesBy is_known left failures mid new result (Item (version_of version)) (Refused (version_of version))
+at_version {is_known = is_known} {left = left} {failures = failures} {mid = mid} {new = new} {result = result} Item Refused version same h = subst (λ z. DeserializesBy is_known left failures mid new result (Item (version_of z)) (Refused (version_of z))) same h
 
 pub entry_found : {S X : Type 0} {is_known : S → Type 0} {left : S → List ℕ} {failures : S → Failures} {old mid new : StoreReader S} {key : String Global} {value : X} (is : Tree → X → Type 0) (refused : Version → ValueType → List ℕ → DeserializeError → Type 0)
-    → Reads is_known left failures old mid (Ok key) (λ b key. Key (version_of old.version) b (string_bytes key)) (KeyRefused (version_of old.version)) → Deserializes is_known left failures mid new (Ok value) (EncodesAs is (version_of mid.version)) (NextRefused refused (version_of mid.version))
-    → Deserializes is_known left failures old new (Ok (key, value)) (EncodesEntry is (version_of old.version)) (EntryRefused refused (version_of old.version))
+    → ReadsIf StoreMayStop is_known left failures old mid (Ok key) (λ b key. Key (version_of old.version) b (string_bytes key)) (KeyRefused (version_of old.version)) → DeserializesBy is_known left failures mid new (Ok value) (EncodesAs is (version_of mid.version)) (NextRefused refused (version_of mid.version))
+    → DeserializesBy is_known left failures old new (Ok (key, value)) (EncodesEntry is (version_of old.version)) (EntryRefused refused (version_of old.version))
 entry_found {old = old} {key = key} {value = value} is refused p h =
     let v = version_of old.version in
     goes_as (key, value) (EncodesEntry is v) (EntryRefused refused v) (λ a s. s)
@@ -109,15 +109,15 @@ entry_found {old = old} {key = key} {value = value} is refused p h =
     (deserializes (λ b key. Key v b (string_bytes key)) (λ b x q. q) p) (at_version (EncodesAs is) (NextRefused refused) old.version p.same_version h))
 
 pub entry_key_fails : {S X : Type 0} {is_known : S → Type 0} {left : S → List ℕ} {failures : S → Failures} {old new : StoreReader S} {e : DeserializeError} (is : Tree → X → Type 0) (refused : Version → ValueType → List ℕ → DeserializeError → Type 0)
-    → Reads {X = String Global} is_known left failures old new (Err e) (λ b key. Key (version_of old.version) b (string_bytes key)) (KeyRefused (version_of old.version))
-    → Deserializes {X = String Global × X} is_known left failures old new (Err e) (EncodesEntry is (version_of old.version)) (EntryRefused refused (version_of old.version))
+    → ReadsIf {X = String Global} StoreMayStop is_known left failures old new (Err e) (λ b key. Key (version_of old.version) b (string_bytes key)) (KeyRefused (version_of old.version))
+    → DeserializesBy {X = String Global × X} is_known left failures old new (Err e) (EncodesEntry is (version_of old.version)) (EntryRefused refused (version_of old.version))
 entry_key_fails {old = old} is refused p =
     let v = version_of old.version in
     goes_fails (EncodesEntry is v) (EntryRefused refused v) (λ w c f. inl f) (deserializes (λ b key. Key v b (string_bytes key)) (λ b x q. q) p)
 
 pub entry_value_fails : {S X : Type 0} {is_known : S → Type 0} {left : S → List ℕ} {failures : S → Failures} {old mid new : StoreReader S} {key : String Global} {e : DeserializeError} (is : Tree → X → Type 0) (refused : Version → ValueType → List ℕ → DeserializeError → Type 0)
-    → Reads is_known left failures old mid (Ok key) (λ b key. Key (version_of old.version) b (string_bytes key)) (KeyRefused (version_of old.version)) → Deserializes {X = X} is_known left failures mid new (Err e) (EncodesAs is (version_of mid.version)) (NextRefused refused (version_of mid.version))
-    → Deserializes {X = String Global × X} is_known left failures old new (Err e) (EncodesEntry is (version_of old.version)) (EntryRefused refused (version_of old.version))
+    → ReadsIf StoreMayStop is_known left failures old mid (Ok key) (λ b key. Key (version_of old.version) b (string_bytes key)) (KeyRefused (version_of old.version)) → DeserializesBy {X = X} is_known left failures mid new (Err e) (EncodesAs is (version_of mid.version)) (NextRefused refused (version_of mid.version))
+    → DeserializesBy {X = String Global × X} is_known left failures old new (Err e) (EncodesEntry is (version_of old.version)) (EntryRefused refused (version_of old.version))
 entry_value_fails {old = old} {key = key} is refused p h =
     let v = version_of old.version in
     goes_then (EncodesEntry is v) (EntryRefused refused v) (λ a b x r s. absurd s)

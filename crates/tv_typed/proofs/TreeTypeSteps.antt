@@ -20,7 +20,7 @@ use Rattle.tv_reader.specs.ValueType.{coded}
 use Rattle.tv_reader.specs.declared.error.DeserializeError.{DeserializeError}
 use Rattle.tv_reader.specs.declared.value_type.ValueType.{ValueType}
 use Rattle.tv_typed.specs.TreeTypes.{TreeTypeRefused}
-use Rattle.tv_typed.specs.Typed.{typed_stop, ReadsIf, Deserializes}
+use Rattle.tv_typed.specs.Typed.{typed_stop, ReadsIf, DeserializesBy}
 use Rattle.tv_typed.specs.Values.{EncodedAs, TreeRefused}
 use Rattle.tv_typed.specs.declared.store_reader.StoreReader.{StoreReader}
 use Rattle.tv_value.specs.Owned.{owned_tree}
@@ -48,7 +48,7 @@ counts_none s e f stop = subst (λ z. CountsStop z f f) (sym stop) refl
 -- A tree was read, and it is refused with an error that is told of the bytes.
 pub tree_type_refuses : {May : DeserializeError → ℕ → Type 0} {S X : Type 0} {is_known : S → Type 0} {left : S → List ℕ} {failures : S → Failures} {old new : StoreReader S} {tree : OwnedValue} (is : Tree → X → Type 0) (Refuses : ValueType → Tree → DeserializeError → Type 0) (v : Version) (kind : ValueType) (e : DeserializeError)
     → typed_stop e ≡ InputError e → e ≢ end → Refuses kind (owned_tree tree) e
-    → ReadsIf May is_known left failures old new (Ok tree) (EncodesBehind v kind) (TreeRefused v kind) → Deserializes {X = X} is_known left failures old new (Err e) (EncodedAs is v kind) (TreeTypeRefused Refuses v kind)
+    → ReadsIf May is_known left failures old new (Ok tree) (EncodesBehind v kind) (TreeRefused v kind) → DeserializesBy {X = X} is_known left failures old new (Err e) (EncodedAs is v kind) (TreeTypeRefused Refuses v kind)
 tree_type_refuses {X = X} {left = left} {failures = failures} {new = new} {tree = tree} is Refuses v kind e stop other refused p =
     let t = owned_tree tree in
     goes_then {A = λ b (x : X). ⊥} {P = λ w f. Refuses kind t f} (EncodedAs is v kind) (TreeTypeRefused Refuses v kind)
@@ -69,5 +69,5 @@ tree_type_refuses {X = X} {left = left} {failures = failures} {new = new} {tree 
 
 -- No tree was read.
 pub tree_type_fails : {May : DeserializeError → ℕ → Type 0} {S X : Type 0} {is_known : S → Type 0} {left : S → List ℕ} {failures : S → Failures} {old new : StoreReader S} {e : DeserializeError} (is : Tree → X → Type 0) (Refuses : ValueType → Tree → DeserializeError → Type 0) (v : Version) (kind : ValueType)
-    → ReadsIf {X = OwnedValue} May is_known left failures old new (Err e) (EncodesBehind v kind) (TreeRefused v kind) → Deserializes {X = X} is_known left failures old new (Err e) (EncodedAs is v kind) (TreeTypeRefused Refuses v kind)
+    → ReadsIf {X = OwnedValue} May is_known left failures old new (Err e) (EncodesBehind v kind) (TreeRefused v kind) → DeserializesBy {X = X} is_known left failures old new (Err e) (EncodedAs is v kind) (TreeTypeRefused Refuses v kind)
 tree_type_fails is Refuses v kind p = goes_fails (EncodedAs is v kind) (TreeTypeRefused Refuses v kind) (λ w c f. inl f) (deserializes (EncodesBehind v kind) (λ b x q. q) p)

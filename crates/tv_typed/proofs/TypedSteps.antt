@@ -10,7 +10,7 @@ use Rattle.tv_base.specs.ReadsAs.{Shows, EndsEarly}
 use Rattle.tv_base.specs.Source.{AllBytes, Failures}
 use Rattle.tv_base.specs.Stop.{CountsStop, Counts, Gives}
 use Rattle.tv_base.specs.Stop.Stop.{InputError}
-use Rattle.tv_base.specs.Take.{TakesBy, MayStop, MayStopLean, read_stop}
+use Rattle.tv_base.specs.Take.{MayStop, MayStopLean, read_stop, TakesIf}
 use Rattle.tv_base.proofs.Agrees.{Agrees}
 use Rattle.tv_base.proofs.ByGrammar.{shows_by, early_by}
 use Rattle.tv_legacy.specs.Legacy.{Legacy}
@@ -19,12 +19,12 @@ use Rattle.tv_format.specs.Encoding.{Encodes}
 use Rattle.tv_format.specs.Tree.{Leaf, leaf}
 use Rattle.tv_format.specs.Version.{Version}
 use Rattle.tv_reader.specs.Error.{key_stop, store_stop, tree_stop, StoreMayStop, StoreMayStopRoomy, StoreMayStopDeep, IsRefusal, is_corrupted, is_no_text}
-use Rattle.tv_reader.specs.Finds.{Refuses, GivesStop, Found, FindsBy, FindsRoomy, FindsDeep}
+use Rattle.tv_reader.specs.Finds.{Refuses, GivesStop, Found, FindsBy, FindsIf, FindsDeepBy}
 use Rattle.tv_reader.specs.LeafBodies.{LeafOf, ErrorInLeafOf}
 use Rattle.tv_reader.specs.Leaves.{is_leaf_type}
 use Rattle.tv_reader.specs.Trees.{NoneBehind}
 use Rattle.tv_reader.specs.ValueType.{coded}
-use Rattle.tv_typed.specs.Typed.{typed_stop, Reads, ReadsIf, ReadsDeep, raised, IsMismatch, failed_before, mismatched}
+use Rattle.tv_typed.specs.Typed.{typed_stop, ReadsIf, raised, IsMismatch, failed_before, mismatched}
 use Rattle.tv_typed.specs.Values.{EncodesLeaf, LeafRefused, other_type, in_body, GivesError}
 use Rattle.tv_reader.specs.declared.error.DeserializeError.{DeserializeError}
 use Rattle.tv_reader.specs.declared.error.DeserializeError.TheVariants as errors
@@ -67,7 +67,7 @@ typed_may (Err e) count may = (raised_roomy e count may).0
 
 typed_part : {S X Y : Type 0} (is_known : S → Type 0) (left : S → List ℕ) (failures : S → Failures) (old new : S) (i k : ℕ) (view : X → Y) (answer : Result X ReadError) {reading : List ℕ → Result (Y × List ℕ) (Cause × List ℕ)} {Encodes : List ℕ → Y → Type 0} {HasError : List ℕ → Cause → Type 0} (B : List ℕ → X → Type 0) (Q : List ℕ → DeserializeError → Type 0)
     → ((source : S) → is_known source → AllBytes (left source)) → Agrees UnexpectedEnd reading Encodes HasError → ((a : List ℕ) (x : X) → Encodes a (view x) → B a x) → ((w : List ℕ) (c : Cause) → HasError w c → Q w (errors.CorruptedValue c))
-    → TakesBy is_known left failures old i new k view answer reading → FindsBy typed_stop StoreMayStop end is_known left failures old i new k (raised answer) B Q
+    → TakesIf MayStop is_known left failures old i new k view answer reading → FindsBy typed_stop StoreMayStop end is_known left failures old i new k (raised answer) B Q
 typed_part is_known left failures old new i k view answer B Q are_bytes agrees join map h =
     record { found = λ t. let p = h.taken t in typed_found view answer B Q agrees join map (left old) p.prefix (left new) k (are_bytes old t) p.joined (h.gives t p.prefix p.joined); taken = h.taken; stays_known = h.stays_known; counts = typed_counts answer (failures old) (failures new) h.counts; rises = h.rises; may_stop = typed_may answer k h.may_stop }
 
@@ -78,8 +78,8 @@ both b p q = let e = sym p ∙ q in absurd cc
 pub reads_part : {S X Y : Type 0} {is_known : S → Type 0} {left : S → List ℕ} {failures : S → Failures} {s : S} {k : ℕ} {view : X → Y} {answer : Result X ReadError} {reading : List ℕ → Result (Y × List ℕ) (Cause × List ℕ)} {Encodes : List ℕ → Y → Type 0} {HasError : List ℕ → Cause → Type 0}
     (old new : StoreReader S) (result : Result X DeserializeError) (B : List ℕ → X → Type 0) (Q : List ℕ → DeserializeError → Type 0)
     → ((source : S) → is_known source → AllBytes (left source)) → Agrees UnexpectedEnd reading Encodes HasError → ((a : List ℕ) (x : X) → Encodes a (view x) → B a x) → ((w : List ℕ) (c : Cause) → HasError w c → Q w (errors.CorruptedValue c))
-    → old.has_failed ≡ false → TakesBy is_known left failures old.source old.count s k view answer reading → new.source ≡ s → new.count ≡ k → new.version ≡ old.version → new.levels ≡ old.levels → new.has_failed ≡ is_err result → result ≡ raised answer
-    → Reads is_known left failures old new result B Q
+    → old.has_failed ≡ false → TakesIf MayStop is_known left failures old.source old.count s k view answer reading → new.source ≡ s → new.count ≡ k → new.version ≡ old.version → new.levels ≡ old.levels → new.has_failed ≡ is_err result → result ≡ raised answer
+    → ReadsIf StoreMayStop is_known left failures old new result B Q
 reads_part {is_known = is_known} {left = left} {failures = failures} {s = s} {k = k} {view = view} {answer = answer} old new result B Q are_bytes agrees join map is_open part source count version levels marks told = record {
   closed = λ failed. absurd (both old.has_failed is_open failed);
   finds = λ _. subst (λ r. FindsBy typed_stop StoreMayStop end is_known left failures old.source old.count new.source new.count r B Q) (sym told)
@@ -94,7 +94,7 @@ reads_part {is_known = is_known} {left = left} {failures = failures} {s = s} {k 
 -- the reader was refused before, or the type is another than that which is expected
 pub reads_mismatch : {S X Kind : Type 0} (is_known : S → Type 0) (left : S → List ℕ) (failures : S → Failures) (old new : StoreReader S) (kind expected : Kind) (refusal e : DeserializeError) (B : List ℕ → X → Type 0) (Q : List ℕ → DeserializeError → Type 0)
     → typed_stop refusal ≡ InputError refusal → StoreMayStop refusal old.count → refusal ≢ end → (kind ≢ expected → (w : List ℕ) → Q w refusal)
-    → IsMismatch old.has_failed kind expected refusal e → new.source ≡ old.source → new.count ≡ old.count → new.version ≡ old.version → new.levels ≡ old.levels → new.has_failed ≡ true → Reads is_known left failures old new (Err e) B Q
+    → IsMismatch old.has_failed kind expected refusal e → new.source ≡ old.source → new.count ≡ old.count → new.version ≡ old.version → new.levels ≡ old.levels → new.has_failed ≡ true → ReadsIf StoreMayStop is_known left failures old new (Err e) B Q
 reads_mismatch is_known left failures old new kind expected refusal _ B Q is may other shows (failed_before failed) source count version levels marks = record {
   closed = λ _. (refl, source, count);
   finds = λ is_open. absurd (both old.has_failed is_open failed);
@@ -114,7 +114,7 @@ reads_mismatch is_known left failures old new kind expected refusal _ B Q is may
 
 -- the same of a leaf
 pub leaf_mismatch : {S X : Type 0} (is_known : S → Type 0) (left : S → List ℕ) (failures : S → Failures) (old new : StoreReader S) (kind expected : ValueType) (v : Version) (e : DeserializeError) (B : List ℕ → X → Type 0)
-    → IsMismatch old.has_failed kind expected (errors.TypeMismatch expected kind) e → new.source ≡ old.source → new.count ≡ old.count → new.version ≡ old.version → new.levels ≡ old.levels → new.has_failed ≡ true → Reads is_known left failures old new (Err e) B (LeafRefused expected v kind)
+    → IsMismatch old.has_failed kind expected (errors.TypeMismatch expected kind) e → new.source ≡ old.source → new.count ≡ old.count → new.version ≡ old.version → new.levels ≡ old.levels → new.has_failed ≡ true → ReadsIf StoreMayStop is_known left failures old new (Err e) B (LeafRefused expected v kind)
 leaf_mismatch is_known left failures old new kind expected v e B h source count version levels marks =
     reads_mismatch is_known left failures old new kind expected (errors.TypeMismatch expected kind) e B (LeafRefused expected v kind) refl tt (λ same. cc) (λ other w. other_type other) h source count version levels marks
 
@@ -134,11 +134,11 @@ pub reads_then : {S X Y : Type 0} {is_known : S → Type 0} {left : S → List �
     (old mid new : StoreReader S) (result : Result X DeserializeError) (B : List ℕ → X → Type 0) (Q : List ℕ → DeserializeError → Type 0)
     → ((source : S) → is_known source → AllBytes (left source)) → Agrees UnexpectedEnd reading R F → ((a : List ℕ) (x : X) → R a (view x) → B a x) → ((w : List ℕ) (c : Cause) → F w c → Q w (errors.CorruptedValue c))
     → old.has_failed ≡ false → mid.source ≡ old.source → mid.count ≡ old.count → mid.version ≡ old.version → mid.levels ≡ old.levels
-    → TakesBy is_known left failures mid.source mid.count s k view answer reading → new.source ≡ s → new.count ≡ k → new.version ≡ mid.version → new.levels ≡ mid.levels → new.has_failed ≡ is_err result → result ≡ raised answer
-    → Reads is_known left failures old new result B Q
+    → TakesIf MayStop is_known left failures mid.source mid.count s k view answer reading → new.source ≡ s → new.count ≡ k → new.version ≡ mid.version → new.levels ≡ mid.levels → new.has_failed ≡ is_err result → result ≡ raised answer
+    → ReadsIf StoreMayStop is_known left failures old new result B Q
 reads_then {is_known = is_known} {left = left} {failures = failures} {s = s} {k = k} {view = view} {answer = answer} {reading = reading} old mid new result B Q are_bytes agrees join map is_open source count version levels part source_new count_new version_new levels_new marks told =
     reads_part old new result B Q are_bytes agrees join map is_open
-    (subst (λ z. TakesBy is_known left failures z old.count s k view answer reading) source (subst (λ n. TakesBy is_known left failures mid.source n s k view answer reading) count part))
+    (subst (λ z. TakesIf MayStop is_known left failures z old.count s k view answer reading) source (subst (λ n. TakesIf MayStop is_known left failures mid.source n s k view answer reading) count part))
     source_new count_new (version_new ∙ version) (levels_new ∙ levels) marks told
 
 -- what was read is encoded behind the code of the type that was expected
@@ -146,8 +146,8 @@ pub leaf_reads : {S X Y : Type 0} {is_known : S → Type 0} {left : S → List �
     (old mid new : StoreReader S) (result : Result X DeserializeError) (v : Version) (kind expected : ValueType) (make : X → Leaf)
     → ((source : S) → is_known source → AllBytes (left source)) → Agrees UnexpectedEnd reading R F → ((a : List ℕ) (x : X) → R a (view x) → LeafOf v expected a (leaf (make x))) → ((w : List ℕ) (c : Cause) → F w c → ErrorInLeafOf v expected w c)
     → is_leaf_type expected ≡ true → kind ≡ expected → old.has_failed ≡ false → mid.source ≡ old.source → mid.count ≡ old.count → mid.version ≡ old.version → mid.levels ≡ old.levels
-    → TakesBy is_known left failures mid.source mid.count s k view answer reading → new.source ≡ s → new.count ≡ k → new.version ≡ mid.version → new.levels ≡ mid.levels → new.has_failed ≡ is_err result → result ≡ raised answer
-    → Reads is_known left failures old new result (EncodesLeaf v kind make) (LeafRefused expected v kind)
+    → TakesIf MayStop is_known left failures mid.source mid.count s k view answer reading → new.source ≡ s → new.count ≡ k → new.version ≡ mid.version → new.levels ≡ mid.levels → new.has_failed ≡ is_err result → result ≡ raised answer
+    → ReadsIf StoreMayStop is_known left failures old new result (EncodesLeaf v kind make) (LeafRefused expected v kind)
 leaf_reads {is_known = is_known} {left = left} {failures = failures} {s = s} {k = k} {view = view} {answer = answer} {reading = reading} old mid new result v kind expected make are_bytes agrees join map is_leaf is is_open source count version levels part source_new count_new version_new levels_new marks told =
     reads_then old mid new result (EncodesLeaf v kind make) (LeafRefused expected v kind) are_bytes agrees
     (λ a x p. subst (λ z. Encodes Legacy v (coded z ++ a) (leaf (make x))) (sym is) (leaf_encoded v expected a (leaf (make x)) (join a x p)))
@@ -211,8 +211,8 @@ told_counts (Err errors.HeapFull) old new count roomy h = absurd (roomy.1 refl)
 told_counts (Err _) old new count roomy h = absurd h
 
 pub told_reads : {S X : Type 0} {is_known : S → Type 0} {left : S → List ℕ} {failures : S → Failures} {s : S} {k : ℕ} (old new : StoreReader S) (result : Result X DeserializeError) (B : List ℕ → X → Type 0) (F : List ℕ → Refusal → Type 0)
-    → old.has_failed ≡ false → FindsRoomy is_known left failures old.source old.count s k result B F → new.source ≡ s → new.count ≡ k → new.version ≡ old.version → new.levels ≡ old.levels → new.has_failed ≡ is_err result
-    → Reads is_known left failures old new result B (GivesError F)
+    → old.has_failed ≡ false → FindsIf StoreMayStopRoomy is_known left failures old.source old.count s k result B F → new.source ≡ s → new.count ≡ k → new.version ≡ old.version → new.levels ≡ old.levels → new.has_failed ≡ is_err result
+    → ReadsIf StoreMayStop is_known left failures old new result B (GivesError F)
 told_reads {is_known = is_known} {left = left} {failures = failures} {s = s} {k = k} old new result B F is_open h source count version levels marks = record {
   closed = λ failed. absurd (both old.has_failed is_open failed);
   finds = λ _. subst (λ z. FindsBy typed_stop StoreMayStop end is_known left failures old.source old.count z new.count result B (GivesError F)) (sym source)
@@ -263,8 +263,8 @@ tree_counts (Err errors.HeapFull) old new count may h = deep_room count may
 tree_counts (Err _) old new count may h = absurd h
 
 pub tree_reads : {S X : Type 0} {is_known : S → Type 0} {left : S → List ℕ} {failures : S → Failures} (old new : StoreReader S) (result : Result X DeserializeError) (B : List ℕ → X → Type 0) (F : List ℕ → Refusal → Type 0)
-    → old.has_failed ≡ false → FindsDeep is_known left failures old.source old.count new.source new.count result B F → new.version ≡ old.version → new.levels ≡ old.levels → new.has_failed ≡ is_err result
-    → ReadsDeep is_known left failures old new result B (GivesError F)
+    → old.has_failed ≡ false → FindsDeepBy is_known left failures old.source old.count new.source new.count result B F → new.version ≡ old.version → new.levels ≡ old.levels → new.has_failed ≡ is_err result
+    → ReadsIf StoreMayStopDeep is_known left failures old new result B (GivesError F)
 tree_reads {left = left} {failures = failures} old new result B F is_open h version levels marks = record {
   closed = λ failed. absurd (both old.has_failed is_open failed);
   finds = λ _. record {

@@ -1,5 +1,6 @@
 -- How deep a value of any type nests that is read through a reader with a limit. The code of the value was read before.
 use Rattle.std.specs.Prelude.{◌≡◌, ◌≢◌, ◌<◌, false, ℕ, List, ◌++◌, length, Result, IfOk, IsErrOf}
+use Rattle.tv_base.specs.declared.source.ByteSource.{Ghosts}
 use Rattle.tv_base.specs.Parts.{Begins, Each}
 use Rattle.tv_format.specs.Tree.{Tree}
 use Rattle.tv_reader.specs.Depth.{EncodesWithin, Opens}
@@ -53,17 +54,28 @@ abbrev pub MembersTooDeep : {X : Type 0} → (Tree → X → Type 0) → (Versio
 MembersTooDeep is deep v levels kind old new = kind ≢ types.JSONObject → ObjectTooDeep is deep v levels kind old new
 
 -- in what was read no more lists are open at once than the reader allows
-abbrev pub IsWithin : {S : Type 0} (is_known : S → Type 0) (left : S → List ℕ) (old new : StoreReader S) (result : Result OwnedValue DeserializeError) (code : List ℕ) → Type 0
-IsWithin is_known left old new result code =
+abbrev pub IsWithinBy : {S : Type 0} (is_known : S → Type 0) (left : S → List ℕ) (old new : StoreReader S) (result : Result OwnedValue DeserializeError) (code : List ℕ) → Type 0
+IsWithinBy is_known left old new result code =
     old.has_failed ≡ false → is_known old.source → IfOk result (λ made. Begins (λ b. EncodesWithin (version_of old.version) old.levels (code ++ b) (owned_tree made)) (left old.source) (left new.source))
 
 -- where that is told to be too deep, the bytes that were taken end with the code of the first list that is one too many
-abbrev pub IsTooDeep : {S X : Type 0} (is_known : S → Type 0) (left : S → List ℕ) (old new : StoreReader S) (result : Result X DeserializeError) (code : List ℕ) → Type 0
-IsTooDeep is_known left old new result code =
+abbrev pub IsTooDeepBy : {S X : Type 0} (is_known : S → Type 0) (left : S → List ℕ) (old new : StoreReader S) (result : Result X DeserializeError) (code : List ℕ) → Type 0
+IsTooDeepBy is_known left old new result code =
     old.has_failed ≡ false → is_known old.source → IsErrOf result errors.TooDeep → Begins (λ b. Opens (version_of old.version) old.levels (code ++ b)) (left old.source) (left new.source)
 
 -- where a prefix of what is left encodes a value within the depth, it isn't told to be too deep
-abbrev pub HasDepth : {S X : Type 0} (is_known : S → Type 0) (left : S → List ℕ) (old : StoreReader S) (result : Result X DeserializeError) (code : List ℕ) → Type 0
-HasDepth is_known left old result code =
+abbrev pub HasDepthBy : {S X : Type 0} (is_known : S → Type 0) (left : S → List ℕ) (old : StoreReader S) (result : Result X DeserializeError) (code : List ℕ) → Type 0
+HasDepthBy is_known left old result code =
     old.has_failed ≡ false → is_known old.source
     → (t : Tree) (prefix rest : List ℕ) → left old.source ≡ prefix ++ rest → EncodesWithin (version_of old.version) old.levels (code ++ prefix) t → ¬ IsErrOf result errors.TooDeep
+
+-- ---- as contracts say it, of a source
+
+abbrev pub IsWithin : {S : Type 0} (source : Ghosts S) (old new : StoreReader S) (result : Result OwnedValue DeserializeError) (code : List ℕ) → Type 0
+IsWithin source old new result code = IsWithinBy source.is_known source.left old new result code
+
+abbrev pub IsTooDeep : {S X : Type 0} (source : Ghosts S) (old new : StoreReader S) (result : Result X DeserializeError) (code : List ℕ) → Type 0
+IsTooDeep source old new result code = IsTooDeepBy source.is_known source.left old new result code
+
+abbrev pub HasDepth : {S X : Type 0} (source : Ghosts S) (old : StoreReader S) (result : Result X DeserializeError) (code : List ℕ) → Type 0
+HasDepth source old result code = HasDepthBy source.is_known source.left old result code

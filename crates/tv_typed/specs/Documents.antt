@@ -1,5 +1,6 @@
 -- Documents whose pairs are read one after the other.
 use Rattle.std.specs.Prelude.{◌≡◌, ℕ, suc, false, List, [], ◌∷◌, Option, Some, None, Err}
+use Rattle.tv_base.specs.declared.source.ByteSource.{Ghosts}
 use Rattle.tv_base.specs.declared.cause.Cause.{Cause}
 use Rattle.tv_base.specs.Parts.{Begins, Then}
 use Rattle.tv_base.specs.Source.{Failures}
@@ -16,7 +17,7 @@ use Rattle.tv_reader.specs.declared.error.DeserializeError.{DeserializeError}
 use Rattle.tv_reader.specs.declared.error.DeserializeError.TheVariants as errors
 use Rattle.tv_reader.specs.declared.value_type.ValueType.{ValueType}
 use Rattle.tv_typed.specs.Lists.{NextItemRefused}
-use Rattle.tv_typed.specs.Typed.{Deserializes}
+use Rattle.tv_typed.specs.Typed.{DeserializesBy}
 use Rattle.tv_typed.specs.Values.{EncodesAs, GivesError, NextRefused}
 use Rattle.tv_typed.specs.declared.store_reader.StoreReader.{StoreReader}
 
@@ -61,6 +62,10 @@ pub record GivesPair {S : Type 0} (left : S → List ℕ) (old : StoreReader S) 
   pub encodes : Begins (λ b. EncodesPair Legacy (version_of old.version) b pair) (left old.source) (left new.source)
 
 -- a call that reads a pair may return this error
-abbrev pub RefusesPair : {S : Type 0} → (S → Type 0) → (S → List ℕ) → (S → Failures) → ℕ → ℕ → StoreReader S → (Version → ValueType → List ℕ → DeserializeError → Type 0) → DeserializeError → Type 0
-RefusesPair {S} is_known left failures position announced old refused e =
-    (new : StoreReader S) × Deserializes {X = ℕ} is_known left failures old new (Err e) (λ b x. ⊥) (NextItemRefused (FieldRefused refused (version_of old.version)) position announced)
+abbrev pub RefusesPairBy : {S : Type 0} → (S → Type 0) → (S → List ℕ) → (S → Failures) → ℕ → ℕ → StoreReader S → (Version → ValueType → List ℕ → DeserializeError → Type 0) → DeserializeError → Type 0
+RefusesPairBy {S} is_known left failures position announced old refused e =
+    (new : StoreReader S) × DeserializesBy {X = ℕ} is_known left failures old new (Err e) (λ b x. ⊥) (NextItemRefused (FieldRefused refused (version_of old.version)) position announced)
+
+-- the same, as contracts say it, of a source
+abbrev pub RefusesPair : {S : Type 0} → Ghosts S → ℕ → ℕ → StoreReader S → (Version → ValueType → List ℕ → DeserializeError → Type 0) → DeserializeError → Type 0
+RefusesPair source position announced old refused e = RefusesPairBy source.is_known source.left source.failures position announced old refused e

@@ -2,6 +2,7 @@
 use Rattle.std.specs.Prelude.{◌≡◌, ◌≢◌, ℕ, Bool, true, false, is_err, List, Result, Ok, Err, OnOk, IsErrOf}
 use Rattle.tv_base.specs.declared.cause.Cause.TheVariants.{UnexpectedEnd, TooLong}
 use Rattle.tv_base.specs.declared.read_error.ReadError.{ReadError}
+use Rattle.tv_base.specs.declared.source.ByteSource.{Ghosts}
 use Rattle.tv_base.specs.Source.{Failures}
 use Rattle.tv_base.specs.Stop.{Stop, Counts, Taken}
 use Rattle.tv_base.specs.Stop.Stop.{InputError, Uncounted, Failed, Short, Never}
@@ -35,16 +36,9 @@ pub record ReadsIf {S X : Type 0} (May : DeserializeError → ℕ → Type 0) (i
   pub same_version : new.version ≡ old.version
   pub same_levels : new.levels ≡ old.levels
 
-abbrev pub Reads : {S X : Type 0} (is_known : S → Type 0) (left : S → List ℕ) (failures : S → Failures) (old new : StoreReader S) (result : Result X DeserializeError) (Encodes : List ℕ → X → Type 0) (HasError : List ℕ → DeserializeError → Type 0) → Type 0
-Reads is_known left failures old new result Encodes HasError = ReadsIf StoreMayStop is_known left failures old new result Encodes HasError
-
--- a read of a tree, which may be too deep
-abbrev pub ReadsDeep : {S X : Type 0} (is_known : S → Type 0) (left : S → List ℕ) (failures : S → Failures) (old new : StoreReader S) (result : Result X DeserializeError) (Encodes : List ℕ → X → Type 0) (HasError : List ℕ → DeserializeError → Type 0) → Type 0
-ReadsDeep is_known left failures old new result Encodes HasError = ReadsIf StoreMayStopDeep is_known left failures old new result Encodes HasError
-
--- What a call that reads a value of a type through a reader promises, whoever wrote it: as `Reads`, but that a refusal may be left
+-- What a call that reads a value of a type through a reader promises, whoever wrote it: as `ReadsThrough`, but that a refusal may be left
 -- unmarked.
-pub record Deserializes {S X : Type 0} (is_known : S → Type 0) (left : S → List ℕ) (failures : S → Failures) (old new : StoreReader S) (result : Result X DeserializeError) (Encodes : List ℕ → X → Type 0) (HasError : List ℕ → DeserializeError → Type 0) : Type 0 where
+pub record DeserializesBy {S X : Type 0} (is_known : S → Type 0) (left : S → List ℕ) (failures : S → Failures) (old new : StoreReader S) (result : Result X DeserializeError) (Encodes : List ℕ → X → Type 0) (HasError : List ℕ → DeserializeError → Type 0) : Type 0 where
   pub closed : old.has_failed ≡ true → IsErrOf result errors.AlreadyFailed × (new.source ≡ old.source) × (new.count ≡ old.count)
   pub unmarked : OnOk result (new.has_failed ≡ false)
   pub found : old.has_failed ≡ false → is_known old.source → Found typed_stop (errors.CorruptedValue UnexpectedEnd) Encodes HasError (left old.source) (left new.source) new.count result
@@ -53,6 +47,18 @@ pub record Deserializes {S X : Type 0} (is_known : S → Type 0) (left : S → L
   pub counts : old.has_failed ≡ false → Counts typed_stop result (failures old.source) (failures new.source)
   pub same_version : new.version ≡ old.version
   pub same_levels : new.levels ≡ old.levels
+
+-- ---- as contracts say it, of a source
+
+abbrev pub ReadsThrough : {S X : Type 0} (source : Ghosts S) (old new : StoreReader S) (result : Result X DeserializeError) (Encodes : List ℕ → X → Type 0) (HasError : List ℕ → DeserializeError → Type 0) → Type 0
+ReadsThrough source old new result Encodes HasError = ReadsIf StoreMayStop source.is_known source.left source.failures old new result Encodes HasError
+
+-- a read of a tree, which may be too deep
+abbrev pub ReadsDeep : {S X : Type 0} (source : Ghosts S) (old new : StoreReader S) (result : Result X DeserializeError) (Encodes : List ℕ → X → Type 0) (HasError : List ℕ → DeserializeError → Type 0) → Type 0
+ReadsDeep source old new result Encodes HasError = ReadsIf StoreMayStopDeep source.is_known source.left source.failures old new result Encodes HasError
+
+abbrev pub Deserializes : {S X : Type 0} (source : Ghosts S) (old new : StoreReader S) (result : Result X DeserializeError) (Encodes : List ℕ → X → Type 0) (HasError : List ℕ → DeserializeError → Type 0) → Type 0
+Deserializes source old new result Encodes HasError = DeserializesBy source.is_known source.left source.failures old new result Encodes HasError
 
 -- a result of a lower layer
 abbrev pub raised : {X : Type 0} → Result X ReadError → Result X DeserializeError

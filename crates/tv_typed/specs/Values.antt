@@ -1,5 +1,6 @@
 -- Which values are read of which bytes, by the trees that these encode.
 use Rattle.std.specs.Prelude.{◌≡◌, ◌≢◌, ◌+◌, ◌-◌, ◌^◌, ◌<◌, ℕ, false, List, ◌++◌, length, Option, Some, None, Result, Ok, Err, IsErrOf}
+use Rattle.tv_base.specs.declared.source.ByteSource.{Ghosts}
 use Rattle.tv_base.specs.declared.cause.Cause.{Cause}
 use Rattle.tv_base.specs.ErrorInPart.{InThen}
 use Rattle.tv_base.specs.Source.{Failures}
@@ -14,7 +15,7 @@ use Rattle.tv_format.specs.Version.{Version}
 use Rattle.tv_value.specs.declared.owned_value.OwnedValue.{OwnedValue}
 use Rattle.tv_format.specs.Leaves.{form}
 use Rattle.tv_format.specs.declared.leaf_type.LeafType.{LeafType}
-use Rattle.tv_reader.specs.Error.{IsRefusal}
+use Rattle.tv_reader.specs.Error.{IsRefusal, StoreMayStop}
 use Rattle.tv_reader.specs.Heads.{HasWidth}
 use Rattle.tv_reader.specs.Trees.{NoneBehind}
 use Rattle.tv_reader.specs.ValueType.{leaf_type, coded, IsCoded, ErrorInCode}
@@ -22,7 +23,7 @@ use Rattle.tv_reader.specs.Version.{version_of}
 use Rattle.tv_reader.specs.declared.error.DeserializeError.{DeserializeError}
 use Rattle.tv_reader.specs.declared.error.DeserializeError.TheVariants as errors
 use Rattle.tv_reader.specs.declared.value_type.ValueType.{ValueType}
-use Rattle.tv_typed.specs.Typed.{typed_stop, Reads, Deserializes}
+use Rattle.tv_typed.specs.Typed.{typed_stop, ReadsIf, DeserializesBy}
 use Rattle.tv_typed.specs.declared.store_reader.StoreReader.{StoreReader}
 
 -- ---- values
@@ -99,23 +100,34 @@ IsReadOf is t rest (Err e) left = SparesBytes (typed_stop e)
 
 -- Wherever a prefix of what is left encodes, without legacy objects, a tree of which a value is read, a value of that tree is read and the rest is left, unless
 -- the source failed, memory was refused, or a value of any type in it nests too deep for the reader. The code of the value was read before.
-abbrev pub Only : {S X : Type 0} (is_known : S → Type 0) (left : S → List ℕ) (old new : StoreReader S) (result : Result X DeserializeError) → (Tree → X → Type 0) → Version → List ℕ → Type 0
-Only {X = X} is_known left old new result is v code =
+abbrev pub OnlyBy : {S X : Type 0} (is_known : S → Type 0) (left : S → List ℕ) (old new : StoreReader S) (result : Result X DeserializeError) → (Tree → X → Type 0) → Version → List ℕ → Type 0
+OnlyBy {X = X} is_known left old new result is v code =
     old.has_failed ≡ false → is_known old.source → old.count + length (left old.source) < 2 ^ 64 - 1
     → (t : Tree) (x : X) (prefix rest : List ℕ) → left old.source ≡ prefix ++ rest → Encodes NoLegacy v (code ++ prefix) t → is t x → IsReadOf is t rest result (left new.source)
 
 -- What is promised of a call that reads a value behind the code of a type: `is` says which values are read of which trees, and `refused` which refusal bytes have.
-abbrev pub DeserializesAs : {S X : Type 0} (is_known : S → Type 0) (left : S → List ℕ) (failures : S → Failures) → (Tree → X → Type 0) → (Version → ValueType → List ℕ → DeserializeError → Type 0) → ValueType → StoreReader S → StoreReader S → Result X DeserializeError → Type 0
-DeserializesAs is_known left failures is refused kind old new result =
-    Deserializes is_known left failures old new result (EncodedAs is (version_of old.version) kind) (refused (version_of old.version) kind)
+abbrev pub DeserializesAsBy : {S X : Type 0} (is_known : S → Type 0) (left : S → List ℕ) (failures : S → Failures) → (Tree → X → Type 0) → (Version → ValueType → List ℕ → DeserializeError → Type 0) → ValueType → StoreReader S → StoreReader S → Result X DeserializeError → Type 0
+DeserializesAsBy is_known left failures is refused kind old new result =
+    DeserializesBy is_known left failures old new result (EncodedAs is (version_of old.version) kind) (refused (version_of old.version) kind)
 
 -- ---- one type of leaves
 
 -- A call that expects a leaf of a type and makes a value of what it holds: what it reads, that it reads wherever one is encoded, that memory is refused only
 -- where leaves of that type have no known width, and that no leaf is too deep. The code of the value, which is that of some type, was read before.
-pub record ReadsLeaf {S X : Type 0} (is_known : S → Type 0) (left : S → List ℕ) (failures : S → Failures) (expected : ValueType) (make : X → Leaf) (kind : ValueType) (old new : StoreReader S) (result : Result X DeserializeError) : Type 0 where
-  pub reads : Reads is_known left failures old new result (EncodesLeaf (version_of old.version) kind make) (LeafRefused expected (version_of old.version) kind)
-  pub only : Only is_known left old new result (IsLeaf make) (version_of old.version) (coded kind)
-  pub deserializes : DeserializesAs is_known left failures (IsLeaf make) (LeafRefused expected) kind old new result
+pub record ReadsLeafBy {S X : Type 0} (is_known : S → Type 0) (left : S → List ℕ) (failures : S → Failures) (expected : ValueType) (make : X → Leaf) (kind : ValueType) (old new : StoreReader S) (result : Result X DeserializeError) : Type 0 where
+  pub reads : ReadsIf StoreMayStop is_known left failures old new result (EncodesLeaf (version_of old.version) kind make) (LeafRefused expected (version_of old.version) kind)
+  pub only : OnlyBy is_known left old new result (IsLeaf make) (version_of old.version) (coded kind)
+  pub deserializes : DeserializesAsBy is_known left failures (IsLeaf make) (LeafRefused expected) kind old new result
   pub spares : IsFixed (leaf_type expected) → ¬ IsErrOf result errors.Memory
   pub roomy : ¬ IsErrOf result errors.TooDeep
+
+-- ---- as contracts say it, of a source
+
+abbrev pub Only : {S X : Type 0} (source : Ghosts S) (old new : StoreReader S) (result : Result X DeserializeError) → (Tree → X → Type 0) → Version → List ℕ → Type 0
+Only source old new result is v code = OnlyBy source.is_known source.left old new result is v code
+
+abbrev pub DeserializesAs : {S X : Type 0} (source : Ghosts S) → (Tree → X → Type 0) → (Version → ValueType → List ℕ → DeserializeError → Type 0) → ValueType → StoreReader S → StoreReader S → Result X DeserializeError → Type 0
+DeserializesAs source is refused kind old new result = DeserializesAsBy source.is_known source.left source.failures is refused kind old new result
+
+abbrev pub ReadsLeaf : {S X : Type 0} (source : Ghosts S) (expected : ValueType) (make : X → Leaf) (kind : ValueType) (old new : StoreReader S) (result : Result X DeserializeError) → Type 0
+ReadsLeaf source expected make kind old new result = ReadsLeafBy source.is_known source.left source.failures expected make kind old new result

@@ -1,5 +1,6 @@
 -- What a visitor is handed, and what is done through a reader then.
 use Rattle.std.specs.Prelude.{◌≡◌, ℕ, true, false, is_err, List, Result, Ok, Err}
+use Rattle.tv_base.specs.declared.source.ByteSource.{Ghosts}
 use Rattle.tv_base.specs.ErrorInPart.{InThen}
 use Rattle.tv_base.specs.Parts.{Then}
 use Rattle.tv_base.specs.Source.{Failures}
@@ -18,9 +19,10 @@ use Rattle.tv_format.specs.Version.{Version, V2, entry_total}
 use Rattle.tv_value.specs.declared.owned_value.OwnedValue.{OwnedValue}
 use Rattle.tv_typed.specs.LegacyObjects.{OfEncoding}
 use Rattle.tv_typed.specs.Lists.{Length, LengthRefused, element_total}
-use Rattle.tv_typed.specs.Typed.{typed_stop, Reads, Deserializes}
-use Rattle.tv_typed.specs.Values.{CodeRefused, IsLeaf, EncodesLeaf, LeafRefused, TreeRefused, Only}
+use Rattle.tv_typed.specs.Typed.{typed_stop, ReadsIf, DeserializesBy}
+use Rattle.tv_typed.specs.Values.{CodeRefused, IsLeaf, EncodesLeaf, LeafRefused, TreeRefused, OnlyBy}
 use Rattle.tv_typed.specs.declared.store_reader.StoreReader.{StoreReader}
+use Rattle.tv_reader.specs.Error.{StoreMayStop}
 
 -- ---- leaves
 
@@ -41,10 +43,10 @@ Answered answers (Err e) result = result ≡ Err e
 
 -- The leaf behind the code of its type was read, and the answer to it is given. Where none was read, its refusal is. The reader is
 -- as reading has left it, but that its mark may also tell of an answer that is an error.
-pub record Visits {S X : Type 0} (is_known : S → Type 0) (left : S → List ℕ) (failures : S → Failures) (old new : StoreReader S) (kind : ValueType) (answers : Leaf → Result X DeserializeError → Type 0) (result : Result X DeserializeError) : Type 0 where
+pub record VisitsBy {S X : Type 0} (is_known : S → Type 0) (left : S → List ℕ) (failures : S → Failures) (old new : StoreReader S) (kind : ValueType) (answers : Leaf → Result X DeserializeError → Type 0) (result : Result X DeserializeError) : Type 0 where
   pub read : Result Leaf DeserializeError
-  pub reads : Reads is_known left failures old (record new { has_failed = is_err read }) read (EncodesLeaf (version_of old.version) kind (λ l. l)) (LeafRefused kind (version_of old.version) kind)
-  pub only : Only is_known left old (record new { has_failed = is_err read }) read (IsLeaf (λ l. l)) (version_of old.version) (coded kind)
+  pub reads : ReadsIf StoreMayStop is_known left failures old (record new { has_failed = is_err read }) read (EncodesLeaf (version_of old.version) kind (λ l. l)) (LeafRefused kind (version_of old.version) kind)
+  pub only : OnlyBy is_known left old (record new { has_failed = is_err read }) read (IsLeaf (λ l. l)) (version_of old.version) (coded kind)
   pub answered : Answered answers read result
 
 -- ---- arrays and objects
@@ -59,14 +61,14 @@ VisitRefused collection total Refused kind = InThen (LengthRefused collection to
 
 -- What was made of so many values, as it is said by who made it. Where no number was read, nothing was done, and its refusal is given.
 abbrev pub Handed : {S X : Type 0} (is_known : S → Type 0) (left : S → List ℕ) (failures : S → Failures) (mid new : StoreReader S) → (ℕ → List ℕ → X → Type 0) → (ℕ → List ℕ → DeserializeError → Type 0) → Result ℕ DeserializeError → Result X DeserializeError → Type 0
-Handed is_known left failures mid new Made Refused (Ok n) result = Deserializes is_known left failures mid new result (Made n) (Refused n)
+Handed is_known left failures mid new Made Refused (Ok n) result = DeserializesBy is_known left failures mid new result (Made n) (Refused n)
 Handed is_known left failures mid new Made Refused (Err e) result = (result ≡ Err e) × (new ≡ mid)
 
 -- The number of the values was read behind the code, and then they were handed on.
-pub record VisitsItems {S X : Type 0} (is_known : S → Type 0) (left : S → List ℕ) (failures : S → Failures) (old new : StoreReader S) (collection : ValueType) (total : ℕ → ℕ) (Made : ℕ → List ℕ → X → Type 0) (Refused : ℕ → List ℕ → DeserializeError → Type 0) (kind : ValueType) (result : Result X DeserializeError) : Type 0 where
+pub record VisitsItemsBy {S X : Type 0} (is_known : S → Type 0) (left : S → List ℕ) (failures : S → Failures) (old new : StoreReader S) (collection : ValueType) (total : ℕ → ℕ) (Made : ℕ → List ℕ → X → Type 0) (Refused : ℕ → List ℕ → DeserializeError → Type 0) (kind : ValueType) (result : Result X DeserializeError) : Type 0 where
   pub behind_number : StoreReader S
   pub announced : Result ℕ DeserializeError
-  pub reads : Reads is_known left failures old behind_number announced (Length collection total kind) (LengthRefused collection total kind)
+  pub reads : ReadsIf StoreMayStop is_known left failures old behind_number announced (Length collection total kind) (LengthRefused collection total kind)
   pub handed : Handed is_known left failures behind_number new Made Refused announced result
 
 -- ---- legacy objects
@@ -86,10 +88,10 @@ GivesEntries Made Refused (Err e) result = result ≡ Err e
 
 -- A legacy object was read whole behind its code, and then the entries that its tree encodes were handed on, or its refusal is given. Nothing more is taken
 -- through the reader, whose mark may also tell of an answer that is an error.
-pub record VisitsLegacy {S X : Type 0} (is_known : S → Type 0) (left : S → List ℕ) (failures : S → Failures) (old new : StoreReader S) (Made : ℕ → List ℕ → X → Type 0) (Refused : ℕ → List ℕ → DeserializeError → Type 0) (result : Result X DeserializeError) : Type 0 where
+pub record VisitsLegacyBy {S X : Type 0} (is_known : S → Type 0) (left : S → List ℕ) (failures : S → Failures) (old new : StoreReader S) (Made : ℕ → List ℕ → X → Type 0) (Refused : ℕ → List ℕ → DeserializeError → Type 0) (result : Result X DeserializeError) : Type 0 where
   pub behind_object : StoreReader S
   pub read : Result OwnedValue DeserializeError
-  pub reads : Reads is_known left failures old behind_object read (EncodesBehind (version_of old.version) types.JSONObject) (TreeRefused (version_of old.version) types.JSONObject)
+  pub reads : ReadsIf StoreMayStop is_known left failures old behind_object read (EncodesBehind (version_of old.version) types.JSONObject) (TreeRefused (version_of old.version) types.JSONObject)
   pub gives : GivesEntries Made Refused read result
   pub same_source : new.source ≡ behind_object.source
   pub same_count : new.count ≡ behind_object.count
@@ -100,9 +102,23 @@ pub record VisitsLegacy {S X : Type 0} (is_known : S → Type 0) (left : S → L
 
 -- What stands behind the code of a type was handed to the visitor's call for it: a leaf, the values of an array, or the entries of an object or of a legacy one.
 -- Each failed read is told.
-pub record VisitsKind {S X : Type 0} (is_known : S → Type 0) (left : S → List ℕ) (failures : S → Failures) (kind : ValueType) (answers : Leaf → Result X DeserializeError → Type 0) (of_array : Version → ℕ → List ℕ → X → Type 0) (array_refused : Version → ℕ → List ℕ → DeserializeError → Type 0) (of_object : Version → ℕ → List ℕ → X → Type 0) (object_refused : Version → ℕ → List ℕ → DeserializeError → Type 0) (old new : StoreReader S) (result : Result X DeserializeError) : Type 0 where
-  pub leaf : is_leaf_type kind ≡ true → Visits is_known left failures old new kind answers result
-  pub array : kind ≡ types.Array → VisitsItems is_known left failures old new types.Array element_total (of_array (version_of old.version)) (array_refused (version_of old.version)) kind result
-  pub object : kind ≡ types.Object → VisitsItems is_known left failures old new types.Object (entry_total (version_of old.version)) (of_object (version_of old.version)) (object_refused (version_of old.version)) kind result
-  pub legacy : kind ≡ types.JSONObject → VisitsLegacy is_known left failures old new (of_object V2) (object_refused V2) result
+pub record VisitsKindBy {S X : Type 0} (is_known : S → Type 0) (left : S → List ℕ) (failures : S → Failures) (kind : ValueType) (answers : Leaf → Result X DeserializeError → Type 0) (of_array : Version → ℕ → List ℕ → X → Type 0) (array_refused : Version → ℕ → List ℕ → DeserializeError → Type 0) (of_object : Version → ℕ → List ℕ → X → Type 0) (object_refused : Version → ℕ → List ℕ → DeserializeError → Type 0) (old new : StoreReader S) (result : Result X DeserializeError) : Type 0 where
+  pub leaf : is_leaf_type kind ≡ true → VisitsBy is_known left failures old new kind answers result
+  pub array : kind ≡ types.Array → VisitsItemsBy is_known left failures old new types.Array element_total (of_array (version_of old.version)) (array_refused (version_of old.version)) kind result
+  pub object : kind ≡ types.Object → VisitsItemsBy is_known left failures old new types.Object (entry_total (version_of old.version)) (of_object (version_of old.version)) (object_refused (version_of old.version)) kind result
+  pub legacy : kind ≡ types.JSONObject → VisitsLegacyBy is_known left failures old new (of_object V2) (object_refused V2) result
   pub counts : old.has_failed ≡ false → Counts typed_stop result (failures old.source) (failures new.source)
+
+-- ---- as contracts say it, of a source
+
+abbrev pub Visits : {S X : Type 0} (source : Ghosts S) (old new : StoreReader S) (kind : ValueType) (answers : Leaf → Result X DeserializeError → Type 0) (result : Result X DeserializeError) → Type 0
+Visits source old new kind answers result = VisitsBy source.is_known source.left source.failures old new kind answers result
+
+abbrev pub VisitsItems : {S X : Type 0} (source : Ghosts S) (old new : StoreReader S) (collection : ValueType) (total : ℕ → ℕ) (Made : ℕ → List ℕ → X → Type 0) (Refused : ℕ → List ℕ → DeserializeError → Type 0) (kind : ValueType) (result : Result X DeserializeError) → Type 0
+VisitsItems source old new collection total Made Refused kind result = VisitsItemsBy source.is_known source.left source.failures old new collection total Made Refused kind result
+
+abbrev pub VisitsLegacy : {S X : Type 0} (source : Ghosts S) (old new : StoreReader S) (Made : ℕ → List ℕ → X → Type 0) (Refused : ℕ → List ℕ → DeserializeError → Type 0) (result : Result X DeserializeError) → Type 0
+VisitsLegacy source old new Made Refused result = VisitsLegacyBy source.is_known source.left source.failures old new Made Refused result
+
+abbrev pub VisitsKind : {S X : Type 0} (source : Ghosts S) (kind : ValueType) (answers : Leaf → Result X DeserializeError → Type 0) (of_array : Version → ℕ → List ℕ → X → Type 0) (array_refused : Version → ℕ → List ℕ → DeserializeError → Type 0) (of_object : Version → ℕ → List ℕ → X → Type 0) (object_refused : Version → ℕ → List ℕ → DeserializeError → Type 0) (old new : StoreReader S) (result : Result X DeserializeError) → Type 0
+VisitsKind source kind answers of_array array_refused of_object object_refused old new result = VisitsKindBy source.is_known source.left source.failures kind answers of_array array_refused of_object object_refused old new result

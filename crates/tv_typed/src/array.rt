@@ -23,10 +23,9 @@ pub(crate) fn read_elements<T: ValueDeserialize, S: ByteSource>(
     announced: u64,
 ) -> Result<Vec<T>, DeserializeError>
     requires { reader.old.has_failed ≡ false }
-    ensures deserializes { Deserializes S.is_known S.left S.failures reader.old reader.new result
+    ensures deserializes { Deserializes S.ByteSource reader.old reader.new result
         (EncodesInto (λ items xs. items.items ≡ xs) (EncodesAs T.is (version_of reader.old.version))
-        announced)
-        (InEach (NextRefused T.refused (version_of reader.old.version))
+        announced) (InEach (NextRefused T.refused (version_of reader.old.version))
         (EncodesAs T.is (version_of reader.old.version)) announced) }
     ensures deep { S.is_known reader.old.source → IsErrOf result errors.TooDeep → AmongRead
         (EncodesAs T.is (version_of reader.old.version)) (NextTooDeep T.deep (version_of
@@ -60,7 +59,7 @@ impl<'de, S: ByteSource> BinaryArrayDeserializer<'de, S> {
     /// Refuses the array: reads nothing, and returns `UnsupportedType(Array)`. (Not in tantivy.)
     pub fn unsupported<T>(self) -> Result<T, DeserializeError>
         requires { self.reader.now.has_failed ≡ false }
-        ensures { Deserializes S.is_known S.left S.failures self.entry.reader.now
+        ensures { Deserializes S.ByteSource self.entry.reader.now
             self.exit.1.1.0.now result (λ b x. ⊥) (λ w e. e ≡ errors.UnsupportedType types.Array) }
     {
         Err(DeserializeError::UnsupportedType(ValueType::Array))
@@ -71,8 +70,7 @@ impl<'de, S: ByteSource> BinaryArrayDeserializer<'de, S> {
     /// Errors: those of `next_element`, and `Memory` where the list can't grow, which isn't marked in the reader.
     pub fn read_all<V: ValueDeserialize>(self, alloc: Global) -> Result<Vec<V>, DeserializeError>
         requires { self.reader.now.has_failed ≡ false }
-        ensures { Deserializes S.is_known S.left S.failures self.entry.reader.now
-            self.exit.1.1.0.now result
+        ensures { Deserializes S.ByteSource self.entry.reader.now self.exit.1.1.0.now result
             (EncodesInto (λ items xs. items.items ≡ xs)
             (EncodesAs V.is (version_of self.entry.reader.now.version))
             (self.entry.announced - self.entry.position))
@@ -95,7 +93,7 @@ impl<'de, S: ByteSource> BinaryArrayDeserializer<'de, S> {
         ensures announced { self.new.announced ≡ self.old.announced }
         ensures position { self.new.position
             ≡ self.old.position + (if gives_some result then 1 else 0) }
-        ensures deserializes { Deserializes S.is_known S.left S.failures self.old.reader.now
+        ensures deserializes { Deserializes S.ByteSource self.old.reader.now
             self.new.reader.now result
             (NextItem (EncodesAs V.is (version_of self.old.reader.now.version)) self.old.position
             self.old.announced)

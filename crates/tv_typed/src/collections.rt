@@ -40,7 +40,7 @@ impl<T: ValueDeserialize> ValueDeserialize for Vec<T> {
         alloc: Global,
         deserializer: BinaryValueDeserializer<'_, S>,
     ) -> Result<Vec<T>, DeserializeError>
-        ensures deserializes { DeserializesAs S.is_known S.left S.failures
+        ensures deserializes { DeserializesAs S.ByteSource
             (λ t list. ArrayOf T.is t list.items) (ArrayRefused T.is T.refused)
             deserializer.entry.kind deserializer.entry.reader.now deserializer.exit.1.0.now result }
         ensures marks { OnErr result (deserializer.exit.1.0.now.has_failed ≡ true) }
@@ -67,7 +67,7 @@ impl<'de, S: ByteSource> BinaryValueDeserializer<'de, S> {
         self,
         alloc: Global,
     ) -> Result<C, DeserializeError>
-        ensures deserializes { DeserializesAs S.is_known S.left S.failures C.is
+        ensures deserializes { DeserializesAs S.ByteSource C.is
             (MembersRefused (ObjectRefused T.is T.refused)) self.entry.kind self.entry.reader.now
             self.exit.1.0.now result }
         ensures marks { OnErr result (self.exit.1.0.now.has_failed ≡ true) }
@@ -94,7 +94,7 @@ impl<T: ValueDeserialize> ValueDeserialize for Vec<(String, T)> {
         alloc: Global,
         deserializer: BinaryValueDeserializer<'_, S>,
     ) -> Result<Vec<(String, T)>, DeserializeError>
-        ensures deserializes { DeserializesAs S.is_known S.left S.failures
+        ensures deserializes { DeserializesAs S.ByteSource
             (λ t list. ObjectOf T.is t list.items) (MembersRefused (ObjectRefused T.is T.refused))
             deserializer.entry.kind deserializer.entry.reader.now deserializer.exit.1.0.now result }
         ensures marks { OnErr result (deserializer.exit.1.0.now.has_failed ≡ true) }
@@ -122,7 +122,7 @@ impl<T: ValueDeserialize> ValueDeserialize for BTreeMap<String, T> {
         alloc: Global,
         deserializer: BinaryValueDeserializer<'_, S>,
     ) -> Result<BTreeMap<String, T>, DeserializeError>
-        ensures deserializes { DeserializesAs S.is_known S.left S.failures
+        ensures deserializes { DeserializesAs S.ByteSource
             (λ t map. MapOf T.is t (λ key. tree.get_by_text map key))
             (MembersRefused (ObjectRefused T.is T.refused))
             deserializer.entry.kind deserializer.entry.reader.now deserializer.exit.1.0.now result }
@@ -152,7 +152,7 @@ impl<T: ValueDeserialize> ValueDeserialize for HashMap<String, T> {
         alloc: Global,
         deserializer: BinaryValueDeserializer<'_, S>,
     ) -> Result<HashMap<String, T>, DeserializeError>
-        ensures deserializes { DeserializesAs S.is_known S.left S.failures
+        ensures deserializes { DeserializesAs S.ByteSource
             (λ t map. MapOf T.is t (λ key. hash.get_by_text map key))
             (MembersRefused (ObjectRefused T.is T.refused))
             deserializer.entry.kind deserializer.entry.reader.now deserializer.exit.1.0.now result }

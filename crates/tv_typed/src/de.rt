@@ -15,7 +15,7 @@ ghost use Rattle.tv_typed.specs.Excluding.{tree_excludes};
 ghost use Rattle.tv_typed.specs.Lists.{EncodesEntry, EntryRefused};
 ghost use Rattle.tv_typed.specs.Depths.{IsWithin, IsTooDeep, HasDepth, NextTooDeep};
 ghost use Rattle.tv_typed.specs.Depths.{EntryTooDeep, OpensBehind};
-ghost use Rattle.tv_typed.specs.Typed.{Reads, ReadsDeep, Deserializes};
+ghost use Rattle.tv_typed.specs.Typed.{ReadsThrough, ReadsDeep, Deserializes};
 ghost use Rattle.tv_typed.specs.Values.{CodeRefused, IsTree, TreeRefused, Only, EncodesAs};
 ghost use Rattle.tv_typed.specs.Values.{DeserializesAs, NextRefused, RefusalsExclude};
 
@@ -50,11 +50,11 @@ impl<'de, S: ByteSource> BinaryValueDeserializer<'de, S> {
         ensures* rests { sem 𝓛
             (RestsIfErr (the_row S.row) reader.entry (λ d. d.reader.ghost_name) result
             (λ now. IfErr result
-            (λ e. Reads {X = ValueType} S.is_known S.left S.failures reader.entry.now now
+            (λ e. ReadsThrough {X = ValueType} S.ByteSource reader.entry.now now
             (Err e) IsCoded CodeRefused))) }
         ensures same_reader { IfOk result (λ d. d.reader.ghost_name ≡ reader.entry.ghost_name) }
         ensures reads { IfOk result
-            (λ d. Reads S.is_known S.left S.failures reader.entry.now d.reader.now (Ok d.kind)
+            (λ d. ReadsThrough S.ByteSource reader.entry.now d.reader.now (Ok d.kind)
             IsCoded CodeRefused) }
         ensures spares { ¬ IsErrOf result errors.Memory }
     {
@@ -68,17 +68,16 @@ impl<'de, S: ByteSource> BinaryValueDeserializer<'de, S> {
     /// `TypeMismatch` where in a key's place stands a value that isn't a text; `TooDeep` right behind the code of an array or an object that
     /// is one too many; `Io`; `Memory`; `AlreadyFailed`.
     pub fn deserialize_tree(self, alloc: Global) -> Result<OwnedValue, DeserializeError>
-        ensures reads { ReadsDeep S.is_known S.left S.failures self.entry.reader.now self.exit.1.0.now
+        ensures reads { ReadsDeep S.ByteSource self.entry.reader.now self.exit.1.0.now
             result (EncodesBehind (version_of self.entry.reader.now.version) self.entry.kind)
             (TreeRefused (version_of self.entry.reader.now.version) self.entry.kind) }
-        ensures only { Only S.is_known S.left self.entry.reader.now self.exit.1.0.now result IsTree
+        ensures only { Only S.ByteSource self.entry.reader.now self.exit.1.0.now result IsTree
             (version_of self.entry.reader.now.version) (coded self.entry.kind) }
-        ensures within { IsWithin S.is_known S.left self.entry.reader.now self.exit.1.0.now result
+        ensures within { IsWithin S.ByteSource self.entry.reader.now self.exit.1.0.now result
             (coded self.entry.kind) }
-        ensures deep { IsTooDeep S.is_known S.left self.entry.reader.now self.exit.1.0.now result
+        ensures deep { IsTooDeep S.ByteSource self.entry.reader.now self.exit.1.0.now result
             (coded self.entry.kind) }
-        ensures roomy { HasDepth S.is_known S.left self.entry.reader.now result
-            (coded self.entry.kind) }
+        ensures roomy { HasDepth S.ByteSource self.entry.reader.now result (coded self.entry.kind) }
     {
         let BinaryValueDeserializer { kind, reader } = self;
         reader.go_on()?;
@@ -114,9 +113,8 @@ pub trait ValueDeserialize: Sized + Drop {
         alloc: Global,
         deserializer: BinaryValueDeserializer<'_, S>,
     ) -> Result<Self, DeserializeError>
-        ensures deserializes { DeserializesAs S.is_known S.left S.failures is refused
-            deserializer.entry.kind deserializer.entry.reader.now
-            deserializer.exit.1.0.now result }
+        ensures deserializes { DeserializesAs S.ByteSource is refused
+            deserializer.entry.kind deserializer.entry.reader.now deserializer.exit.1.0.now result }
         ensures deep { deserializer.entry.reader.now.has_failed ≡ false
             → S.is_known deserializer.entry.reader.now.source → IsErrOf result errors.TooDeep
             → deep (version_of deserializer.entry.reader.now.version)
@@ -132,10 +130,10 @@ impl<S: ByteSource> StoreReader<S> {
     /// Reads the next value: its code, and what stands behind it. Errors: those of `BinaryValueDeserializer::from_reader` and of
     /// the type's own `deserialize`. Each is marked, whoever it is of, so that every later read returns `AlreadyFailed`.
     pub fn read<V: ValueDeserialize>(&mut self, alloc: Global) -> Result<V, DeserializeError>
-        ensures deserializes { Deserializes S.is_known S.left S.failures self.old self.new result
+        ensures deserializes { Deserializes S.ByteSource self.old self.new result
             (EncodesAs V.is (version_of self.old.version))
             (NextRefused V.refused (version_of self.old.version)) }
-        ensures only { Only S.is_known S.left self.old self.new result V.is
+        ensures only { Only S.ByteSource self.old self.new result V.is
             (version_of self.old.version) [] }
         ensures marks { OnErr result (self.new.has_failed ≡ true) }
         ensures deep { self.old.has_failed ≡ false → S.is_known self.old.source
@@ -158,7 +156,7 @@ impl<S: ByteSource> StoreReader<S> {
         &mut self,
         alloc: Global,
     ) -> Result<(String, V), DeserializeError>
-        ensures deserializes { Deserializes S.is_known S.left S.failures self.old self.new result
+        ensures deserializes { Deserializes S.ByteSource self.old self.new result
             (EncodesEntry V.is (version_of self.old.version))
             (EntryRefused V.refused (version_of self.old.version)) }
         ensures marks { OnErr result (self.new.has_failed ≡ true) }
@@ -183,19 +181,18 @@ impl ValueDeserialize for OwnedValue {
         alloc: Global,
         deserializer: BinaryValueDeserializer<'_, S>,
     ) -> Result<OwnedValue, DeserializeError>
-        ensures deserializes { DeserializesAs S.is_known S.left S.failures IsTree TreeRefused
+        ensures deserializes { DeserializesAs S.ByteSource IsTree TreeRefused
             deserializer.entry.kind deserializer.entry.reader.now deserializer.exit.1.0.now result }
-        ensures reads { ReadsDeep S.is_known S.left S.failures deserializer.entry.reader.now
+        ensures reads { ReadsDeep S.ByteSource deserializer.entry.reader.now
             deserializer.exit.1.0.now result
             (EncodesBehind (version_of deserializer.entry.reader.now.version)
-            deserializer.entry.kind)
-            (TreeRefused (version_of deserializer.entry.reader.now.version)
+            deserializer.entry.kind) (TreeRefused (version_of deserializer.entry.reader.now.version)
             deserializer.entry.kind) }
-        ensures within { IsWithin S.is_known S.left deserializer.entry.reader.now
+        ensures within { IsWithin S.ByteSource deserializer.entry.reader.now
             deserializer.exit.1.0.now result (coded deserializer.entry.kind) }
-        ensures deep { IsTooDeep S.is_known S.left deserializer.entry.reader.now
+        ensures deep { IsTooDeep S.ByteSource deserializer.entry.reader.now
             deserializer.exit.1.0.now result (coded deserializer.entry.kind) }
-        ensures roomy { HasDepth S.is_known S.left deserializer.entry.reader.now result
+        ensures roomy { HasDepth S.ByteSource deserializer.entry.reader.now result
             (coded deserializer.entry.kind) }
     {
         deserializer.deserialize_tree(alloc)

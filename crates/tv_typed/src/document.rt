@@ -15,7 +15,7 @@ ghost use Rattle.tv_format.specs.Version.{Version};
 ghost use Rattle.tv_typed.specs.Documents.{NextField, GivesPair, RefusesPair, EncodesField};
 ghost use Rattle.tv_typed.specs.Documents.{FieldEnds, FieldRefused, NumberRefused};
 ghost use Rattle.tv_typed.specs.Lists.{NextItem, NextItemRefused, gives_some};
-ghost use Rattle.tv_typed.specs.Typed.{typed_stop, Reads, Deserializes};
+ghost use Rattle.tv_typed.specs.Typed.{typed_stop, ReadsThrough, Deserializes};
 ghost use Rattle.tv_typed.specs.contracts.store_reader.StoreReader.{the_row};
 
 use crate::de::ValueDeserialize;
@@ -83,8 +83,7 @@ pub trait DocumentDeserializer: Drop {
 impl<S: ByteSource> StoreReader<S> {
     // Takes the number of a document's pairs.
     pub(crate) fn pair_count(&mut self) -> Result<u64, DeserializeError>
-        ensures reads { Reads S.is_known S.left S.failures self.old self.new result VNum
-            NumberRefused }
+        ensures reads { ReadsThrough S.ByteSource self.old self.new result VNum NumberRefused }
         ensures spares { ¬ IsErrOf result errors.Memory }
     {
         self.go_on()?;
@@ -94,8 +93,7 @@ impl<S: ByteSource> StoreReader<S> {
 
     // Takes the field of a pair.
     pub(crate) fn field(&mut self) -> Result<u32, DeserializeError>
-        ensures reads { Reads S.is_known S.left S.failures self.old self.new result (Fixed 4)
-            FieldEnds }
+        ensures reads { ReadsThrough S.ByteSource self.old self.new result (Fixed 4) FieldEnds }
         ensures spares { ¬ IsErrOf result errors.Memory }
     {
         self.go_on()?;
@@ -109,7 +107,7 @@ impl<S: ByteSource> StoreReader<S> {
         &mut self,
         alloc: Global,
     ) -> Result<(Field, V), DeserializeError>
-        ensures deserializes { Deserializes S.is_known S.left S.failures self.old self.new result
+        ensures deserializes { Deserializes S.ByteSource self.old self.new result
             (EncodesField V.is (version_of self.old.version))
             (FieldRefused V.refused (version_of self.old.version)) }
         ensures marks { OnErr result (self.new.has_failed ≡ true) }
@@ -137,11 +135,11 @@ impl<'de, S: ByteSource> BinaryDocumentDeserializer<'de, S> {
         ensures* rests { sem 𝓛
             (RestsIfErr (the_row S.row) reader.entry (λ d. d.reader.ghost_name) result
             (λ now. IfErr result
-            (λ e. Reads {X = ℕ} S.is_known S.left S.failures reader.entry.now now (Err e)
+            (λ e. ReadsThrough {X = ℕ} S.ByteSource reader.entry.now now (Err e)
             VNum NumberRefused))) }
         ensures same_reader { IfOk result (λ d. d.reader.ghost_name ≡ reader.entry.ghost_name) }
         ensures reads { IfOk result
-            (λ d. Reads S.is_known S.left S.failures reader.entry.now d.reader.now (Ok d.announced)
+            (λ d. ReadsThrough S.ByteSource reader.entry.now d.reader.now (Ok d.announced)
             VNum NumberRefused) }
         ensures first { IfOk result (λ d. d.position ≡ 0) }
         ensures spares { ¬ IsErrOf result errors.Memory }
@@ -164,7 +162,7 @@ impl<'de, S: ByteSource> DocumentDeserializer for BinaryDocumentDeserializer<'de
 
     ghost gives = { λ old pair new. GivesPair S.left old.reader.now pair new.reader.now };
 
-    ghost refuses = { λ d refused. RefusesPair S.is_known S.left S.failures d.position d.announced
+    ghost refuses = { λ d refused. RefusesPair S.ByteSource d.position d.announced
         d.reader.now refused };
 
     ghost has_failed = { λ d. d.reader.now.has_failed };
@@ -190,13 +188,13 @@ impl<'de, S: ByteSource> DocumentDeserializer for BinaryDocumentDeserializer<'de
             (λ old pair new. GivesPair S.left old.reader.now pair new.reader.now) V.is self.old
             self.new) }
         ensures refuses { IfErr result
-            (λ e. RefusesPair S.is_known S.left S.failures self.old.position self.old.announced
+            (λ e. RefusesPair S.ByteSource self.old.position self.old.announced
             self.old.reader.now V.refused e) }
         ensures same_reader { self.new.reader.ghost_name ≡ self.old.reader.ghost_name }
         ensures announced { self.new.announced ≡ self.old.announced }
         ensures position { self.new.position
             ≡ self.old.position + (if gives_some result then 1 else 0) }
-        ensures deserializes { Deserializes S.is_known S.left S.failures self.old.reader.now
+        ensures deserializes { Deserializes S.ByteSource self.old.reader.now
             self.new.reader.now result
             (NextItem (EncodesField V.is (version_of self.old.reader.now.version)) self.old.position
             self.old.announced)

@@ -31,7 +31,7 @@ pub(crate) trait LeafValue: Sized + Drop {
         alloc: Self::Alloc,
         reader: &mut StoreReader<S>,
     ) -> Result<Self, ReadError>
-        ensures takes { TakesBy S.is_known S.left S.failures reader.old.source reader.old.count
+        ensures takes { TakesBy S.ByteSource reader.old.source reader.old.count
             reader.new.source reader.new.count (λ x. leaf (make x)) result
             (leaf_at (version_of reader.old.version) expected) }
         ensures version { reader.new.version ≡ reader.old.version }
@@ -51,7 +51,7 @@ impl<'de, S: ByteSource> BinaryValueDeserializer<'de, S> {
         expected: ValueType,
     ) -> Result<T, DeserializeError>
         requires { expected ≡ T.expected }
-        ensures { ReadsLeaf S.is_known S.left S.failures T.expected T.make self.entry.kind
+        ensures { ReadsLeaf S.ByteSource T.expected T.make self.entry.kind
             self.entry.reader.now self.exit.1.0.now result }
     {
         let BinaryValueDeserializer { kind, reader } = self;

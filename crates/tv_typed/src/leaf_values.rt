@@ -186,7 +186,7 @@ impl LeafValue for PreTokenizedString {
 impl<'de, S: ByteSource> BinaryValueDeserializer<'de, S> {
     /// Reads null.
     pub fn deserialize_null(self) -> Result<(), DeserializeError>
-        ensures { ReadsLeaf S.is_known S.left S.failures types.Null (λ _. null) self.entry.kind
+        ensures { ReadsLeaf S.ByteSource types.Null (λ _. null) self.entry.kind
             self.entry.reader.now self.exit.1.0.now result }
     {
         self.leaf::<()>((), ValueType::Null)
@@ -194,7 +194,7 @@ impl<'de, S: ByteSource> BinaryValueDeserializer<'de, S> {
 
     /// Reads a number from 0 to 2^64 - 1.
     pub fn deserialize_u64(self) -> Result<u64, DeserializeError>
-        ensures { ReadsLeaf S.is_known S.left S.failures types.U64 (λ n. unsigned n) self.entry.kind
+        ensures { ReadsLeaf S.ByteSource types.U64 (λ n. unsigned n) self.entry.kind
             self.entry.reader.now self.exit.1.0.now result }
     {
         self.leaf::<u64>((), ValueType::U64)
@@ -202,7 +202,7 @@ impl<'de, S: ByteSource> BinaryValueDeserializer<'de, S> {
 
     /// Reads a number from -2^63 to 2^63 - 1.
     pub fn deserialize_i64(self) -> Result<i64, DeserializeError>
-        ensures { ReadsLeaf S.is_known S.left S.failures types.I64 (λ z. signed z) self.entry.kind
+        ensures { ReadsLeaf S.ByteSource types.I64 (λ z. signed z) self.entry.kind
             self.entry.reader.now self.exit.1.0.now result }
     {
         self.leaf::<i64>((), ValueType::I64)
@@ -210,7 +210,7 @@ impl<'de, S: ByteSource> BinaryValueDeserializer<'de, S> {
 
     /// Reads a truth value.
     pub fn deserialize_bool(self) -> Result<bool, DeserializeError>
-        ensures { ReadsLeaf S.is_known S.left S.failures types.Bool (λ b. boolean b) self.entry.kind
+        ensures { ReadsLeaf S.ByteSource types.Bool (λ b. boolean b) self.entry.kind
             self.entry.reader.now self.exit.1.0.now result }
     {
         self.leaf::<bool>((), ValueType::Bool)
@@ -218,7 +218,7 @@ impl<'de, S: ByteSource> BinaryValueDeserializer<'de, S> {
 
     /// Reads a text.
     pub fn deserialize_string(self, alloc: Global) -> Result<String, DeserializeError>
-        ensures { ReadsLeaf S.is_known S.left S.failures types.String (λ s. text (string_bytes s))
+        ensures { ReadsLeaf S.ByteSource types.String (λ s. text (string_bytes s))
             self.entry.kind self.entry.reader.now self.exit.1.0.now result }
     {
         self.leaf::<String>(alloc, ValueType::String)
@@ -226,7 +226,7 @@ impl<'de, S: ByteSource> BinaryValueDeserializer<'de, S> {
 
     /// Reads a facet.
     pub fn deserialize_facet(self, alloc: Global) -> Result<Facet, DeserializeError>
-        ensures { ReadsLeaf S.is_known S.left S.failures types.Facet (λ f. facet f) self.entry.kind
+        ensures { ReadsLeaf S.ByteSource types.Facet (λ f. facet f) self.entry.kind
             self.entry.reader.now self.exit.1.0.now result }
     {
         self.leaf::<Facet>(alloc, ValueType::Facet)
@@ -234,7 +234,7 @@ impl<'de, S: ByteSource> BinaryValueDeserializer<'de, S> {
 
     /// Reads bytes.
     pub fn deserialize_bytes(self, alloc: Global) -> Result<Vec<u8>, DeserializeError>
-        ensures { ReadsLeaf S.is_known S.left S.failures types.Bytes (λ v. bytes v.items)
+        ensures { ReadsLeaf S.ByteSource types.Bytes (λ v. bytes v.items)
             self.entry.kind self.entry.reader.now self.exit.1.0.now result }
     {
         self.leaf::<Vec<u8>>(alloc, ValueType::Bytes)
@@ -242,7 +242,7 @@ impl<'de, S: ByteSource> BinaryValueDeserializer<'de, S> {
 
     /// Reads a date: microseconds in version 1, and nanoseconds in the others.
     pub fn deserialize_datetime(self) -> Result<DateTime, DeserializeError>
-        ensures { ReadsLeaf S.is_known S.left S.failures types.DateTime (λ d. date d.nanoseconds)
+        ensures { ReadsLeaf S.ByteSource types.DateTime (λ d. date d.nanoseconds)
             self.entry.kind self.entry.reader.now self.exit.1.0.now result }
     {
         self.leaf::<DateTime>((), ValueType::DateTime)
@@ -250,7 +250,7 @@ impl<'de, S: ByteSource> BinaryValueDeserializer<'de, S> {
 
     /// Reads an IP address.
     pub fn deserialize_ip_address(self) -> Result<Ipv6Addr, DeserializeError>
-        ensures { ReadsLeaf S.is_known S.left S.failures types.IpAddr
+        ensures { ReadsLeaf S.ByteSource types.IpAddr
             (λ a. ip_address (ipv6_bits a)) self.entry.kind self.entry.reader.now self.exit.1.0.now
             result }
     {
@@ -262,7 +262,7 @@ impl<'de, S: ByteSource> BinaryValueDeserializer<'de, S> {
         self,
         alloc: Global,
     ) -> Result<PreTokenizedString, DeserializeError>
-        ensures { ReadsLeaf S.is_known S.left S.failures types.PreTokStr
+        ensures { ReadsLeaf S.ByteSource types.PreTokStr
             (λ s. tokenized (string_bytes s.text) (map token_of s.tokens.items)) self.entry.kind
             self.entry.reader.now self.exit.1.0.now result }
     {
@@ -281,7 +281,7 @@ impl ValueDeserialize for u64 {
         _alloc: Global,
         deserializer: BinaryValueDeserializer<'_, S>,
     ) -> Result<u64, DeserializeError>
-        ensures { ReadsLeaf S.is_known S.left S.failures types.U64 (λ n. unsigned n)
+        ensures { ReadsLeaf S.ByteSource types.U64 (λ n. unsigned n)
             deserializer.entry.kind deserializer.entry.reader.now deserializer.exit.1.0.now result }
     {
         deserializer.deserialize_u64()
@@ -301,7 +301,7 @@ impl ValueDeserialize for i64 {
         _alloc: Global,
         deserializer: BinaryValueDeserializer<'_, S>,
     ) -> Result<i64, DeserializeError>
-        ensures { ReadsLeaf S.is_known S.left S.failures types.I64 (λ z. signed z)
+        ensures { ReadsLeaf S.ByteSource types.I64 (λ z. signed z)
             deserializer.entry.kind deserializer.entry.reader.now deserializer.exit.1.0.now result }
     {
         deserializer.deserialize_i64()
@@ -321,7 +321,7 @@ impl ValueDeserialize for bool {
         _alloc: Global,
         deserializer: BinaryValueDeserializer<'_, S>,
     ) -> Result<bool, DeserializeError>
-        ensures { ReadsLeaf S.is_known S.left S.failures types.Bool (λ b. boolean b)
+        ensures { ReadsLeaf S.ByteSource types.Bool (λ b. boolean b)
             deserializer.entry.kind deserializer.entry.reader.now deserializer.exit.1.0.now result }
     {
         deserializer.deserialize_bool()
@@ -341,7 +341,7 @@ impl ValueDeserialize for String {
         alloc: Global,
         deserializer: BinaryValueDeserializer<'_, S>,
     ) -> Result<String, DeserializeError>
-        ensures { ReadsLeaf S.is_known S.left S.failures types.String (λ s. text (string_bytes s))
+        ensures { ReadsLeaf S.ByteSource types.String (λ s. text (string_bytes s))
             deserializer.entry.kind deserializer.entry.reader.now deserializer.exit.1.0.now result }
     {
         deserializer.deserialize_string(alloc)
@@ -361,7 +361,7 @@ impl ValueDeserialize for Facet {
         alloc: Global,
         deserializer: BinaryValueDeserializer<'_, S>,
     ) -> Result<Facet, DeserializeError>
-        ensures { ReadsLeaf S.is_known S.left S.failures types.Facet (λ f. facet f)
+        ensures { ReadsLeaf S.ByteSource types.Facet (λ f. facet f)
             deserializer.entry.kind deserializer.entry.reader.now deserializer.exit.1.0.now result }
     {
         deserializer.deserialize_facet(alloc)
@@ -381,7 +381,7 @@ impl ValueDeserialize for Vec<u8> {
         alloc: Global,
         deserializer: BinaryValueDeserializer<'_, S>,
     ) -> Result<Vec<u8>, DeserializeError>
-        ensures { ReadsLeaf S.is_known S.left S.failures types.Bytes (λ v. bytes v.items)
+        ensures { ReadsLeaf S.ByteSource types.Bytes (λ v. bytes v.items)
             deserializer.entry.kind deserializer.entry.reader.now deserializer.exit.1.0.now result }
     {
         deserializer.deserialize_bytes(alloc)
@@ -401,7 +401,7 @@ impl ValueDeserialize for DateTime {
         _alloc: Global,
         deserializer: BinaryValueDeserializer<'_, S>,
     ) -> Result<DateTime, DeserializeError>
-        ensures { ReadsLeaf S.is_known S.left S.failures types.DateTime (λ d. date d.nanoseconds)
+        ensures { ReadsLeaf S.ByteSource types.DateTime (λ d. date d.nanoseconds)
             deserializer.entry.kind deserializer.entry.reader.now deserializer.exit.1.0.now result }
     {
         deserializer.deserialize_datetime()
@@ -421,7 +421,7 @@ impl ValueDeserialize for Ipv6Addr {
         _alloc: Global,
         deserializer: BinaryValueDeserializer<'_, S>,
     ) -> Result<Ipv6Addr, DeserializeError>
-        ensures { ReadsLeaf S.is_known S.left S.failures types.IpAddr
+        ensures { ReadsLeaf S.ByteSource types.IpAddr
             (λ a. ip_address (ipv6_bits a)) deserializer.entry.kind deserializer.entry.reader.now
             deserializer.exit.1.0.now result }
     {
@@ -442,7 +442,7 @@ impl ValueDeserialize for PreTokenizedString {
         alloc: Global,
         deserializer: BinaryValueDeserializer<'_, S>,
     ) -> Result<PreTokenizedString, DeserializeError>
-        ensures { ReadsLeaf S.is_known S.left S.failures types.PreTokStr
+        ensures { ReadsLeaf S.ByteSource types.PreTokStr
             (λ s. tokenized (string_bytes s.text) (map token_of s.tokens.items))
             deserializer.entry.kind deserializer.entry.reader.now deserializer.exit.1.0.now result }
     {
@@ -536,8 +536,7 @@ pub trait ValueVisitor {
     ) -> Result<Self::Value, DeserializeError>
         requires first { access.position ≡ 0 }
         requires open { access.reader.now.has_failed ≡ false }
-        ensures { Deserializes S.is_known S.left S.failures access.entry.reader.now
-            access.exit.1.1.0.now result
+        ensures { Deserializes S.ByteSource access.entry.reader.now access.exit.1.1.0.now result
             (of_array self.now (version_of access.entry.reader.now.version) access.entry.announced)
             (array_refused self.now (version_of access.entry.reader.now.version)
             access.entry.announced) };
@@ -552,8 +551,7 @@ pub trait ValueVisitor {
     ) -> Result<Self::Value, DeserializeError>
         requires first { access.position ≡ 0 }
         requires open { access.reader.now.has_failed ≡ false }
-        ensures { Deserializes S.is_known S.left S.failures access.entry.reader.now
-            access.exit.1.1.0.now result
+        ensures { Deserializes S.ByteSource access.entry.reader.now access.exit.1.1.0.now result
             (of_object self.now (version_of access.entry.reader.now.version) access.entry.announced)
             (object_refused self.now (version_of access.entry.reader.now.version)
             access.entry.announced) };

@@ -9,7 +9,7 @@ ghost use Rattle.tv_reader.specs.declared.error.DeserializeError.TheVariants as 
 ghost use Rattle.tv_reader.specs.declared.value_type.ValueType.TheVariants as types;
 ghost use Rattle.tv_typed.specs.Depths.{MembersTooDeep};
 ghost use Rattle.tv_typed.specs.LegacyObjects.{Retold, OfEncoding, LegacyRefused, MembersRefused};
-ghost use Rattle.tv_typed.specs.Typed.{Reads, Deserializes};
+ghost use Rattle.tv_typed.specs.Typed.{ReadsThrough, Deserializes};
 ghost use Rattle.tv_typed.specs.Lists.{ObjectRefused};
 ghost use Rattle.tv_typed.specs.Values.{EncodesAs, EncodedAs, DeserializesAs, NextRefused};
 ghost use Rattle.tv_typed.specs.Values.{TreeRefused};
@@ -32,7 +32,7 @@ fn next_object<T: ValueDeserialize, C: Entries<T>, S: ByteSource>(
     alloc: Global,
     reader: &mut StoreReader<S>,
 ) -> Result<C, DeserializeError>
-    ensures { Deserializes S.is_known S.left S.failures reader.old reader.new result
+    ensures { Deserializes S.ByteSource reader.old reader.new result
         (EncodesAs C.is (version_of reader.old.version))
         (NextRefused (ObjectRefused T.is T.refused) (version_of reader.old.version)) }
 {
@@ -84,7 +84,7 @@ fn of_encoding<T: ValueDeserialize, C: Entries<T>>(
 impl<S: ByteSource> StoreReader<S> {
     // Reads a legacy object behind its code.
     pub(crate) fn legacy_tree(&mut self, alloc: Global) -> Result<OwnedValue, DeserializeError>
-        ensures reads { Reads S.is_known S.left S.failures self.old self.new result
+        ensures reads { ReadsThrough S.ByteSource self.old self.new result
             (EncodesBehind (version_of self.old.version) types.JSONObject)
             (TreeRefused (version_of self.old.version) types.JSONObject) }
     {
@@ -100,7 +100,7 @@ fn legacy_object<T: ValueDeserialize, C: Entries<T>, S: ByteSource>(
     alloc: Global,
     reader: &mut StoreReader<S>,
 ) -> Result<C, DeserializeError>
-    ensures { Deserializes S.is_known S.left S.failures reader.old reader.new result
+    ensures { Deserializes S.ByteSource reader.old reader.new result
         (EncodedAs C.is (version_of reader.old.version) types.JSONObject)
         (LegacyRefused (ObjectRefused T.is T.refused) (version_of reader.old.version)) }
 {
@@ -115,7 +115,7 @@ pub(crate) fn read_object<T: ValueDeserialize, C: Entries<T>, S: ByteSource>(
     kind: ValueType,
     reader: &mut StoreReader<S>,
 ) -> Result<C, DeserializeError>
-    ensures deserializes { DeserializesAs S.is_known S.left S.failures C.is
+    ensures deserializes { DeserializesAs S.ByteSource C.is
         (MembersRefused (ObjectRefused T.is T.refused)) kind reader.old reader.new result }
     ensures deep { reader.old.has_failed ≡ false → S.is_known reader.old.source → IsErrOf result
         errors.TooDeep → MembersTooDeep T.is T.deep (version_of reader.old.version)

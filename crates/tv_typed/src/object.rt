@@ -120,7 +120,7 @@ pub(crate) fn read_entries<T: ValueDeserialize, C: Entries<T>, S: ByteSource>(
     announced: u64,
 ) -> Result<C, DeserializeError>
     requires { reader.old.has_failed ≡ false }
-    ensures deserializes { Deserializes S.is_known S.left S.failures reader.old reader.new result
+    ensures deserializes { Deserializes S.ByteSource reader.old reader.new result
         (EncodesInto C.made (EncodesEntry T.is (version_of reader.old.version)) announced)
         (InEach (EntryRefused T.refused (version_of reader.old.version))
         (EncodesEntry T.is (version_of reader.old.version)) announced) }
@@ -143,7 +143,7 @@ pub(crate) fn read_coded<T: ValueDeserialize, C: Entries<T>, S: ByteSource>(
     kind: ValueType,
     reader: &mut StoreReader<S>,
 ) -> Result<C, DeserializeError>
-    ensures deserializes { DeserializesAs S.is_known S.left S.failures C.is
+    ensures deserializes { DeserializesAs S.ByteSource C.is
         (ObjectRefused T.is T.refused) kind reader.old reader.new result }
     ensures deep { reader.old.has_failed ≡ false → S.is_known reader.old.source → IsErrOf result
         errors.TooDeep → ObjectTooDeep T.is T.deep (version_of reader.old.version) reader.old.levels
@@ -174,7 +174,7 @@ impl<'de, S: ByteSource> BinaryObjectDeserializer<'de, S> {
     /// Refuses the object: reads nothing, and returns `UnsupportedType(Object)`. (Not in tantivy.)
     pub fn unsupported<T>(self) -> Result<T, DeserializeError>
         requires { self.reader.now.has_failed ≡ false }
-        ensures { Deserializes S.is_known S.left S.failures self.entry.reader.now
+        ensures { Deserializes S.ByteSource self.entry.reader.now
             self.exit.1.1.0.now result (λ b x. ⊥) (λ w e. e ≡ errors.UnsupportedType types.Object) }
     {
         Err(DeserializeError::UnsupportedType(ValueType::Object))
@@ -188,8 +188,7 @@ impl<'de, S: ByteSource> BinaryObjectDeserializer<'de, S> {
         alloc: Global,
     ) -> Result<Vec<(String, V)>, DeserializeError>
         requires { self.reader.now.has_failed ≡ false }
-        ensures { Deserializes S.is_known S.left S.failures self.entry.reader.now
-            self.exit.1.1.0.now result
+        ensures { Deserializes S.ByteSource self.entry.reader.now self.exit.1.1.0.now result
             (EncodesInto (λ items xs. items.items ≡ xs)
             (EncodesEntry V.is (version_of self.entry.reader.now.version))
             (self.entry.announced - self.entry.position))
@@ -213,7 +212,7 @@ impl<'de, S: ByteSource> BinaryObjectDeserializer<'de, S> {
         ensures announced { self.new.announced ≡ self.old.announced }
         ensures position { self.new.position
             ≡ self.old.position + (if gives_some result then 1 else 0) }
-        ensures deserializes { Deserializes S.is_known S.left S.failures self.old.reader.now
+        ensures deserializes { Deserializes S.ByteSource self.old.reader.now
             self.new.reader.now result
             (NextItem (EncodesEntry V.is (version_of self.old.reader.now.version)) self.old.position
             self.old.announced)

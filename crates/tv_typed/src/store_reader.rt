@@ -8,7 +8,7 @@ ghost use Rattle.tv_reader.specs.declared.value_type.ValueType.TheVariants as ty
 ghost use Rattle.tv_format.specs.Encoding.{Key};
 ghost use Rattle.tv_format.specs.Version.{entry_total};
 ghost use Rattle.tv_typed.specs.Lists.{Length, LengthRefused, KeyRefused, element_total};
-ghost use Rattle.tv_typed.specs.Typed.{Reads, raised, IsMismatch};
+ghost use Rattle.tv_typed.specs.Typed.{ReadsThrough, raised, IsMismatch};
 ghost use Rattle.tv_typed.specs.Values.{CodeRefused};
 ghost use Rattle.tv_reader.specs.declared.error.DeserializeError.TheVariants as errors;
 
@@ -161,8 +161,7 @@ impl<S: ByteSource> StoreReader<S> {
 
     // Takes all that stands before the next value.
     pub(crate) fn code(&mut self) -> Result<ValueType, DeserializeError>
-        ensures reads { Reads S.is_known S.left S.failures self.old self.new result IsCoded
-            CodeRefused }
+        ensures reads { ReadsThrough S.ByteSource self.old self.new result IsCoded CodeRefused }
         ensures spares { ¬ IsErrOf result errors.Memory }
     {
         self.go_on()?;
@@ -172,7 +171,7 @@ impl<S: ByteSource> StoreReader<S> {
 
     // Takes the number of an array's values, behind its code.
     pub(crate) fn array_length(&mut self, kind: ValueType) -> Result<u64, DeserializeError>
-        ensures reads { Reads S.is_known S.left S.failures self.old self.new result
+        ensures reads { ReadsThrough S.ByteSource self.old self.new result
             (Length types.Array element_total kind) (LengthRefused types.Array element_total kind) }
         ensures spares { ¬ IsErrOf result errors.Memory }
     {
@@ -187,7 +186,7 @@ impl<S: ByteSource> StoreReader<S> {
 
     // Takes the number of an object's entries, behind its code.
     pub(crate) fn object_length(&mut self, kind: ValueType) -> Result<u64, DeserializeError>
-        ensures reads { Reads S.is_known S.left S.failures self.old self.new result
+        ensures reads { ReadsThrough S.ByteSource self.old self.new result
             (Length types.Object (entry_total (version_of self.old.version)) kind)
             (LengthRefused types.Object (entry_total (version_of self.old.version)) kind) }
         ensures spares { ¬ IsErrOf result errors.Memory }
@@ -204,7 +203,7 @@ impl<S: ByteSource> StoreReader<S> {
 
     // Takes a key.
     pub(crate) fn key(&mut self, alloc: Global) -> Result<String, DeserializeError>
-        ensures { Reads S.is_known S.left S.failures self.old self.new result
+        ensures { ReadsThrough S.ByteSource self.old self.new result
             (λ b key. Key (version_of self.old.version) b (string_bytes key))
             (KeyRefused (version_of self.old.version)) }
     {

@@ -49,8 +49,7 @@ impl<S: ByteSource> StoreReader<S> {
         visitor: &V,
     ) -> Result<V::Value, DeserializeError>
         requires { IsTrue (is_leaf_type kind) }
-        ensures visits { Visits S.is_known S.left S.failures self.old self.new kind
-            (V.answers visitor.now) result }
+        ensures visits { Visits S.ByteSource self.old self.new kind (V.answers visitor.now) result }
         ensures unmarked { OnOk result (self.new.has_failed ≡ false) }
     {
         self.go_on()?;
@@ -67,7 +66,7 @@ impl<S: ByteSource> StoreReader<S> {
         kind: ValueType,
         visitor: &V,
     ) -> Result<V::Value, DeserializeError>
-        ensures visits { VisitsItems S.is_known S.left S.failures self.old self.new types.Array
+        ensures visits { VisitsItems S.ByteSource self.old self.new types.Array
             element_total (V.of_array visitor.now (version_of self.old.version))
             (V.array_refused visitor.now (version_of self.old.version)) kind result }
         ensures unmarked { OnOk result (self.new.has_failed ≡ false) }
@@ -88,7 +87,7 @@ impl<S: ByteSource> StoreReader<S> {
         kind: ValueType,
         visitor: &V,
     ) -> Result<V::Value, DeserializeError>
-        ensures visits { VisitsItems S.is_known S.left S.failures self.old self.new types.Object
+        ensures visits { VisitsItems S.ByteSource self.old self.new types.Object
             (entry_total (version_of self.old.version))
             (V.of_object visitor.now (version_of self.old.version))
             (V.object_refused visitor.now (version_of self.old.version)) kind result }
@@ -110,7 +109,7 @@ impl<S: ByteSource> StoreReader<S> {
         visitor: &V,
     ) -> Result<V::Value, DeserializeError>
         requires { self.old.version ≡ stores.V2 }
-        ensures { Deserializes S.is_known S.left S.failures self.old self.new result
+        ensures { Deserializes S.ByteSource self.old self.new result
             (EncodesNextVisited (V.of_object visitor.now V2))
             (NextVisitRefused (V.object_refused visitor.now V2)) }
     {
@@ -124,7 +123,7 @@ impl<S: ByteSource> StoreReader<S> {
         alloc: Global,
         visitor: &V,
     ) -> Result<V::Value, DeserializeError>
-        ensures visits { VisitsLegacy S.is_known S.left S.failures self.old self.new
+        ensures visits { VisitsLegacy S.ByteSource self.old self.new
             (V.of_object visitor.now V2) (V.object_refused visitor.now V2) result }
         ensures unmarked { OnOk result (self.new.has_failed ≡ false) }
     {
@@ -140,7 +139,7 @@ impl<S: ByteSource> StoreReader<S> {
         kind: ValueType,
         visitor: &V,
     ) -> Result<V::Value, DeserializeError>
-        ensures visits { VisitsKind S.is_known S.left S.failures kind (V.answers visitor.now)
+        ensures visits { VisitsKind S.ByteSource kind (V.answers visitor.now)
             (V.of_array visitor.now) (V.array_refused visitor.now) (V.of_object visitor.now)
             (V.object_refused visitor.now) self.old self.new result }
         ensures unmarked { OnOk result (self.new.has_failed ≡ false) }
@@ -168,7 +167,7 @@ impl<'de, S: ByteSource> BinaryValueDeserializer<'de, S> {
         alloc: Global,
         visitor: &V,
     ) -> Result<V::Value, DeserializeError>
-        ensures visits { VisitsKind S.is_known S.left S.failures self.entry.kind
+        ensures visits { VisitsKind S.ByteSource self.entry.kind
             (V.answers visitor.now) (V.of_array visitor.now) (V.array_refused visitor.now)
             (V.of_object visitor.now) (V.object_refused visitor.now) self.entry.reader.now
             self.exit.1.0.now result }

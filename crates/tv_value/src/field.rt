@@ -57,7 +57,7 @@ impl BinarySerializable for Field {
     }
 
     fn deserialize<S: ByteSource>(alloc: Global, source: &mut S) -> Result<Field, ReadError>
-        ensures reads { ReadsLean S.is_known S.left S.failures source.old source.new
+        ensures reads { ReadsLean S.ByteSource source.old source.new
             (λ field. field.id) result (Fixed 4) (ErrorInBytes 4) }
     {
         match u32::deserialize(alloc, source) {

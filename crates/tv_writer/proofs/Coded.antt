@@ -1,5 +1,5 @@
 -- A code, and then what stands behind it.
-use Rattle.std.proofs.Common.{◌≡◌, ℕ, List, [], ◌∷◌, ◌++◌, Result, Ok, Err, get_or, ap, ◌∙◌, subst}
+use Rattle.std.proofs.Common.{◌≡◌, ℕ, List, [], ◌∷◌, ◌++◌, Result, Ok, Err, get_or, ap, ◌∙◌}
 use Rattle.std.specs.Int.{w32, w64, to_le_bytes}
 use Rattle.tv_base.specs.Number.{four_bytes, eight_bytes}
 use Rattle.tv_base.proofs.Widths.{four_bytes_is, eight_bytes_is}

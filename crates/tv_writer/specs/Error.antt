@@ -1,8 +1,8 @@
 -- Why a writer of the store stops.
 use Rattle.std.specs.Prelude.{ℕ, Result, List}
 use Rattle.std.specs.declared.io.ErrorKind.{ErrorKind}
+use Rattle.tv_base.specs.declared.sink.ByteSink.{Ghosts}
 use Rattle.tv_base.specs.Sink.{WritesBy}
-use Rattle.tv_base.specs.Source.{Failures}
 use Rattle.tv_base.specs.Stop.{Stop}
 use Rattle.tv_base.specs.Stop.Stop.{InputError, Failed, Short}
 use Rattle.tv_writer.specs.declared.error.SerializeError.{SerializeError}
@@ -24,8 +24,8 @@ write_stop writes.TooDeep = InputError too_deep
 write_stop writes.Memory = Short
 
 -- what a writer of the store returned and did, by what is to be written
-abbrev pub Writes : {S T : Type 0} (is_known : S → Type 0) (held : S → List ℕ) (failures : S → Failures) (old new : S) (result : Result T SerializeError) (writing : Result (List ℕ) (Unwritten × List ℕ)) → Type 0
-Writes is_known held failures old new result writing = WritesBy write_stop is_known held failures old new result writing
+abbrev pub Writes : {S T : Type 0} (sink : Ghosts S) (old new : S) (result : Result T SerializeError) (writing : Result (List ℕ) (Unwritten × List ℕ)) → Type 0
+Writes sink old new result writing = WritesBy write_stop sink.is_known sink.held sink.failures old new result writing
 
 -- the sink failed
 abbrev pub IsIo : SerializeError → Type 0

@@ -1,6 +1,6 @@
 -- What the serializers of values, arrays and objects do.
 use Rattle.std.specs.Prelude.{◌≡◌, ◌-◌, ℕ, List, Result, Ok, Err, IfErr, is_ok, if◌then◌else◌}
-use Rattle.tv_base.specs.Source.{Failures}
+use Rattle.tv_base.specs.declared.sink.ByteSink.{Ghosts}
 use Rattle.tv_format.specs.Short.{IsValue}
 use Rattle.tv_format.specs.Tree.{Tree}
 use Rattle.tv_value.specs.Nesting.{NestsWithin}
@@ -13,13 +13,13 @@ abbrev pub Refuses : {S T : Type 0} → SerializeError → S → S → Result T 
 Refuses error old new result = (result ≡ Err error) × (new ≡ old)
 
 -- A write of this text returned the error: it left the sink so, with a failure more, of the kind that is told.
-abbrev pub FailsToWrite : {S : Type 0} → (S → Type 0) → (S → List ℕ) → (S → Failures) → S → SerializeError → List ℕ → Type 0
-FailsToWrite {S} is_known held failures old error text = (new : S) × Writes {T = ℕ} is_known held failures old new (Err error) (Ok text)
+abbrev pub FailsToWrite : {S : Type 0} → Ghosts S → S → SerializeError → List ℕ → Type 0
+FailsToWrite {S} sink old error text = (new : S) × Writes {T = ℕ} sink old new (Err error) (Ok text)
 
 -- The text of a value that has an encoding and nests within so many lists is written, unless the sink fails, and any other is refused:
 -- that it nests too deep is told first.
-pub record WritesWithin {S T : Type 0} (depth : ℕ) (t : Tree) (is_known : S → Type 0) (held : S → List ℕ) (failures : S → Failures) (old new : S) (result : Result T SerializeError) (text : List ℕ) : Type 0 where
-  pub writes : NestsWithin depth t → IsValue t → Writes is_known held failures old new result (Ok text)
+pub record WritesWithin {S T : Type 0} (depth : ℕ) (t : Tree) (sink : Ghosts S) (old new : S) (result : Result T SerializeError) (text : List ℕ) : Type 0 where
+  pub writes : NestsWithin depth t → IsValue t → Writes sink old new result (Ok text)
   pub io : NestsWithin depth t → IsValue t → IfErr result IsIo
   pub many : NestsWithin depth t → ¬ IsValue t → Refuses TooMany old new result
   pub deep : ¬ NestsWithin depth t → Refuses TooDeep old new result

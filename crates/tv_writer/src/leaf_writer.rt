@@ -7,7 +7,7 @@ ghost use Rattle.std.specs.Prelude.{◌≡◌, [], ◌∷◌};
 ghost use Rattle.std.specs.List.{flat_map};
 ghost use Rattle.tv_base.specs.Number.{vnum, eight_bytes, sixteen_bytes, signed_bytes, truth_byte};
 ghost use Rattle.tv_base.specs.Parts.{short_sized};
-ghost use Rattle.tv_base.specs.Sink.{Writes};
+ghost use Rattle.tv_base.specs.Writing.{Writes};
 ghost use Rattle.tv_value.specs.LeafParts.{content_of};
 ghost use Rattle.tv_value.specs.Lent.{leaf_of};
 ghost use Rattle.tv_value.specs.PreTokenized.{text_of, tokens_left, tokens_of};
@@ -30,7 +30,7 @@ use tv_value::pre_tokenized::{PreTokenizedStr, TokenIter, TokenRef};
 #[inline]
 #[tactic(auto, unfolding(tv_base::specs::Number::one_byte))]
 pub fn write_code<K: ByteSink>(sink: &mut K, code: u8) -> Result<(), io::ErrorKind>
-    ensures { Writes K.is_known K.held K.failures sink.old sink.new result (code ∷ []) }
+    ensures { Writes K.ByteSink sink.old sink.new result (code ∷ []) }
 {
     write_u8(sink, code)
 }
@@ -45,8 +45,7 @@ pub fn write_coded_text<K: ByteSink>(
     code: u8,
     text: &str,
 ) -> Result<(), io::ErrorKind>
-    ensures { Writes K.is_known K.held K.failures sink.old sink.new result
-        (code ∷ short_sized text.now) }
+    ensures { Writes K.ByteSink sink.old sink.new result (code ∷ short_sized text.now) }
 {
     write_coded_bytes(sink, code, text.as_bytes())
 }
@@ -59,8 +58,7 @@ fn write_coded_bytes<K: ByteSink>(
     code: u8,
     content: &[u8],
 ) -> Result<(), io::ErrorKind>
-    ensures { Writes K.is_known K.held K.failures sink.old sink.new result
-        (code ∷ short_sized content.now) }
+    ensures { Writes K.ByteSink sink.old sink.new result (code ∷ short_sized content.now) }
 {
     let len = content.len();
     if len < 128 {
@@ -82,8 +80,7 @@ pub fn write_coded_u64<K: ByteSink>(
     code: u8,
     number: u64,
 ) -> Result<(), io::ErrorKind>
-    ensures { Writes K.is_known K.held K.failures sink.old sink.new result
-        (code ∷ eight_bytes number) }
+    ensures { Writes K.ByteSink sink.old sink.new result (code ∷ eight_bytes number) }
 {
     let [a, b, c, d, e, f, g, h] = number.to_le_bytes();
     write_all(sink, &[code, a, b, c, d, e, f, g, h])
@@ -93,8 +90,7 @@ pub fn write_coded_u64<K: ByteSink>(
 #[inline]
 #[tactic(auto, using(crate::proofs::Coded::Coded_then))]
 fn write_coded_i64<K: ByteSink>(sink: &mut K, code: u8, number: i64) -> Result<(), io::ErrorKind>
-    ensures { Writes K.is_known K.held K.failures sink.old sink.new result
-        (code ∷ signed_bytes number) }
+    ensures { Writes K.ByteSink sink.old sink.new result (code ∷ signed_bytes number) }
 {
     write_coded_u64(sink, code, number.cast_unsigned())
 }
@@ -103,8 +99,7 @@ fn write_coded_i64<K: ByteSink>(sink: &mut K, code: u8, number: i64) -> Result<(
 #[inline]
 #[tactic(auto, using(crate::proofs::Coded::Coded_then))]
 fn write_coded_u128<K: ByteSink>(sink: &mut K, code: u8, number: u128) -> Result<(), io::ErrorKind>
-    ensures { Writes K.is_known K.held K.failures sink.old sink.new result
-        (code ∷ sixteen_bytes number) }
+    ensures { Writes K.ByteSink sink.old sink.new result (code ∷ sixteen_bytes number) }
 {
     write_code(sink, code)?;
     write_u128(sink, number)
@@ -121,8 +116,7 @@ pub fn write_coded_bool<K: ByteSink>(
     code: u8,
     truth: bool,
 ) -> Result<(), io::ErrorKind>
-    ensures { Writes K.is_known K.held K.failures sink.old sink.new result
-        (code ∷ truth_byte truth) }
+    ensures { Writes K.ByteSink sink.old sink.new result (code ∷ truth_byte truth) }
 {
     write_code(sink, code)?;
     write_bool(sink, truth)
@@ -139,7 +133,7 @@ pub fn write_coded_count<K: ByteSink>(
     code: u8,
     count: u64,
 ) -> Result<(), io::ErrorKind>
-    ensures { Writes K.is_known K.held K.failures sink.old sink.new result (code ∷ vnum count) }
+    ensures { Writes K.ByteSink sink.old sink.new result (code ∷ vnum count) }
 {
     if count < 128 {
         return write_all(sink, &[code, count as u8 + 128]);
@@ -151,8 +145,7 @@ pub fn write_coded_count<K: ByteSink>(
 // A token: where it begins and ends, its position, its text, and how many positions it takes.
 #[tactic(auto, using(tv_base::proofs::Written::Writes_then, tv_base::proofs::Written::Writes_prefix))]
 fn write_token<K: ByteSink>(sink: &mut K, token: TokenRef<'_>) -> Result<(), io::ErrorKind>
-    ensures { Writes K.is_known K.held K.failures sink.old sink.new result
-        (short_token (ref_of token.entry)) }
+    ensures { Writes K.ByteSink sink.old sink.new result (short_token (ref_of token.entry)) }
 {
     write_vint(sink, token.offset_from as u64)?;
     write_vint(sink, token.offset_to as u64)?;
@@ -163,7 +156,7 @@ fn write_token<K: ByteSink>(sink: &mut K, token: TokenRef<'_>) -> Result<(), io:
 
 // The tokens that are left, in order.
 fn write_tokens<K: ByteSink>(sink: &mut K, tokens: TokenIter<'_>) -> Result<(), io::ErrorKind>
-    ensures { Writes K.is_known K.held K.failures sink.old sink.new result
+    ensures { Writes K.ByteSink sink.old sink.new result
         (flat_map short_token (tokens_left tokens.entry)) }
 {
     for token in tokens {
@@ -178,7 +171,7 @@ fn write_tokenized<K: ByteSink>(
     sink: &mut K,
     text: PreTokenizedStr<'_>,
 ) -> Result<(), io::ErrorKind>
-    ensures { Writes K.is_known K.held K.failures sink.old sink.new result
+    ensures { Writes K.ByteSink sink.old sink.new result
         (short_tokenized (text_of text.entry) (tokens_of text.entry)) }
 {
     write_text(sink, text.text())?;
@@ -193,7 +186,7 @@ fn write_extension<K: ByteSink>(
     code: u8,
     text: PreTokenizedStr<'_>,
 ) -> Result<(), io::ErrorKind>
-    ensures { Writes K.is_known K.held K.failures sink.old sink.new result
+    ensures { Writes K.ByteSink sink.old sink.new result
         (code ∷ 0 ∷ short_tokenized (text_of text.entry) (tokens_of text.entry)) }
 {
     write_code(sink, code)?;
@@ -207,7 +200,7 @@ fn write_content<K: ByteSink>(
     code: u8,
     content: LeafContent<'_>,
 ) -> Result<(), io::ErrorKind>
-    ensures { Writes K.is_known K.held K.failures sink.old sink.new result
+    ensures { Writes K.ByteSink sink.old sink.new result
         (code ∷ short_content (content_of content.entry)) }
 {
     match content {
@@ -232,8 +225,7 @@ pub fn write_leaf<K: ByteSink>(
     sink: &mut K,
     leaf: &ReferenceValueLeaf<'_>,
 ) -> Result<(), io::ErrorKind>
-    ensures { Writes K.is_known K.held K.failures sink.old sink.new result
-        (short_leaf (leaf_of leaf.now)) }
+    ensures { Writes K.ByteSink sink.old sink.new result (short_leaf (leaf_of leaf.now)) }
 {
     let code = leaf.leaf_type().store_code();
     match leaf.content() {

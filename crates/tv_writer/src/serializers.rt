@@ -3,7 +3,7 @@
 ghost use Rattle.std.specs.Prelude.{◌≡◌, ◌==◌, ◌*◌, ◌<◌, ◌≤◌, ◌^◌, ◌++◌, Ok, Err, IfOk, IfErr};
 ghost use Rattle.std.specs.Prelude.{if◌then◌else◌};
 ghost use Rattle.tv_base.specs.Number.{vnum};
-ghost use Rattle.tv_base.specs.Sink.{Writes};
+ghost use Rattle.tv_base.specs.Writing.{Writes};
 ghost use Rattle.tv_writer.specs.Error as store;
 ghost use Rattle.tv_writer.specs.Error.{IsIo};
 ghost use Rattle.tv_writer.specs.Serialized.{FailsToWrite, Refuses, WritesWithin, awaited_after};
@@ -28,7 +28,7 @@ fn write_shortest<'a, K: ByteSink, V: Value<'a>>(
     version: WriteVersion,
     depth: u32,
 ) -> Result<(), SerializeError>
-    ensures { WritesWithin depth (V.tree value.now) K.is_known K.held K.failures sink.old sink.new
+    ensures { WritesWithin depth (V.tree value.now) K.ByteSink sink.old sink.new
         result (short (written_version version) (V.tree value.now)) }
 {
     if !nests_within(value, depth) {
@@ -50,7 +50,7 @@ fn write_key_and_value<'a, K: ByteSink, V: Value<'a>>(
     version: WriteVersion,
 ) -> Result<(), io::ErrorKind>
     requires { IsValue (V.tree value.now) }
-    ensures { Writes K.is_known K.held K.failures sink.old sink.new result
+    ensures { Writes K.ByteSink sink.old sink.new result
         (short_key (written_version version) key.now
         ++ short (written_version version) (V.tree value.now)) }
 {
@@ -66,8 +66,7 @@ fn write_entry<'a, K: ByteSink, V: Value<'a>>(
     version: WriteVersion,
     depth: u32,
 ) -> Result<(), SerializeError>
-    ensures { WritesWithin depth (V.tree value.now) K.is_known K.held K.failures sink.old sink.new
-        result
+    ensures { WritesWithin depth (V.tree value.now) K.ByteSink sink.old sink.new result
         (short_key (written_version version) key.now
         ++ short (written_version version) (V.tree value.now)) }
 {
@@ -146,7 +145,7 @@ impl<'se, K: ByteSink> BinaryValueSerializer<'se, K> {
         ensures same_sink { self.new.sink.ghost_name ≡ self.old.sink.ghost_name }
         ensures version { self.new.version ≡ self.old.version }
         ensures depth { self.new.depth ≡ self.old.depth }
-        ensures writes { WritesWithin self.old.depth (V.tree value.now) K.is_known K.held K.failures
+        ensures writes { WritesWithin self.old.depth (V.tree value.now) K.ByteSink
             self.old.sink.now self.new.sink.now result
             (short (written_version self.old.version) (V.tree value.now)) }
     {
@@ -174,15 +173,13 @@ impl<'se, K: ByteSink> BinaryArraySerializer<'se, K> {
         sink: &'se mut K,
     ) -> Result<BinaryArraySerializer<'se, K>, SerializeError>
         ensures same_sink { IfOk result (λ made. made.sink.ghost_name ≡ sink.entry.ghost_name) }
-        ensures writes { IfOk result
-            (λ made. store.Writes K.is_known K.held K.failures sink.old made.sink.now result
+        ensures writes { IfOk result (λ made. store.Writes K.ByteSink sink.old made.sink.now result
             (Ok (vnum count))) }
         ensures awaited { IfOk result (λ made. made.awaited ≡ count) }
         ensures version { IfOk result (λ made. made.version ≡ WriteVersion.V2) }
         ensures depth { IfOk result (λ made. made.depth ≡ MAX_DEPTH) }
         ensures io { IfErr result IsIo }
-        ensures fails { IfErr result
-            (λ e. FailsToWrite K.is_known K.held K.failures sink.old e (vnum count)) }
+        ensures fails { IfErr result (λ e. FailsToWrite K.ByteSink sink.old e (vnum count)) }
     {
         BinaryArraySerializer::begin_with_version(count, sink, WriteVersion::V2)
     }
@@ -194,15 +191,13 @@ impl<'se, K: ByteSink> BinaryArraySerializer<'se, K> {
         version: WriteVersion,
     ) -> Result<BinaryArraySerializer<'se, K>, SerializeError>
         ensures same_sink { IfOk result (λ made. made.sink.ghost_name ≡ sink.entry.ghost_name) }
-        ensures writes { IfOk result
-            (λ made. store.Writes K.is_known K.held K.failures sink.old made.sink.now result
+        ensures writes { IfOk result (λ made. store.Writes K.ByteSink sink.old made.sink.now result
             (Ok (vnum count))) }
         ensures awaited { IfOk result (λ made. made.awaited ≡ count) }
         ensures version { IfOk result (λ made. made.version ≡ version) }
         ensures depth { IfOk result (λ made. made.depth ≡ MAX_DEPTH) }
         ensures io { IfErr result IsIo }
-        ensures fails { IfErr result
-            (λ e. FailsToWrite K.is_known K.held K.failures sink.old e (vnum count)) }
+        ensures fails { IfErr result (λ e. FailsToWrite K.ByteSink sink.old e (vnum count)) }
     {
         write_vint(sink, count)?;
         Ok(BinaryArraySerializer {
@@ -234,7 +229,7 @@ impl<'se, K: ByteSink> BinaryArraySerializer<'se, K> {
         ensures full { self.old.awaited ≡ 0
             → Refuses SerializeError.WrongCount self.old.sink.now self.new.sink.now result }
         ensures writes { 0 < self.old.awaited
-            → WritesWithin self.old.depth (V.tree value.now) K.is_known K.held K.failures
+            → WritesWithin self.old.depth (V.tree value.now) K.ByteSink
             self.old.sink.now self.new.sink.now result
             (short (written_version self.old.version) (V.tree value.now)) }
         ensures awaited { self.new.awaited ≡ awaited_after self.old.awaited result }
@@ -280,8 +275,7 @@ impl<'se, K: ByteSink> BinaryObjectSerializer<'se, K> {
         sink: &'se mut K,
     ) -> Result<BinaryObjectSerializer<'se, K>, SerializeError>
         ensures same_sink { IfOk result (λ made. made.sink.ghost_name ≡ sink.entry.ghost_name) }
-        ensures writes { IfOk result
-            (λ made. store.Writes K.is_known K.held K.failures sink.old made.sink.now result
+        ensures writes { IfOk result (λ made. store.Writes K.ByteSink sink.old made.sink.now result
             (Ok (vnum (2 * count)))) }
         ensures awaited { IfOk result (λ made. made.awaited ≡ count) }
         ensures version { IfOk result (λ made. made.version ≡ WriteVersion.V2) }
@@ -289,7 +283,7 @@ impl<'se, K: ByteSink> BinaryObjectSerializer<'se, K> {
         ensures too_many { 2 ^ 64 ≤ 2 * count → result ≡ Err SerializeError.TooMany }
         ensures io { 2 * count < 2 ^ 64 → IfErr result IsIo }
         ensures fails { 2 * count < 2 ^ 64 → IfErr result
-            (λ e. FailsToWrite K.is_known K.held K.failures sink.old e (vnum (2 * count))) }
+            (λ e. FailsToWrite K.ByteSink sink.old e (vnum (2 * count))) }
     {
         BinaryObjectSerializer::begin_with_version(count, sink, WriteVersion::V2)
     }
@@ -305,8 +299,7 @@ impl<'se, K: ByteSink> BinaryObjectSerializer<'se, K> {
         version: WriteVersion,
     ) -> Result<BinaryObjectSerializer<'se, K>, SerializeError>
         ensures same_sink { IfOk result (λ made. made.sink.ghost_name ≡ sink.entry.ghost_name) }
-        ensures writes { IfOk result
-            (λ made. store.Writes K.is_known K.held K.failures sink.old made.sink.now result
+        ensures writes { IfOk result (λ made. store.Writes K.ByteSink sink.old made.sink.now result
             (Ok (vnum (entry_total (written_version version) count)))) }
         ensures awaited { IfOk result (λ made. made.awaited ≡ count) }
         ensures version { IfOk result (λ made. made.version ≡ version) }
@@ -315,7 +308,7 @@ impl<'se, K: ByteSink> BinaryObjectSerializer<'se, K> {
             → result ≡ Err SerializeError.TooMany }
         ensures io { entry_total (written_version version) count < 2 ^ 64 → IfErr result IsIo }
         ensures fails { entry_total (written_version version) count < 2 ^ 64 → IfErr result
-            (λ e. FailsToWrite K.is_known K.held K.failures sink.old e
+            (λ e. FailsToWrite K.ByteSink sink.old e
             (vnum (entry_total (written_version version) count))) }
     {
         let Some(total) = version.object_total(count) else {
@@ -355,7 +348,7 @@ impl<'se, K: ByteSink> BinaryObjectSerializer<'se, K> {
         ensures full { self.old.awaited ≡ 0
             → Refuses SerializeError.WrongCount self.old.sink.now self.new.sink.now result }
         ensures writes { 0 < self.old.awaited
-            → WritesWithin self.old.depth (V.tree value.now) K.is_known K.held K.failures
+            → WritesWithin self.old.depth (V.tree value.now) K.ByteSink
             self.old.sink.now self.new.sink.now result
             (short_key (written_version self.old.version) key.now
             ++ short (written_version self.old.version) (V.tree value.now)) }

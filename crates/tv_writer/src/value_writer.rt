@@ -5,7 +5,7 @@
 
 ghost use Rattle.std.specs.Prelude.{◌≡◌, ◌<◌, ◌^◌, ◌∷◌};
 ghost use Rattle.tv_base.specs.Number.{vnum};
-ghost use Rattle.tv_base.specs.Sink.{Writes};
+ghost use Rattle.tv_base.specs.Writing.{Writes};
 ghost use Rattle.tv_format.specs.Short.{short, short_elements, short_entries, short_key, IsValue};
 ghost use Rattle.tv_format.specs.Short.{AreElements, AreEntries};
 ghost use Rattle.tv_format.specs.Tree.{elements, entries, element_count, entry_count};
@@ -34,7 +34,7 @@ pub fn write_key<K: ByteSink>(
     version: WriteVersion,
     key: &str,
 ) -> Result<(), io::ErrorKind>
-    ensures { Writes K.is_known K.held K.failures sink.old sink.new result
+    ensures { Writes K.ByteSink sink.old sink.new result
         (short_key (written_version version) key.now) }
 {
     match version {
@@ -54,7 +54,7 @@ pub fn write_object_head<K: ByteSink>(
     entries: u64,
 ) -> Result<(), io::ErrorKind>
     requires { entries < 2 ^ 63 }
-    ensures { Writes K.is_known K.held K.failures sink.old sink.new result
+    ensures { Writes K.ByteSink sink.old sink.new result
         (13 ∷ vnum (entry_total (written_version version) entries)) }
 {
     match version.object_total(entries) {
@@ -108,7 +108,7 @@ fn write_tree<K: ByteSink, N: Nested>(
     version: WriteVersion,
 ) -> Result<(), io::ErrorKind>
     requires { IsValue (N.tree value.now) }
-    ensures { Writes K.is_known K.held K.failures sink.old sink.new result
+    ensures { Writes K.ByteSink sink.old sink.new result
         (short (written_version version) (N.tree value.now)) }
 {
     match value.as_nested() {
@@ -132,7 +132,7 @@ fn write_items<K: ByteSink, N: Nested>(
     version: WriteVersion,
 ) -> Result<(), io::ErrorKind>
     requires { AreElements (elements (N.array_rest items)) }
-    ensures { Writes K.is_known K.held K.failures sink.old sink.new result
+    ensures { Writes K.ByteSink sink.old sink.new result
         (short_elements (written_version version) (elements (N.array_rest items))) }
 {
     for item in items {
@@ -149,7 +149,7 @@ fn write_members<K: ByteSink, N: Nested>(
     version: WriteVersion,
 ) -> Result<(), io::ErrorKind>
     requires { AreEntries (entries (N.object_rest members)) }
-    ensures { Writes K.is_known K.held K.failures sink.old sink.new result
+    ensures { Writes K.ByteSink sink.old sink.new result
         (short_entries (written_version version) (entries (N.object_rest members))) }
 {
     for (key, item) in members {
@@ -169,7 +169,7 @@ pub fn write_value<'a, K: ByteSink, V: Value<'a>>(
     version: WriteVersion,
 ) -> Result<(), io::ErrorKind>
     requires { IsValue (V.tree value.now) }
-    ensures { Writes K.is_known K.held K.failures sink.old sink.new result
+    ensures { Writes K.ByteSink sink.old sink.new result
         (short (written_version version) (V.tree value.now)) }
 {
     match lend(value) {

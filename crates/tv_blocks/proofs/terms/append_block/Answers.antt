@@ -4,7 +4,11 @@ use Rattle.tv_blocks.specs.Terms.{document_records}
 use Rattle.tv_doc.specs.Document.{document_of}
 use Rattle.tv_reader.specs.Version.{version_of}
 use Rattle.tv_reader.specs.declared.version.DocStoreVersion.{DocStoreVersion}
+use Rattle.tv_reader.specs.declared.error.DeserializeError.TheVariants.{AlreadyFailed}
 use Rattle.tv_store.specs.Documents.{BeginsWith, NoDocument, HasNoRoom}
+use Rattle.tv_store.specs.Reading.{reading}
+use Rattle.tv_store.proofs.Promises.{refusal_is_true}
+use Rattle.tv_store.proofs.Resuming.{reads_live}
 use Rattle.tv_blocks.proofs.Blocks.{breaks, no_more_left, rest_at}
 use Rattle.tv_blocks.proofs.Records.{terms_more}
 use Rattle.tv_blocks.proofs.terms.append_block.Goals as goal
@@ -12,21 +16,21 @@ use Rattle.tv_blocks.proofs.terms.append_block.Goals as goal
 pub returns-in-Err-clause-err : goal.returns-in-Err-clause-err
 returns-in-Err-clause-err c =
     let i = c.loop-writer.invariant in
-    let reads = c.in-Err.ensures.reads i.live in
+    let reads = reads_live reading AlreadyFailed i.live c.in-Err.ensures.reads in
     let m = i.so_far in
     let v = version_of c.args.version in
     let rest = c.loop-writer.source.rest.now in
     let known : length rest < 2 ^ 64 - 1 = no_more_left c.args.block.now m.before rest m.joined (omega arith) in
     subst (IsRefusedBlock v c.args.block.now) (sym c.unread.ensures)
     (breaks v c.args.block.now m.before rest m.documents _ c.in-Err.error m.joined (ap (λ n. length c.args.block.now - n) (ap length c.rest.ensures) ∙ rest_at c.args.block.now m.before rest m.joined) m.encoded
-    (λ r refusal. subst (λ (w : DocStoreVersion). NoDocument (version_of w) rest r) i.version (reads.error (tt, known) c.in-Err.error r refl refusal))
-    (λ full. subst (λ (w : DocStoreVersion). HasNoRoom (version_of w) rest) i.version (reads.full tt (ap Err full))) reads.errors)
+    (λ r refusal. subst (λ (w : DocStoreVersion). NoDocument (version_of w) rest r) i.version (refusal_is_true (tt, known) reads c.in-Err.error r refl refusal))
+    (λ full. subst (λ (w : DocStoreVersion). HasNoRoom (version_of w) rest) i.version (reads.full tt c.in-Err.error refl full)) reads.errors)
 
 pub loop-writer-preserved : goal.loop-writer-preserved
 loop-writer-preserved c =
     let i = c.loop-writer.invariant in
     let is = c.in-Ok-true.is ∙ ap Ok c.in-Ok-true.field-0-test in
-    let reads = rw c.in-Ok-true.field-0-test at (c.in-Ok-true.ensures.reads i.live) in
+    let reads = reads_live reading AlreadyFailed i.live (rw c.in-Ok-true.field-0-test at c.in-Ok-true.ensures.reads) in
     record {
       live = c.in-Ok-true.ensures.live;
       version = c.advance.ensures.version ∙ i.version;

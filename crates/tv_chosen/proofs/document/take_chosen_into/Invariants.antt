@@ -9,4 +9,4 @@ use Rattle.tv_chosen.proofs.document.take_chosen_into.Given as goal
 abbrev pub invariant-loop : goal.invariant-loop
 invariant-loop g l =
     let source = g.S.ByteSource in
-    Finds source.is_known source.left source.failures l.fn.source l.fn.count l.source l.count (Ok l.document) (TakenChosen (version_of l.version) l.fields l.announced l.counter) Nothing
+    Finds source l.fn.source l.fn.count l.source l.count (Ok l.document) (TakenChosen (version_of l.version) l.fields l.announced l.counter) Nothing

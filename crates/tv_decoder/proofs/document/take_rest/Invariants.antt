@@ -10,5 +10,5 @@ use Rattle.tv_decoder.proofs.document.take_rest.Given as goal
 abbrev pub invariant-loop : goal.invariant-loop
 invariant-loop g l =
     let source = g.S.ByteSource in
-    IsSound l.reading × Finds source.is_known source.left source.failures l.initial.source l.initial.count l.source l.count (Ok l.reading) (Goes (version_of l.version) l.initial.reading) Nothing
+    IsSound l.reading × Finds source l.initial.source l.initial.count l.source l.count (Ok l.reading) (Goes (version_of l.version) l.initial.reading) Nothing
     × (source.is_known l.initial.source → l.counter + l.initial.count ≤ l.count)

@@ -12,17 +12,15 @@ use Rattle.tv_builder.proofs.PairBuilding.{heap_behind, heap_within, kept_room}
 use Rattle.tv_doc.specs.Builder.{kept_heap, heap_so_far}
 use Rattle.tv_doc.proofs.laws.builders_hold_their_state.Goals as goal
 
-pub returns-clause-bytes : goal.returns-clause-bytes
-returns-clause-bytes c = λ b. heap_behind (kept_heap b) b.builder.building b.builder.state
-
-pub returns-clause-reads : goal.returns-clause-reads
-returns-clause-reads c = λ b t e. ∥∥₁_map b.builder.state.1 (λ p.
-    let base = kept_heap b in
-    let shown : Shows b.builder.building (complete t) = subst (Shows b.builder.building) e p.shows in
-    let drawn : held b.builder.building ≡ image_of base (complete t) = p.image ∙ ap (λ s. image_of base s) e in
-    let whole : Some shown.at.at ≡ Some (tree_place base t) = sym shown.at.is ∙ ap (λ (g : Given). g.complete) drawn in
-    let same : shown.at.at ≡ tree_place base t = cc in
-    subst (λ (q : Place). Reads (heap_so_far b) (type_code q.value_type) q.address t) same shown.at.placed.reads)
-
-pub returns-clause-room : goal.returns-clause-room
-returns-clause-room c = λ b. omega (arith, heap_within b.builder, kept_room b.builder)
+pub returns : goal.returns
+returns c = λ b. record {
+  bytes = heap_behind (kept_heap b) b.builder.building b.builder.state;
+  reads = λ t e. ∥∥₁_map b.builder.state.1 (λ p.
+      let base = kept_heap b in
+      let shown : Shows b.builder.building (complete t) = subst (Shows b.builder.building) e p.shows in
+      let drawn : held b.builder.building ≡ image_of base (complete t) = p.image ∙ ap (λ s. image_of base s) e in
+      let whole : Some shown.at.at ≡ Some (tree_place base t) = sym shown.at.is ∙ ap (λ (g : Given). g.complete) drawn in
+      let same : shown.at.at ≡ tree_place base t = cc in
+      subst (λ (q : Place). Reads (heap_so_far b) (type_code q.value_type) q.address t) same shown.at.placed.reads);
+  room = omega (arith, heap_within b.builder, kept_room b.builder);
+}

@@ -1,4 +1,4 @@
-use Rattle.std.proofs.Common.{◌≡◌, IfErr, Result, Ok, Err, subst, sym, ap, ◌∙◌}
+use Rattle.std.proofs.Common.{◌≡◌, IfErr, Result, Ok, Err, subst, sym, ap, ◌∙◌, rules}
 use Rattle.std.specs.Prelude.{IsErrAnd}
 use Rattle.tv_doc.specs.Belongs.{Belongs}
 use Rattle.tv_doc.specs.Document.{document_of}
@@ -15,18 +15,31 @@ told_error : {T : Type 0} (P : NamedBackError → Type 0) (e : DocParsingError) 
 told_error P e (Ok x) told h = tt
 told_error P e (Err x) told h = subst P (sym told) h
 
-pub returns-clause-kept : goal.returns-clause-kept
-returns-clause-kept c = λ f within. ap (values_of f) c.in_ok-back.ensures.makes.0 ∙ names_keep_values c.args.schema.now (document_of c.args.document.now) _ f (λ number entry at. c.names_are_of_one_field.ensures.found c.args.schema.now number entry c.num_fields-names_are_distinct.ensures.schema at) c.in_ok-named.ensures.named within
+pub returns : goal.returns
+returns c =
+    let schema = c.args.schema.now in
+    let d = document_of c.args.document.now in
+    let is = c.in_ok-back.ensures.makes.0 in
+    record {
+      keeps = record {
+        kept = λ f within. ap (values_of f) is
+            ∙ names_keep_values schema d _ f (λ number entry at. c.names_are_of_one_field.ensures.found schema number entry c.num_fields-names_are_distinct.ensures.schema at)
+            c.in_ok-named.ensures.named within;
+        all = λ all f. ap (values_of f) is
+            ∙ names_keep_all schema d _ (λ number entry at. c.names_are_of_one_field.ensures.found schema number entry c.num_fields-names_are_distinct.ensures.schema at)
+            (λ name number at. c.names_are_of_one_field.ensures.named schema name number at) c.in_ok-named.ensures.named all f;
+      };
+      belongs = subst (Belongs schema) (sym is) (named_pairs_belong schema (λ name number at. c.names_are_of_one_field.ensures.named schema name number at) _);
+      errors = tt;
+    }
 
-pub returns-clause-belongs : goal.returns-clause-belongs
-returns-clause-belongs c = subst (Belongs c.args.schema.now) (sym c.in_ok-back.ensures.makes.0) (named_pairs_belong c.args.schema.now (λ name number at. c.names_are_of_one_field.ensures.named c.args.schema.now name number at) _)
-
-pub returns-clause-all : goal.returns-clause-all
-returns-clause-all c = λ all f. ap (values_of f) c.in_ok-back.ensures.makes.0 ∙ names_keep_all c.args.schema.now (document_of c.args.document.now) _ (λ number entry at. c.names_are_of_one_field.ensures.found c.args.schema.now number entry c.num_fields-names_are_distinct.ensures.schema at) (λ name number at. c.names_are_of_one_field.ensures.named c.args.schema.now name number at) c.in_ok-named.ensures.named all f
-
-pub returns-in_err-back-clause-errors : goal.returns-in_err-back-clause-errors
-returns-in_err-back-clause-errors c =
+pub returns-in_err-back : goal.returns-in_err-back
+returns-in_err-back c =
     let schema = c.args.schema.now in
     let d = document_of c.args.document.now in
     let stops = convert_error _ d _ (names_keep_some schema d _ (λ number entry at. c.names_are_of_one_field.ensures.found schema number entry c.num_fields-names_are_distinct.ensures.schema at) (λ name number at. c.names_are_of_one_field.ensures.named schema name number at) c.in_ok-named.ensures.named) c.in_err-back.ensures.makes in
-    told_error (IsBackError schema d) _ c.from_residual-in_err-back.result c.from_residual-in_err-back.ensures.1 stops
+    record {
+      keeps = search rules;
+      belongs = search rules;
+      errors = told_error (IsBackError schema d) _ c.from_residual-in_err-back.result c.from_residual-in_err-back.ensures.1 stops;
+    }

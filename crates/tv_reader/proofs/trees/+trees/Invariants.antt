@@ -26,7 +26,7 @@ abbrev pub invariant-take_items-loop : goal.invariant-take_items-loop
 invariant-take_items-loop g l =
     let source = g.S.ByteSource in
     record {
-      finds : FindsDeep source.is_known source.left source.failures l.initial.source l.initial.count l.source l.count (Ok l.items) (EncodesItems (version_of l.version) l.counter) (λ w r. ⊥);
+      finds : FindsDeep source l.initial.source l.initial.count l.source l.count (Ok l.items) (EncodesItems (version_of l.version) l.counter) (λ w r. ⊥);
       within : source.is_known l.initial.source → Begins (λ b. ItemsWithin (version_of l.version) l.levels b l.items) (source.left l.initial.source) (source.left l.source);
     }
 
@@ -35,6 +35,6 @@ abbrev pub invariant-take_members-loop : goal.invariant-take_members-loop
 invariant-take_members-loop g l =
     let source = g.S.ByteSource in
     record {
-      finds : FindsDeep source.is_known source.left source.failures l.initial.source l.initial.count l.source l.count (Ok l.members) (EncodesMembers (version_of l.version) l.counter) (λ w r. ⊥);
+      finds : FindsDeep source l.initial.source l.initial.count l.source l.count (Ok l.members) (EncodesMembers (version_of l.version) l.counter) (λ w r. ⊥);
       within : source.is_known l.initial.source → Begins (λ b. MembersWithin (version_of l.version) l.levels b l.members) (source.left l.initial.source) (source.left l.source);
     }

@@ -9,7 +9,7 @@ abbrev pub invariant-lists : goal.invariant-lists
 invariant-lists g l =
     let source = g.S.ByteSource in
     record {
-      finds : FindsRoomy source.is_known source.left source.failures l.fn.source l.fn.count l.source l.count (Ok (tt {0})) (λ b _. Passed (version_of l.version) (l.fn.first ∷ []) (open_items l.items l.outer) b) Nothing;
+      finds : FindsRoomy source l.fn.source l.fn.count l.source l.count (Ok (tt {0})) (λ b _. Passed (version_of l.version) (l.fn.first ∷ []) (open_items l.items l.outer) b) Nothing;
     }
 
 abbrev pub decreases-lists : goal.decreases-lists

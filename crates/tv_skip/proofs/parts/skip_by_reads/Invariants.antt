@@ -8,7 +8,7 @@ abbrev pub invariant-loop-missing : goal.invariant-loop-missing
 invariant-loop-missing g l =
     let source = g.S.ByteSource in
     record {
-      finds : FindsRoomy source.is_known source.left source.failures l.initial.source l.initial.count l.source l.count (Ok (tt {0})) (λ b _. length b + l.missing ≡ l.len) Nothing;
+      finds : FindsRoomy source l.initial.source l.initial.count l.source l.count (Ok (tt {0})) (λ b _. length b + l.missing ≡ l.len) Nothing;
     }
 
 abbrev pub decreases-loop-missing : goal.decreases-loop-missing

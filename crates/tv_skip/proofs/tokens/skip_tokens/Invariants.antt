@@ -8,5 +8,5 @@ abbrev pub invariant-loop : goal.invariant-loop
 invariant-loop g l =
     let source = g.S.ByteSource in
     record {
-      finds : FindsRoomy source.is_known source.left source.failures l.initial.source l.initial.count l.source l.count (Ok (tt {0})) (λ b _. AreTokens l.counter b) Nothing;
+      finds : FindsRoomy source l.initial.source l.initial.count l.source l.count (Ok (tt {0})) (λ b _. AreTokens l.counter b) Nothing;
     }

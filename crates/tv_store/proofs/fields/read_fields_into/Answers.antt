@@ -1,10 +1,7 @@
 use Rattle.tv_doc.specs.Document.{document_of}
-use Rattle.tv_reader.specs.Error.{StoreMayStop}
 use Rattle.tv_reader.specs.Version.{version_of}
-use Rattle.tv_store.specs.Chosen.{EncodesChosenRead}
-use Rattle.tv_store.specs.Documents.{NoDocument}
 use Rattle.tv_store.specs.Reading.{chosen_pairs}
-use Rattle.tv_store.proofs.Promises.{finds_placed, reads_of, single_chosen}
+use Rattle.tv_store.proofs.Promises.{reads_of, single_chosen}
 use Rattle.tv_store.proofs.fields.read_fields_into.Goals as goal
 
 pub returns-clause-reads : goal.returns-clause-reads
@@ -13,4 +10,4 @@ returns-clause-reads g c =
     let fields = c.args.fields.now in
     let read = c.take_fields_in_place in
     let document = read.new.document in
-    reads_of (chosen_pairs v fields) (λ (x : Unit {0}). document_of document) g.S.ByteSource read.result StoreMayStop (λ e may. may) (single_chosen v fields _) (finds_placed read.result document (EncodesChosenRead v fields) (NoDocument v) read.ensures.finds) read.ensures.full
+    reads_of (chosen_pairs v fields) (λ (x : Unit {0}). document_of document) g.S.ByteSource read.result (single_chosen v fields _) read.ensures.finds read.ensures.full

@@ -1,10 +1,13 @@
-use Rattle.std.proofs.Common.{arith, rules, ap, ◌∙◌}
+use Rattle.std.proofs.Common.{Err, arith, rules, ap, refl, subst, ◌∙◌}
 use Rattle.std.proofs.lemmas.Result.{err_from_is_err_and}
-use Rattle.tv_decoder.specs.Prefix.{NoPrefix}
+use Rattle.tv_decoder.specs.Prefix.{NoPrefix, NoRoomBehind}
 use Rattle.tv_decoder.specs.Steps.{Advances}
 use Rattle.tv_legacy.specs.Legacy.{Legacy}
 use Rattle.tv_reader.specs.Version.{version_of}
+use Rattle.tv_reader.specs.declared.error.DeserializeError.TheVariants.{HeapFull}
 use Rattle.tv_reader.proofs.Finding.{finds_as}
+use Rattle.tv_decoder.proofs.WholeDocuments.{no_room}
+use Rattle.tv_store.proofs.RoundTrips.{err_is}
 use Rattle.tv_store.proofs.WithinLimits.{goes_on, takes_one, too_many, fails}
 use Rattle.tv_store.proofs.limits.take_within.Goals as goal
 
@@ -14,31 +17,39 @@ returns-in_err-step-clause-finds g c =
     let v = version_of c.args.decoder.now.version in
     let l = c.loop in
     rw (p.1, p.2) (fails v (version_of l.decoder.version) (ap version_of l.invariant.version) c.args.decoder.now.reading l.decoder.reading _ c.step.new.self.legacy_seen c.step.new.self.reading (λ b x. Advances Legacy v c.args.decoder.now.reading c.step.new.self.reading b)
-    (l.decoder.sound l.invariant.live) l.invariant.more l.invariant.finds (c.in_err-step.ensures.finds l.invariant.live l.invariant.more))
+    (l.decoder.sound l.invariant.live) l.invariant.more l.invariant.finds (c.in_err-step.ensures.steps.finds l.invariant.live l.invariant.more))
+
+pub returns-in_err-step-clause-full : goal.returns-in_err-step-clause-full
+returns-in_err-step-clause-full g c = λ told is.
+    let p = err_from_is_err_and c.from_residual.result c.from_residual.ensures.1 in
+    let l = c.loop in
+    let full = c.in_err-step.ensures.steps.full (l.invariant.finds.stays_known told) HeapFull (ap (λ z. Err z) (err_is c.from_residual.result _ HeapFull (p.1 ∙ ap (λ z. Err z) p.2) is)) refl in
+    no_room (version_of c.args.decoder.now.version) c.args.decoder.now.reading l.decoder.reading l.invariant.finds told
+    (subst (λ w. NoRoomBehind w l.decoder.reading (g.S.ByteSource.left l.source)) (ap version_of l.invariant.version) full)
 
 pub returns-then-is_some-clause-finds : goal.returns-then-is_some-clause-finds
 returns-then-is_some-clause-finds g c =
     let v = version_of c.args.decoder.now.version in
     let l = c.loop in
     finds_as _ (λ b x. Advances Legacy v c.args.decoder.now.reading c.step.new.self.reading b) (NoPrefix v c.args.decoder.now.reading) (λ a s. s)
-    (goes_on v (version_of l.decoder.version) (ap version_of l.invariant.version) c.args.decoder.now.reading l.decoder.reading c.in_ok-step.step c.step.new.self.legacy_seen c.step.new.self.reading l.invariant.finds (c.in_ok-step.ensures.finds l.invariant.live l.invariant.more))
+    (goes_on v (version_of l.decoder.version) (ap version_of l.invariant.version) c.args.decoder.now.reading l.decoder.reading c.in_ok-step.step c.step.new.self.legacy_seen c.step.new.self.reading l.invariant.finds (c.in_ok-step.ensures.steps.finds l.invariant.live l.invariant.more))
 
 pub returns-in-Done-clause-finds : goal.returns-in-Done-clause-finds
 returns-in-Done-clause-finds g c =
     let v = version_of c.args.decoder.now.version in
     let l = c.loop in
     finds_as _ (λ b x. Advances Legacy v c.args.decoder.now.reading c.step.new.self.reading b) (NoPrefix v c.args.decoder.now.reading) (λ a s. s)
-    (goes_on v (version_of l.decoder.version) (ap version_of l.invariant.version) c.args.decoder.now.reading l.decoder.reading c.in_ok-step.step c.step.new.self.legacy_seen c.step.new.self.reading l.invariant.finds (c.in_ok-step.ensures.finds l.invariant.live l.invariant.more))
+    (goes_on v (version_of l.decoder.version) (ap version_of l.invariant.version) c.args.decoder.now.reading l.decoder.reading c.in_ok-step.step c.step.new.self.legacy_seen c.step.new.self.reading l.invariant.finds (c.in_ok-step.ensures.steps.finds l.invariant.live l.invariant.more))
 
 pub loop-preserved : goal.loop-preserved
 loop-preserved g c =
     let v = version_of c.args.decoder.now.version in
     let l = c.loop in
-    let did = c.in_ok-step.ensures.finds l.invariant.live l.invariant.more in
+    let did = c.in_ok-step.ensures.steps.finds l.invariant.live l.invariant.more in
     record {
       live = search rules;
       more = search rules;
-      version = c.in_ok-step.ensures.version ∙ l.invariant.version;
+      version = c.in_ok-step.ensures.steps.version ∙ l.invariant.version;
       finds = goes_on v (version_of l.decoder.version) (ap version_of l.invariant.version) c.args.decoder.now.reading l.decoder.reading c.in_ok-step.step c.step.new.self.legacy_seen c.step.new.self.reading l.invariant.finds did;
       counted = λ told. omega (arith, l.invariant.counted told, takes_one v (version_of l.decoder.version) (ap version_of l.invariant.version) c.args.decoder.now.reading l.decoder.reading c.in_ok-step.step c.step.new.self.legacy_seen c.step.new.self.reading did (l.invariant.finds.stays_known told));
     }

@@ -14,6 +14,6 @@ invariant-loop g l =
       live : l.decoder.failed ≡ false;
       more : ¬ IsDone l.decoder.reading;
       version : l.decoder.version ≡ l.initial.decoder.version;
-      finds : Finds source.is_known source.left source.failures l.initial.source l.initial.decoder.count l.source l.decoder.count (Ok l.decoder.reading) (Goes (version_of l.initial.decoder.version) l.initial.decoder.reading) Nothing;
+      finds : Finds source l.initial.source l.initial.decoder.count l.source l.decoder.count (Ok l.decoder.reading) (Goes (version_of l.initial.decoder.version) l.initial.decoder.reading) Nothing;
       counted : source.is_known l.initial.source → l.counter + l.initial.decoder.count ≤ l.decoder.count;
     }

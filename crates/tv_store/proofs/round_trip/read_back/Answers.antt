@@ -4,6 +4,7 @@ use Rattle.tv_legacy.specs.Legacy.{Legacy}
 use Rattle.tv_format.specs.Encoding.{Derives}
 use Rattle.tv_format.specs.Short.{short_document}
 use Rattle.tv_reader.specs.Version.{version_of}
+use Rattle.tv_store.proofs.Promises.{never_long}
 use Rattle.tv_store.proofs.RoundTrips.{only_short, above, full_answers_none, left_behind, err_is}
 use Rattle.tv_store.proofs.round_trip.read_back.Goals as goal
 
@@ -16,7 +17,8 @@ reading_error-requires c =
     let encoded = c.short_documents_encode.ensures v c.requires.written d c.requires.begins.1.1.0 in
     let derives : Derives Legacy v _ d = record { prefix = short_document v d; rest = rest; joined = left ∙ c.requires.begins.1.1.1; encoded = encoded } in
     only_short c.in-Err.error _ _
-    (λ r is. c.malformed_documents_derive_none.ensures v _ r d (c.in-Err.ensures.error (tt, omega (arith, ap length left)) c.in-Err.error r refl is) derives)
+    (λ r is. c.malformed_documents_derive_none.ensures v _ r d (c.in-Err.ensures.error tt c.in-Err.error r refl is) derives)
+    (λ r is. never_long (tt, omega (arith, ap length left)) c.in-Err.ensures c.in-Err.error r refl is)
     c.in-Err.ensures.errors refl c.in-Err.ensures.failures
 
 pub returns-in_ok-left-in-Ok-clause-found : goal.returns-in_ok-left-in-Ok-clause-found

@@ -1,4 +1,3 @@
-use Rattle.tv_reader.specs.Error.{StoreMayStopRoomy}
 use Rattle.tv_reader.specs.Version.{version_of}
 use Rattle.tv_skip.specs.Skip.{IsValue}
 use Rattle.tv_reader.specs.Trees.{NoValue}
@@ -10,7 +9,7 @@ pub returns-clause-reads : goal.returns-clause-reads
 returns-clause-reads g c =
     let v = version_of c.args.version in
     let read = c.pass_value in
-    reads_of (passed (IsValue v) (NoValue v)) (λ (x : Unit {0}). x) g.S.ByteSource read.result StoreMayStopRoomy (λ e may. may.0) (single_values v _) read.ensures.finds (λ known. no_heap_full read.result _ read.ensures.finds.may_stop)
+    reads_of (passed (IsValue v) (NoValue v)) (λ (x : Unit {0}). x) g.S.ByteSource read.result (single_values v _) read.ensures.finds (λ known. no_heap_full read.result _ read.ensures.finds.may_stop)
 
 pub returns-clause-no_heap : goal.returns-clause-no_heap
 returns-clause-no_heap g c = no_heap_full _ _ c.pass_value.ensures.finds.may_stop

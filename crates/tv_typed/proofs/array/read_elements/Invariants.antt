@@ -9,4 +9,4 @@ use Rattle.tv_typed.proofs.array.read_elements.Given as goal
 abbrev pub invariant-loop : goal.invariant-loop
 invariant-loop g l =
     let source = g.S.ByteSource in
-    Deserializes source.is_known source.left source.failures l.initial.reader l.reader (Ok l.items) (EncodesInto (λ items xs. items.items ≡ xs) (EncodesAs g.T.ValueDeserialize.is (version_of l.initial.reader.version)) l.counter) (λ w e. ⊥)
+    Deserializes source l.initial.reader l.reader (Ok l.items) (EncodesInto (λ items xs. items.items ≡ xs) (EncodesAs g.T.ValueDeserialize.is (version_of l.initial.reader.version)) l.counter) (λ w e. ⊥)

@@ -8,4 +8,4 @@ use Rattle.tv_typed.proofs.object.read_entries.Given as goal
 abbrev pub invariant-loop : goal.invariant-loop
 invariant-loop g l =
     let source = g.S.ByteSource in
-    Deserializes source.is_known source.left source.failures l.initial.reader l.reader (Ok l.entries) (EncodesInto g.C.Entries.made (EncodesEntry g.T.ValueDeserialize.is (version_of l.initial.reader.version)) l.counter) (λ w e. ⊥)
+    Deserializes source l.initial.reader l.reader (Ok l.entries) (EncodesInto g.C.Entries.made (EncodesEntry g.T.ValueDeserialize.is (version_of l.initial.reader.version)) l.counter) (λ w e. ⊥)

@@ -5,4 +5,4 @@ use Rattle.tv_base.proofs.serializable.BoolBinarySerializable.deserialize.Goals 
 pub returns : goal.returns
 returns g c =
     let source = g.S.ByteSource in
-    record { reads = by_grammar_lean source.is_known source.left source.failures g.met.S.ByteSource.are_bytes _ _ _ _ _ truth_agrees c.take_bool.ensures.takes }
+    record { reads = by_grammar_lean source g.met.S.ByteSource.are_bytes _ _ _ _ _ truth_agrees c.take_bool.ensures.takes }

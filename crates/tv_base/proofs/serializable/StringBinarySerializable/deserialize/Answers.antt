@@ -5,4 +5,4 @@ use Rattle.tv_base.proofs.serializable.StringBinarySerializable.deserialize.Goal
 pub returns : goal.returns
 returns g c =
     let source = g.S.ByteSource in
-    by_grammar source.is_known source.left source.failures g.met.S.ByteSource.are_bytes _ _ _ _ _ text_agrees c.take_string.ensures.takes
+    by_grammar source g.met.S.ByteSource.are_bytes _ _ _ _ _ text_agrees c.take_string.ensures.takes

@@ -45,15 +45,14 @@ loop-name-preserved c =
           (ap (λ ns. named_pairs schema (map named_pair ns)) cut) (search rules),
     )
 
-pub returns-clause-makes : goal.returns-clause-makes
-returns-clause-makes c =
-    let l = c.loop-name in
-    let all = named_pairs c.args.schema.now (named_of c.args.named.now) in
-    made_of_pairs all (named_pairs c.args.schema.now (map named_pair l.name-iterator)) l.invariant.0 l.document l.invariant.1 l.invariant.2
-    (ap (λ ns. named_pairs c.args.schema.now (map named_pair ns)) c.in-None.ensures.steps.0)
-
-pub returns-clause-belongs : goal.returns-clause-belongs
-returns-clause-belongs c =
+pub returns : goal.returns
+returns c =
     let schema = c.args.schema.now in
-    subst (Belongs schema) (sym (returns-clause-makes c).0)
-    (named_pairs_belong schema (λ name number at. c.names_are_of_one_field.ensures.named schema name number at) (named_of c.args.named.now))
+    let l = c.loop-name in
+    let all = named_pairs schema (named_of c.args.named.now) in
+    let made = made_of_pairs all (named_pairs schema (map named_pair l.name-iterator)) l.invariant.0 l.document l.invariant.1 l.invariant.2
+    (ap (λ ns. named_pairs schema (map named_pair ns)) c.in-None.ensures.steps.0) in
+    record {
+      makes = made;
+      belongs = subst (Belongs schema) (sym made.0) (named_pairs_belong schema (λ name number at. c.names_are_of_one_field.ensures.named schema name number at) (named_of c.args.named.now));
+    }

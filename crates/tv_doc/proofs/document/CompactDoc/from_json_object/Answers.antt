@@ -6,16 +6,16 @@ use Rattle.tv_doc.proofs.Belonging.{object_belongs}
 use Rattle.tv_doc.proofs.JsonDocuments.{makes_document}
 use Rattle.tv_doc.proofs.document.CompactDoc.from_json_object.Goals as goal
 
-pub returns-in-Ok-clause-makes : goal.returns-in-Ok-clause-makes
-returns-in-Ok-clause-makes c =
+pub returns-in-Ok : goal.returns-in-Ok
+returns-in-Ok c =
+    let schema = c.args.schema.now in
+    let members = members_view c.args.object.entries in
+    let new = c.add_object.new.document in
     let none : IsEmpty c.new-document.result = record { document = c.new-document.ensures.document; heap = c.new-document.ensures.heap } in
-    makes_document (object_values c.args.schema.now (members_view c.args.object.entries)) c.new-document.result c.add_object.new.document none c.in-Ok.ensures
+    let made = makes_document (object_values schema members) c.new-document.result new none c.in-Ok.ensures in
+    record { makes = made; belongs = object_belongs schema members (document_of new) made.0 }
 
-pub returns-in-Err-clause-makes : goal.returns-in-Err-clause-makes
-returns-in-Err-clause-makes c =
+pub returns-in-Err : goal.returns-in-Err
+returns-in-Err c =
     let none : IsEmpty c.new-document.result = record { document = c.new-document.ensures.document; heap = c.new-document.ensures.heap } in
-    (c.new-document.result, none, c.in-Err.ensures)
-
-pub returns-in-Ok-clause-belongs : goal.returns-in-Ok-clause-belongs
-returns-in-Ok-clause-belongs c =
-    object_belongs c.args.schema.now (members_view c.args.object.entries) (document_of c.add_object.new.document) (returns-in-Ok-clause-makes c).0
+    record { makes = (c.new-document.result, none, c.in-Err.ensures); belongs = tt }

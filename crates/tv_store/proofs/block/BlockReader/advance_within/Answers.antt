@@ -1,9 +1,12 @@
 use Rattle.std.proofs.Common.{◌≡◌, [], length}
 use Rattle.tv_doc.specs.Document.{document_of, heap_of}
 use Rattle.tv_reader.specs.Version.{version_of}
-use Rattle.tv_store.specs.Limits.{AllNestWithinLimit, IsPast, IsLimitedError}
+use Rattle.tv_store.specs.Limits.{AllNestWithinLimit, IsPast, IsLimitedError, within}
+use Rattle.tv_store.specs.declared.limits.LimitedReadError.TheVariants.{Read}
+use Rattle.tv_reader.specs.declared.error.DeserializeError.TheVariants.{AlreadyFailed}
 use Rattle.tv_store.specs.Blocks.{as_read_within}
 use Rattle.tv_store.proofs.BlocksWithin.{said_comes, said_errors_as, said_ok, said_none, said_counts_as, said_stops, said_found, said_end, said_at_end}
+use Rattle.tv_store.proofs.Resuming.{reads_on}
 use Rattle.tv_store.proofs.Skips.{next_fewer}
 use Rattle.tv_store.proofs.WithinLimits.{reads_within, stops_within}
 use Rattle.tv_store.proofs.block.BlockReader.advance_within.Goals as goal
@@ -53,14 +56,15 @@ returns-clause-none g c = λ live other.
     said_none (document_of read.new.document ≡ []) read.result next.result read.new.document next.ensures.same read.ensures.none other
 
 pub returns-clause-reads : goal.returns-clause-reads
-returns-clause-reads g c = λ live.
+returns-clause-reads g c =
     let v = version_of c.args.self.now.version in
     let read = c.read_parts_in_place-read in
     let next = c.next_within-next in
     let document = read.new.document in
-    reads_within g.S.ByteSource v c.args.limits (as_read_within next.result document) (λ told. said_comes v c.args.limits _ _ read.result next.result document next.ensures.same (read.ensures.comes told))
+    reads_on (within c.args.limits) (Read AlreadyFailed) c.args.self.now.failed
+    (reads_within g.S.ByteSource v c.args.limits (as_read_within next.result document) (λ told. said_comes v c.args.limits _ _ read.result next.result document next.ensures.same (read.ensures.comes told))
     (said_errors_as (IsLimitedError c.args.limits) read.result next.result document next.ensures.same read.ensures.errors)
-    (said_counts_as read.result next.result document _ _ next.ensures.same read.ensures.failures) read.ensures.stays_known
+    (said_counts_as read.result next.result document _ _ next.ensures.same read.ensures.failures) read.ensures.stays_known)
 
 pub returns-clause-stops : goal.returns-clause-stops
 returns-clause-stops g c =
@@ -69,6 +73,3 @@ returns-clause-stops g c =
     let next = c.next_within-next in
     let document = read.new.document in
     said_stops g.S.ByteSource v c.args.limits next.result document (stops_within g.S.ByteSource v c.args.limits (as_read_within next.result document) (λ told. said_comes v c.args.limits _ _ read.result next.result document next.ensures.same (read.ensures.comes told)))
-
-pub returns-clause-taken : goal.returns-clause-taken
-returns-clause-taken g c = λ told. let t = c.read_parts_in_place-read.ensures.comes told in (t.taken, t.joined)

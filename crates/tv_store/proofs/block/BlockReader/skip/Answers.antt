@@ -1,12 +1,13 @@
-use Rattle.tv_reader.specs.Error.{StoreMayStopRoomy}
 use Rattle.tv_reader.specs.Version.{version_of}
+use Rattle.tv_reader.specs.declared.error.DeserializeError.TheVariants.{AlreadyFailed}
 use Rattle.tv_skip.specs.Skip.{IsDocument}
 use Rattle.tv_store.specs.Blocks.{as_passed}
 use Rattle.tv_store.specs.Documents.{NoDocument}
-use Rattle.tv_store.specs.Reading.{passed}
+use Rattle.tv_store.specs.Reading.{reading, passed}
 use Rattle.tv_store.proofs.Blocks.{as_error, no_more}
 use Rattle.tv_store.proofs.Promises.{no_heap_full, reads_of, single_passed}
 use Rattle.tv_store.proofs.Skips.{of_pass, next_found, next_fewer, next_end, next_at_end}
+use Rattle.tv_store.proofs.Resuming.{reads_on}
 use Rattle.tv_store.proofs.block.BlockReader.skip.Goals as goal
 
 pub returns-clause-end : goal.returns-clause-end
@@ -29,15 +30,14 @@ returns-clause-fewer g c = λ told is.
     next_fewer v _ _ (next_found v _ _ _ _ (h.found told) is)
 
 pub returns-clause-reads : goal.returns-clause-reads
-returns-clause-reads g c = λ live.
+returns-clause-reads g c =
     let v = version_of c.args.self.now.version in
     let h = of_pass v c.pass_document-passed.result c.next_of-next.result c.next_of-next.ensures.passed c.pass_document-passed.ensures.finds in
-    reads_of (passed (IsDocument v) (NoDocument v)) (λ (x : Unit {0}). x) g.S.ByteSource (as_passed c.next_of-next.result) StoreMayStopRoomy (λ e may. may.0) (single_passed v _) h (λ known. no_heap_full _ _ h.may_stop)
+    let documents = passed (IsDocument v) (NoDocument v) in
+    reads_on reading AlreadyFailed c.args.self.now.failed
+    (reads_of documents (λ (x : Unit {0}). x) g.S.ByteSource (as_passed c.next_of-next.result) (single_passed v _) h (λ known. no_heap_full _ _ h.may_stop))
 
 pub returns-clause-no_heap : goal.returns-clause-no_heap
 returns-clause-no_heap g c = λ is.
     let h = of_pass (version_of c.args.self.now.version) c.pass_document-passed.result c.next_of-next.result c.next_of-next.ensures.passed c.pass_document-passed.ensures.finds in
     no_heap_full _ _ h.may_stop (as_error c.next_of-next.result (tt {0}) _ is)
-
-pub returns-clause-taken : goal.returns-clause-taken
-returns-clause-taken g c = λ told. let t = c.pass_document-passed.ensures.finds.taken told in (t.prefix, t.joined)

@@ -4,10 +4,13 @@ use Rattle.tv_term.specs.Range.{HasTerms, BeginsWith, IsOfType}
 use Rattle.tv_term.proofs.TermRanges.{terms-as, of_type}
 use Rattle.tv_term.proofs.term.Term.range_of_type.Goals as goal
 
-pub returns-clause-terms : goal.returns-clause-terms
-returns-clause-terms c =
-    let id = c.args.field.id in
-    let begins = BeginsWith id c.args.value_type [] in
-    let are = IsOfType id c.args.value_type in
-    IfOk-weaker c.of_payload.result (HasTerms begins) (HasTerms are)
-    (λ range has. terms-as range begins are has (λ f value. of_type id f c.args.value_type value)) c.of_payload.ensures.terms
+pub returns : goal.returns
+returns c = record {
+  made =
+      let id = c.args.field.id in
+      let begins = BeginsWith id c.args.value_type [] in
+      let are = IsOfType id c.args.value_type in
+      IfOk-weaker c.of_payload.result (HasTerms begins) (HasTerms are)
+      (λ range has. terms-as range begins are has (λ f value. of_type id f c.args.value_type value)) c.of_payload.ensures.made;
+  errors = c.of_payload.ensures.errors;
+}

@@ -4,12 +4,18 @@ use Rattle.tv_base.specs.JsonPath.{joined_path}
 use Rattle.tv_term.specs.Key.{HasNoZero}
 use Rattle.tv_term.proofs.Terms.{json_term_held}
 use Rattle.tv_term.proofs.Written.{HasNoZero-joined_path}
+use Rattle.tv_term.proofs.Making.{without_nul}
 use Rattle.tv_term.proofs.writer.TermWriter.write_json_path.Goals as goal
 
-pub returns-clause-made : goal.returns-clause-made
-returns-clause-made c =
-    let no_zero : HasNoZero c.args.json_path.now = search (rules, c.has_nul.ensures, c.if-has_nul.false) in
-    let joined : string_bytes c.push_joined_json_path.new.text ≡ joined_path c.args.expand_dots c.args.json_path.now = search (rules, c.in_ok-push_joined_json_path.ensures, c.clear.ensures.bytes) in
-    json_term_held c.put.result c.put.new.held c.args.field.id _ c.as_bytes.result.now c.put.ensures.field
-    (subst IsUtf8 joined (IsUtf8-string_bytes c.push_joined_json_path.new.text)) (HasNoZero-joined_path c.args.expand_dots c.args.json_path.now no_zero)
-    (search (rules, c.as_bytes.ensures.value, c.in_ok-push.ensures.bytes, joined, c.in_ok-push.ensures.ascii)) c.put.ensures.made
+pub returns : goal.returns
+returns c = record {
+  made =
+      let no_zero : HasNoZero c.args.json_path.now = search (rules, c.has_nul.ensures, c.if-has_nul.false) in
+      let joined : string_bytes c.push_joined_json_path.new.text ≡ joined_path c.args.expand_dots c.args.json_path.now = search (rules, c.in_ok-push_joined_json_path.ensures, c.clear.ensures.bytes) in
+      json_term_held c.put.result c.put.new.held c.args.field.id _ c.as_bytes.result.now c.put.ensures.field
+      (subst IsUtf8 joined (IsUtf8-string_bytes c.push_joined_json_path.new.text)) (HasNoZero-joined_path c.args.expand_dots c.args.json_path.now no_zero)
+      (search (rules, c.as_bytes.ensures.value, c.in_ok-push.ensures.bytes, joined, c.in_ok-push.ensures.ascii)) c.put.ensures.made;
+  has_term = search rules;
+  unchanged = search rules;
+  errors = without_nul _ (search (rules, c.has_nul.ensures, c.if-has_nul.false)) c.put.ensures.memory;
+}

@@ -27,7 +27,7 @@ returns g c =
     let m = c.marked.ensures in
     let t = c.take-answer.ensures in
     let S = g.S.ByteSource in
-    let part = subst (λ z. TakesBy S.is_known S.left S.failures c.expect.new.self.source c.expect.new.self.count c.take-answer.new.reader.source c.take-answer.new.reader.count (λ x. leaf (T.make x)) c.take-answer.result (leaf_at (version_of z) T.expected)) e.version t.takes in
+    let part = subst (λ z. TakesBy S c.expect.new.self.source c.expect.new.self.count c.take-answer.new.reader.source c.take-answer.new.reader.count (λ x. leaf (T.make x)) c.take-answer.result (leaf_at (version_of z) T.expected)) e.version t.takes in
     reads_leaf T.expected T.make g.met.T.LeafValue.typed.1 c.args.self.kind
     (leaf_reads c.args.self.reader.now c.expect.new.self c.marked.new.self c.marked.result v c.args.self.kind T.expected T.make g.met.S.ByteSource.are_bytes (leaf_agrees v T.expected)
     (λ a x h. h) (λ w c f. f) g.met.T.LeafValue.typed.0 (e.ok.2 ∙ c.requires) e.ok.0 e.source e.count e.version e.levels part m.source m.count (m.version ∙ t.version) (m.levels ∙ t.levels) m.marks m.told)
