@@ -7,13 +7,10 @@ ghost use Rattle.tv_format.specs.declared.version.WriteVersion.{WriteVersion};
 ghost use Rattle.tv_skip.specs.Skip.{Before, BeginsItems, IsItem, IsValue};
 
 use crate::items::ItemKind;
-use tv_builder::encoded_parts::{
-    eight_at, entry_count_at, key_at, signed_at, sixteen_at, sized_at, tokenized_at, truth_at,
-};
-use tv_format::leaf_type::{Form, LeafType};
+use tv_format::leaf_type::LeafType;
 use tv_format::type_codes::{ARRAY_CODE, OBJECT_CODE};
 use tv_format::version::WriteVersion;
-use tv_value::in_place::{number_at, text_at};
+use tv_value::in_place::{content_at, entry_count_at, key_at, number_at};
 
 // What follows the value without children that stands behind this code. It is encoded alike in all versions that are written.
 #[inline(always)]
@@ -22,37 +19,9 @@ fn behind_leaf(code: u8, bytes: &[u8]) -> Option<&[u8]>
         (λ rest. (version : WriteVersion) → Begins (IsValue (written_version version))
         (code ∷ bytes.now) rest.now) }
 {
-    match LeafType::from_store_code(code)?.form() {
-        Form::Nothing => Some(bytes),
-        Form::Truth => {
-            let (_truth, rest) = truth_at(bytes)?;
-            Some(rest)
-        }
-        Form::Unsigned => {
-            let (_number, rest) = eight_at(bytes)?;
-            Some(rest)
-        }
-        Form::Signed => {
-            let (_number, rest) = signed_at(bytes)?;
-            Some(rest)
-        }
-        Form::Wide => {
-            let (_number, rest) = sixteen_at(bytes)?;
-            Some(rest)
-        }
-        Form::Text => {
-            let (_text, rest) = text_at(bytes)?;
-            Some(rest)
-        }
-        Form::Bytes => {
-            let (_content, rest) = sized_at(bytes)?;
-            Some(rest)
-        }
-        Form::Tokens => {
-            let (_text, rest) = tokenized_at(bytes)?;
-            Some(rest)
-        }
-    }
+    let leaf_type = LeafType::from_store_code(code)?;
+    let (_content, rest) = content_at(leaf_type.form(), bytes)?;
+    Some(rest)
 }
 
 // What follows what stands before the value of an item.

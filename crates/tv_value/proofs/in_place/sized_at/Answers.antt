@@ -1,5 +1,5 @@
 use Rattle.tv_format.proofs.Prefixes.{sized_found}
-use Rattle.tv_builder.proofs.encoded_parts.sized_at.Goals as goal
+use Rattle.tv_value.proofs.in_place.sized_at.Goals as goal
 
 pub returns : goal.returns
 returns c =

@@ -1,7 +1,7 @@
 use Rattle.std.specs.Int.{w64}
 use Rattle.std.proofs.lemmas.Int.{to_z-of_z}
-use Rattle.tv_builder.proofs.Encoding.{signed_found, same_signed}
-use Rattle.tv_builder.proofs.encoded_parts.signed_at.Goals as goal
+use Rattle.tv_value.proofs.Found.{signed_found, same_signed}
+use Rattle.tv_value.proofs.in_place.signed_at.Goals as goal
 
 pub returns : goal.returns
 returns c =

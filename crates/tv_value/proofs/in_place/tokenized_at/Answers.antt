@@ -1,6 +1,6 @@
 use Rattle.std.proofs.Common.{◌≡◌, ◌-◌, length, drop, take_all, length-drop, arith, ◌∷◌, ◌∙◌, ap}
-use Rattle.tv_builder.proofs.Encoding.{tokenized_found}
-use Rattle.tv_builder.proofs.encoded_parts.tokenized_at.Goals as goal
+use Rattle.tv_value.proofs.Found.{tokenized_found}
+use Rattle.tv_value.proofs.in_place.tokenized_at.Goals as goal
 
 pub returns : goal.returns
 returns c =

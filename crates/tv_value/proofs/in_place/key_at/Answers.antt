@@ -1,5 +1,5 @@
-use Rattle.tv_builder.proofs.Encoding.{key_found}
-use Rattle.tv_builder.proofs.encoded_parts.key_at.Goals as goal
+use Rattle.tv_value.proofs.Found.{key_found}
+use Rattle.tv_value.proofs.in_place.key_at.Goals as goal
 
 pub returns : goal.returns
 returns c =

@@ -1,6 +1,6 @@
 use Rattle.std.proofs.Common.{arith}
-use Rattle.tv_builder.proofs.Encoding.{sixteen_found}
-use Rattle.tv_builder.proofs.encoded_parts.sixteen_at.Goals as goal
+use Rattle.tv_value.proofs.Found.{sixteen_found}
+use Rattle.tv_value.proofs.in_place.sixteen_at.Goals as goal
 
 pub returns : goal.returns
 returns c =

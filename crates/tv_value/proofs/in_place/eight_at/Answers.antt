@@ -1,6 +1,6 @@
 use Rattle.std.proofs.Common.{arith}
-use Rattle.tv_builder.proofs.Encoding.{eight_found}
-use Rattle.tv_builder.proofs.encoded_parts.eight_at.Goals as goal
+use Rattle.tv_value.proofs.Found.{eight_found}
+use Rattle.tv_value.proofs.in_place.eight_at.Goals as goal
 
 pub returns : goal.returns
 returns c =
