@@ -224,8 +224,9 @@ wrote_leaf old new l at e valid small is =
       fits = address_small (length old) c (omega arith);
     }) (sym is)
 
--- by the type and by what is held
-pub wrote_parts : (old new : List ℕ) (l : Leaf) (held : Content) (t : LeafType) (at : ℕ) → held ≡ content l → t ≡ type_of l → new ≡ old ++ content_bytes held → IsContent held → length old + length (leaf_bytes l) < 2 ^ 32 → at ≡ content_address (length old) held → Wrote old new (heap_code t) at (leaf l)
-wrote_parts old new l held t at holds typed e valid small is =
+-- after room was made, by the type and by what is held
+pub wrote_parts : (old mid new : List ℕ) (l : Leaf) (held : Content) (t : LeafType) (at : ℕ) → mid ≡ old → held ≡ content l → t ≡ type_of l → new ≡ mid ++ content_bytes held → IsContent held
+    → length old + length (leaf_bytes l) < 2 ^ 32 → at ≡ content_address (length mid) held → Wrote old new (heap_code t) at (leaf l)
+wrote_parts old mid new l held t at same holds typed e valid small is =
     subst (λ k. Wrote old new (heap_code k) at (leaf l)) (sym typed)
-    (wrote_leaf old new l at (e ∙ ap (λ c. old ++ content_bytes c) holds) (subst IsContent holds valid) small (is ∙ ap (content_address (length old)) holds))
+    (wrote_leaf old new l at (e ∙ (λ i. same i ++ content_bytes (holds i))) (subst IsContent holds valid) small (is ∙ (λ i. content_address (length (same i)) (holds i))))

@@ -137,25 +137,31 @@ fn content_address(len: u32, content: LeafContent<'_>) -> u32
     }
 }
 
-// Adds the bytes of what a value without children holds, and returns its address.
+/// Writes a value without children, and returns its place. (Not in tantivy.) After an error the old heap is still a prefix of the new.
 #[inline(always)]
-fn add_content(heap: &mut Vec<u8>, held: LeafContent<'_>) -> Result<u32, AllocError>
-    requires { length heap.old.items < 2 ^ 32 }
-    ensures heap { OnOk result
-        (heap.new.items ≡ heap.old.items ++ content_bytes (content_of held.entry)) }
-    ensures address { IfOk result
-        (λ at. at ≡ content_address (length heap.old.items) (content_of held.entry)) }
-    ensures encodes { OnOk result (IsContent (content_of held.entry)) }
+pub fn write_leaf(heap: &mut Vec<u8>, value: &ReferenceValueLeaf<'_>) -> Result<Place, AllocError>
+    requires { length heap.old.items + length (leaf_bytes (leaf_of value.now)) < 2 ^ 32 }
+    ensures heap { OnOk result (heap.new.items ≡ heap.old.items ++ leaf_bytes (leaf_of value.now)) }
+    ensures place { IfOk result
+        (λ place. (place.value_type ≡ leaf_value_type (leaf_of value.now))
+        × (place.address ≡ leaf_address (length heap.old.items) (leaf_of value.now))) }
+    ensures ok { IfOk result
+        (λ place. Wrote heap.old.items heap.new.items (type_code place.value_type) place.address
+        (leaf (leaf_of value.now))) }
     ensures err { OnErr result (IsPrefix heap.old.items heap.new.items) }
 {
     make_room(heap, FIRST_ROOM)?;
-    let address = content_address(heap.len() as u32, held);
-    push_content(heap, held)?;
-    Ok(address)
+    let content = value.content();
+    let address = content_address(heap.len() as u32, content);
+    push_content(heap, content)?;
+    Ok(Place {
+        value_type: ValueType::Leaf(value.leaf_type()),
+        address,
+    })
 }
 
-/// Writes the value of this type that holds this, and returns its place. (Not in tantivy.) After an error the old heap is still a prefix of the
-/// new.
+/// Writes the value of this type that holds this, as `write_leaf` does, and returns its place. (Not in tantivy.) After an error the old heap is
+/// still a prefix of the new.
 #[inline(always)]
 pub fn write_content(
     heap: &mut Vec<u8>,
@@ -174,29 +180,11 @@ pub fn write_content(
         (leaf l)) }
     ensures err { OnErr result (IsPrefix heap.old.items heap.new.items) }
 {
-    let address = add_content(heap, held)?;
+    make_room(heap, FIRST_ROOM)?;
+    let address = content_address(heap.len() as u32, held);
+    push_content(heap, held)?;
     Ok(Place {
         value_type: ValueType::Leaf(leaf_type),
-        address,
-    })
-}
-
-/// Writes a value without children, and returns its place. (Not in tantivy.) After an error the old heap is still a prefix of the new.
-#[inline(always)]
-pub fn write_leaf(heap: &mut Vec<u8>, value: &ReferenceValueLeaf<'_>) -> Result<Place, AllocError>
-    requires { length heap.old.items + length (leaf_bytes (leaf_of value.now)) < 2 ^ 32 }
-    ensures heap { OnOk result (heap.new.items ≡ heap.old.items ++ leaf_bytes (leaf_of value.now)) }
-    ensures place { IfOk result
-        (λ place. (place.value_type ≡ leaf_value_type (leaf_of value.now))
-        × (place.address ≡ leaf_address (length heap.old.items) (leaf_of value.now))) }
-    ensures ok { IfOk result
-        (λ place. Wrote heap.old.items heap.new.items (type_code place.value_type) place.address
-        (leaf (leaf_of value.now))) }
-    ensures err { OnErr result (IsPrefix heap.old.items heap.new.items) }
-{
-    let address = add_content(heap, value.content())?;
-    Ok(Place {
-        value_type: ValueType::Leaf(value.leaf_type()),
         address,
     })
 }
