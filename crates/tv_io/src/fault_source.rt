@@ -1,13 +1,12 @@
 //! A source of which one read fails.
 
-ghost use Rattle.std.specs.Prelude.{◌≡◌, ◌≤◌, [], length, drop, false, Some, None, Err, IfOk};
+ghost use Rattle.std.specs.Prelude.{◌≡◌, ◌≤◌, [], length, drop, false, Err, IfOk};
 ghost use Rattle.tv_base.specs.Sink.{IsPrefix};
 ghost use Rattle.tv_base.specs.Source.{GivesSome, CountsFailure};
 ghost use Rattle.tv_io.specs.Calls.{failures_of, failures_after};
 ghost use Rattle.tv_io.specs.Planned.{IsFailing, CountsCall};
 
-use crate::failures::CountedFailures;
-use crate::planned_failure::PlannedFailure;
+use crate::faulty::Faulty;
 use std::io;
 use tv_base::ByteSource;
 
@@ -23,47 +22,7 @@ use tv_base::ByteSource;
 ///     u64::deserialize(alloc, &mut source)
 /// }
 /// ```
-#[derive(Drop)]
-pub struct FaultSource<S: ByteSource> {
-    inner: S,
-    plan: PlannedFailure,
-    failures: CountedFailures,
-}
-
-impl<S: ByteSource> FaultSource<S> {
-    /// A source over this one. `passes` calls pass, and the next one fails with an error of this kind. Nothing is read yet.
-    pub fn new(inner: S, passes: u64, kind: io::ErrorKind) -> FaultSource<S>
-        ensures inner { result.inner ≡ inner }
-        ensures plan { result.plan ≡ record { fails_at = Some passes; kind = kind; calls = 0 } }
-        ensures failures { ⟦<FaultSource<S> as ByteSource>⟧.failures result
-            ≡ record { number = 0; last = None } }
-    {
-        FaultSource {
-            inner,
-            plan: PlannedFailure::new(passes, kind),
-            failures: CountedFailures::none(),
-        }
-    }
-
-    /// How many calls were counted, the one that failed among them. At 2^64 - 1 the count stays.
-    pub fn calls(&self) -> u64
-        ensures { result ≡ self.now.plan.calls }
-    {
-        self.plan.calls
-    }
-
-    /// The inner source, taken out. It stands where the reads have left it.
-    pub fn into_inner(self) -> S
-        ensures { result ≡ self.inner }
-    {
-        let FaultSource {
-            inner,
-            plan: _,
-            failures: _,
-        } = self;
-        inner
-    }
-}
+pub type FaultSource<S> = Faulty<S>;
 
 impl<S: ByteSource> ByteSource for FaultSource<S> {
     ghost is_known = { λ s. S.is_known s.inner };

@@ -1,20 +1,24 @@
-//! Options of a field of IP addresses.
+//! Options of a field of bytes or of IP addresses.
 
 ghost use Rattle.std.specs.Prelude.{◌≡◌, true};
 
 use crate::flag_options::FlagOptions;
-pub use crate::flag_options::IpAddrOptions;
-use crate::own_part::OfIpAddrs;
+use crate::own_part::PlainPart;
 
-impl IpAddrOptions {
+impl<Part: PlainPart> FlagOptions<Part> {
     /// Options of these parts (not in tantivy).
-    pub fn from_parts(indexed: bool, fieldnorms: bool, fast: bool, stored: bool) -> IpAddrOptions
+    pub fn from_parts(
+        indexed: bool,
+        fieldnorms: bool,
+        fast: bool,
+        stored: bool,
+    ) -> FlagOptions<Part>
         ensures { result ≡ record {
           indexed = indexed;
           fieldnorms = fieldnorms;
           fast = fast;
           stored = stored;
-          part = record {};
+          part = Part.unset;
         } }
     {
         FlagOptions {
@@ -22,7 +26,7 @@ impl IpAddrOptions {
             fieldnorms,
             fast,
             stored,
-            part: OfIpAddrs,
+            part: Part::unset(),
         }
     }
 
@@ -35,7 +39,7 @@ impl IpAddrOptions {
 
     /// The same options, with field norms.
     #[must_use]
-    pub fn set_fieldnorms(self) -> IpAddrOptions
+    pub fn set_fieldnorms(self) -> FlagOptions<Part>
         ensures { result ≡ record self { fieldnorms = true } }
     {
         self.with_fieldnorms()
