@@ -6,23 +6,9 @@ ghost use Rattle.tv_base.specs.Source.{CountsFailure};
 ghost use Rattle.tv_io.specs.Calls.{failures_of, failures_after};
 ghost use Rattle.tv_io.specs.Planned.{IsFailing, CountsCall};
 
-use crate::faulty::Faulty;
+pub use crate::faulty::FaultSink;
 use std::io;
 use tv_base::ByteSink;
-
-/// Writes to another sink, at most one byte a call, and fails once: so many calls pass, the next one fails with an error of a chosen kind,
-/// and all later ones pass. So a test sees what a writer does where any one of its writes fails. (Not in tantivy.)
-///
-/// A call whose buffer is empty passes, and isn't counted.
-///
-/// ```
-/// pub fn write_failing(alloc: Global, passes: u64) -> (Result<(), io::ErrorKind>, VecSink) {
-///     let mut sink = FaultSink::new(VecSink::new(alloc), passes, io::ErrorKind::StorageFull);
-///     let written = 20u64.serialize(&mut sink);
-///     (written, sink.into_inner())
-/// }
-/// ```
-pub type FaultSink<K> = Faulty<K>;
 
 impl<K: ByteSink> ByteSink for FaultSink<K> {
     ghost is_known = { λ s. K.is_known s.inner };

@@ -6,23 +6,9 @@ ghost use Rattle.tv_base.specs.Source.{GivesSome, CountsFailure};
 ghost use Rattle.tv_io.specs.Calls.{failures_of, failures_after};
 ghost use Rattle.tv_io.specs.Planned.{IsFailing, CountsCall};
 
-use crate::faulty::Faulty;
+pub use crate::faulty::FaultSource;
 use std::io;
 use tv_base::ByteSource;
-
-/// Reads another source, at most one byte a call, and fails once: so many calls pass, the next one fails with an error of a chosen kind,
-/// and all later ones pass. So a test sees what a reader does where any one of its reads fails. (Not in tantivy.)
-///
-/// A call whose buffer is empty passes, and isn't counted. No byte is shown as buffered, so that each byte takes a read.
-///
-/// ```
-/// pub fn read_failing(alloc: Global, bytes: &[u8], passes: u64) -> Result<u64, ReadError> {
-///     let source = SliceSource::new(bytes);
-///     let mut source = FaultSource::new(source, passes, io::ErrorKind::TimedOut);
-///     u64::deserialize(alloc, &mut source)
-/// }
-/// ```
-pub type FaultSource<S> = Faulty<S>;
 
 impl<S: ByteSource> ByteSource for FaultSource<S> {
     ghost is_known = { λ s. S.is_known s.inner };

@@ -15,6 +15,34 @@ pub struct Faulty<T> {
     pub(crate) failures: CountedFailures,
 }
 
+/// Reads another source, at most one byte a call, and fails once: so many calls pass, the next one fails with an error of a chosen kind,
+/// and all later ones pass. So a test sees what a reader does where any one of its reads fails. (Not in tantivy.)
+///
+/// A call whose buffer is empty passes, and isn't counted. No byte is shown as buffered, so that each byte takes a read.
+///
+/// ```
+/// pub fn read_failing(alloc: Global, bytes: &[u8], passes: u64) -> Result<u64, ReadError> {
+///     let source = SliceSource::new(bytes);
+///     let mut source = FaultSource::new(source, passes, io::ErrorKind::TimedOut);
+///     u64::deserialize(alloc, &mut source)
+/// }
+/// ```
+pub type FaultSource<S> = Faulty<S>;
+
+/// Writes to another sink, at most one byte a call, and fails once: so many calls pass, the next one fails with an error of a chosen kind,
+/// and all later ones pass. So a test sees what a writer does where any one of its writes fails. (Not in tantivy.)
+///
+/// A call whose buffer is empty passes, and isn't counted.
+///
+/// ```
+/// pub fn write_failing(alloc: Global, passes: u64) -> (Result<(), io::ErrorKind>, VecSink) {
+///     let mut sink = FaultSink::new(VecSink::new(alloc), passes, io::ErrorKind::StorageFull);
+///     let written = 20u64.serialize(&mut sink);
+///     (written, sink.into_inner())
+/// }
+/// ```
+pub type FaultSink<K> = Faulty<K>;
+
 impl<T> Faulty<T> {
     /// A source or a sink over this one. `passes` calls pass, and the next one fails with an error of this kind. Nothing is read or
     /// written yet, and no failure is counted.

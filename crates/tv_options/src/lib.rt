@@ -10,7 +10,6 @@ pub mod json_object_options;
 pub mod laws;
 pub mod numeric_options;
 mod own_part;
-mod plain_options;
 pub mod text_options;
 pub mod textual_options;
 pub mod tokenizer_name;
