@@ -1,5 +1,7 @@
 -- Values that are added one after the other.
-use Rattle.std.proofs.Common.{◌≡◌, ℕ, List, [], ◌∷◌, ◌++◌, Some, Result, Ok, Err, subst, refl, sym, ap, ◌∙◌, append_assoc, append-nil}
+use Rattle.std.proofs.Common.{◌≡◌, ℕ, List, [], ◌∷◌, ◌++◌, Option, Some, None, Result, Ok, Err, subst, refl, sym, ap, ◌∙◌, append_assoc, append-nil}
+use Rattle.std.specs.Prelude.{OnSome}
+use Rattle.std.specs.Result.{result_ok}
 use Rattle.std.specs.Option.{IfSome}
 use Rattle.serde_json.specs.Data.{Members, object}
 use Rattle.serde_json.specs.Read.{read}
@@ -9,19 +11,19 @@ use Rattle.tv_field.specs.declared.json_value.JsonRefusal.{JsonRefusal}
 use Rattle.tv_field.specs.declared.json_value.JsonRefusal.TheVariants as refusal
 use Rattle.tv_field.specs.JsonTable.{Table}
 use Rattle.tv_format.specs.Tree.{Tree, Document}
-use Rattle.tv_doc.specs.AdditionError.{addition_answer, addition_error}
-use Rattle.tv_doc.specs.Additions.{IsEmpty}
+use Rattle.tv_doc.specs.AdditionError.{addition_error}
+use Rattle.tv_doc.specs.Additions.{Accepts, IsEmpty}
 use Rattle.tv_doc.specs.AddsRow.{AddsRow}
-use Rattle.tv_doc.specs.Document.{Refuses}
+use Rattle.tv_doc.specs.Document.{IsUnchanged, Refuses}
 use Rattle.tv_doc.specs.InPlace.{in_place}
-use Rattle.tv_doc.specs.JsonObject.{FieldJson, Pairs, IsRefused, StopsAt, IsValueError, MakesDocument, Parses, AddsPairs, AddsValues, AddsWithMemory, object_values}
+use Rattle.tv_doc.specs.JsonObject.{FieldJson, Pairs, IsRefused, StopsAt, IsValueError, MakesDocument, Parses, AddsPairs, AddsValues, object_values}
 use Rattle.tv_doc.specs.JsonObject.IsShort.{for_pair, for_value, for_error}
 use Rattle.tv_builder.specs.declared.add_error.AddError.{AddError}
 use Rattle.tv_builder.specs.declared.add_error.AddError.TheVariants.{HeapFull, Memory}
 use Rattle.tv_doc.specs.declared.doc_parsing_error.DocParsingError.{DocParsingError}
 use Rattle.tv_doc.specs.declared.doc_parsing_error.DocParsingError.TheVariants as error
 use Rattle.tv_doc.specs.declared.document.CompactDoc.{CompactDoc}
-use Rattle.tv_doc.proofs.Additions.{unchanged_same, each_append, each_one, from_empty, made_of}
+use Rattle.tv_doc.proofs.Additions.{unchanged_same, each_from, each_append, each_one, from_empty, made_of}
 
 -- an addition that a document refuses
 pub refused_addition : (v : FieldJson) (d : CompactDoc) (t : Tree) (e : AddError) → Table v.field_type v.value (Ok t) → Refuses d t e → IsRefused v d (addition_error e)
@@ -53,11 +55,13 @@ none_added d = record { pairs = []; by_table = refl; adds = unchanged_same d }
 pub stops_at_one : (v : FieldJson) (old : CompactDoc) (e : DocParsingError) → IsRefused v old e → StopsAt (v ∷ []) old e
 stops_at_one v old e h = record { before = []; at = v; behind = []; joined = refl; mid = old; added = none_added old; refused = h }
 
--- a value alone whose row is added
-pub row_adds : (v : FieldJson) (old new : CompactDoc) (r : Result (Unit {0}) AddError) → AddsRow old new v.field v.field_type v.value r → AddsValues (v ∷ []) old new (addition_answer r)
-row_adds v old new (Ok x) h =
-    record { pairs = (v.field, h.0) ∷ []; by_table = (h.0, [], h.1, refl, refl); adds = each_one v.field h.0 old new h.2 }
-row_adds v old new (Err e) h = stops_at_one v old (addition_error e) (refused_addition v old h.0 e h.1 h.2.0)
+-- a value alone whose pair is added
+pub one_added : (v : FieldJson) (old new : CompactDoc) (t : Tree) → Table v.field_type v.value (Ok t) → Accepts old new v.field t → AddsPairs (v ∷ []) old new
+one_added v old new t table adds =
+    record { pairs = (v.field, t) ∷ []; by_table = (t, [], table, refl, refl); adds = each_one v.field t old new adds }
+
+pub one_pair : (v : FieldJson) (old new : CompactDoc) → AddsRow old new v.field v.field_type v.value → AddsPairs (v ∷ []) old new
+one_pair v old new h = one_added v old new h.0 h.1 h.2
 
 Pairs-append : (vs ws : List FieldJson) (ps qs : Document) → Pairs vs ps → Pairs ws qs → Pairs (vs ++ ws) (ps ++ qs)
 Pairs-append [] ws ps qs none h = subst (λ prefix. Pairs ws (prefix ++ qs)) (sym none) h
@@ -71,10 +75,13 @@ both_added vs ws a b c h k = record {
   adds = each_append h.pairs k.pairs a b c h.adds k.adds;
 }
 
--- where memory may be refused at any value
-pub with_memory : {T : Type 0} (vs ws : List FieldJson) (old new : CompactDoc) (r : Result T DocParsingError) → vs ≡ ws → AddsValues vs old new r → AddsWithMemory ws old new r
-with_memory vs ws old new (Ok x) is h = subst (λ xs. AddsPairs xs old new) is h
-with_memory vs ws old new (Err e) is h = λ other. subst (λ xs. StopsAt xs old e) is h
+-- the additions that `ok` keeps, to what an unchanged document became
+pub ok_added : {T : Type 0} (vs ws : List FieldJson) (old mid new : CompactDoc) (r : Result T DocParsingError) (o : Option T) → o ≡ result_ok r → IsUnchanged old mid → vs ≡ ws → AddsValues vs mid new r
+    → OnSome o (AddsPairs ws old new)
+ok_added vs ws old mid new (Ok x) o e same is h =
+    let added : AddsPairs vs old new = record { pairs = h.pairs; by_table = h.by_table; adds = each_from h.pairs old mid new same h.adds } in
+    subst (λ z. OnSome z (AddsPairs ws old new)) (sym e) (subst (λ xs. AddsPairs xs old new) is added)
+ok_added vs ws old mid new (Err x) o e same is h = subst (λ z. OnSome z (AddsPairs ws old new)) (sym e) tt
 
 -- the pairs of these values are added, and then come the rest
 pub record SoFar (all rest : List FieldJson) (old now : CompactDoc) : Type 0 where
@@ -115,11 +122,20 @@ pub makes_document : (values : List FieldJson) (start made : CompactDoc) → IsE
 makes_document values start made none h =
     (subst (λ d. Pairs values d) (sym (from_empty h.pairs start made none h.adds)) h.by_table, made_of h.pairs start made none h.adds)
 
--- the document that is made in an empty one of an object that is read, or why there is none
-pub parses_object : (schema : List Entry) (text : List ℕ) (ms : Members) (start made : CompactDoc) (r : Result (Unit {0}) DocParsingError) → read text ≡ Some (object ms) → IsEmpty start
-    → AddsWithMemory (object_values schema ms) start made r → Parses schema text (in_place r made)
-parses_object schema text ms start made (Ok x) is none h = (ms, is, makes_document (object_values schema ms) start made none h)
-parses_object schema text ms start made (Err (error.InvalidJson start_of)) is none h = absurd (h (λ same. cc)).refused
-parses_object schema text ms start made (Err (error.ValueError name e)) is none h = (ms, is, (start, none, h (λ same. cc)))
-parses_object schema text ms start made (Err error.HeapFull) is none h = (ms, is, (start, none, h (λ same. cc)))
-parses_object schema text ms start made (Err error.Memory) is none h = tt
+-- an object that is read, and the document that is made of it
+pub parses_object : (schema : List Entry) (text : List ℕ) (ms : Members) (r : Result CompactDoc DocParsingError) → read text ≡ Some (object ms) → MakesDocument (object_values schema ms) r
+    → Parses schema text r
+parses_object schema text ms (Ok made) is h = (ms, is, h)
+parses_object schema text ms (Err (error.InvalidJson start)) is h = absurd h.2.refused
+parses_object schema text ms (Err (error.ValueError name e)) is h = (ms, is, h)
+parses_object schema text ms (Err error.HeapFull) is h = (ms, is, h)
+parses_object schema text ms (Err error.Memory) is h = tt
+
+-- the document that is left in a place, which was empty
+pub placed_document : (values : List FieldJson) (start made : CompactDoc) (r : Result (Unit {0}) DocParsingError) → IsEmpty start → AddsValues values start made r → MakesDocument values (in_place r made)
+placed_document values start made (Ok x) none h = makes_document values start made none h
+placed_document values start made (Err e) none h = (start, none, h)
+
+pub some_maps : {T P Q : Type 0} (o : Option T) → (P → Q) → OnSome o P → OnSome o Q
+some_maps None f h = tt
+some_maps (Some x) f h = f h

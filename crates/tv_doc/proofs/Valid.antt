@@ -111,11 +111,11 @@ mutual
   reads_valid heap code at (object es) p =
       (omega (arith, p.1.stands.stands.fits, entries_fewer heap at p.1.list es p.1.children), entries_valid heap at p.1.list es p.1.children)
 
-  pub elements_valid : (heap : List ℕ) (parent : ℕ) (whole : List ℕ) (ts : Elements) → ReadsElements heap parent whole ts → AreElements ts
+  elements_valid : (heap : List ℕ) (parent : ℕ) (whole : List ℕ) (ts : Elements) → ReadsElements heap parent whole ts → AreElements ts
   elements_valid heap parent whole no_elements p = tt
   elements_valid heap parent whole (element t ts) p = (reads_valid heap p.code p.at t p.reads, elements_valid heap parent p.rest ts p.others)
 
-  pub entries_valid : (heap : List ℕ) (parent : ℕ) (whole : List ℕ) (es : Entries) → ReadsEntries heap parent whole es → AreEntries es
+  entries_valid : (heap : List ℕ) (parent : ℕ) (whole : List ℕ) (es : Entries) → ReadsEntries heap parent whole es → AreEntries es
   entries_valid heap parent whole no_entries p = tt
   entries_valid heap parent whole (entry k t es) p =
       let q = p.others in

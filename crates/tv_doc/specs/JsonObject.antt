@@ -7,7 +7,7 @@
 -- `belongs`: each of its pairs has a field of the schema.
 -- `ParsesInto`: the same in the place of a document. `parses` and `belongs`: where the call returns no error, what is left in the place is the
 -- document of the text. `none`: where it returns an error, no pair is left in the place.
-use Rattle.std.specs.Prelude.{◌≡◌, ◌≢◌, ℕ, List, [], ◌∷◌, ◌++◌, Option, Some, None, Result, Ok, Err, IfOk, OnOk, OnErr, slice_get, string_bytes}
+use Rattle.std.specs.Prelude.{◌≡◌, ℕ, List, [], ◌∷◌, ◌++◌, Option, Some, None, Result, Ok, Err, IfOk, OnOk, OnErr, slice_get, string_bytes}
 use Rattle.std.specs.Fmt.{take_chars}
 use Rattle.serde_json.specs.Data as json
 use Rattle.serde_json.specs.Data.{Data, Items, Members}
@@ -111,11 +111,6 @@ pub record StopsAt (values : List FieldJson) (old : CompactDoc) (e : DocParsingE
 abbrev pub AddsValues : {T : Type 0} → List FieldJson → CompactDoc → CompactDoc → Result T DocParsingError → Type 0
 AddsValues values old new (Ok x) = AddsPairs values old new
 AddsValues values old new (Err e) = StopsAt values old e
-
--- the same, where memory may be refused at any value
-abbrev pub AddsWithMemory : {T : Type 0} → List FieldJson → CompactDoc → CompactDoc → Result T DocParsingError → Type 0
-AddsWithMemory values old new (Ok x) = AddsPairs values old new
-AddsWithMemory values old new (Err e) = e ≢ error.Memory → StopsAt values old e
 
 -- the first refusal of these values by a document that was empty
 abbrev pub StopsEarly : List FieldJson → DocParsingError → Type 0

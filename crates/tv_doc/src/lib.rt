@@ -1,6 +1,7 @@
 //! Documents: pairs of a field and a value, the values in one flat heap of bytes.
 #![tactic(auto)]
 
+pub mod add_error;
 mod borrowed_json;
 pub mod builder;
 mod convert;
@@ -16,9 +17,6 @@ mod lent_names;
 mod map_value;
 pub mod named;
 pub mod named_back_error;
-mod named_field;
 pub mod parse_buffers;
 mod recent_fields;
 mod same;
-
-pub use tv_builder::add_error;

@@ -10,12 +10,6 @@ use tv_field::json_value::JsonScratch;
 #[derive(Drop)]
 pub struct ParseBuffers {
     pub(crate) texts: Scratch,
-    pub(crate) adding: AddBuffers,
-}
-
-// What adding the values of an object needs.
-#[derive(Drop)]
-pub(crate) struct AddBuffers {
     pub(crate) values: JsonScratch,
     pub(crate) fields: RecentFields,
 }
@@ -23,19 +17,18 @@ pub(crate) struct AddBuffers {
 impl ParseBuffers {
     /// Takes no memory.
     pub fn new(alloc: Global) -> ParseBuffers {
-        ParseBuffers::with_fields(alloc, RecentFields::new(alloc))
-    }
-
-    // For one document.
-    pub(crate) fn for_one(alloc: Global) -> ParseBuffers {
-        ParseBuffers::with_fields(alloc, RecentFields::none(alloc))
-    }
-
-    fn with_fields(alloc: Global, fields: RecentFields) -> ParseBuffers {
-        let values = JsonScratch::new(alloc);
         ParseBuffers {
             texts: Scratch::new(alloc),
-            adding: AddBuffers { values, fields },
+            values: JsonScratch::new(alloc),
+            fields: RecentFields::new(alloc),
+        }
+    }
+    // For one document.
+    pub(crate) fn for_one(alloc: Global) -> ParseBuffers {
+        ParseBuffers {
+            texts: Scratch::new(alloc),
+            values: JsonScratch::new(alloc),
+            fields: RecentFields::none(alloc),
         }
     }
 }
