@@ -54,11 +54,6 @@ visits old new kind answers result read h a =
       answered = a;
     }
 
--- what is read of another source, or returned by a visitor, changes no mark
-pub unmarked_still : {X : Type 0} (result : Result X DeserializeError) (b : Bool) → b ≡ false → OnOk result (b ≡ false)
-unmarked_still (Ok x) b e = e
-unmarked_still (Err e) b h = tt
-
 single_is : (t : Tree) → IsSingle t → t ≡ leaf (single_leaf t)
 single_is (leaf l) h = refl
 single_is (array ts) h = absurd h
