@@ -1,6 +1,6 @@
 -- Values that are handed to visitors.
 use Rattle.std.proofs.Common.{◌≡◌, ◌≢◌, ℕ, Bool, true, false, List, ◌++◌, Result, Ok, Err, refl, sym, ap, subst, ◌∙◌, inl, inr}
-use Rattle.std.specs.Prelude.{is_err, OnOk}
+use Rattle.std.specs.Prelude.{is_err}
 use Rattle.tv_base.specs.Source.{AllBytes, Failures}
 use Rattle.tv_base.specs.declared.cause.Cause.{Cause}
 use Rattle.tv_base.specs.declared.read_error.ReadError.{ReadError}
