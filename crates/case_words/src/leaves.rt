@@ -45,6 +45,8 @@ pub fn facet(alloc: Global, word: &str) -> Result<Facet> {
 /// The text and the tokens that the bytes encode.
 pub fn tokenized(alloc: Global, digits: &str) -> Result<PreTokenizedString> {
     let bytes = crate::bytes(alloc, digits)?;
-    let (text, _) = PreTokenizedStr::from_payload(&bytes).context("a payload")?;
-    Ok(text.to_owned_string(alloc)?)
+    match PreTokenizedStr::from_payload(&bytes) {
+        Some((text, _)) => Ok(text.to_owned_string(alloc)?),
+        None => Err(anyhow!("a payload")),
+    }
 }

@@ -7,8 +7,11 @@
 
 pub mod leaves;
 pub mod parts;
+pub mod schemas;
+pub mod states;
+pub mod suite;
 
-use anyhow::{Context, Result, ensure};
+use anyhow::{Context, Result, anyhow, ensure};
 use std::alloc::Global;
 use std::cmp::Ordering;
 use std::convert::AsStr;
@@ -28,8 +31,10 @@ pub fn text(alloc: Global, word: &str) -> Result<String> {
 
 // The text that a JSON value is.
 fn text_of(alloc: Global, json: &serde_json::Value) -> Result<String> {
-    let content = json.as_str().context("a text in quotes")?;
-    Ok(String::from_str(alloc, content)?)
+    match json.as_str() {
+        Some(content) => Ok(String::from_str(alloc, content)?),
+        None => Err(anyhow!("a text in quotes")),
+    }
 }
 
 /// The bytes of hexadecimal digits.

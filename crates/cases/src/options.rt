@@ -1,9 +1,9 @@
 //! Options of fields, made of flags and by setters, and the types of values.
 
-use crate::schemas;
 use anyhow::{Context, Result, anyhow, ensure};
 use case_words as words;
 use case_words::parts::{Part, push_parts};
+use case_words::schemas::built;
 use serde_json::Value;
 use std::alloc::Global;
 use tv_date::DateTimePrecision;
@@ -327,8 +327,8 @@ fn schema_of(alloc: Global, field_type: &FieldType) -> Result<Schema> {
     let entry = FieldEntry::new(name, field_type.try_clone(alloc)?)?;
     let mut builder = Schema::builder(alloc);
     match builder.add_field(entry) {
-        Ok(_) => schemas::built(builder, Ok(())),
-        Err(error) => schemas::built(builder, Err(error.into())),
+        Ok(_) => built(builder, Ok(())),
+        Err(error) => built(builder, Err(error.into())),
     }
 }
 

@@ -1,13 +1,12 @@
 //! Ranges of terms.
 
-use anyhow::{Context, Result, anyhow, ensure};
+use anyhow::{Result, anyhow, ensure};
 use case_words as words;
 use case_words::leaves;
 use std::alloc::Global;
 use std::ops::Bound;
 use std::str::FromStr;
 use tv_date::DateTime;
-use tv_options::Type;
 use tv_term::{FastValue, Term, TermRange};
 use tv_value::field::Field;
 
@@ -39,8 +38,7 @@ pub fn answer(alloc: Global, call: &[&str]) -> Result<String> {
 
 // The terms of a field whose values are of the type that has this letter.
 fn of_type(alloc: Global, field: &str, letter: &str) -> Result<String> {
-    let code = letter.as_bytes().first().context("a letter")?;
-    let value_type = Type::from_code(*code).context("a type")?;
+    let value_type = words::type_of(letter)?;
     let range = Term::range_of_type(alloc, words::field(field)?, value_type);
     shown(alloc, range?)
 }

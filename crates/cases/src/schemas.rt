@@ -1,8 +1,9 @@
 //! Schemas: their JSON, their fields, and the fields that paths name.
 
-use anyhow::{Context, Result, anyhow, ensure};
+use anyhow::{Result, anyhow, ensure};
 use case_words as words;
 use case_words::parts::{Part, push_parts};
+use case_words::schemas::{built, description_of, schema};
 use serde_json::Value;
 use std::alloc::Global;
 use std::fmt::Write;
@@ -12,10 +13,6 @@ use tv_schema::json::laws::printed_schema_is_read_back;
 use tv_schema::laws::record_options_agree;
 use tv_schema::{Schema, SchemaBuilder};
 use tv_value::field::Field;
-
-// The schema that the word `types` stands for: a field of each type, and some that coerce.
-const TYPES: &str =
-    r#"[{"name":"s","type":"text","options":{"stored":true}},{"name":"sc","type":"text","options":{"stored":true,"coerce":true}},{"name":"u","type":"u64","options":{"indexed":false,"stored":true}},{"name":"uc","type":"u64","options":{"indexed":false,"stored":true,"coerce":true}},{"name":"i","type":"i64","options":{"indexed":false,"stored":true}},{"name":"ic","type":"i64","options":{"indexed":false,"stored":true,"coerce":true}},{"name":"b","type":"bool","options":{"indexed":false,"stored":true}},{"name":"bc","type":"bool","options":{"indexed":false,"stored":true,"coerce":true}},{"name":"d","type":"date","options":{"indexed":false,"fieldnorms":false,"stored":true}},{"name":"f","type":"facet","options":{"stored":true}},{"name":"y","type":"bytes","options":{"indexed":false,"fast":false,"stored":true}},{"name":"j","type":"json_object","options":{"stored":true,"fast":false}},{"name":"p","type":"ip_addr","options":{"indexed":false,"fieldnorms":false,"fast":false,"stored":true}},{"name":"n","type":"u64","options":{"indexed":true,"stored":false}}]"#;
 
 /// What a call about schemas returns.
 pub fn answer(alloc: Global, call: &[&str]) -> Result<String> {
@@ -32,56 +29,6 @@ pub fn answer(alloc: Global, call: &[&str]) -> Result<String> {
         ["equal", one, other] => equal(alloc, one, other),
         _ => Err(anyhow!("an unknown call about schemas")),
     }
-}
-
-/// The schema of a JSON description. A list of names stands for fields of texts with these names, and the word `types` for a field of
-/// each type.
-pub fn schema(alloc: Global, word: &str) -> Result<Schema> {
-    let description = description_of(word);
-    let json = Value::from_str(alloc, description)?;
-    let schema = if description.starts_with("[\"") {
-        schema_of_texts(alloc, &json)
-    } else {
-        schema_of_json(alloc, &json)
-    };
-    drop(json);
-    schema
-}
-
-// The schema of a description.
-fn schema_of_json(alloc: Global, description: &Value) -> Result<Schema> {
-    Ok(Schema::from_json_value(alloc, description)?)
-}
-
-// The schema of fields of texts with these names.
-fn schema_of_texts(alloc: Global, names: &Value) -> Result<Schema> {
-    let mut builder = Schema::builder(alloc);
-    let outcome = add_texts(&mut builder, names);
-    built(builder, outcome)
-}
-
-// Adds fields of texts with these names.
-fn add_texts(builder: &mut SchemaBuilder, names: &Value) -> Result<()> {
-    for name in names.as_array().context("a list of names")? {
-        builder.add_text_field(name.as_str().context("a name")?, TEXT)?;
-    }
-    Ok(())
-}
-
-/// The schema of a builder, if all went well before.
-pub fn built(builder: SchemaBuilder, outcome: Result<()>) -> Result<Schema> {
-    match outcome {
-        Ok(()) => Ok(builder.build()?),
-        Err(error) => {
-            drop(builder);
-            Err(error)
-        }
-    }
-}
-
-// The description that a word stands for: that of a field of each type for `types`, and else the word itself.
-fn description_of(word: &str) -> &str {
-    if word == "types" { TYPES } else { word }
 }
 
 // The JSON of the schema that a description describes, or the refusal.

@@ -1,10 +1,11 @@
 //! Terms, and the values that are read back from them.
 
-use crate::schemas;
-use anyhow::{Context, Result, anyhow, ensure};
+use crate::ranges;
+use anyhow::{Result, anyhow, ensure};
 use case_words as words;
 use case_words::leaves;
 use case_words::parts::{Part, push_parts};
+use case_words::schemas::schema;
 use std::alloc::{AllocError, Global};
 use std::fmt::Write;
 use tv_term::laws::{
@@ -17,13 +18,18 @@ use tv_value::owned_value::OwnedValue;
 /// What a call about terms returns.
 pub fn answer(alloc: Global, call: &[&str]) -> Result<String> {
     match call {
+        ["range", call @ ..] => ranges::answer(alloc, call),
         ["of", field, kind, value] => of_value(alloc, field, kind, value),
         ["searched date", field, value] => of_searched_date(alloc, field, value),
         ["json", field, path, dots, appended @ ..] => of_path(alloc, field, path, dots, appended),
         ["segments", field, segments @ ..] => of_segments(alloc, field, segments),
         ["wrap", digits] => of_bytes(alloc, digits),
         ["value", digits] => value_of_bytes(alloc, digits),
-        ["full path", schema, digits] => full_path(alloc, schema, &wrapped(alloc, digits)?),
+        ["full path", description, digits] => full_path(
+            alloc,
+            description,
+            &wrapped(alloc, digits)?,
+        ),
         ["compare", one, other] => {
             let one = wrapped(alloc, one)?;
             words::compared(alloc, &one, &wrapped(alloc, other)?)
@@ -228,8 +234,8 @@ fn push_path(alloc: Global, answer: &mut String, value: &ValueBytes<'_>) -> Resu
 }
 
 // The name of a term's field in a schema, and the term's path.
-fn full_path(alloc: Global, schema: &str, term: &Term) -> Result<String> {
-    let schema = schemas::schema(alloc, schema)?;
+fn full_path(alloc: Global, description: &str, term: &Term) -> Result<String> {
+    let schema = schema(alloc, description)?;
     ensure!(schema.has_field(term.field()), "a field of the schema");
     words::quoted(alloc, term.get_full_path(alloc, &schema)?.as_str())
 }

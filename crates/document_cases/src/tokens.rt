@@ -1,6 +1,6 @@
 //! Texts with their tokens, as the store has them.
 
-use anyhow::{Context, Result, anyhow, ensure};
+use anyhow::{Result, anyhow, ensure};
 use case_words as words;
 use case_words::leaves::tokenized;
 use std::alloc::Global;
@@ -37,7 +37,9 @@ fn read(alloc: Global, bytes: &[u8]) -> Result<String> {
 // Whether a text is equal to the one that the bytes encode, and that one to it. Copies of both are equal just then.
 fn same(alloc: Global, kept: &PreTokenizedString, digits: &str) -> Result<String> {
     let bytes = words::bytes(alloc, digits)?;
-    let (encoded, _) = PreTokenizedStr::from_payload(&bytes).context("a payload")?;
+    let Some((encoded, _)) = PreTokenizedStr::from_payload(&bytes) else {
+        return Err(anyhow!("a payload"));
+    };
     let lent = PreTokenizedStr::from_string(kept);
     let (one_way, other_way) = (lent == encoded, encoded == lent);
     let (kept_way, lent_way) = compared(kept, encoded.to_owned_string(alloc)?);

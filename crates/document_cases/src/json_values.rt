@@ -1,20 +1,30 @@
 //! What a JSON value is to a field.
 
-use crate::schemas;
-use anyhow::{Context, Result, anyhow};
+use anyhow::{Result, anyhow};
 use case_words as words;
+use case_words::schemas::schema;
 use serde_json::Value as JsonValue;
 use std::alloc::Global;
 use tv_field::{FieldType, ValueParsingError};
+use tv_schema::Schema;
 
 /// What a JSON value is to the first field of a schema: the value with its type, or the refusal.
 pub fn answer(alloc: Global, call: &[&str]) -> Result<String> {
     let [description, json] = call else {
         return Err(anyhow!("an unknown call about JSON values"));
     };
-    let schema = schemas::schema(alloc, description)?;
-    let (_, entry) = schema.fields().next().context("a field")?;
-    told(alloc, entry.field_type(), JsonValue::from_str(alloc, json)?)
+    let schema = schema(alloc, description)?;
+    let answer = to_first_field(alloc, &schema, json);
+    drop(schema);
+    answer
+}
+
+// What a JSON value is to the first field of a schema.
+fn to_first_field(alloc: Global, schema: &Schema, json: &str) -> Result<String> {
+    match schema.fields().next() {
+        Some((_, entry)) => told(alloc, entry.field_type(), JsonValue::from_str(alloc, json)?),
+        None => Err(anyhow!("a schema without fields")),
+    }
 }
 
 // What a JSON value is to a field of this type.

@@ -1,8 +1,9 @@
 //! Documents: from JSON, as JSON, by names, and compared.
 
-use crate::{builder, json_values, parts, schemas};
+use crate::{builder, json_values, parts};
 use anyhow::{Context, Result, anyhow, ensure};
 use case_words as words;
+use case_words::schemas::schema;
 use serde_json::Value as JsonValue;
 use std::alloc::Global;
 use std::fmt::Write;
@@ -46,7 +47,9 @@ pub fn shown(alloc: Global, document: &CompactDoc) -> Result<String> {
     let mut place = 0;
     for (field, _) in document.field_values() {
         let number = field.field_id();
-        let (code, address) = document.addr_of(place).context("a pair")?;
+        let Some((code, address)) = document.addr_of(place) else {
+            return Err(anyhow!("a pair"));
+        };
         write!(text, " {number}:{code}:{address}")?;
         place = usize::saturating_add(place, 1);
     }
@@ -64,13 +67,13 @@ fn document_of(alloc: Global, schema: &Schema, words: &[&str]) -> Result<Compact
 
 // The JSON of the document of a JSON object, or of calls.
 fn print(alloc: Global, description: &str, words: &[&str]) -> Result<String> {
-    let schema = schemas::schema(alloc, description)?;
+    let schema = schema(alloc, description)?;
     Ok(document_of(alloc, &schema, words)?.to_json(alloc, &schema)?)
 }
 
 // The document of a JSON object, or its refusal.
 fn parse(alloc: Global, description: &str, json: &str) -> Result<String> {
-    let schema = schemas::schema(alloc, description)?;
+    let schema = schema(alloc, description)?;
     let outcome = CompactDoc::parse_json(alloc, &schema, json);
     drop(schema);
     match outcome {
@@ -130,7 +133,7 @@ fn refused_value(alloc: Global, name: &str, error: &ValueParsingError) -> Result
 
 // The values of a document by the names of one schema, and the document that these names make with another.
 fn named(alloc: Global, from: &str, to: &str, calls: &[&str]) -> Result<String> {
-    let from = schemas::schema(alloc, from)?;
+    let from = schema(alloc, from)?;
     let document = builder::document(alloc, calls)?;
     let names = document.to_named_doc(alloc, &from)?;
     named_shown(alloc, &from, to, &document, &names)
@@ -156,7 +159,7 @@ fn converted(
     document: &CompactDoc,
     names: &NamedFieldDocument,
 ) -> Result<String> {
-    let to = schemas::schema(alloc, to)?;
+    let to = schema(alloc, to)?;
     let made = if *from == to {
         named_documents_are_converted_back(alloc, from, document)?
     } else {
