@@ -14,9 +14,9 @@ use std::alloc::Global;
 use std::mem::replace;
 use tv_base::ByteSource;
 use tv_builder::heap_pairs::HeapPairs;
-use tv_reading::document::{take_document, take_document_into};
 use tv_doc::document::CompactDoc;
 pub use tv_reader::version::DocStoreVersion;
+use tv_reading::document::{take_document, take_document_into};
 
 // Puts what was read in the document's place. After an error the document stays.
 pub(crate) fn put_read(

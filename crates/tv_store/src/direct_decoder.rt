@@ -13,9 +13,9 @@ ghost use Rattle.tv_builder.specs.State.{lists_of, children_of};
 use std::alloc::Global;
 use tv_base::ByteSource;
 use tv_builder::heap_pairs::HeapPairs;
-use tv_reading::reading::Reading;
 use tv_doc::document::CompactDoc;
 use tv_reader::{DeserializeError, DocStoreVersion};
+use tv_reading::reading::Reading;
 
 /// Whether a step was the last. (Not in tantivy.)
 #[derive(Clone, Copy, Debug, PartialEq, Eq)]

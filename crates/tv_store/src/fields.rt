@@ -15,9 +15,9 @@ use std::alloc::Global;
 use std::mem::replace;
 use tv_base::ByteSource;
 use tv_builder::heap_pairs::HeapPairs;
-use tv_reading::chosen::take_chosen_into;
 use tv_doc::document::CompactDoc;
 use tv_reader::version::DocStoreVersion;
+use tv_reading::chosen::take_chosen_into;
 use tv_value::field::Field;
 
 // Takes the chosen fields in place of a document that is there and in its memory, with the count of the bytes that were taken. After an
