@@ -131,12 +131,12 @@ pub use Rattle.tv_store.specs.Error as StoreError
 pub use Rattle.tv_store.specs.Decoder
 pub use Rattle.tv_store.specs.Blocks
 pub use Rattle.tv_store.specs.Limits
-pub use Rattle.tv_chosen.specs.ChosenFields
-pub use Rattle.tv_decoder.specs.Documents as DecodedDocuments
-pub use Rattle.tv_decoder.specs.Prefix as DecoderPrefix
-pub use Rattle.tv_decoder.specs.Paid
-pub use Rattle.tv_decoder.specs.Steps
-pub use Rattle.tv_decoder.specs.Kept as DecoderKept
+pub use Rattle.tv_reading.specs.ChosenFields
+pub use Rattle.tv_reading.specs.Documents as DecodedDocuments
+pub use Rattle.tv_reading.specs.Prefix as DecoderPrefix
+pub use Rattle.tv_reading.specs.Paid
+pub use Rattle.tv_reading.specs.Steps
+pub use Rattle.tv_reading.specs.Kept as DecoderKept
 pub use Rattle.tv_store.specs.PairsGiven
 pub use Rattle.tv_store.specs.RoundTrip
 pub use Rattle.tv_writer.specs.Serialized

@@ -1,92 +1,35 @@
 -- How values that stand encoded in bytes are written.
-use Rattle.std.proofs.Common.{◌≡◌, ℕ, ◌+◌, ◌<◌, ◌≤◌, List, [], ◌∷◌, ◌++◌, length, take, drop, get_or, refl, sym, ◌∙◌, ap, subst, append_assoc, length-append, arith, inl}
-use Rattle.std.proofs.lemmas.List.{append-nil, length-take-le}
-use Rattle.std.specs.Int.{w64, w128, from_le_bytes, cast_signed}
-use Rattle.std.specs.Prelude.{ℤ, Some}
-use Rattle.std.proofs.lemmas.Option.{same_Some}
-use Rattle.tv_base.proofs.AgreeWidths.{signed_to}
-use Rattle.tv_base.proofs.Widths.{fixed_8, fixed_16}
-use Rattle.tv_base.specs.Number.{VNum, vnum, Fixed, Signed}
-use Rattle.tv_base.specs.Parts.{Begins, Then, Behind, Each, Text, short_sized}
+use Rattle.std.proofs.Common.{◌≡◌, ℕ, ◌+◌, ◌≤◌, List, [], ◌∷◌, ◌++◌, length, refl, sym, ◌∙◌, ap, subst, append_assoc, length-append, arith, inl}
+use Rattle.std.proofs.lemmas.List.{append-nil}
+use Rattle.tv_base.specs.Number.{VNum, vnum}
+use Rattle.tv_base.specs.Parts.{Begins, Then, Each, short_sized}
 use Rattle.tv_base.specs.Sink.{IsPrefix}
 use Rattle.tv_format.specs.Content.{Content, form_of}
-use Rattle.tv_format.specs.Leaves.{type_of, content, leaf_with, form, store_code, scale}
-use Rattle.tv_format.specs.LeavesLaws.{making}
+use Rattle.tv_format.specs.Leaves.{form, store_code}
 use Rattle.tv_format.specs.declared.leaf_type.LeafType.{LeafType}
-use Rattle.tv_format.specs.declared.leaf_type.LeafType.TheVariants as types
-use Rattle.tv_format.specs.Encoding.{NoLegacy, Key, ContentBody, LeafBody, Tokenized, leaf_code, Encodes, EncodesElements, EncodesEntries}
-use Rattle.tv_format.specs.Tree.{Leaf, Token, text, Tree, leaf, array, object, elements, entries, element_count, entry_count}
+use Rattle.tv_format.specs.Encoding.{NoLegacy, Key, ContentBody, Encodes, EncodesElements, EncodesEntries}
+use Rattle.tv_format.specs.Tree.{text, Tree, leaf, array, object, elements, entries, element_count, entry_count}
 use Rattle.tv_format.specs.Version.{Version, plain, entry_total}
 use Rattle.tv_format.specs.WriteVersion.{written_version}
 use Rattle.tv_format.specs.declared.version.WriteVersion.{WriteVersion}
-use Rattle.tv_format.specs.declared.version.WriteVersion.TheVariants as versions
-use Rattle.tv_format.proofs.Prefixes.{begins_behind, begins_then, begins_nothing, begins_cut, begins_item, small_take}
+use Rattle.tv_format.proofs.Prefixes.{begins_behind, begins_then, begins_nothing, begins_item}
 use Rattle.tv_builder.specs.declared.list_kind.ListKind.TheVariants.{Array, Object}
 use Rattle.tv_heap.specs.declared.place.Place.{Place}
 use Rattle.tv_builder.specs.Given.{place_bytes}
 use Rattle.tv_builder.specs.EncodedPut.{EncodedPut}
 use Rattle.tv_builder.specs.TreeBytes.{tree_heap, tree_place, elements_heap, elements_places, entries_heap, entries_places}
-use Rattle.tv_builder.specs.Whole.{Put, ListPut}
+use Rattle.tv_builder.specs.Whole.{Put, PutWith, ListPut}
+use Rattle.tv_value.proofs.Found.{leaf_begins}
 use Rattle.tv_builder.proofs.Grammar.{elements_counted, entries_counted}
 use Rattle.tv_builder.proofs.Putting.{Children, no_children, children_push, put_grows, ArrayPut, array_put, ObjectPut, object_put, flat, flat_append}
 
--- ---- parts at the start of bytes
-
-pub eight_found : (bytes prefix rest : List ℕ) (n : ℕ) → ((i : ℕ) → get_or bytes i 0 < 256) → prefix ≡ take 8 bytes → rest ≡ drop 8 bytes → 8 ≤ length bytes → n ≡ from_le_bytes w64 prefix → Begins (λ b. Fixed 8 b n) bytes rest
-eight_found bytes prefix rest n small is after l worth =
-    let fixed : Fixed 8 (take 8 bytes) n = subst (Fixed 8 (take 8 bytes)) (sym (worth ∙ ap (from_le_bytes w64) is)) (fixed_8 (take 8 bytes) (length-take-le 8 bytes l) (small_take 8 bytes small)) in
-    begins_cut (λ b. Fixed 8 b n) 8 bytes (take 8 bytes) rest refl after fixed
-
-pub sixteen_found : (bytes prefix rest : List ℕ) (n : ℕ) → ((i : ℕ) → get_or bytes i 0 < 256) → prefix ≡ take 16 bytes → rest ≡ drop 16 bytes → 16 ≤ length bytes → n ≡ from_le_bytes w128 prefix → Begins (λ b. Fixed 16 b n) bytes rest
-sixteen_found bytes prefix rest n small is after l worth =
-    let fixed : Fixed 16 (take 16 bytes) n = subst (Fixed 16 (take 16 bytes)) (sym (worth ∙ ap (from_le_bytes w128) is)) (fixed_16 (take 16 bytes) (length-take-le 16 bytes l) (small_take 16 bytes small)) in
-    begins_cut (λ b. Fixed 16 b n) 16 bytes (take 16 bytes) rest refl after fixed
-
-pub signed_found : (bytes rest : List ℕ) (n : ℕ) (z : ℤ) → Begins (λ b. Fixed 8 b n) bytes rest → z ≡ cast_signed w64 n → Begins (λ b. Signed b z) bytes rest
-signed_found bytes rest n z h e = record { prefix = h.prefix; joined = h.joined; encoded = signed_to h.prefix n z h.encoded e }
-
-pub same_signed : (bytes rest : List ℕ) (z n : ℤ) → Begins (λ b. Signed b z) bytes rest → n ≡ z → Begins (λ b. Signed b n) bytes rest
-same_signed bytes rest z n h e = subst (λ m. Begins (λ b. Signed b m) bytes rest) (sym e) h
-
-pub tokenized_found : (bytes payload rest : List ℕ) (n : ℕ) (t : List ℕ) (ts : List Token) → bytes ≡ 0 ∷ payload → rest ≡ drop n payload → Tokenized (take n payload) t ts → Begins (Behind 0 (λ b. Tokenized b t ts)) bytes rest
-tokenized_found bytes payload rest n t ts e after h =
-    subst (λ z. Begins (Behind 0 (λ b. Tokenized b t ts)) z rest) (sym e) (begins_behind 0 payload rest (begins_cut (λ b. Tokenized b t ts) n payload (take n payload) rest refl after h))
-
-pub coded_found : (bytes behind rest k : List ℕ) → bytes ≡ 0 ∷ behind → Begins (λ b. Text b k) behind rest → Begins (Behind 0 (λ b. Text b k)) bytes rest
-coded_found bytes behind rest k e h = subst (λ z. Begins (Behind 0 (λ b. Text b k)) z rest) (sym e) (begins_behind 0 behind rest h)
-
--- a key behind its code, which version 3 leaves out
-pub key_found : (version : WriteVersion) (bytes behind rest k : List ℕ) → (version ≡ versions.V2 → bytes ≡ 0 ∷ behind) → (version ≡ versions.V3 → bytes ≡ behind) → Begins (λ b. Text b k) behind rest → Begins (λ b. Key (written_version version) b k) bytes rest
-key_found versions.V2 bytes behind rest k coded bare h = coded_found bytes behind rest k (coded refl) h
-key_found versions.V3 bytes behind rest k coded bare h = subst (λ z. Begins (λ b. Text b k) z rest) (sym (bare refl)) h
-
 -- ---- a leaf
 
--- the versions that are written have no scale
-no_scale : (version : WriteVersion) (t : LeafType) → scale (written_version version) t ≡ plain
-no_scale versions.V2 types.Date = refl
-no_scale versions.V3 types.Date = refl
-no_scale versions.V2 _ = refl
-no_scale versions.V3 _ = refl
-
--- the leaf of a type that holds this was written
-abbrev PutWith : LeafType → Content → List ℕ → List ℕ → Place → Type 0
-PutWith t c old new p = (l : Leaf) × (leaf_with t c ≡ Some l) × Put old (leaf l) new p
-
--- the leaf of a type that holds this is encoded behind the type's code
-pub leaf_begins : (version : WriteVersion) (t : LeafType) (c : Content) (code : ℕ) (bytes rest : List ℕ) → store_code t ≡ code → form_of c ≡ form t → Begins (λ b. ContentBody plain b c) bytes rest
-    → (l : Leaf) × (leaf_with t c ≡ Some l) × Begins (λ b. Encodes NoLegacy (written_version version) b (leaf l)) (code ∷ bytes) rest
-leaf_begins version t c code bytes rest is formed begins =
-    let v = written_version version in
-    let m = making t c formed in
-    let l = m.made in
-    let body : Begins (λ b. LeafBody v b l) bytes rest = subst (λ s. Begins (λ b. ContentBody s b (content l)) bytes rest) (sym (no_scale version (type_of l))) (subst (λ k. Begins (λ b. ContentBody plain b k) bytes rest) (sym m.holds) begins) in
-    (l, m.is, subst (λ z. Begins (λ b. Encodes NoLegacy v b (leaf l)) (z ∷ bytes) rest) (ap store_code m.typed ∙ is) (begins_behind (leaf_code l) bytes rest body))
-
-pub leaf_encoded : (version : WriteVersion) (t : LeafType) (c : Content) (code : ℕ) (bytes rest old new : List ℕ) (p : Place) → store_code t ≡ code → form_of c ≡ form t → Begins (λ b. ContentBody plain b c) bytes rest → PutWith t c old new p → EncodedPut (written_version version) (code ∷ bytes) rest old new p
-leaf_encoded version t c code bytes rest old new p is formed begins w =
+-- a leaf was read behind its type's code, and written
+pub leaf_encoded : (version : WriteVersion) (t : LeafType) (c : Content) (code : ℕ) (bytes rest old new : List ℕ) (p : Place) → store_code t ≡ code → form_of c ≡ form t → Begins (λ b. ContentBody plain b c) bytes rest → PutWith old t c new p → EncodedPut (written_version version) (code ∷ bytes) rest old new p
+leaf_encoded version t c code bytes rest old new p is formed begins put =
     let m = leaf_begins version t c code bytes rest is formed begins in
-    record { tree = leaf m.0; encoded = m.2; put = subst (λ l. Put old (leaf l) new p) (same_Some w.0 m.0 (sym w.1 ∙ m.1)) w.2 }
+    record { tree = leaf m.0; encoded = m.2; put = put.put m.0 m.1.0 m.1.1 }
 
 pub encoded_grows : (v : Version) (whole rest old new : List ℕ) (p : Place) → EncodedPut v whole rest old new p → IsPrefix old new
 encoded_grows v whole rest old new p s = put_grows old s.tree new p s.put

@@ -2,7 +2,10 @@
 use Rattle.std.specs.Prelude.{◌≡◌, ℕ, ◌+◌, ◌<◌, ◌≤◌, List, ◌++◌, length, Result, Ok, Err}
 use Rattle.tv_base.specs.Parts.{short_sized}
 use Rattle.tv_base.specs.Sink.{IsPrefix}
-use Rattle.tv_format.specs.Tree.{Tree}
+use Rattle.tv_format.specs.Content.{Content}
+use Rattle.tv_format.specs.Leaves.{type_of, content}
+use Rattle.tv_format.specs.Tree.{Leaf, Tree, leaf}
+use Rattle.tv_format.specs.declared.leaf_type.LeafType.{LeafType}
 use Rattle.tv_heap.specs.Room.{room}
 use Rattle.tv_builder.specs.declared.add_error.AddError.{AddError}
 use Rattle.tv_builder.specs.declared.add_error.AddError.TheVariants.{HeapFull, Memory}
@@ -20,6 +23,11 @@ pub record Put (old : List ℕ) (t : Tree) (new : List ℕ) (p : Place) : Type 0
   pub place : p ≡ tree_place old t
   pub fits : length new ≤ 4294967295
   pub placed : Placed new p t
+
+-- the leaf of this type that holds this is written, and it fits
+pub record PutWith (old : List ℕ) (t : LeafType) (c : Content) (new : List ℕ) (p : Place) : Type 0 where
+  pub prefix : IsPrefix old new
+  pub put : (l : Leaf) → type_of l ≡ t → content l ≡ c → Put old (leaf l) new p
 
 -- the heap would be too long, or memory was refused
 abbrev pub WhyUnwritten : List ℕ → AddError → Type 0

@@ -3,39 +3,21 @@
 ghost use Rattle.std.specs.Prelude.{◌≡◌, ◌≤◌, ◌∷◌, length, IfSome, Some};
 ghost use Rattle.tv_base.specs.Sink.{IsPrefix};
 ghost use Rattle.tv_builder.specs.EncodedPut.{EncodedPut};
-ghost use Rattle.tv_builder.specs.Whole.{Put};
-ghost use Rattle.tv_value.specs.LeafParts.{content_of};
-ghost use Rattle.tv_format.specs.Leaves.{leaf_with};
-ghost use Rattle.tv_format.specs.Tree.{Leaf, leaf as leaf_tree};
 ghost use Rattle.tv_format.specs.WriteVersion.{written_version};
 ghost use Rattle.tv_format.specs.declared.version.WriteVersion.{WriteVersion};
 
-use crate::encoded_parts::{
-    eight_at, entry_count_at, key_at, signed_at, sixteen_at, sized_at, tokenized_at, truth_at,
-};
 use crate::list_kind::ListKind;
-use crate::whole::{put, put_list};
+use crate::whole::{put_content, put_list};
 use tv_format::leaf_type::{Form, LeafType};
 use tv_format::type_codes::{ARRAY_CODE, OBJECT_CODE};
 use tv_format::version::WriteVersion;
 use tv_heap::place::Place;
 use tv_heap::write::push_place;
 use tv_value::content::LeafContent;
-use tv_value::in_place::{number_at, text_at};
-use tv_value::leaf::ReferenceValueLeaf;
-
-// Writes the value of this type that holds this.
-#[inline(always)]
-fn put_content(heap: &mut Vec<u8>, leaf_type: LeafType, content: LeafContent<'_>) -> Option<Place>
-    requires { length heap.old.items ≤ 4294967295 }
-    ensures found { IfSome result
-        (λ place. (l : Leaf) × (leaf_with leaf_type (content_of content.entry) ≡ Some l)
-        × Put heap.old.items (leaf_tree l) heap.new.items place) }
-    ensures prefix { IsPrefix heap.old.items heap.new.items }
-{
-    let value = ReferenceValueLeaf::with_content(leaf_type, content)?;
-    put(heap, &value)
-}
+use tv_value::in_place::{
+    eight_at, entry_count_at, key_at, number_at, signed_at, sixteen_at, sized_at, text_at,
+    tokenized_at, truth_at,
+};
 
 // Writes the value without children that stands behind this code. It is encoded alike in all versions that are written.
 #[inline(always)]
@@ -188,7 +170,7 @@ fn put_encoded_object<'a>(
     let mut rest = behind;
     for _i in 0..announced {
         let (key, behind_key) = key_at(rest, version)?;
-        let name = put(heap, &ReferenceValueLeaf::Str(key))?;
+        let name = put_content(heap, LeafType::Str, LeafContent::Text(key))?;
         let Ok(()) = push_place(places, name) else {
             return None;
         };

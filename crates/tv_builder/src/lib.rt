@@ -7,7 +7,6 @@ pub mod build_error;
 mod building;
 pub mod bytes_kind;
 pub mod encoded;
-pub mod encoded_parts;
 mod fits;
 mod frame;
 pub mod heap_pair;

@@ -6,7 +6,8 @@ ghost use Rattle.tv_heap.specs.LeafBytes.{leaf_bytes};
 ghost use Rattle.tv_value.specs.Lent.{leaf_of, nested_tree};
 ghost use Rattle.tv_format.specs.Tree.{leaf as leaf_tree, array, object, elements, entries};
 ghost use Rattle.tv_builder.specs.Whole.{Put, PutNot, Puts, PutWithin, PutNotWithin};
-ghost use Rattle.tv_builder.specs.Whole.{ListPut, ListPutNot};
+ghost use Rattle.tv_builder.specs.Whole.{ListPut, ListPutNot, PutWith};
+ghost use Rattle.tv_value.specs.LeafParts.{content_of};
 
 use crate::add_error::AddError;
 use crate::fits::{has_room, has_ten_times, has_tree_room, has_value_room};
@@ -14,9 +15,11 @@ use crate::list_kind::ListKind;
 use crate::nested::{Rest, put_nested};
 use std::alloc::Global;
 use std::convert::AsStr;
-use tv_heap::len::leaf_len;
+use tv_format::leaf_type::LeafType;
+use tv_heap::len::{content_len, leaf_len};
 use tv_heap::place::Place;
-use tv_heap::write::{push_place, write_leaf, write_list};
+use tv_heap::write::{push_place, write_content, write_leaf, write_list};
+use tv_value::content::LeafContent;
 use tv_value::leaf::ReferenceValueLeaf;
 use tv_value::nested::{Nested, NestedValue, lend};
 use tv_value::value::Value;
@@ -46,15 +49,26 @@ pub(crate) fn put_leaf(
     Ok(place)
 }
 
-// The same, where the reason of a refusal isn't asked for. After `None` the old heap is still a prefix of the new.
+// Writes the value of this type that holds this, and returns its place, where the reason of a refusal isn't asked for. After `None` the old heap
+// is still a prefix of the new.
 #[inline(always)]
-pub(crate) fn put(heap: &mut Vec<u8>, value: &ReferenceValueLeaf<'_>) -> Option<Place>
+pub(crate) fn put_content(
+    heap: &mut Vec<u8>,
+    leaf_type: LeafType,
+    content: LeafContent<'_>,
+) -> Option<Place>
     requires { length heap.old.items ≤ 4294967295 }
     ensures found { IfSome result
-        (λ place. Put heap.old.items (leaf_tree (leaf_of value.now)) heap.new.items place) }
+        (PutWith heap.old.items leaf_type (content_of content.entry) heap.new.items) }
     ensures prefix { IsPrefix heap.old.items heap.new.items }
 {
-    put_leaf(heap, value).ok()
+    if !has_value_room(heap.len(), content_len(content)) {
+        return None;
+    }
+    match write_content(heap, leaf_type, content) {
+        Ok(place) => Some(place),
+        Err(_) => None,
+    }
 }
 
 // Writes a list behind its children, whose places are those from `first` on, takes these off, and returns its own place. After an

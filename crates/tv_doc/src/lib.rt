@@ -1,7 +1,6 @@
 //! Documents: pairs of a field and a value, the values in one flat heap of bytes.
 #![tactic(auto)]
 
-pub mod add_error;
 mod borrowed_json;
 pub mod builder;
 mod convert;
@@ -20,3 +19,5 @@ pub mod named_back_error;
 pub mod parse_buffers;
 mod recent_fields;
 mod same;
+
+pub use tv_builder::add_error;

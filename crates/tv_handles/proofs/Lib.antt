@@ -1,4 +1,3 @@
+mod Boxes
 mod Heap
-mod MadeDocument
-mod MadeSchema
-mod Options
+mod Pointers

@@ -7,10 +7,10 @@ ghost use Rattle.tv_doc.specs.declared.document.CompactDoc.{CompactDoc};
 ghost use Rattle.tv_handles.specs.Kept.{keeps};
 ghost use Rattle.tv_doc.specs.contracts.document.CompactDoc.{the_row as document_row};
 
+use crate::kept::Kept;
 use std::alloc::Global;
 use std::marker::Model;
 use std::mem::replace;
-use std::ptr::null_mut;
 use tv_doc::document::CompactDoc;
 
 /// A document that stays where it is between two calls, or none. A handle of zeros holds none. (Not in tantivy.)
@@ -25,30 +25,36 @@ impl Model for DocumentHandle {
 }
 
 impl DocumentHandle {
+    // The handle of what is kept.
+    fn of(kept: Kept<CompactDoc>) -> DocumentHandle
+        ensures { result.document ≡ kept.value }
+    {
+        let Kept { at } = kept;
+        DocumentHandle { at: at as *mut u8 }
+    }
+
+    // What the handle keeps. It is given up.
+    fn into_kept(self) -> Kept<CompactDoc>
+        ensures { result.value ≡ self.document }
+    {
+        let DocumentHandle { at } = self;
+        Kept {
+            at: at as *mut CompactDoc,
+        }
+    }
+
     /// A handle that holds no document.
     pub fn closed() -> DocumentHandle
         ensures { result.document ≡ None }
     {
-        DocumentHandle { at: null_mut() }
-    }
-
-    // The handle of the document in a box.
-    fn of_box(boxed: Box<CompactDoc>) -> DocumentHandle
-        ensures { result.document ≡ Some boxed.value }
-    {
-        let at = Box::into_raw(boxed);
-        DocumentHandle { at: at as *mut u8 }
+        DocumentHandle::of(Kept::none())
     }
 
     /// The document that the handle held, in its box. The handle is given up.
     pub fn into_box(self, alloc: Global) -> Option<Box<CompactDoc>>
         ensures { option_map (λ boxed. boxed.value) result ≡ self.document }
     {
-        let DocumentHandle { at } = self;
-        if at == null_mut() {
-            return None;
-        }
-        Some(unsafe { Box::from_raw(alloc, at as *mut CompactDoc) })
+        self.into_kept().into_box(alloc)
     }
 
     /// Takes the document out of the handle, which then holds none. Nothing of the document moves.
@@ -63,7 +69,7 @@ impl DocumentHandle {
     pub fn keep(&mut self, alloc: Global, boxed: Box<CompactDoc>)
         ensures { self.new.document ≡ Some boxed.value }
     {
-        let _ = replace(self, DocumentHandle::of_box(boxed)).into_box(alloc);
+        let _ = replace(self, DocumentHandle::of(Kept::of(boxed))).into_box(alloc);
     }
 
     /// Gives up what the handle held, so that it holds no document.

@@ -2,5 +2,6 @@
 #![tactic(auto)]
 
 pub mod document_handle;
+mod kept;
 pub mod schema_handle;
 pub mod schema_memory;

@@ -7,11 +7,11 @@ ghost use Rattle.tv_handles.specs.Kept.{keeps};
 ghost use Rattle.tv_handles.specs.contracts.schema_memory.SchemaMemory.{the_row as schema_row};
 ghost use Rattle.tv_handles.specs.declared.schema_memory.SchemaMemory.{SchemaMemory};
 
+use crate::kept::Kept;
 use crate::schema_memory::SchemaMemory;
 use std::alloc::{AllocError, Global};
 use std::marker::Model;
 use std::mem::replace;
-use std::ptr::null_mut;
 use tv_doc::parse_buffers::ParseBuffers;
 use tv_schema::Schema;
 
@@ -30,30 +30,36 @@ impl Model for SchemaHandle {
 impl SchemaHandle {
     ghost use Rattle.tv_handles.specs.Held.{entries_of};
 
+    // The handle of what is kept.
+    fn of(kept: Kept<SchemaMemory>) -> SchemaHandle
+        ensures { result.memory ≡ kept.value }
+    {
+        let Kept { at } = kept;
+        SchemaHandle { at: at as *mut u8 }
+    }
+
+    // What the handle keeps. It is given up.
+    fn into_kept(self) -> Kept<SchemaMemory>
+        ensures { result.value ≡ self.memory }
+    {
+        let SchemaHandle { at } = self;
+        Kept {
+            at: at as *mut SchemaMemory,
+        }
+    }
+
     /// A handle that holds no schema.
     pub fn closed() -> SchemaHandle
         ensures { result.memory ≡ None }
     {
-        SchemaHandle { at: null_mut() }
-    }
-
-    // The handle of the schema in a box.
-    fn of_box(boxed: Box<SchemaMemory>) -> SchemaHandle
-        ensures { result.memory ≡ Some boxed.value }
-    {
-        let at = Box::into_raw(boxed);
-        SchemaHandle { at: at as *mut u8 }
+        SchemaHandle::of(Kept::none())
     }
 
     /// The schema that the handle held, with its memory, in its box. The handle is given up.
     pub fn into_box(self, alloc: Global) -> Option<Box<SchemaMemory>>
         ensures { option_map (λ boxed. boxed.value) result ≡ self.memory }
     {
-        let SchemaHandle { at } = self;
-        if at == null_mut() {
-            return None;
-        }
-        Some(unsafe { Box::from_raw(alloc, at as *mut SchemaMemory) })
+        self.into_kept().into_box(alloc)
     }
 
     /// Takes the schema out of the handle, which then holds none. Nothing of the schema moves.
@@ -68,7 +74,7 @@ impl SchemaHandle {
     pub fn keep(&mut self, alloc: Global, boxed: Box<SchemaMemory>)
         ensures { self.new.memory ≡ Some boxed.value }
     {
-        let _ = replace(self, SchemaHandle::of_box(boxed)).into_box(alloc);
+        let _ = replace(self, SchemaHandle::of(Kept::of(boxed))).into_box(alloc);
     }
 
     /// Gives up what the handle held, so that it holds no schema.

@@ -3,7 +3,8 @@
 ghost use Rattle.std.specs.Prelude.{◌≡◌, ◌+◌, ◌<◌, ◌≤◌, ◌^◌, SomeIff, length};
 ghost use Rattle.std.specs.List.{flat_map};
 ghost use Rattle.tv_base.specs.Number.{vnum};
-ghost use Rattle.tv_heap.specs.LeafBytes.{leaf_bytes};
+ghost use Rattle.tv_heap.specs.LeafBytes.{content_bytes, leaf_bytes};
+ghost use Rattle.tv_value.specs.LeafParts.{content_of};
 ghost use Rattle.tv_value.specs.Lent.{leaf_of};
 ghost use Rattle.tv_value.specs.PreTokenized.{text_of, tokens_of, tokens_left};
 ghost use Rattle.tv_format.specs.Short.{short_token, short_tokenized};
@@ -79,6 +80,24 @@ pub fn leaf_len(value: &ReferenceValueLeaf<'_>) -> Option<u32>
         len }
 {
     match value.content() {
+        LeafContent::Nothing | LeafContent::Truth(_) => Some(0),
+        LeafContent::Unsigned(_) | LeafContent::Signed(_) => Some(8),
+        LeafContent::Wide(_) => Some(16),
+        LeafContent::Text(text) => sized_above(text.len(), 0),
+        LeafContent::Bytes(bytes) => sized_above(bytes.len(), 0),
+        LeafContent::Tokens(text) => tokenized_len(text),
+    }
+}
+
+/// The same of a value without children that holds this. (Not in tantivy.) It has a body of its own, since `leaf_len` is slower where what a value
+/// holds is handed on.
+#[inline(always)]
+#[tactic(auto, using(crate::proofs::Writes::length_eight, crate::proofs::Writes::length_sixteen))]
+pub fn content_len(content: LeafContent<'_>) -> Option<u32>
+    ensures { let len = length (content_bytes (content_of content.entry)) in SomeIff result
+        (len < 2 ^ 32) len }
+{
+    match content {
         LeafContent::Nothing | LeafContent::Truth(_) => Some(0),
         LeafContent::Unsigned(_) | LeafContent::Signed(_) => Some(8),
         LeafContent::Wide(_) => Some(16),

@@ -9,16 +9,19 @@ ghost use Rattle.tv_value.specs.Lent.{leaf_of};
 ghost use Rattle.tv_value.specs.PreTokenized.{text_of, tokens_of};
 ghost use Rattle.std.specs.Int.{w64, cast_unsigned};
 ghost use Rattle.tv_value.specs.LeafParts.{content_of};
+ghost use Rattle.tv_format.specs.Leaves.{type_of, content};
 ghost use Rattle.tv_format.specs.Short.{short_tokenized, IsContent};
-ghost use Rattle.tv_format.specs.Tree.{leaf};
+ghost use Rattle.tv_format.specs.Tree.{Leaf, leaf};
 ghost use Rattle.tv_heap.specs.LeafBytes.{content_bytes, content_address, leaf_bytes};
 ghost use Rattle.tv_heap.specs.LeafBytes.{leaf_value_type, leaf_address};
 ghost use Rattle.tv_heap.specs.TypeCode.{type_code};
 ghost use Rattle.tv_heap.specs.Wrote.{Wrote};
+ghost use Rattle.tv_heap.specs.declared.value_type.ValueType.TheVariants as types;
 
 use crate::place::Place;
 use crate::value_type::ValueType;
 use std::alloc::AllocError;
+use tv_format::leaf_type::LeafType;
 use tv_value::content::LeafContent;
 use tv_value::encode::{push_number, push_sized, push_token};
 use tv_value::laws::pre_tokenized_texts_encode;
@@ -153,6 +156,35 @@ pub fn write_leaf(heap: &mut Vec<u8>, value: &ReferenceValueLeaf<'_>) -> Result<
     push_content(heap, content)?;
     Ok(Place {
         value_type: ValueType::Leaf(value.leaf_type()),
+        address,
+    })
+}
+
+/// Writes the value of this type that holds this, as `write_leaf` does, and returns its place. (Not in tantivy.) After an error the old heap is
+/// still a prefix of the new.
+#[inline(always)]
+pub fn write_content(
+    heap: &mut Vec<u8>,
+    leaf_type: LeafType,
+    held: LeafContent<'_>,
+) -> Result<Place, AllocError>
+    requires { length heap.old.items + length (content_bytes (content_of held)) < 2 ^ 32 }
+    ensures heap { OnOk result
+        (heap.new.items ≡ heap.old.items ++ content_bytes (content_of held.entry)) }
+    ensures place { IfOk result
+        (λ place. (place.value_type ≡ types.Leaf leaf_type)
+        × (place.address ≡ content_address (length heap.old.items) (content_of held.entry))) }
+    ensures ok { IfOk result
+        (λ place. (l : Leaf) → type_of l ≡ leaf_type → content l ≡ content_of held.entry
+        → Wrote heap.old.items heap.new.items (type_code place.value_type) place.address
+        (leaf l)) }
+    ensures err { OnErr result (IsPrefix heap.old.items heap.new.items) }
+{
+    make_room(heap, FIRST_ROOM)?;
+    let address = content_address(heap.len() as u32, held);
+    push_content(heap, held)?;
+    Ok(Place {
+        value_type: ValueType::Leaf(leaf_type),
         address,
     })
 }

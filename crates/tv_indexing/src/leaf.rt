@@ -1,6 +1,6 @@
 //! Terms of values without children.
 
-ghost use Rattle.std.specs.Prelude.{◌≡◌, ◌≢◌, ◌++◌, ◌∷◌, [], IfErr, IfOk, OnErr, OnOk};
+ghost use Rattle.std.specs.Prelude.{◌≡◌, false, IfErr, IfOk, Ok, OnErr};
 ghost use Rattle.tv_indexing.specs.LeafTerms.{HasTerm, leaf_value};
 ghost use Rattle.tv_term.specs.declared.term_error.TermError.TheVariants.{Memory};
 ghost use Rattle.tv_value.specs.Lent.{leaf_of};
@@ -19,6 +19,7 @@ pub fn write_leaf(
     leaf: ReferenceValueLeaf<'_>,
 ) -> Result<bool, TermError>
     ensures made { IfOk result (HasTerm field.id (leaf_value (leaf_of leaf.entry)) writer.new) }
+    ensures no_term { result ≡ Ok false → writer.new ≡ writer.old }
     ensures unchanged { OnErr result (writer.new ≡ writer.old) }
     ensures memory { IfErr result (λ error. error ≡ Memory) }
 {

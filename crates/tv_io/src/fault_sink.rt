@@ -1,69 +1,14 @@
 //! A sink of which one write fails.
 
-ghost use Rattle.std.specs.Prelude.{◌≡◌, ◌≤◌, length, Some, None, Err, IfOk};
+ghost use Rattle.std.specs.Prelude.{◌≡◌, ◌≤◌, length, Err, IfOk};
 ghost use Rattle.tv_base.specs.Sink.{AppendsSome};
 ghost use Rattle.tv_base.specs.Source.{CountsFailure};
 ghost use Rattle.tv_io.specs.Calls.{failures_of, failures_after};
 ghost use Rattle.tv_io.specs.Planned.{IsFailing, CountsCall};
 
-use crate::failures::CountedFailures;
-use crate::planned_failure::PlannedFailure;
+pub use crate::faulty::FaultSink;
 use std::io;
 use tv_base::ByteSink;
-
-/// Writes to another sink, at most one byte a call, and fails once: so many calls pass, the next one fails with an error of a chosen kind,
-/// and all later ones pass. So a test sees what a writer does where any one of its writes fails. (Not in tantivy.)
-///
-/// A call whose buffer is empty passes, and isn't counted.
-///
-/// ```
-/// pub fn write_failing(alloc: Global, passes: u64) -> (Result<(), io::ErrorKind>, VecSink) {
-///     let mut sink = FaultSink::new(VecSink::new(alloc), passes, io::ErrorKind::StorageFull);
-///     let written = 20u64.serialize(&mut sink);
-///     (written, sink.into_inner())
-/// }
-/// ```
-#[derive(Drop)]
-pub struct FaultSink<K: ByteSink> {
-    inner: K,
-    plan: PlannedFailure,
-    failures: CountedFailures,
-}
-
-impl<K: ByteSink> FaultSink<K> {
-    /// A sink over this one. `passes` calls pass, and the next one fails with an error of this kind. Nothing is written yet.
-    pub fn new(inner: K, passes: u64, kind: io::ErrorKind) -> FaultSink<K>
-        ensures inner { result.inner ≡ inner }
-        ensures plan { result.plan ≡ record { fails_at = Some passes; kind = kind; calls = 0 } }
-        ensures failures { ⟦<FaultSink<K> as ByteSink>⟧.failures result
-            ≡ record { number = 0; last = None } }
-    {
-        FaultSink {
-            inner,
-            plan: PlannedFailure::new(passes, kind),
-            failures: CountedFailures::none(),
-        }
-    }
-
-    /// How many calls were counted, the one that failed among them. At 2^64 - 1 the count stays.
-    pub fn calls(&self) -> u64
-        ensures { result ≡ self.now.plan.calls }
-    {
-        self.plan.calls
-    }
-
-    /// The inner sink, taken out. It holds what was written.
-    pub fn into_inner(self) -> K
-        ensures { result ≡ self.inner }
-    {
-        let FaultSink {
-            inner,
-            plan: _,
-            failures: _,
-        } = self;
-        inner
-    }
-}
 
 impl<K: ByteSink> ByteSink for FaultSink<K> {
     ghost is_known = { λ s. K.is_known s.inner };

@@ -1,69 +1,14 @@
 //! A source of which one read fails.
 
-ghost use Rattle.std.specs.Prelude.{◌≡◌, ◌≤◌, [], length, drop, false, Some, None, Err, IfOk};
+ghost use Rattle.std.specs.Prelude.{◌≡◌, ◌≤◌, [], length, drop, false, Err, IfOk};
 ghost use Rattle.tv_base.specs.Sink.{IsPrefix};
 ghost use Rattle.tv_base.specs.Source.{GivesSome, CountsFailure};
 ghost use Rattle.tv_io.specs.Calls.{failures_of, failures_after};
 ghost use Rattle.tv_io.specs.Planned.{IsFailing, CountsCall};
 
-use crate::failures::CountedFailures;
-use crate::planned_failure::PlannedFailure;
+pub use crate::faulty::FaultSource;
 use std::io;
 use tv_base::ByteSource;
-
-/// Reads another source, at most one byte a call, and fails once: so many calls pass, the next one fails with an error of a chosen kind,
-/// and all later ones pass. So a test sees what a reader does where any one of its reads fails. (Not in tantivy.)
-///
-/// A call whose buffer is empty passes, and isn't counted. No byte is shown as buffered, so that each byte takes a read.
-///
-/// ```
-/// pub fn read_failing(alloc: Global, bytes: &[u8], passes: u64) -> Result<u64, ReadError> {
-///     let source = SliceSource::new(bytes);
-///     let mut source = FaultSource::new(source, passes, io::ErrorKind::TimedOut);
-///     u64::deserialize(alloc, &mut source)
-/// }
-/// ```
-#[derive(Drop)]
-pub struct FaultSource<S: ByteSource> {
-    inner: S,
-    plan: PlannedFailure,
-    failures: CountedFailures,
-}
-
-impl<S: ByteSource> FaultSource<S> {
-    /// A source over this one. `passes` calls pass, and the next one fails with an error of this kind. Nothing is read yet.
-    pub fn new(inner: S, passes: u64, kind: io::ErrorKind) -> FaultSource<S>
-        ensures inner { result.inner ≡ inner }
-        ensures plan { result.plan ≡ record { fails_at = Some passes; kind = kind; calls = 0 } }
-        ensures failures { ⟦<FaultSource<S> as ByteSource>⟧.failures result
-            ≡ record { number = 0; last = None } }
-    {
-        FaultSource {
-            inner,
-            plan: PlannedFailure::new(passes, kind),
-            failures: CountedFailures::none(),
-        }
-    }
-
-    /// How many calls were counted, the one that failed among them. At 2^64 - 1 the count stays.
-    pub fn calls(&self) -> u64
-        ensures { result ≡ self.now.plan.calls }
-    {
-        self.plan.calls
-    }
-
-    /// The inner source, taken out. It stands where the reads have left it.
-    pub fn into_inner(self) -> S
-        ensures { result ≡ self.inner }
-    {
-        let FaultSource {
-            inner,
-            plan: _,
-            failures: _,
-        } = self;
-        inner
-    }
-}
 
 impl<S: ByteSource> ByteSource for FaultSource<S> {
     ghost is_known = { λ s. S.is_known s.inner };

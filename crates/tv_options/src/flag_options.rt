@@ -5,7 +5,7 @@ ghost use Rattle.tv_options.specs.declared.flag_options.FlagOptions.{FlagOptions
 ghost use Rattle.tv_options.specs.FlagOptions.{join, none, only_stored, only_indexed, only_fast};
 
 use crate::flags::{FastFlag, IndexedFlag, SchemaFlagList, StoredFlag};
-use crate::own_part::{Coercion, OfBytes, OfIpAddrs, OwnPart};
+use crate::own_part::{Coercion, OfBytes, OfIpAddrs, OwnPart, PlainPart};
 use std::ops::BitOr;
 use tv_date::date_time::DateTimePrecision;
 
@@ -99,6 +99,48 @@ impl<Part: OwnPart> FlagOptions<Part> {
     {
         self.fieldnorms = true;
         self
+    }
+}
+
+// Options of bytes and of IP addresses.
+impl<Part: PlainPart> FlagOptions<Part> {
+    /// Options of these parts (not in tantivy).
+    pub fn from_parts(
+        indexed: bool,
+        fieldnorms: bool,
+        fast: bool,
+        stored: bool,
+    ) -> FlagOptions<Part>
+        ensures { result ≡ record {
+          indexed = indexed;
+          fieldnorms = fieldnorms;
+          fast = fast;
+          stored = stored;
+          part = Part.unset;
+        } }
+    {
+        FlagOptions {
+            indexed,
+            fieldnorms,
+            fast,
+            stored,
+            part: Part::unset(),
+        }
+    }
+
+    /// Whether field norms were asked for, also where the values aren't searchable.
+    pub fn fieldnorms(&self) -> bool
+        ensures { result ≡ self.now.fieldnorms }
+    {
+        self.asks_for_fieldnorms()
+    }
+
+    /// The same options, with field norms.
+    #[must_use]
+    pub fn set_fieldnorms(self) -> FlagOptions<Part>
+        ensures { result ≡ record self { fieldnorms = true } }
+    {
+        self.with_fieldnorms()
     }
 }
 

@@ -1,13 +1,11 @@
 //! Options of a schema's fields, and the types of their values.
 #![tactic(auto)]
 
-pub mod bytes_options;
 pub mod date_time_options;
 pub mod facet_options;
 pub mod flag_options;
 pub mod flags;
 pub mod index_record_option;
-pub mod ip_options;
 pub mod json_object_options;
 pub mod laws;
 pub mod numeric_options;
@@ -17,18 +15,16 @@ pub mod textual_options;
 pub mod tokenizer_name;
 pub mod types;
 
-pub use bytes_options::BytesOptions;
 pub use date_time_options::DateOptions;
 pub use facet_options::FacetOptions;
-pub use flag_options::FlagOptions;
+pub use flag_options::{BytesOptions, FlagOptions, IpAddrOptions};
 pub use flags::{
     COERCE, CoerceFlag, FAST, FastFlag, INDEXED, IndexedFlag, STORED, SchemaFlagList, StoredFlag,
 };
 pub use index_record_option::IndexRecordOption;
-pub use ip_options::IpAddrOptions;
 pub use json_object_options::JsonObjectOptions;
 pub use numeric_options::NumericOptions;
-pub use own_part::{Coercion, DotExpansion, OfBytes, OfIpAddrs};
+pub use own_part::{Coercion, DotExpansion, OfBytes, OfIpAddrs, PlainPart};
 pub use text_options::{FastFieldTextOptions, STRING, TEXT, TextFieldIndexing, TextOptions};
 pub use textual_options::TextualOptions;
 pub use tokenizer_name::TokenizerName;

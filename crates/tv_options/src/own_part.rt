@@ -121,6 +121,9 @@ impl OwnPart for DateTimePrecision {
     ghost compares_by_value = { Prim.search rules };
 }
 
+/// The part of a type that has no options of its own.
+pub trait PlainPart: OwnPart {}
+
 /// Bytes have no options of their own.
 #[derive(Clone, Copy, Debug, PartialEq, Eq)]
 pub struct OfBytes;
@@ -147,6 +150,8 @@ impl OwnPart for OfBytes {
     ghost compares_by_value = { Prim.search rules };
 }
 
+impl PlainPart for OfBytes {}
+
 /// IP addresses have no options of their own.
 #[derive(Clone, Copy, Debug, PartialEq, Eq)]
 pub struct OfIpAddrs;
@@ -172,3 +177,5 @@ impl OwnPart for OfIpAddrs {
 
     ghost compares_by_value = { Prim.search rules };
 }
+
+impl PlainPart for OfIpAddrs {}

@@ -1,4 +1,5 @@
 pub mod Finding
+pub mod Lending
 pub mod Codes
 pub mod AgreeKinds
 pub mod AgreeLeaves

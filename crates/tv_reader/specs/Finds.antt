@@ -43,6 +43,10 @@ pub record FindsBy {S E F X : Type 0} (stop : E → Stop F) (MayStop : E → ℕ
 abbrev pub FindsIf : {S X : Type 0} (May : DeserializeError → ℕ → Type 0) (is_known : S → Type 0) (left : S → List ℕ) (failures : S → Failures) (old : S) (old_count : ℕ) (new : S) (new_count : ℕ) (result : Result X DeserializeError) (Encodes : List ℕ → X → Type 0) (HasError : List ℕ → Refusal → Type 0) → Type 0
 FindsIf May is_known left failures old old_count new new_count result Encodes HasError = FindsBy store_stop May (corrupted UnexpectedEnd) is_known left failures old old_count new new_count result Encodes HasError
 
+-- no refusal stands in the bytes
+abbrev pub Nothing : List ℕ → Refusal → Type 0
+Nothing whole r = ⊥
+
 -- the same of a reader of trees, to a depth
 abbrev pub FindsDeepBy : {S X : Type 0} (is_known : S → Type 0) (left : S → List ℕ) (failures : S → Failures) (old : S) (old_count : ℕ) (new : S) (new_count : ℕ) (result : Result X DeserializeError) (Encodes : List ℕ → X → Type 0) (HasError : List ℕ → Refusal → Type 0) → Type 0
 FindsDeepBy is_known left failures old old_count new new_count result Encodes HasError = FindsBy tree_stop StoreMayStopDeep (corrupted UnexpectedEnd) is_known left failures old old_count new new_count result Encodes HasError

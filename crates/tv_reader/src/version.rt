@@ -1,9 +1,11 @@
 //! The versions of the store format.
 
 ghost use Rattle.std.specs.Prelude.{◌≡◌, Ok, Err, MatchOption};
-ghost use Rattle.tv_reader.specs.Version.{numbered};
+ghost use Rattle.tv_format.specs.WriteVersion.{written_version};
+ghost use Rattle.tv_reader.specs.Version.{numbered, version_of};
 
 use crate::error::DeserializeError;
+use tv_format::version::WriteVersion;
 
 /// A version of the store format.
 #[derive(Clone, Copy, Debug, PartialEq, Eq, PartialOrd, Ord)]
@@ -29,6 +31,19 @@ impl DocStoreVersion {
             2 => Ok(DocStoreVersion::V2),
             3 => Ok(DocStoreVersion::V3),
             _ => Err(DeserializeError::UnsupportedVersion(number, 3)),
+        }
+    }
+
+    /// The version as one that is written; `None` for version 1, which is only read. (Not in tantivy.)
+    #[inline(always)]
+    pub fn written(self) -> Option<WriteVersion>
+        ensures { MatchOption result (self ≡ DocStoreVersion.V1)
+            (λ known. written_version known ≡ version_of self) }
+    {
+        match self {
+            DocStoreVersion::V1 => None,
+            DocStoreVersion::V2 => Some(WriteVersion::V2),
+            DocStoreVersion::V3 => Some(WriteVersion::V3),
         }
     }
 }

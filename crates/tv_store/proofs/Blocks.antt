@@ -8,7 +8,7 @@ use Rattle.tv_base.specs.Source.{Failures}
 use Rattle.tv_base.specs.Stop.{Taken}
 use Rattle.tv_builder.specs.Parts.{Part, number}
 use Rattle.tv_builder.specs.Prefix.{Encoded}
-use Rattle.tv_decoder.specs.Prefix.{HasNoRoom}
+use Rattle.tv_reading.specs.Prefix.{HasNoRoom}
 use Rattle.tv_doc.specs.Document.{document_of}
 use Rattle.tv_doc.specs.declared.document.CompactDoc.{CompactDoc}
 use Rattle.tv_format.specs.Encoding.{EncodesDocument}

@@ -9,7 +9,7 @@ use Rattle.tv_builder.specs.Builder.{built, state_of}
 use Rattle.tv_builder.specs.Prefix.{Encoded}
 use Rattle.tv_builder.specs.State.{State}
 use Rattle.tv_builder.specs.Weight.{state_weight}
-use Rattle.tv_decoder.specs.Prefix.{parts_at, IsPlace}
+use Rattle.tv_reading.specs.Prefix.{parts_at, IsPlace}
 use Rattle.tv_doc.specs.Document.{document_of}
 use Rattle.tv_doc.specs.declared.document.CompactDoc.{CompactDoc}
 use Rattle.tv_format.specs.Tree.{Document}

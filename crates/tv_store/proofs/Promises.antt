@@ -12,10 +12,10 @@ use Rattle.tv_base.specs.ReadsAs.{Grammar, IsReadUnless, Known, Reads}
 use Rattle.tv_base.specs.Stop.{Stop, CountsStop, Counts}
 use Rattle.tv_base.specs.Stop.Stop.{InputError, Uncounted}
 use Rattle.tv_base.proofs.ByGrammar.{few_taken}
-use Rattle.tv_chosen.specs.ChosenFields.{chosen}
-use Rattle.tv_chosen.proofs.RoomChosen.{chosen_has_room}
-use Rattle.tv_decoder.specs.Prefix.{HasNoRoom}
-use Rattle.tv_decoder.proofs.RoomWithin.{document_within}
+use Rattle.tv_reading.specs.ChosenFields.{chosen}
+use Rattle.tv_reading.proofs.RoomChosen.{chosen_has_room}
+use Rattle.tv_reading.specs.Prefix.{HasNoRoom}
+use Rattle.tv_reading.proofs.RoomWithin.{document_within}
 use Rattle.tv_format.specs.Encoding.{EncodesDocument}
 use Rattle.tv_format.specs.InputError.{Refusal, corrupted, no_text_key}
 use Rattle.tv_format.specs.Tree.{Document}
@@ -34,7 +34,7 @@ use Rattle.tv_reader.specs.declared.error.DeserializeError.{DeserializeError}
 use Rattle.tv_reader.specs.declared.error.DeserializeError.TheVariants as errors
 use Rattle.tv_reader.specs.declared.value_type.ValueType.{ValueType}
 use Rattle.tv_reader.specs.declared.value_type.ValueType.TheVariants as types
-use Rattle.tv_skip.specs.Skip.{IsDocument, IsValue}
+use Rattle.tv_reading.specs.Skip.{IsDocument, IsValue}
 use Rattle.tv_store.specs.Documents.{IsReadingError, NoDocument, SaysNothing, in_place}
 use Rattle.tv_store.specs.Reading.{reading, documents, chosen_pairs, passed}
 use Rattle.tv_value.specs.declared.field.Field.{Field}

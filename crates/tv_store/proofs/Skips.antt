@@ -13,7 +13,7 @@ use Rattle.tv_reader.specs.Error.{StoreMayStopRoomy}
 use Rattle.tv_reader.specs.Finds.{FindsIf}
 use Rattle.tv_reader.specs.declared.error.DeserializeError.{DeserializeError}
 use Rattle.tv_reader.specs.declared.error.DeserializeError.TheVariants as errors
-use Rattle.tv_skip.specs.Skip.{IsDocument}
+use Rattle.tv_reading.specs.Skip.{IsDocument}
 use Rattle.tv_store.specs.Blocks.{as_passed, SaysEnd}
 use Rattle.tv_store.specs.Documents.{NoDocument}
 use Rattle.tv_store.specs.Reading.{passed}

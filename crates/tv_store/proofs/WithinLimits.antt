@@ -18,7 +18,7 @@ use Rattle.tv_doc.specs.declared.document.CompactDoc.{CompactDoc}
 use Rattle.tv_builder.specs.Prefix.{Encoded}
 use Rattle.tv_legacy.specs.Legacy.{Legacy}
 use Rattle.tv_reader.specs.Error.{store_stop, StoreMayStop}
-use Rattle.tv_reader.specs.Finds.{GivesStop, FindsIf}
+use Rattle.tv_reader.specs.Finds.{GivesStop, FindsIf, Nothing}
 use Rattle.tv_reader.specs.declared.error.DeserializeError.{DeserializeError}
 use Rattle.tv_reader.specs.declared.error.DeserializeError.TheVariants as errors
 use Rattle.tv_reader.specs.declared.value_type.ValueType.TheVariants as types
@@ -28,14 +28,13 @@ use Rattle.tv_format.specs.Encoding.{EncodesDocument}
 use Rattle.tv_format.specs.Tree.{Document}
 use Rattle.tv_heap.specs.Room.{document_room}
 use Rattle.tv_format.specs.Version.{Version}
-use Rattle.tv_decoder.specs.Buffered.{Nothing}
-use Rattle.tv_decoder.specs.Prefix.{parts_at, parts_read, IsPlace, IsSound, AllFinished, IsDone, NoPrefix, NoRoomBehind}
-use Rattle.tv_decoder.specs.Steps.{Advances, Stepped}
-use Rattle.tv_decoder.specs.declared.reading.Reading.{Reading}
-use Rattle.tv_decoder.proofs.BufferedPairs.{none_passed}
-use Rattle.tv_decoder.proofs.States.{is_state}
+use Rattle.tv_reading.specs.Prefix.{parts_at, parts_read, IsPlace, IsSound, AllFinished, IsDone, NoPrefix, NoRoomBehind}
+use Rattle.tv_reading.specs.Steps.{Advances, Stepped}
+use Rattle.tv_reading.specs.declared.reading.Reading.{Reading}
+use Rattle.tv_reader.proofs.Lending.{none_buffered}
+use Rattle.tv_reading.proofs.States.{is_state}
 use Rattle.tv_builder.proofs.PairBuilding.{heap_weighs}
-use Rattle.tv_decoder.proofs.WholeDocuments.{Goes, step_more, step_fails, step_takes, done_encodes, awaits_more}
+use Rattle.tv_reading.proofs.WholeDocuments.{Goes, step_more, step_fails, step_takes, done_encodes, awaits_more}
 use Rattle.tv_store.proofs.Promises.{only_by, excluded, excused, single_documents}
 use Rattle.tv_store.specs.Reading.{documents}
 use Rattle.tv_store.specs.Documents.{BeginsWith, NoDocument, HasNoRoom, IsReadingError}
@@ -59,7 +58,7 @@ not_done r e = not_done_at r.announced r.field (built r.builder) (state_of r.bui
 
 module _ {S : Type 0} {is_known : S → Type 0} {left : S → List ℕ} {failures : S → Failures} where
   pub begins : (v : Version) (r : Reading) (source : S) (i : ℕ) → FindsIf StoreMayStop is_known left failures source i source i (Ok r) (Goes v r) Nothing
-  begins v r source i = none_passed (Goes v r) r (λ bytes p. subst (λ z. Encoded Legacy v z (parts_read r)) (sym (append-nil bytes)) p)
+  begins v r source i = none_buffered (Goes v r) r (λ bytes p. subst (λ z. Encoded Legacy v z (parts_read r)) (sym (append-nil bytes)) p)
 
 module _ {S : Type 0} {is_known : S → Type 0} {left : S → List ℕ} {failures : S → Failures} (v w : Version) (same : w ≡ v) (begun r : Reading) where
   pub goes_on : {old mid new : S} {i j k : ℕ} (step : Step) (legacy : Bool) (after : Reading) → FindsIf StoreMayStop is_known left failures old i mid j (Ok r) (Goes v begun) Nothing

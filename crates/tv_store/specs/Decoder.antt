@@ -13,9 +13,9 @@ use Rattle.std.specs.Prelude.{◌≡◌, ◌↔◌, ℕ, List, length, true, fal
 use Rattle.tv_base.specs.declared.source.ByteSource.{Ghosts}
 use Rattle.tv_base.specs.ReadsAs.{Errors}
 use Rattle.tv_builder.specs.Prefix.{Encoded}
-use Rattle.tv_decoder.specs.Paid.{PaidBy}
-use Rattle.tv_decoder.specs.Prefix.{parts_read, IsDone, NoPrefix, NoRoomBehind}
-use Rattle.tv_decoder.specs.Steps.{Stepped}
+use Rattle.tv_reading.specs.Paid.{PaidBy}
+use Rattle.tv_reading.specs.Prefix.{parts_read, IsDone, NoPrefix, NoRoomBehind}
+use Rattle.tv_reading.specs.Steps.{Stepped}
 use Rattle.tv_format.specs.Encoding.{NoLegacy}
 use Rattle.tv_format.specs.InputError.{Refusal}
 use Rattle.tv_reader.specs.Error.{StoreMayStop}

@@ -11,8 +11,8 @@ use Rattle.tv_reader.specs.declared.value_type.ValueType.TheVariants.{String}
 use Rattle.tv_format.specs.Encoding.{EncodesDocument}
 use Rattle.tv_format.specs.Tree.{Document}
 use Rattle.tv_format.specs.Version.{Version}
-pub use Rattle.tv_decoder.specs.Documents.{NoDocument}
-pub use Rattle.tv_decoder.specs.Prefix.{HasNoRoom}
+pub use Rattle.tv_reading.specs.Documents.{NoDocument}
+pub use Rattle.tv_reading.specs.Prefix.{HasNoRoom}
 pub use Rattle.tv_doc.specs.InPlace.{in_place}
 
 -- a prefix of the bytes encodes the document, and the rest is left

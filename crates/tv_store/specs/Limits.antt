@@ -11,9 +11,9 @@ use Rattle.tv_builder.specs.Behind.{open_parts}
 use Rattle.tv_builder.specs.Builder.{built, state_of, heap_so_far}
 use Rattle.tv_builder.specs.Prefix.{Encoded}
 use Rattle.tv_builder.specs.State.{State, IsState, lists_of}
-use Rattle.tv_decoder.specs.Kept.{Grows, KeepsPairs}
-use Rattle.tv_decoder.specs.Prefix.{parts_read, IsDone, IsSound, HasNoRoom, NoPrefix}
-use Rattle.tv_decoder.specs.declared.reading.Reading.{Reading}
+use Rattle.tv_reading.specs.Kept.{Grows, KeepsPairs}
+use Rattle.tv_reading.specs.Prefix.{parts_read, IsDone, IsSound, HasNoRoom, NoPrefix}
+use Rattle.tv_reading.specs.declared.reading.Reading.{Reading}
 use Rattle.tv_builder.specs.Weight.{state_weight}
 use Rattle.tv_heap.specs.Weight.{document_weight}
 use Rattle.tv_doc.specs.Document.{document_of}

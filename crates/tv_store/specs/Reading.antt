@@ -4,8 +4,8 @@ use Rattle.tv_base.specs.declared.cause.Cause.TheVariants.{UnexpectedEnd}
 use Rattle.tv_base.specs.declared.source.ByteSource.{Ghosts}
 use Rattle.tv_base.specs.ReadsAs.{Grammar, Errors, Reads}
 use Rattle.tv_base.specs.Stop.{CountsStop}
-use Rattle.tv_chosen.specs.ChosenFields.{chosen, HasNoRoomChosen}
-use Rattle.tv_decoder.specs.Prefix.{HasNoRoom}
+use Rattle.tv_reading.specs.ChosenFields.{chosen, HasNoRoomChosen}
+use Rattle.tv_reading.specs.Prefix.{HasNoRoom}
 use Rattle.tv_doc.specs.Document.{document_of}
 use Rattle.tv_format.specs.Encoding.{EncodesDocument}
 use Rattle.tv_format.specs.InputError.{Refusal, corrupted}
@@ -18,7 +18,7 @@ use Rattle.tv_reader.specs.Trees.{NoValue}
 use Rattle.tv_reader.specs.Version.{version_of}
 use Rattle.tv_reader.specs.declared.error.DeserializeError.{DeserializeError}
 use Rattle.tv_reader.specs.declared.error.DeserializeError.TheVariants.{HeapFull, AlreadyFailed}
-use Rattle.tv_skip.specs.Skip.{IsDocument, IsValue}
+use Rattle.tv_reading.specs.Skip.{IsDocument, IsValue}
 use Rattle.tv_store.specs.Blocks.{as_read, as_passed}
 use Rattle.tv_store.specs.Documents.{IsReadingError, NoDocument, SaysNothing}
 use Rattle.tv_store.specs.declared.block.BlockReader.{BlockReader}

@@ -19,7 +19,7 @@ use std::alloc::Global;
 use tv_base::{ByteSource, Cause};
 use tv_doc::document::CompactDoc;
 use tv_reader::{DeserializeError, DocStoreVersion};
-use tv_skip::items::pass_document;
+use tv_reading::items::pass_document;
 
 // Whether there was a document, by what reading one returned and how many bytes it took: where none was left, a missing end is no error.
 fn next_of(read: Result<(), DeserializeError>, count: u64) -> Result<bool, DeserializeError>

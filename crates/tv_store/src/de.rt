@@ -2,7 +2,7 @@
 
 ghost use Rattle.std.specs.Prelude.{◌≡◌, [], IsErrOf, OnErr};
 ghost use Rattle.tv_doc.specs.Document.{document_of};
-ghost use Rattle.tv_decoder.specs.Prefix.{HasNoRoom};
+ghost use Rattle.tv_reading.specs.Prefix.{HasNoRoom};
 ghost use Rattle.tv_reader.specs.Finds.{Finds};
 ghost use Rattle.tv_reader.specs.Version.{version_of};
 ghost use Rattle.tv_reader.specs.declared.error.DeserializeError.TheVariants.{HeapFull};
@@ -14,9 +14,9 @@ use std::alloc::Global;
 use std::mem::replace;
 use tv_base::ByteSource;
 use tv_builder::heap_pairs::HeapPairs;
-use tv_decoder::document::{take_document, take_document_into};
 use tv_doc::document::CompactDoc;
 pub use tv_reader::version::DocStoreVersion;
+use tv_reading::document::{take_document, take_document_into};
 
 // Puts what was read in the document's place. After an error the document stays.
 pub(crate) fn put_read(

@@ -1,10 +1,10 @@
 //! A decoder of documents with a stack of its own, which is lent its source for each step.
 
 ghost use Rattle.std.specs.Prelude.{◌≡◌, ◌↔◌, [], length, true, false, OnOk, OnErr, IsTrue};
-ghost use Rattle.tv_decoder.specs.Prefix.{parts_read, IsSound, IsDone};
-ghost use Rattle.tv_decoder.specs.Kept.{Grows, KeepsPairs};
-ghost use Rattle.tv_decoder.specs.Sound.{SoundUnless-prop};
-ghost use Rattle.tv_decoder.specs.Steps.{Sees, IsFew};
+ghost use Rattle.tv_reading.specs.Prefix.{parts_read, IsSound, IsDone};
+ghost use Rattle.tv_reading.specs.Kept.{Grows, KeepsPairs};
+ghost use Rattle.tv_reading.specs.Sound.{SoundUnless-prop};
+ghost use Rattle.tv_reading.specs.Steps.{Sees, IsFew};
 ghost use Rattle.tv_builder.specs.Builder.{built, state_of, heap_so_far, kept_heap};
 ghost use Rattle.tv_builder.specs.HeldPairs.{document_of as pairs_of};
 ghost use Rattle.tv_doc.specs.Document.{document_of, heap_of};
@@ -13,9 +13,9 @@ ghost use Rattle.tv_builder.specs.State.{lists_of, children_of};
 use std::alloc::Global;
 use tv_base::ByteSource;
 use tv_builder::heap_pairs::HeapPairs;
-use tv_decoder::reading::Reading;
 use tv_doc::document::CompactDoc;
 use tv_reader::{DeserializeError, DocStoreVersion};
+use tv_reading::reading::Reading;
 
 /// Whether a step was the last. (Not in tantivy.)
 #[derive(Clone, Copy, Debug, PartialEq, Eq)]

@@ -1,7 +1,7 @@
 //! Reading chosen fields of documents out of the store.
 
 ghost use Rattle.std.specs.Prelude.{◌≡◌, [], IsErrOf, OnErr};
-ghost use Rattle.tv_chosen.specs.ChosenFields.{HasNoRoomChosen};
+ghost use Rattle.tv_reading.specs.ChosenFields.{HasNoRoomChosen};
 ghost use Rattle.tv_doc.specs.Document.{document_of};
 ghost use Rattle.tv_reader.specs.Finds.{Finds};
 ghost use Rattle.tv_reader.specs.Version.{version_of};
@@ -15,9 +15,9 @@ use std::alloc::Global;
 use std::mem::replace;
 use tv_base::ByteSource;
 use tv_builder::heap_pairs::HeapPairs;
-use tv_chosen::document::take_chosen_into;
 use tv_doc::document::CompactDoc;
 use tv_reader::version::DocStoreVersion;
+use tv_reading::chosen::take_chosen_into;
 use tv_value::field::Field;
 
 // Takes the chosen fields in place of a document that is there and in its memory, with the count of the bytes that were taken. After an

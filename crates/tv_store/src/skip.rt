@@ -9,7 +9,7 @@ use crate::error::DeserializeError;
 use std::alloc::Global;
 use tv_base::ByteSource;
 use tv_reader::version::DocStoreVersion;
-use tv_skip::items::{pass_document, pass_value};
+use tv_reading::items::{pass_document, pass_value};
 
 /// Passes over a document: takes all of its bytes and no byte behind it, tests them as `read_document` does, and keeps nothing, whatever it holds
 /// and however deep that nests. There is no heap that could be full. (Not in tantivy.)

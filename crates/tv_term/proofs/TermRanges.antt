@@ -1,5 +1,5 @@
 -- Which terms begin with which bytes.
-use Rattle.std.proofs.Common.{◌≡◌, ◌≢◌, ℕ, ◌<◌, ◌^◌, ◌↔◌, List, [], ◌∷◌, ◌++◌, length, Some, refl, subst, sym, ◌∙◌, ap, append_assoc, arith}
+use Rattle.std.proofs.Common.{◌≡◌, ◌≢◌, ℕ, ◌<◌, ◌^◌, ◌↔◌, List, [], ◌∷◌, ◌++◌, length, refl, subst, sym, ◌∙◌, ap, append_assoc, arith}
 use Rattle.std.specs.Int.{to_be_bytes, from_be_bytes, w32}
 use Rattle.std.proofs.lemmas.Nat.{from_be_bytes-to_be_bytes_4}
 use Rattle.tv_base.specs.Sink.{IsPrefix}
@@ -11,6 +11,7 @@ use Rattle.tv_base.specs.Facet.{Descends}
 use Rattle.tv_base.proofs.Steps.{Descends-rest, Descends-from_rest, Descends-from_root}
 use Rattle.tv_term.specs.Range.{HasPrefixed, HasLonger, HasTerms, IsIn, BeginsWith, IsOfField, IsOfType, HasTextPrefix, IsAtPath, IsBelowFacet}
 use Rattle.tv_term.specs.declared.range.TermRange.{TermRange}
+use Rattle.tv_term.proofs.Written.{type_of_code-code}
 
 -- two lists are the same where they begin with as many elements and are the same in all
 split : (a b x y : List ℕ) → length a ≡ length b → a ++ x ≡ b ++ y → (a ≡ b) × (x ≡ y)
@@ -34,19 +35,8 @@ field-prefix id f s x h k = (
   (λ p. (p.1.0, ap (λ n. to_be_bytes w32 n ++ x) p.0 ∙ ap (λ z. to_be_bytes w32 id ++ z) p.1.1 ∙ sym (append_assoc (to_be_bytes w32 id) s p.1.0))),
 )
 
-decoded : (t : TypeTag) → type_of_code (code t) ≡ Some t
-decoded tag.Str = refl
-decoded tag.U64 = refl
-decoded tag.I64 = refl
-decoded tag.Bool = refl
-decoded tag.Date = refl
-decoded tag.Facet = refl
-decoded tag.Bytes = refl
-decoded tag.IpAddr = refl
-decoded tag.Json = refl
-
 same_type : (t u : TypeTag) → code t ≡ code u → t ≡ u
-same_type t u e = let both = sym (decoded t) ∙ ap type_of_code e ∙ decoded u in cc
+same_type t u e = let both = sym (type_of_code-code t) ∙ ap type_of_code e ∙ type_of_code-code u in cc
 
 -- what begins with a type's code is of that type
 code-prefix : (t u : TypeTag) (s x : List ℕ) → IsPrefix (code t ∷ s) (code u ∷ x) ↔ ((u ≡ t) × IsPrefix s x)

@@ -1,5 +1,5 @@
 -- Terms that constructors made, and JSON terms with a value.
-use Rattle.std.proofs.Common.{◌≡◌, ℕ, ◌<◌, ◌^◌, List, [], ◌∷◌, ◌++◌, Option, None, Some, Result, Ok, Err, IfOk, OnOk, IsUtf8, sym, ◌∙◌, ap, append_assoc, arith}
+use Rattle.std.proofs.Common.{◌≡◌, ℕ, ◌<◌, ◌^◌, List, [], ◌∷◌, ◌++◌, Option, None, Some, Result, OnOk, IsUtf8, sym, ◌∙◌, ap, append_assoc, arith}
 use Rattle.std.specs.Int.{to_be_bytes, w32, w64}
 use Rattle.std.specs.Ordering.{nat_cmp, ordering_then}
 use Rattle.std.specs.declared.cmp.Ordering.TheVariants.{Equal}
@@ -72,23 +72,17 @@ pub same_value : (a b : List ℕ) → ◌≡◌ {A = Option (List ℕ)} (Some a)
 same_value a b e = cc
 
 -- the field, the code and the path with its zero make the term of the path
-pub json_term_made : {T E : Type 0} (bytes_of : T → List ℕ) (r : Result T E) (field : ℕ) (path payload : List ℕ) → field < 2 ^ 32 → IsUtf8 path → HasNoZero path → payload ≡ path ++ 0 ∷ []
-    → IfOk r (λ made. bytes_of made ≡ to_be_bytes w32 field ++ code tag.Json ∷ payload)
-    → IfOk r (λ made. IsJsonTerm (bytes_of made) field path)
-json_term_made bytes_of (Ok made) field path payload fits utf8 no_zero payload_is made_is = record {
+pub json_term_made : (made : List ℕ) (field : ℕ) (path payload : List ℕ) → field < 2 ^ 32 → IsUtf8 path → HasNoZero path → payload ≡ path ++ 0 ∷ []
+    → made ≡ to_be_bytes w32 field ++ code tag.Json ∷ payload → IsJsonTerm made field path
+json_term_made made field path payload fits utf8 no_zero payload_is made_is = record {
   bytes_are = made_is ∙ ap (λ bytes. to_be_bytes w32 field ++ code tag.Json ∷ bytes) payload_is;
   field_fits = fits;
   path_is_text = utf8;
   path_has_no_zero = no_zero;
 }
-json_term_made bytes_of (Err error) field path payload fits utf8 no_zero payload_is made_is = tt
 
 -- the same of a term that is held
 pub json_term_held : {E : Type 0} (r : Result (Unit {0}) E) (held : Option (List ℕ)) (field : ℕ) (path payload : List ℕ) → field < 2 ^ 32 → IsUtf8 path → HasNoZero path → payload ≡ path ++ 0 ∷ []
     → OnOk r (held ≡ Some (to_be_bytes w32 field ++ code tag.Json ∷ payload)) → OnOk r (IsJsonTerm (unwrap_or held []) field path)
-json_term_held r held field path payload fits utf8 no_zero payload_is = on_ok_weaker r (λ held_is. record {
-  bytes_are = ap (λ h. unwrap_or h []) held_is ∙ ap (λ bytes. to_be_bytes w32 field ++ code tag.Json ∷ bytes) payload_is;
-  field_fits = fits;
-  path_is_text = utf8;
-  path_has_no_zero = no_zero;
-})
+json_term_held r held field path payload fits utf8 no_zero payload_is =
+    on_ok_weaker r (λ held_is. json_term_made (unwrap_or held []) field path payload fits utf8 no_zero payload_is (ap (λ h. unwrap_or h []) held_is))

@@ -2,7 +2,7 @@
 
 ghost use Rattle.std.specs.Prelude.{◌≡◌, ◌↔◌, ◌≤◌, ◌<◌, ◌+◌, ℕ, IsTrue, IfOk, length, option_map};
 ghost use Rattle.std.specs.Prelude.{slice_index};
-ghost use Rattle.tv_term.specs.Making.{GivesPathRange, GivesRange, GivesRangeIf, OnlyMemory};
+ghost use Rattle.tv_term.specs.Making.{GivesPathRange, GivesRange, GivesRangeIf};
 ghost use Rattle.tv_term.specs.Range.{EndsPrefix, HasPrefixed, HasTerms, IsIn, BeginsWith};
 ghost use Rattle.tv_term.specs.Range.{IsOfField, IsOfType, HasTextPrefix, IsBelowFacet, HasLonger};
 ghost use Rattle.tv_term.specs.Range.{IsBetween, IsTypedTerm, IsBehindTerm, StartsAt, EndsAt};
@@ -81,11 +81,11 @@ impl TermRange {
         field: Field,
         value_type: Type,
         payload: &[u8],
-    ) -> Result<TermRange, TermError>
-        ensures { GivesRange (BeginsWith field.id value_type payload.now) result }
+    ) -> Result<TermRange, AllocError>
+        ensures { IfOk result (HasTerms (BeginsWith field.id value_type payload.now)) }
     {
         let least = Term::from_payload(alloc, field, value_type, payload)?;
-        Ok(TermRange::of_prefix(alloc, least.serialized_term())?)
+        TermRange::of_prefix(alloc, least.serialized_term())
     }
 
     /// Where the range begins: the byte strings in it are not below this one.
@@ -135,14 +135,14 @@ impl Term {
     ) -> Result<TermRange, TermError>
         ensures { GivesRange (IsOfType field.id value_type) result }
     {
-        TermRange::of_payload(alloc, field, value_type, &[])
+        Ok(TermRange::of_payload(alloc, field, value_type, &[])?)
     }
 
     /// The terms of a field whose values are texts that begin with a text. (Not in tantivy.) The only error is `Memory`.
     pub fn prefix_range(alloc: Global, field: Field, prefix: &str) -> Result<TermRange, TermError>
         ensures { GivesRange (HasTextPrefix field.id prefix.now) result }
     {
-        TermRange::of_payload(alloc, field, Type::Str, prefix.as_bytes())
+        Ok(TermRange::of_payload(alloc, field, Type::Str, prefix.as_bytes())?)
     }
 
     /// The terms of a field of JSON objects whose values stand at a path, which is read as `from_field_json_path` reads it. (Not in
@@ -195,19 +195,17 @@ impl Term {
 }
 
 // The bytes of the term of a value.
-fn bytes_of<T: FastValue>(alloc: Global, field: Field, value: T) -> Result<Vec<u8>, TermError>
-    ensures typed { IfOk result
+fn bytes_of<T: FastValue>(alloc: Global, field: Field, value: T) -> Result<Vec<u8>, AllocError>
+    ensures { IfOk result
         (λ bytes. IsTypedTerm field.id T.type_tag (T.as_value value) bytes.items) }
-    ensures memory { OnlyMemory result }
 {
     Ok(Term::from_fast_value(alloc, field, value)?.into_bytes())
 }
 
 // The least byte string above the term of a value.
-fn bytes_behind<T: FastValue>(alloc: Global, field: Field, value: T) -> Result<Vec<u8>, TermError>
-    ensures behind { IfOk result
+fn bytes_behind<T: FastValue>(alloc: Global, field: Field, value: T) -> Result<Vec<u8>, AllocError>
+    ensures { IfOk result
         (λ bytes. IsBehindTerm field.id T.type_tag (T.as_value value) bytes.items) }
-    ensures memory { OnlyMemory result }
 {
     let mut term = Term::from_fast_value(alloc, field, value)?;
     term.append_bytes(&[0])?;
@@ -219,10 +217,9 @@ fn start_at<T: FastValue>(
     alloc: Global,
     field: Field,
     bound: Bound<&T>,
-) -> Result<Vec<u8>, TermError>
-    ensures starts { IfOk result (λ start. StartsAt field.id T.type_tag
+) -> Result<Vec<u8>, AllocError>
+    ensures { IfOk result (λ start. StartsAt field.id T.type_tag
         (bound_map (λ x. T.as_value x.now) bound.entry) start.items) }
-    ensures memory { OnlyMemory result }
 {
     match bound {
         Bound::Included(value) => bytes_of(alloc, field, *value),
@@ -238,17 +235,16 @@ fn end_at<T: FastValue>(
     alloc: Global,
     field: Field,
     bound: Bound<&T>,
-) -> Result<Option<Vec<u8>>, TermError>
-    ensures ends { IfOk result
+) -> Result<Option<Vec<u8>>, AllocError>
+    ensures { IfOk result
         (EndsAt field.id T.type_tag (bound_map (λ x. T.as_value x.now) bound.entry)) }
-    ensures memory { OnlyMemory result }
 {
     match bound {
         Bound::Included(value) => Ok(Some(bytes_behind(alloc, field, *value)?)),
         Bound::Excluded(value) => Ok(Some(bytes_of(alloc, field, *value)?)),
         Bound::Unbounded => {
             let least = Term::from_payload(alloc, field, T::to_type(), &[])?;
-            Ok(successor(alloc, least.serialized_term())?)
+            successor(alloc, least.serialized_term())
         }
     }
 }

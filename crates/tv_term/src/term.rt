@@ -10,10 +10,10 @@ ghost use Rattle.std.specs.Option.{option_copied};
 ghost use Rattle.tv_options.specs.Types.{code, type_of_code};
 ghost use Rattle.tv_term.specs.Key.{HasNoZero};
 ghost use Rattle.tv_term.specs.Segments.{HaveNoZero, joined_segments};
-ghost use Rattle.tv_term.specs.Key.{Text, Unsigned, Signed, Truth};
+ghost use Rattle.tv_term.specs.Key.{IsTerm, Text, Unsigned, Signed, Truth};
 ghost use Rattle.tv_term.specs.Key.{Date, Facet as FacetValue, Bytes, Address};
 ghost use Rattle.tv_term.specs.Making.{AppendsValue, GivesExactly, GivesPathTerm};
-ghost use Rattle.tv_term.specs.Making.{GivesSegmentsTerm, GivesTerm, OnlyMemory, indexed_date};
+ghost use Rattle.tv_term.specs.Making.{GivesSegmentsTerm, GivesTerm, indexed_date};
 ghost use Rattle.tv_term.specs.Reading.{field_of, value_of, ReadsPath, IsFullPathIn, dotted};
 ghost use Rattle.tv_term.specs.declared.term_error.TermError.TheVariants.{TooShort};
 
@@ -121,7 +121,7 @@ impl Term {
         }
         let mut joined = joined_json_path(alloc, json_path, expand_dots)?;
         joined.push('\0')?;
-        Term::from_payload(alloc, field, Type::Json, joined.as_bytes())
+        Ok(Term::from_payload(alloc, field, Type::Json, joined.as_bytes())?)
     }
 
     /// The term of a path into a field of JSON objects that is given by its segments: these with U+0001 between each two of them, and
@@ -142,28 +142,28 @@ impl Term {
         let mut joined = String::new(alloc);
         push_segments(segments, &mut joined)?;
         joined.push('\0')?;
-        Term::from_payload(alloc, field, Type::Json, joined.as_bytes())
+        Ok(Term::from_payload(alloc, field, Type::Json, joined.as_bytes())?)
     }
 
     /// The term of a whole number without a sign.
     pub fn from_field_u64(alloc: Global, field: Field, unsigned: u64) -> Result<Term, TermError>
         ensures { GivesTerm field.id (Unsigned unsigned) result }
     {
-        Term::from_fast_value(alloc, field, unsigned)
+        Ok(Term::from_fast_value(alloc, field, unsigned)?)
     }
 
     /// The term of a whole number with a sign.
     pub fn from_field_i64(alloc: Global, field: Field, signed: i64) -> Result<Term, TermError>
         ensures { GivesTerm field.id (Signed signed) result }
     {
-        Term::from_fast_value(alloc, field, signed)
+        Ok(Term::from_fast_value(alloc, field, signed)?)
     }
 
     /// The term of a truth value.
     pub fn from_field_bool(alloc: Global, field: Field, truth: bool) -> Result<Term, TermError>
         ensures { GivesTerm field.id (Truth truth) result }
     {
-        Term::from_fast_value(alloc, field, truth)
+        Ok(Term::from_fast_value(alloc, field, truth)?)
     }
 
     /// The term of a date, to the nanosecond. Dates are indexed to the second alone: a term that searches is
@@ -171,7 +171,7 @@ impl Term {
     pub fn from_field_date(alloc: Global, field: Field, date: DateTime) -> Result<Term, TermError>
         ensures { GivesTerm field.id (Date date.nanoseconds) result }
     {
-        Term::from_fast_value(alloc, field, date)
+        Ok(Term::from_fast_value(alloc, field, date)?)
     }
 
     /// The term of a date as it is indexed: cut to the second, towards 1970.
@@ -194,7 +194,7 @@ impl Term {
         ensures { GivesTerm field.id (Address (ipv6_bits address)) result }
     {
         let number = address.to_bits();
-        Term::from_payload(alloc, field, Type::IpAddr, &number.to_be_bytes())
+        Ok(Term::from_payload(alloc, field, Type::IpAddr, &number.to_be_bytes())?)
     }
 
     /// The term of a facet: its encoded text.
@@ -202,21 +202,21 @@ impl Term {
         ensures { GivesTerm field.id (FacetValue facet.now) result }
     {
         let encoded = facet.encoded_str().as_bytes();
-        Term::from_payload(alloc, field, Type::Facet, encoded)
+        Ok(Term::from_payload(alloc, field, Type::Facet, encoded)?)
     }
 
     /// The term of a text.
     pub fn from_field_text(alloc: Global, field: Field, text: &str) -> Result<Term, TermError>
         ensures { GivesTerm field.id (Text text.now) result }
     {
-        Term::from_payload(alloc, field, Type::Str, text.as_bytes())
+        Ok(Term::from_payload(alloc, field, Type::Str, text.as_bytes())?)
     }
 
     /// The term of bytes.
     pub fn from_field_bytes(alloc: Global, field: Field, bytes: &[u8]) -> Result<Term, TermError>
         ensures { GivesTerm field.id (Bytes bytes.now) result }
     {
-        Term::from_payload(alloc, field, Type::Bytes, bytes)
+        Ok(Term::from_payload(alloc, field, Type::Bytes, bytes)?)
     }
 
     // The term of a value of eight bytes.
@@ -224,8 +224,8 @@ impl Term {
         alloc: Global,
         field: Field,
         value: T,
-    ) -> Result<Term, TermError>
-        ensures { GivesTerm field.id (T.as_value value) result }
+    ) -> Result<Term, AllocError>
+        ensures { IfOk result (λ made. IsTerm made field.id (T.as_value value)) }
     {
         Term::from_payload(alloc, field, T::to_type(), &value.to_u64().to_be_bytes())
     }
@@ -236,11 +236,10 @@ impl Term {
         field: Field,
         value_type: Type,
         payload: &[u8],
-    ) -> Result<Term, TermError>
+    ) -> Result<Term, AllocError>
         ensures made { IfOk result
             (λ made. made ≡ to_be_bytes w32 field.id ++ code value_type ∷ payload.now) }
         ensures field { field.id < 2 ^ 32 }
-        ensures memory { OnlyMemory result }
     {
         let mut bytes = Vec::with_capacity(alloc, payload.len() + 5)?;
         bytes.extend_from_slice(&field.field_id().to_be_bytes())?;

@@ -123,9 +123,10 @@ counts_here Made Q content (Err told) f h = stop_counts Q content (typed_stop to
 both : false ≡ true → ⊥
 both e = absurd cc
 
-still_open : {X : Type 0} (result : Result X DeserializeError) (b : Bool) → b ≡ false → OnOk result (b ≡ false)
-still_open (Ok x) b e = e
-still_open (Err e) b h = tt
+-- what is read of another source, or returned by a visitor, changes no mark
+pub unmarked_still : {X : Type 0} (result : Result X DeserializeError) (b : Bool) → b ≡ false → OnOk result (b ≡ false)
+unmarked_still (Ok x) b e = e
+unmarked_still (Err e) b h = tt
 
 pub legacy_then : {S X : Type 0} {is_known : S → Type 0} {left : S → List ℕ} {failures : S → Failures} {old new : StoreReader S} {tree : OwnedValue} {content : List ℕ} {result : Result X DeserializeError} (is : Tree → X → Type 0) (refused : Version → ValueType → List ℕ → DeserializeError → Type 0) (v : Version)
     → ReadsIf StoreMayStop is_known left failures old new (Ok tree) (EncodesBehind v types.JSONObject) (TreeRefused v types.JSONObject) → content ≡ short V2 (owned_tree tree) → IsValue (owned_tree tree) → OfEncoding (EncodesAs is V2) (NextRefused refused V2) content result
@@ -139,7 +140,7 @@ legacy_then {is_known = is_known} {left = left} {failures = failures} {new = new
     (deserializes (λ b x. Encodes Legacy v (8 ∷ b) (owned_tree x)) (λ b x q. q) p)
     (record {
       closed = λ failed. absurd (both (sym p.marks ∙ failed));
-      unmarked = still_open result new.has_failed p.marks;
+      unmarked = unmarked_still result new.has_failed p.marks;
       found = λ _ told. found_here is (NextRefused refused V2) t content (left new.source) new.count result same valid h;
       taken = λ _ told. Taken_none (left new.source) new.count;
       stays_known = λ _ told. told;

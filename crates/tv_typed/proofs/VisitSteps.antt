@@ -1,6 +1,6 @@
 -- Values that are handed to visitors.
 use Rattle.std.proofs.Common.{◌≡◌, ◌≢◌, ℕ, Bool, true, false, List, ◌++◌, Result, Ok, Err, refl, sym, ap, subst, ◌∙◌, inl, inr}
-use Rattle.std.specs.Prelude.{is_err, OnOk}
+use Rattle.std.specs.Prelude.{is_err}
 use Rattle.tv_base.specs.Source.{AllBytes, Failures}
 use Rattle.tv_base.specs.declared.cause.Cause.{Cause}
 use Rattle.tv_base.specs.declared.read_error.ReadError.{ReadError}
@@ -53,11 +53,6 @@ visits old new kind answers result read h a =
       only = only_by (IsLeaf (λ l. l)) v (coded kind) (LeafRefused kind v kind) (λ prefix rest e t x r p same. any_excluded v kind prefix rest e t r p) (leaf_deserializes (λ l. l) v kind h);
       answered = a;
     }
-
--- what is read of another source, or returned by a visitor, changes no mark
-pub unmarked_still : {X : Type 0} (result : Result X DeserializeError) (b : Bool) → b ≡ false → OnOk result (b ≡ false)
-unmarked_still (Ok x) b e = e
-unmarked_still (Err e) b h = tt
 
 single_is : (t : Tree) → IsSingle t → t ≡ leaf (single_leaf t)
 single_is (leaf l) h = refl

@@ -71,6 +71,11 @@ HasDepthBy is_known left old result code =
 
 -- ---- as contracts say it, of a source
 
+-- Where the result is that a value is too deep, this holds of the version, of the depth of the reader, and of the bytes before and behind it.
+abbrev pub WhereTooDeep : {S X : Type 0} (source : Ghosts S) (old new : StoreReader S) (result : Result X DeserializeError) → (Version → ℕ → List ℕ → List ℕ → Type 0) → Type 0
+WhereTooDeep source old new result shows =
+    old.has_failed ≡ false → source.is_known old.source → IsErrOf result errors.TooDeep → shows (version_of old.version) old.levels (source.left old.source) (source.left new.source)
+
 abbrev pub IsWithin : {S : Type 0} (source : Ghosts S) (old new : StoreReader S) (result : Result OwnedValue DeserializeError) (code : List ℕ) → Type 0
 IsWithin source old new result code = IsWithinBy source.is_known source.left old new result code
 

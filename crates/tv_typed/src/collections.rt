@@ -8,10 +8,8 @@
 //! from there. Its own errors are those of `deserialize_tree` but `TooDeep`; the first refusal of a value in it comes behind the whole object.
 //! `UnsupportedType(JSONObject)` where the type of its values reads past the end of that encoding, which none of this library does.
 
-ghost use Rattle.std.specs.Prelude.{◌≡◌, false, true, IsErrOf, OnErr};
-ghost use Rattle.tv_reader.specs.Version.{version_of};
-ghost use Rattle.tv_reader.specs.declared.error.DeserializeError.TheVariants as errors;
-ghost use Rattle.tv_typed.specs.Depths.{ArrayTooDeep, MembersTooDeep};
+ghost use Rattle.std.specs.Prelude.{◌≡◌, true, OnErr};
+ghost use Rattle.tv_typed.specs.Depths.{ArrayTooDeep, MembersTooDeep, WhereTooDeep};
 ghost use Rattle.std.specs.BTreeMap as tree;
 ghost use Rattle.std.specs.HashMap as hash;
 ghost use Rattle.tv_typed.specs.ExcludingLegacy.{entries_exclude};
@@ -44,11 +42,9 @@ impl<T: ValueDeserialize> ValueDeserialize for Vec<T> {
             (λ t list. ArrayOf T.is t list.items) (ArrayRefused T.is T.refused)
             deserializer.entry.kind deserializer.entry.reader.now deserializer.exit.1.0.now result }
         ensures marks { OnErr result (deserializer.exit.1.0.now.has_failed ≡ true) }
-        ensures deep { deserializer.entry.reader.now.has_failed ≡ false → S.is_known
-            deserializer.entry.reader.now.source → IsErrOf result errors.TooDeep → ArrayTooDeep T.is
-            T.deep (version_of deserializer.entry.reader.now.version)
-            deserializer.entry.reader.now.levels deserializer.entry.kind (S.left
-            deserializer.entry.reader.now.source) (S.left deserializer.exit.1.0.now.source) }
+        ensures deep { WhereTooDeep S.ByteSource deserializer.entry.reader.now
+            deserializer.exit.1.0.now result
+            (λ v levels. ArrayTooDeep T.is T.deep v levels deserializer.entry.kind) }
     {
         let BinaryValueDeserializer { kind, reader } = deserializer;
         let announced = reader.array_length(kind)?;
@@ -71,10 +67,8 @@ impl<'de, S: ByteSource> BinaryValueDeserializer<'de, S> {
             (MembersRefused (ObjectRefused T.is T.refused)) self.entry.kind self.entry.reader.now
             self.exit.1.0.now result }
         ensures marks { OnErr result (self.exit.1.0.now.has_failed ≡ true) }
-        ensures deep { self.entry.reader.now.has_failed ≡ false → S.is_known
-            self.entry.reader.now.source → IsErrOf result errors.TooDeep → MembersTooDeep T.is
-            T.deep (version_of self.entry.reader.now.version) self.entry.reader.now.levels
-            self.entry.kind (S.left self.entry.reader.now.source) (S.left self.exit.1.0.now.source) }
+        ensures deep { WhereTooDeep S.ByteSource self.entry.reader.now self.exit.1.0.now result
+            (λ v levels. MembersTooDeep T.is T.deep v levels self.entry.kind) }
     {
         let BinaryValueDeserializer { kind, reader } = self;
         let answer = read_object::<T, C, S>(alloc, kind, reader);
@@ -98,11 +92,9 @@ impl<T: ValueDeserialize> ValueDeserialize for Vec<(String, T)> {
             (λ t list. ObjectOf T.is t list.items) (MembersRefused (ObjectRefused T.is T.refused))
             deserializer.entry.kind deserializer.entry.reader.now deserializer.exit.1.0.now result }
         ensures marks { OnErr result (deserializer.exit.1.0.now.has_failed ≡ true) }
-        ensures deep { deserializer.entry.reader.now.has_failed ≡ false → S.is_known
-            deserializer.entry.reader.now.source → IsErrOf result errors.TooDeep → MembersTooDeep
-            T.is T.deep (version_of deserializer.entry.reader.now.version)
-            deserializer.entry.reader.now.levels deserializer.entry.kind (S.left
-            deserializer.entry.reader.now.source) (S.left deserializer.exit.1.0.now.source) }
+        ensures deep { WhereTooDeep S.ByteSource deserializer.entry.reader.now
+            deserializer.exit.1.0.now result
+            (λ v levels. MembersTooDeep T.is T.deep v levels deserializer.entry.kind) }
     {
         deserializer.members::<T, Vec<(String, T)>>(alloc)
     }
@@ -127,11 +119,9 @@ impl<T: ValueDeserialize> ValueDeserialize for BTreeMap<String, T> {
             (MembersRefused (ObjectRefused T.is T.refused))
             deserializer.entry.kind deserializer.entry.reader.now deserializer.exit.1.0.now result }
         ensures marks { OnErr result (deserializer.exit.1.0.now.has_failed ≡ true) }
-        ensures deep { deserializer.entry.reader.now.has_failed ≡ false → S.is_known
-            deserializer.entry.reader.now.source → IsErrOf result errors.TooDeep → MembersTooDeep
-            T.is T.deep (version_of deserializer.entry.reader.now.version)
-            deserializer.entry.reader.now.levels deserializer.entry.kind (S.left
-            deserializer.entry.reader.now.source) (S.left deserializer.exit.1.0.now.source) }
+        ensures deep { WhereTooDeep S.ByteSource deserializer.entry.reader.now
+            deserializer.exit.1.0.now result
+            (λ v levels. MembersTooDeep T.is T.deep v levels deserializer.entry.kind) }
     {
         deserializer.members::<T, BTreeMap<String, T>>(alloc)
     }
@@ -157,11 +147,9 @@ impl<T: ValueDeserialize> ValueDeserialize for HashMap<String, T> {
             (MembersRefused (ObjectRefused T.is T.refused))
             deserializer.entry.kind deserializer.entry.reader.now deserializer.exit.1.0.now result }
         ensures marks { OnErr result (deserializer.exit.1.0.now.has_failed ≡ true) }
-        ensures deep { deserializer.entry.reader.now.has_failed ≡ false → S.is_known
-            deserializer.entry.reader.now.source → IsErrOf result errors.TooDeep → MembersTooDeep
-            T.is T.deep (version_of deserializer.entry.reader.now.version)
-            deserializer.entry.reader.now.levels deserializer.entry.kind (S.left
-            deserializer.entry.reader.now.source) (S.left deserializer.exit.1.0.now.source) }
+        ensures deep { WhereTooDeep S.ByteSource deserializer.entry.reader.now
+            deserializer.exit.1.0.now result
+            (λ v levels. MembersTooDeep T.is T.deep v levels deserializer.entry.kind) }
     {
         deserializer.members::<T, HashMap<String, T>>(alloc)
     }

@@ -14,7 +14,7 @@ ghost use Rattle.tv_reader.specs.declared.value_type.ValueType.{ValueType};
 ghost use Rattle.tv_typed.specs.Excluding.{tree_excludes};
 ghost use Rattle.tv_typed.specs.Lists.{EncodesEntry, EntryRefused};
 ghost use Rattle.tv_typed.specs.Depths.{IsWithin, IsTooDeep, HasDepth, NextTooDeep};
-ghost use Rattle.tv_typed.specs.Depths.{EntryTooDeep, OpensBehind};
+ghost use Rattle.tv_typed.specs.Depths.{EntryTooDeep, OpensBehind, WhereTooDeep};
 ghost use Rattle.tv_typed.specs.Typed.{ReadsThrough, ReadsDeep, Deserializes};
 ghost use Rattle.tv_typed.specs.Values.{CodeRefused, IsTree, TreeRefused, Only, EncodesAs};
 ghost use Rattle.tv_typed.specs.Values.{DeserializesAs, NextRefused, RefusalsExclude};
@@ -115,12 +115,8 @@ pub trait ValueDeserialize: Sized + Drop {
     ) -> Result<Self, DeserializeError>
         ensures deserializes { DeserializesAs S.ByteSource is refused
             deserializer.entry.kind deserializer.entry.reader.now deserializer.exit.1.0.now result }
-        ensures deep { deserializer.entry.reader.now.has_failed ≡ false
-            → S.is_known deserializer.entry.reader.now.source → IsErrOf result errors.TooDeep
-            → deep (version_of deserializer.entry.reader.now.version)
-            deserializer.entry.reader.now.levels deserializer.entry.kind
-            (S.left deserializer.entry.reader.now.source)
-            (S.left deserializer.exit.1.0.now.source) };
+        ensures deep { WhereTooDeep S.ByteSource deserializer.entry.reader.now
+            deserializer.exit.1.0.now result (λ v levels. deep v levels deserializer.entry.kind) };
 
     /// Where bytes behind the code of a type are refused, no prefix of them encodes a tree of which a value is read.
     ghost excludes: { RefusalsExclude is refused };
@@ -136,10 +132,7 @@ impl<S: ByteSource> StoreReader<S> {
         ensures only { Only S.ByteSource self.old self.new result V.is
             (version_of self.old.version) [] }
         ensures marks { OnErr result (self.new.has_failed ≡ true) }
-        ensures deep { self.old.has_failed ≡ false → S.is_known self.old.source
-            → IsErrOf result errors.TooDeep
-            → NextTooDeep V.deep (version_of self.old.version) self.old.levels
-            (S.left self.old.source) (S.left self.new.source) }
+        ensures deep { WhereTooDeep S.ByteSource self.old self.new result (NextTooDeep V.deep) }
     {
         let kind = self.code()?;
         match V::deserialize(alloc, BinaryValueDeserializer { kind, reader: self }) {
@@ -160,9 +153,7 @@ impl<S: ByteSource> StoreReader<S> {
             (EncodesEntry V.is (version_of self.old.version))
             (EntryRefused V.refused (version_of self.old.version)) }
         ensures marks { OnErr result (self.new.has_failed ≡ true) }
-        ensures deep { self.old.has_failed ≡ false → S.is_known self.old.source → IsErrOf result
-            errors.TooDeep → EntryTooDeep V.deep (version_of self.old.version) self.old.levels
-            (S.left self.old.source) (S.left self.new.source) }
+        ensures deep { WhereTooDeep S.ByteSource self.old self.new result (EntryTooDeep V.deep) }
     {
         let key = self.key(alloc)?;
         let value = self.read::<V>(alloc)?;

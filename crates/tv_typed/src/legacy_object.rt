@@ -1,13 +1,12 @@
 //! Legacy objects, read as lists and maps: the object's tree is encoded in memory, and read from there.
 
-ghost use Rattle.std.specs.Prelude.{◌≡◌, false, IfOk, IsErrOf, OnOk};
+ghost use Rattle.std.specs.Prelude.{◌≡◌, false, IfOk, OnOk};
 ghost use Rattle.tv_format.specs.Short.{short, IsValue};
 ghost use Rattle.tv_format.specs.Version.{V2};
 ghost use Rattle.tv_reader.specs.Trees.{EncodesBehind};
 ghost use Rattle.tv_reader.specs.Version.{version_of};
-ghost use Rattle.tv_reader.specs.declared.error.DeserializeError.TheVariants as errors;
 ghost use Rattle.tv_reader.specs.declared.value_type.ValueType.TheVariants as types;
-ghost use Rattle.tv_typed.specs.Depths.{MembersTooDeep};
+ghost use Rattle.tv_typed.specs.Depths.{MembersTooDeep, WhereTooDeep};
 ghost use Rattle.tv_typed.specs.LegacyObjects.{Retold, OfEncoding, LegacyRefused, MembersRefused};
 ghost use Rattle.tv_typed.specs.Typed.{ReadsThrough, Deserializes};
 ghost use Rattle.tv_typed.specs.Lists.{ObjectRefused};
@@ -117,9 +116,8 @@ pub(crate) fn read_object<T: ValueDeserialize, C: Entries<T>, S: ByteSource>(
 ) -> Result<C, DeserializeError>
     ensures deserializes { DeserializesAs S.ByteSource C.is
         (MembersRefused (ObjectRefused T.is T.refused)) kind reader.old reader.new result }
-    ensures deep { reader.old.has_failed ≡ false → S.is_known reader.old.source → IsErrOf result
-        errors.TooDeep → MembersTooDeep T.is T.deep (version_of reader.old.version)
-        reader.old.levels kind (S.left reader.old.source) (S.left reader.new.source) }
+    ensures deep { WhereTooDeep S.ByteSource reader.old reader.new result
+        (λ v levels. MembersTooDeep T.is T.deep v levels kind) }
 {
     match kind {
         ValueType::JSONObject => legacy_object::<T, C, S>(alloc, reader),

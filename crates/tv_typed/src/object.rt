@@ -11,7 +11,7 @@ ghost use Rattle.tv_reader.specs.declared.error.DeserializeError.TheVariants as 
 ghost use Rattle.tv_reader.specs.declared.value_type.ValueType.TheVariants as types;
 ghost use Rattle.std.proofs.Common.{subst, sym};
 ghost use Rattle.tv_format.specs.Tree.{Tree};
-ghost use Rattle.tv_typed.specs.Depths.{AmongRead, EntryTooDeep, ObjectTooDeep};
+ghost use Rattle.tv_typed.specs.Depths.{AmongRead, EntryTooDeep, ObjectTooDeep, WhereTooDeep};
 ghost use Rattle.tv_typed.specs.Lists.{EncodesInto, EncodesEntry, EntryRefused, GivesLast};
 ghost use Rattle.tv_typed.specs.Lists.{MapOf, ObjectOf, ObjectRefused};
 ghost use Rattle.tv_typed.specs.Lists.{NextItem, NextItemRefused, gives_some};
@@ -33,8 +33,8 @@ pub(crate) trait Entries<T: ValueDeserialize>: Sized + Drop {
     /// It is read of this tree.
     ghost is: { Tree → Self → Type 0 };
 
-    /// It holds none yet.
-    fn none(alloc: Global) -> Self
+    /// An empty collection.
+    fn empty(alloc: Global) -> Self
         ensures { made result [] };
 
     /// Puts in one more. The only error is that memory was refused.
@@ -53,7 +53,7 @@ impl<T: ValueDeserialize> Entries<T> for Vec<(String, T)> {
 
     ghost is = { λ t list. ObjectOf T.is t list.items };
 
-    fn none(alloc: Global) -> Vec<(String, T)> {
+    fn empty(alloc: Global) -> Vec<(String, T)> {
         Vec::new(alloc)
     }
 
@@ -71,7 +71,7 @@ impl<T: ValueDeserialize> Entries<T> for BTreeMap<String, T> {
 
     ghost is = { λ t map. MapOf T.is t (λ key. tree.get_by_text map key) };
 
-    fn none(alloc: Global) -> BTreeMap<String, T> {
+    fn empty(alloc: Global) -> BTreeMap<String, T> {
         BTreeMap::new(alloc)
     }
 
@@ -95,7 +95,7 @@ impl<T: ValueDeserialize> Entries<T> for HashMap<String, T> {
 
     ghost is = { λ t map. MapOf T.is t (λ key. hash.get_by_text map key) };
 
-    fn none(alloc: Global) -> HashMap<String, T> {
+    fn empty(alloc: Global) -> HashMap<String, T> {
         HashMap::new(alloc)
     }
 
@@ -129,7 +129,7 @@ pub(crate) fn read_entries<T: ValueDeserialize, C: Entries<T>, S: ByteSource>(
         reader.old.version) reader.old.levels) announced (S.left reader.old.source) (S.left
         reader.new.source) }
 {
-    let mut entries = C::none(alloc);
+    let mut entries = C::empty(alloc);
     for _ in 0..announced {
         let (key, value) = reader.entry::<T>(alloc)?;
         entries.put(key, value)?;
@@ -145,9 +145,8 @@ pub(crate) fn read_coded<T: ValueDeserialize, C: Entries<T>, S: ByteSource>(
 ) -> Result<C, DeserializeError>
     ensures deserializes { DeserializesAs S.ByteSource C.is
         (ObjectRefused T.is T.refused) kind reader.old reader.new result }
-    ensures deep { reader.old.has_failed ≡ false → S.is_known reader.old.source → IsErrOf result
-        errors.TooDeep → ObjectTooDeep T.is T.deep (version_of reader.old.version) reader.old.levels
-        kind (S.left reader.old.source) (S.left reader.new.source) }
+    ensures deep { WhereTooDeep S.ByteSource reader.old reader.new result
+        (λ v levels. ObjectTooDeep T.is T.deep v levels kind) }
 {
     let announced = reader.object_length(kind)?;
     let answer = read_entries::<T, C, S>(alloc, reader, announced);

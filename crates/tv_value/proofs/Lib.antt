@@ -2,6 +2,7 @@ pub mod Addresses
 pub mod AddressBytes
 pub mod Kept
 pub mod InPlace
+pub mod Found
 pub mod TokenSteps
 pub mod Payloads
 pub mod GatheredTokens

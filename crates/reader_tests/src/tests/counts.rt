@@ -2,8 +2,8 @@
 
 use std::test::Fail;
 use tv_base::{Cause, SliceSource};
-use tv_decoder::document::take_document;
 use tv_reader::{DeserializeError, DocStoreVersion};
+use tv_reading::document::take_document;
 use tv_typed::{BinaryDocumentDeserializer, DocumentDeserializer, StoreReader};
 
 #[test]

@@ -1,6 +1,7 @@
 use Rattle.std.proofs.Common.{◌≡◌, ◌++◌, [], ◌∷◌, length, take, refl, sym, ap, ◌∙◌, subst, arith, length-append, append-nil}
 use Rattle.std.proofs.Math.Seq.{take-append_seam}
 use Rattle.tv_heap.proofs.Lists.{place_added}
+use Rattle.tv_format.specs.Tree.{text}
 use Rattle.tv_format.specs.WriteVersion.{written_version}
 use Rattle.tv_builder.specs.Given.{place_bytes}
 use Rattle.tv_builder.specs.EncodedPut.{EncodedPut}
@@ -87,26 +88,26 @@ put_encoded_array-returns-clause-places t c =
 pub put_encoded_object-loop-i-init : goal.put_encoded_object-loop-i-init
 put_encoded_object-loop-i-init t c = ([], sym (append-nil c.args.places.now.items), no_members (written_version c.args.version) c.in_ok-announced.announced c.args.bytes.now c.in_ok-announced.behind.now c.args.heap.now.items c.requires c.in_ok-announced.ensures)
 
-pub put_encoded_object-put-requires : goal.put_encoded_object-put-requires
-put_encoded_object-put-requires t c = c.loop-i.invariant.2.children.fits
+pub put_encoded_object-put_content-requires : goal.put_encoded_object-put_content-requires
+put_encoded_object-put_content-requires t c = c.loop-i.invariant.2.children.fits
 
 pub put_encoded_object-returns-in_err-key-clause-prefix : goal.put_encoded_object-returns-in_err-key-clause-prefix
 put_encoded_object-returns-in_err-key-clause-prefix t c = c.loop-i.invariant.2.children.prefix
 
 pub put_encoded_object-returns-in_err-name-clause-prefix : goal.put_encoded_object-returns-in_err-name-clause-prefix
-put_encoded_object-returns-in_err-name-clause-prefix t c = prefix_then c.args.heap.now.items c.loop-i.heap.items c.put.new.heap.items c.loop-i.invariant.2.children.prefix c.in_err-name.ensures.prefix
+put_encoded_object-returns-in_err-name-clause-prefix t c = prefix_then c.args.heap.now.items c.loop-i.heap.items c.put_content.new.heap.items c.loop-i.invariant.2.children.prefix c.in_err-name.ensures.prefix
 
 pub put_encoded_object-returns-in_default-clause-prefix : goal.put_encoded_object-returns-in_default-clause-prefix
-put_encoded_object-returns-in_default-clause-prefix t c = prefix_then c.args.heap.now.items c.loop-i.heap.items c.put.new.heap.items c.loop-i.invariant.2.children.prefix c.in_ok-name.ensures.prefix
+put_encoded_object-returns-in_default-clause-prefix t c = prefix_then c.args.heap.now.items c.loop-i.heap.items c.put_content.new.heap.items c.loop-i.invariant.2.children.prefix c.in_ok-name.ensures.prefix
 
 pub put_encoded_object-put_encoded-requires : goal.put_encoded_object-put_encoded-requires
-put_encoded_object-put_encoded-requires t c = (omega (arith, c.decreases, c.if-levels-eq0.false), c.in_ok-name.ensures.found.fits)
+put_encoded_object-put_encoded-requires t c = (omega (arith, c.decreases, c.if-levels-eq0.false), (c.in_ok-name.ensures.found.put (text c.in_ok-key.key.now) refl refl).fits)
 
 pub put_encoded_object-returns-in_err-after-clause-prefix : goal.put_encoded_object-returns-in_err-after-clause-prefix
-put_encoded_object-returns-in_err-after-clause-prefix t c = prefix_then c.args.heap.now.items c.put.new.heap.items c.put_encoded.new.heap.items (prefix_then c.args.heap.now.items c.loop-i.heap.items c.put.new.heap.items c.loop-i.invariant.2.children.prefix c.in_ok-name.ensures.prefix) c.in_err-after.ensures.prefix
+put_encoded_object-returns-in_err-after-clause-prefix t c = prefix_then c.args.heap.now.items c.put_content.new.heap.items c.put_encoded.new.heap.items (prefix_then c.args.heap.now.items c.loop-i.heap.items c.put_content.new.heap.items c.loop-i.invariant.2.children.prefix c.in_ok-name.ensures.prefix) c.in_err-after.ensures.prefix
 
 pub put_encoded_object-returns-in_default-push_place-clause-prefix : goal.put_encoded_object-returns-in_default-push_place-clause-prefix
-put_encoded_object-returns-in_default-push_place-clause-prefix t c = prefix_then c.args.heap.now.items c.put.new.heap.items c.put_encoded.new.heap.items (prefix_then c.args.heap.now.items c.loop-i.heap.items c.put.new.heap.items c.loop-i.invariant.2.children.prefix c.in_ok-name.ensures.prefix) c.in_ok-after.ensures.prefix
+put_encoded_object-returns-in_default-push_place-clause-prefix t c = prefix_then c.args.heap.now.items c.put_content.new.heap.items c.put_encoded.new.heap.items (prefix_then c.args.heap.now.items c.loop-i.heap.items c.put_content.new.heap.items c.loop-i.invariant.2.children.prefix c.in_ok-name.ensures.prefix) c.in_ok-after.ensures.prefix
 
 pub put_encoded_object-loop-i-preserved : goal.put_encoded_object-loop-i-preserved
 put_encoded_object-loop-i-preserved t c =
@@ -117,7 +118,7 @@ put_encoded_object-loop-i-preserved t c =
     let keyed = place_added c.args.places.now.items l.places.items list _ _ (place_bytes k.name) l.invariant.1 refl c.in-Ok.ensures in (
       (list ++ place_bytes k.name) ++ place_bytes x.place,
       place_added c.args.places.now.items _ (list ++ place_bytes k.name) _ _ (place_bytes x.place) keyed x.ensures.places c.in-Ok-push_place.ensures,
-      one_member (written_version c.args.version) c.in_ok-announced.announced l._i c.args.bytes.now l.rest.now c.in_ok-key.behind_key.now x.after.now c.args.heap.now.items l.heap.items list c.put.new.heap.items c.put_encoded.new.heap.items c.in_ok-key.key.now k.name x.place l.invariant.2 c.in_ok-key.ensures k.ensures.found x.ensures.found,
+      one_member (written_version c.args.version) c.in_ok-announced.announced l._i c.args.bytes.now l.rest.now c.in_ok-key.behind_key.now x.after.now c.args.heap.now.items l.heap.items list c.put_content.new.heap.items c.put_encoded.new.heap.items c.in_ok-key.key.now k.name x.place l.invariant.2 c.in_ok-key.ensures (k.ensures.found.put (text c.in_ok-key.key.now) refl refl) x.ensures.found,
     )
 
 pub put_encoded_object-put_list-requires-clause-fits : goal.put_encoded_object-put_list-requires-clause-fits

@@ -5,7 +5,8 @@ use Rattle.tv_format.specs.Content.{no_content, truth_content, unsigned_content,
 use Rattle.tv_value.specs.PreTokenized.{text_of, tokens_of}
 use Rattle.tv_format.proofs.Prefixes.{begins_nothing}
 use Rattle.tv_builder.proofs.Giving.{prefix_same}
-use Rattle.tv_builder.proofs.Encoding.{leaf_encoded, same_signed}
+use Rattle.tv_value.proofs.Found.{same_signed}
+use Rattle.tv_builder.proofs.Encoding.{leaf_encoded}
 use Rattle.tv_builder.proofs.encoded.put_encoded_leaf.Goals as goal
 
 nothing_found : {T : Type 0} (r : Option T) (P : T → Type 0) → r ≡ None → IfSome r P

@@ -1,5 +1,5 @@
 use Rattle.std.proofs.Common.{sym, ◌∙◌}
-use Rattle.tv_decoder.specs.Documents.{EncodesRead, NoDocument}
+use Rattle.tv_reading.specs.Documents.{EncodesRead, NoDocument}
 use Rattle.tv_reader.specs.Version.{version_of}
 use Rattle.tv_reader.specs.declared.error.DeserializeError.TheVariants.{HeapFull}
 use Rattle.tv_store.proofs.InPlace.{placed_error}

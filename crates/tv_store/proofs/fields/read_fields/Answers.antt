@@ -1,6 +1,6 @@
 use Rattle.std.proofs.Common.{List, ℕ, Ok, Err, sym, subst}
 use Rattle.tv_builder.specs.declared.heap_pairs.HeapPairs.{HeapPairs}
-use Rattle.tv_chosen.specs.ChosenFields.{EncodesChosen}
+use Rattle.tv_reading.specs.ChosenFields.{EncodesChosen}
 use Rattle.tv_doc.specs.Document.{document_of}
 use Rattle.tv_doc.specs.declared.document.CompactDoc.{CompactDoc}
 use Rattle.tv_reader.specs.Error.{StoreMayStop}

@@ -1,6 +1,6 @@
 use Rattle.std.proofs.Common.{sym, ◌∙◌}
-use Rattle.tv_chosen.specs.ChosenFields.{EncodesChosen}
-use Rattle.tv_decoder.specs.Documents.{NoDocument}
+use Rattle.tv_reading.specs.ChosenFields.{EncodesChosen}
+use Rattle.tv_reading.specs.Documents.{NoDocument}
 use Rattle.tv_reader.specs.Version.{version_of}
 use Rattle.tv_reader.specs.declared.error.DeserializeError.TheVariants.{HeapFull}
 use Rattle.tv_store.proofs.InPlace.{placed_error}

@@ -1,7 +1,7 @@
 use Rattle.std.proofs.Common.{◌≡◌, ◌+◌, ◌-◌, ◌^◌, ap, sym, subst, ◌∙◌}
 use Rattle.std.specs.Prelude.{◌↔◌, IsTrue, IsSome}
-use Rattle.tv_decoder.specs.Prefix.{IsDone, NoPrefix}
-use Rattle.tv_decoder.specs.Steps.{Stepped}
+use Rattle.tv_reading.specs.Prefix.{IsDone, NoPrefix}
+use Rattle.tv_reading.specs.Steps.{Stepped}
 use Rattle.tv_reader.specs.Version.{version_of}
 use Rattle.tv_store.proofs.WithinLimits.{part_read, part_refused, part_early, stepped_as}
 use Rattle.tv_store.specs.declared.limits.LimitedReadError.TheVariants as limited

@@ -1,12 +1,12 @@
 use Rattle.std.proofs.Common.{Err, arith, rules, ap, refl, subst, ◌∙◌}
 use Rattle.std.proofs.lemmas.Result.{err_from_is_err_and}
-use Rattle.tv_decoder.specs.Prefix.{NoPrefix, NoRoomBehind}
-use Rattle.tv_decoder.specs.Steps.{Advances}
+use Rattle.tv_reading.specs.Prefix.{NoPrefix, NoRoomBehind}
+use Rattle.tv_reading.specs.Steps.{Advances}
 use Rattle.tv_legacy.specs.Legacy.{Legacy}
 use Rattle.tv_reader.specs.Version.{version_of}
 use Rattle.tv_reader.specs.declared.error.DeserializeError.TheVariants.{HeapFull}
 use Rattle.tv_reader.proofs.Finding.{finds_as}
-use Rattle.tv_decoder.proofs.WholeDocuments.{no_room}
+use Rattle.tv_reading.proofs.WholeDocuments.{no_room}
 use Rattle.tv_store.proofs.RoundTrips.{err_is}
 use Rattle.tv_store.proofs.WithinLimits.{goes_on, takes_one, too_many, fails}
 use Rattle.tv_store.proofs.limits.take_within.Goals as goal

@@ -1,9 +1,8 @@
 use Rattle.std.proofs.Common.{◌≡◌, ◌+◌, ◌≤◌, Ok, false}
-use Rattle.tv_reader.specs.Finds.{Finds}
+use Rattle.tv_reader.specs.Finds.{Finds, Nothing}
 use Rattle.tv_reader.specs.Version.{version_of}
-use Rattle.tv_decoder.specs.Buffered.{Nothing}
-use Rattle.tv_decoder.specs.Prefix.{IsDone}
-use Rattle.tv_decoder.proofs.WholeDocuments.{Goes}
+use Rattle.tv_reading.specs.Prefix.{IsDone}
+use Rattle.tv_reading.proofs.WholeDocuments.{Goes}
 use Rattle.tv_store.proofs.limits.take_within.Given as goal
 
 -- what was taken encodes what has come since, and each part took a byte

@@ -1,5 +1,5 @@
 use Rattle.tv_reader.specs.Version.{version_of}
-use Rattle.tv_skip.specs.Skip.{IsDocument}
+use Rattle.tv_reading.specs.Skip.{IsDocument}
 use Rattle.tv_store.specs.Documents.{NoDocument}
 use Rattle.tv_store.specs.Reading.{passed}
 use Rattle.tv_store.proofs.Promises.{no_heap_full, reads_of, single_passed}

@@ -9,7 +9,7 @@ use Rattle.tv_typed.proofs.ListSteps.{at_version, entry_ended}
 use Rattle.tv_typed.proofs.object.read_entries.Goals as goal
 
 pub loop-init : goal.loop-init
-loop-init g c = into_none _ _ _ c.args.reader.now _ g.C.Entries.made (EncodesEntry g.T.ValueDeserialize.is (version_of c.args.reader.now.version)) c.requires c.none-entries.ensures
+loop-init g c = into_none _ _ _ c.args.reader.now _ g.C.Entries.made (EncodesEntry g.T.ValueDeserialize.is (version_of c.args.reader.now.version)) c.requires c.empty-entries.ensures
 
 pub returns-in_err-key-clause-deserializes : goal.returns-in_err-key-clause-deserializes
 returns-in_err-key-clause-deserializes g c =

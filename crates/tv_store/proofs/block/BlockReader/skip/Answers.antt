@@ -1,6 +1,6 @@
 use Rattle.tv_reader.specs.Version.{version_of}
 use Rattle.tv_reader.specs.declared.error.DeserializeError.TheVariants.{AlreadyFailed}
-use Rattle.tv_skip.specs.Skip.{IsDocument}
+use Rattle.tv_reading.specs.Skip.{IsDocument}
 use Rattle.tv_store.specs.Blocks.{as_passed}
 use Rattle.tv_store.specs.Documents.{NoDocument}
 use Rattle.tv_store.specs.Reading.{reading, passed}

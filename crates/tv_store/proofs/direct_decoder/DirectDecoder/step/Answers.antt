@@ -1,6 +1,6 @@
 use Rattle.std.proofs.Common.{arith}
 use Rattle.tv_reader.specs.Version.{version_of}
-use Rattle.tv_decoder.proofs.Paying.{paid_now, paid_left, paid_next}
+use Rattle.tv_reading.proofs.Paying.{paid_now, paid_left, paid_next}
 use Rattle.tv_store.proofs.direct_decoder.DirectDecoder.step.Goals as goal
 
 pub returns-then-is_done-clause-paid : goal.returns-then-is_done-clause-paid

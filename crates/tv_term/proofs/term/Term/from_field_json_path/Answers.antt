@@ -10,8 +10,8 @@ pub returns : goal.returns
 returns c = record {
   made =
       let no_zero : HasNoZero c.args.json_path.now = search (rules, c.has_nul.ensures, c.if-has_nul.false) in
-      json_term_made (λ bytes. bytes) c.from_payload.result c.args.field.id _ c.as_bytes.result.now c.from_payload.ensures.field
+      json_term_made _ c.args.field.id _ c.as_bytes.result.now c.in_ok-from_payload.ensures.field
       (subst IsUtf8 c.in_ok-joined.ensures (IsUtf8-string_bytes c.in_ok-joined.joined)) (HasNoZero-joined_path c.args.expand_dots c.args.json_path.now no_zero)
-      (search (rules, c.as_bytes.ensures.value, c.in_ok-push.ensures.bytes, c.in_ok-joined.ensures, c.in_ok-push.ensures.ascii)) c.from_payload.ensures.made;
-  errors = without_nul _ (search (rules, c.has_nul.ensures, c.if-has_nul.false)) c.from_payload.ensures.memory;
+      (search (rules, c.as_bytes.ensures.value, c.in_ok-push.ensures.bytes, c.in_ok-joined.ensures, c.in_ok-push.ensures.ascii)) c.in_ok-from_payload.ensures.made;
+  errors = without_nul _ (search (rules, c.has_nul.ensures, c.if-has_nul.false)) tt;
 }

@@ -14,8 +14,8 @@ returns g c = record {
       let lo = g.B.RangeBounds.start_bound c.args.values.now in
       let hi = g.B.RangeBounds.end_bound c.args.values.now in
       let range : TermRange = record { start = c.in_ok-start.start; end = c.in_ok-end.end } in
-      let starts = subst (λ b. StartsAt id t b range.start.items) (bound-values (λ x. x.now) value c.start_bound.result lo (c.start_bound.ensures has_bounds)) c.in_ok-start.ensures.starts in
-      let ends = subst (λ b. EndsAt id t b range.end) (bound-values (λ x. x.now) value c.end_bound.result hi (c.end_bound.ensures has_bounds)) c.in_ok-end.ensures.ends in
+      let starts = subst (λ b. StartsAt id t b range.start.items) (bound-values (λ x. x.now) value c.start_bound.result lo (c.start_bound.ensures has_bounds)) c.in_ok-start.ensures in
+      let ends = subst (λ b. EndsAt id t b range.end) (bound-values (λ x. x.now) value c.end_bound.result hi (c.end_bound.ensures has_bounds)) c.in_ok-end.ensures in
       between range id t (bound_map value lo) (bound_map value hi) starts ends;
   errors = tt;
 }

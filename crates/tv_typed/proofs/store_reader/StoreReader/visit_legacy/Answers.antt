@@ -2,7 +2,8 @@ use Rattle.std.proofs.Common.{subst}
 use Rattle.std.proofs.lemmas.Result.{err_from_is_err_and}
 use Rattle.tv_typed.specs.LegacyObjects.{OfEncoding}
 use Rattle.tv_typed.specs.Visits.{EncodesNextVisited, NextVisitRefused}
-use Rattle.tv_typed.proofs.VisitSteps.{legacy_refused, legacy_visited, unmarked_still}
+use Rattle.tv_typed.proofs.LegacySteps.{unmarked_still}
+use Rattle.tv_typed.proofs.VisitSteps.{legacy_refused, legacy_visited}
 use Rattle.tv_format.specs.Version.{V2}
 use Rattle.tv_typed.proofs.store_reader.StoreReader.visit_legacy.Goals as goal
 

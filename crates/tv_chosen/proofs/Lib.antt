@@ -1,3 +1,0 @@
-pub mod ChosenPairs
-pub mod ChosenDocuments
-pub mod RoomChosen

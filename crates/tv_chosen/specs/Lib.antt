@@ -1,2 +1,0 @@
-pub mod ChosenFields
-pub mod ChosenPair

@@ -1,3 +1,0 @@
-//! Why an addition to a document is refused.
-
-pub use tv_builder::add_error::AddError;

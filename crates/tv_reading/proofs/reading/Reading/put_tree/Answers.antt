@@ -1,0 +1,30 @@
+use Rattle.std.proofs.Common.{[], ◌∷◌}
+use Rattle.tv_builder.specs.State.{and_value}
+use Rattle.tv_builder.specs.Builder.{state_of}
+use Rattle.tv_builder.specs.Parts.{value}
+use Rattle.tv_builder.proofs.CallsTrade.{values_trade}
+use Rattle.tv_reading.proofs.Calls.{call_opens, call_puts, call_left, call_refused, and_value_is}
+use Rattle.tv_reading.proofs.Putting.{with_builder, and_value_stands}
+use Rattle.tv_reading.proofs.States.{is_state}
+use Rattle.tv_reading.proofs.reading.Reading.put_tree.Goals as goal
+
+pub close_pair-requires : goal.close_pair-requires
+close_pair-requires g c =
+    let r = c.args.self.now in
+    call_opens r c.tree.new.self _ _ _ (λ s. and_value s (g.V.Value.tree c.args.value.now)) [] tt c.requires c.requires.next c.in-Ok.ensures (and_value_stands (state_of r.builder) (g.V.Value.tree c.args.value.now) c.requires.next)
+
+pub returns-in-Ok-clause-puts : goal.returns-in-Ok-clause-puts
+returns-in-Ok-clause-puts g c =
+    let r = c.args.self.now in
+    call_puts r c.tree.new.self _ _ _ (λ s. and_value s (g.V.Value.tree c.args.value.now)) (value (g.V.Value.tree c.args.value.now) ∷ []) tt _ c.close_pair.result c.requires c.requires.next c.in-Ok.ensures (values_trade (state_of r.builder) (g.V.Value.tree c.args.value.now) (is_state r.builder) c.requires.next) c.close_pair.ensures.puts
+
+pub returns-in-Ok-clause-left : goal.returns-in-Ok-clause-left
+returns-in-Ok-clause-left g c =
+    let r = c.args.self.now in
+    call_left r c.tree.new.self _ _ _ (λ s. and_value s (g.V.Value.tree c.args.value.now)) (value (g.V.Value.tree c.args.value.now) ∷ []) tt _ c.close_pair.result c.requires c.requires.next c.in-Ok.ensures c.close_pair.ensures.left
+
+pub returns-in-Err-clause-puts : goal.returns-in-Err-clause-puts
+returns-in-Err-clause-puts g c =
+    let r = c.args.self.now in
+    let refused = call_refused r c.tree.new.self _ _ _ (λ s. and_value s (g.V.Value.tree c.args.value.now)) (value (g.V.Value.tree c.args.value.now) ∷ []) c.in-Err.error (with_builder r c.tree.new.self) c.requires c.requires.next c.in-Err.ensures (and_value_is (state_of r.builder) (g.V.Value.tree c.args.value.now) (is_state r.builder) c.requires.next) (values_trade (state_of r.builder) (g.V.Value.tree c.args.value.now) (is_state r.builder) c.requires.next) in
+    rw (c.store_error.ensures) refused

@@ -1,0 +1,13 @@
+pub mod Errors
+pub mod Prefix
+pub mod Kept
+pub mod Puts
+pub mod Steps
+pub mod Sound
+pub mod Paid
+pub mod Documents
+pub mod Buffered
+pub mod PairValue
+pub mod Skip
+pub mod ChosenFields
+pub mod ChosenPair
