@@ -1,18 +1,12 @@
-//! Measures the calls that a document store makes most, on a schema and documents that it is given, and on documents of many values, members
-//! or levels.
+//! Measures the calls that a document store makes most, on a schema and documents that it is given.
 //!
-//! A line of standard input that has a shape's name and a number, as `levels 1000000`, asks for a document of that shape, or for so many lines,
-//! terms or facets. For each call that the shape has, standard output has the shape, the number, the call's name and how many bytes or fields
-//! its answer has, or that the values nest too deep for it. With the argument `time` standard error says how many nanoseconds the call took.
-//!
-//! The first line that begins with `[` is a schema as JSON, and each line behind it a document as JSON. Standard output says how
+//! Standard input holds the schema as JSON on its first line, and a document as JSON on each other line. Standard output says how
 //! many documents were accepted, how many bytes of JSON these have, and how many stored bytes. With the arguments `time N` standard
 //! error says for each call how many nanoseconds a document takes, or a field, path, term, range or facet: the mean over N rounds, and
 //! that of the best round. `time N CALL` makes that call alone.
 #![tactic(auto)]
 
 mod calls;
-mod growth;
 mod inputs;
 mod layer;
 mod term_calls;
@@ -23,45 +17,22 @@ use crate::inputs::Inputs;
 use crate::workload::Workload;
 use anyhow::{Context, Result};
 use std::env;
-use std::io::{BufRead, BufReader};
 use std::rt::{Clock, Env};
 use std::time::Instant;
 
 fn main(rt: HostRuntime) -> Result<()> {
-    let is_timed = env::args(&rt)?.skip(1).next().is_some();
-    let mut workload: Option<Workload> = None;
-    for line in BufReader::new(rt.alloc(), rt.reader())?.lines(rt.alloc()) {
-        let line = line?;
-        if let Some(workload) = &mut workload {
-            workload.put_accepted(rt.alloc(), line)?;
-        } else if line.starts_with('[') {
-            workload = Some(Workload::of_schema(rt.alloc(), line.as_str())?);
-        } else {
-            growth::answer(&rt, line.as_str(), is_timed)?;
-        }
-    }
-    match workload {
-        Some(workload) => answer(&rt, workload.filled(rt.alloc())?),
-        None => Ok(()),
-    }
-}
-
-// Says how much there is of a workload, and measures the calls that are asked for. The workload is let go.
-fn answer(
-    rt: &(impl Clock + Env + Print + Eprint + AllocGlobal),
-    workload: Workload,
-) -> Result<()> {
+    let workload = Workload::read(&rt)?;
     let documents = workload.documents.len();
     let json_len = workload.json_len();
     let stored_len = workload.stored_len();
     println!(rt;
         "{documents} accepted documents, {json_len} bytes of JSON, {stored_len} stored bytes"
     )?;
-    if let Some((rounds, name)) = rounds_wanted(rt)? {
+    if let Some((rounds, name)) = rounds_wanted(&rt)? {
         let inputs = Inputs::of(rt.alloc(), &workload)?;
         for call in Call::ALL {
             if name.is_empty() || name.as_str() == call.name() {
-                measure(rt, &workload, &inputs, call, rounds)?;
+                measure(&rt, &workload, &inputs, call, rounds)?;
             }
         }
     }

@@ -1,7 +1,8 @@
 //! What is measured: a schema, and documents in each form that a call starts from.
 
-use anyhow::Result;
+use anyhow::{Context, Result};
 use std::alloc::Global;
+use std::io::{BufRead, BufReader};
 use tantivy_schema::common::VecSink;
 use tantivy_schema::schema::document::{BinaryDocumentSerializer, CompactDoc, OwnedValue};
 use tantivy_schema::schema::{Field, Schema};
@@ -47,35 +48,41 @@ impl Drop for Workload {
 }
 
 impl Workload {
-    /// A schema of its JSON, without documents.
-    pub fn of_schema(alloc: Global, text: &str) -> Result<Workload> {
-        Ok(Workload {
-            schema: schema_of(alloc, text)?,
+    /// Reads a schema and documents from standard input. A line that is refused is left out.
+    ///
+    /// Each form is made of all documents before the next one, so that what a call goes over stands in memory one behind the
+    /// other, as in a block of a document store.
+    pub fn read(rt: &(impl Input + AllocGlobal)) -> Result<Workload> {
+        let alloc = rt.alloc();
+        let mut input = BufReader::new(alloc, rt.reader())?.lines(alloc);
+        let first = input.next().context("a schema on the first line")??;
+        let mut workload = Workload::empty(alloc, schema_of(alloc, first.as_str())?);
+        for line in input {
+            workload.put_accepted(alloc, line?)?;
+        }
+        workload.fill(alloc)?;
+        Ok(workload)
+    }
+
+    // A schema without documents.
+    fn empty(alloc: Global, schema: Schema) -> Workload {
+        Workload {
+            schema,
             lines: Vec::new(alloc),
             documents: Vec::new(alloc),
             pairs: Vec::new(alloc),
             stored: Vec::new(alloc),
             stored_v3: Vec::new(alloc),
-        })
+        }
     }
 
-    /// Keeps a line, if it is a document of the schema.
-    pub fn put_accepted(&mut self, alloc: Global, line: String) -> Result<()> {
+    // Keeps a line, if it is a document of the schema.
+    fn put_accepted(&mut self, alloc: Global, line: String) -> Result<()> {
         let is_accepted = CompactDoc::parse_json(alloc, &self.schema, line.as_str()).is_ok();
         if is_accepted {
             self.lines.push(line)?;
         }
         Ok(())
-    }
-
-    /// The same with each form of the documents of the lines.
-    ///
-    /// Each form is made of all documents before the next one, so that what a call goes over stands in memory one behind the
-    /// other, as in a block of a document store.
-    pub fn filled(self, alloc: Global) -> Result<Workload> {
-        let mut workload = self;
-        workload.fill(alloc)?;
-        Ok(workload)
     }
 
     // Makes each form of the documents of the lines.

@@ -1,6 +1,6 @@
 //! Calls on many lines, terms and facets.
 
-use crate::growth::shape::Workload;
+use crate::shape::Workload;
 use anyhow::{Context, Result, anyhow};
 use std::alloc::Global;
 use tantivy_schema::common::{SliceSource, VecSink};

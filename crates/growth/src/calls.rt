@@ -1,7 +1,7 @@
 //! The calls that are made.
 
-use crate::growth::shape::Workload;
-use crate::growth::{layer, nested};
+use crate::shape::Workload;
+use crate::{layer, nested};
 use anyhow::{Context, Result, anyhow};
 use serde_json::Value;
 use std::alloc::Global;

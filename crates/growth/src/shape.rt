@@ -1,6 +1,6 @@
 //! Documents of many values, members or levels, as JSON or as stored bytes.
 
-use crate::growth::calls::Call;
+use crate::calls::Call;
 use anyhow::{Context, Result};
 use std::alloc::Global;
 use tantivy_schema::common::{SliceSource, VecSink};

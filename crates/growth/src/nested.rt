@@ -1,6 +1,6 @@
 //! Calls on documents whose values may nest deep. `None` stands for a refusal of what nests in too many lists.
 
-use crate::growth::shape::Workload;
+use crate::shape::Workload;
 use anyhow::{Context, Result, anyhow};
 use std::alloc::Global;
 use tantivy_schema::common::{SliceSource, VecSink};
