@@ -3,6 +3,7 @@ pub mod AddressBytes
 pub mod Kept
 pub mod InPlace
 pub mod Found
+pub mod ListChildren
 pub mod TokenSteps
 pub mod Payloads
 pub mod GatheredTokens

@@ -6,6 +6,7 @@ pub mod Same
 pub mod SameLaws
 pub mod Owned
 pub mod Nesting
+pub mod Children
 pub mod HeldTokens
 pub mod TokenRef
 pub mod InPlace

@@ -1,6 +1,7 @@
 //! Values of any kind, lent and owned, and from JSON.
 #![tactic(auto)]
 
+pub mod children;
 pub mod content;
 pub mod copy;
 pub mod copy_error;

@@ -1,10 +1,11 @@
 //! How deep lists nest. A list is an array or an object.
 
 ghost use Rattle.std.specs.Prelude.{◌↔◌, IsTrue};
-ghost use Rattle.tv_format.specs.Tree.{elements, entries};
+ghost use Rattle.tv_value.specs.Children.{ChildrenNestWithin, children_left};
 ghost use Rattle.tv_value.specs.Lent.{nested_tree};
-ghost use Rattle.tv_value.specs.Nesting.{NestsWithin, ElementsNestWithin, EntriesNestWithin};
+ghost use Rattle.tv_value.specs.Nesting.{NestsWithin};
 
+use crate::children::Children;
 use crate::nested::{Nested, NestedValue, lend};
 use crate::value::Value;
 use thiserror::Error;
@@ -24,32 +25,19 @@ fn nested_within<N: Nested>(value: NestedValue<'_, N>, depth: u32) -> bool
     ensures { IsTrue result
         ↔ NestsWithin depth (nested_tree N.array_rest N.object_rest value.entry) }
 {
-    match value {
-        NestedValue::Leaf(_) => true,
-        NestedValue::Array(items) => depth > 0 && items_within::<N>(items, depth - 1),
-        NestedValue::Object(members) => depth > 0 && members_within::<N>(members, depth - 1),
+    match value.into_children() {
+        Ok(children) => depth > 0 && children_within(children, depth - 1),
+        Err(_) => true,
     }
 }
 
-// Whether each value that is left of an array does.
+// Whether each child that is left of a list does.
 #[cycle(nests)]
-fn items_within<N: Nested>(items: N::ArrayIter, depth: u32) -> bool
-    ensures { IsTrue result ↔ ElementsNestWithin depth (elements (N.array_rest items)) }
+fn children_within<N: Nested>(children: Children<N>, depth: u32) -> bool
+    ensures { IsTrue result
+        ↔ ChildrenNestWithin depth (children_left N.array_rest N.object_rest children) }
 {
-    for item in items {
-        if !nested_within(item.as_nested(), depth) {
-            return false;
-        }
-    }
-    true
-}
-
-// Whether each value that is left of an object does.
-#[cycle(nests)]
-fn members_within<N: Nested>(members: N::ObjectIter, depth: u32) -> bool
-    ensures { IsTrue result ↔ EntriesNestWithin depth (entries (N.object_rest members)) }
-{
-    for (_, item) in members {
+    for (_, item) in children {
         if !nested_within(item.as_nested(), depth) {
             return false;
         }

@@ -1,0 +1,8 @@
+use Rattle.std.proofs.Common.{◌-◌, sym, subst, arith}
+use Rattle.tv_value.proofs.ListChildren.{list_nests}
+use Rattle.tv_value.proofs.nesting.+nests.Goals as goal
+
+pub nested_within-returns-then-depth-gt0 : goal.nested_within-returns-then-depth-gt0
+nested_within-returns-then-depth-gt0 g t c =
+    let same = list_nests c.args.depth (c.args.depth - 1) _ _ c.in-Ok.ensures.list (omega (arith, c.if-depth-gt0.true)) in
+    (λ h. subst (λ z. z) (sym same) (c.children_within.ensures.0 h), λ h. c.children_within.ensures.1 (subst (λ z. z) same h))
