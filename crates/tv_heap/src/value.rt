@@ -10,6 +10,7 @@ use crate::encoded::Encoded;
 use crate::lent::{child_at, children, encoded_at, leaf_at, sized_at, text_at};
 use crate::same::same_value;
 use crate::value_type::ValueType;
+use tv_value::nested::{Nested, NestedValue};
 use tv_value::value::{ReferenceValue, Value};
 
 /// A value of a document, which stands in the heap that it is lent from.
@@ -164,6 +165,38 @@ impl<'a> Value<'a> for CompactDocValue<'a> {
                 let list = sized_at(heap, address);
                 ReferenceValue::Object(CompactDocObjectIter { heap, list })
             }
+        }
+    }
+}
+
+/// The same, for walks over any value: its children are lent out of the document too.
+impl<'a> Nested for CompactDocValue<'a> {
+    type Key = &'a str;
+
+    type ArrayIter = CompactDocArrayIter<'a>;
+
+    type ObjectIter = CompactDocObjectIter<'a>;
+
+    ghost tree = { λ v. v.held.0 };
+
+    ghost array_rest = { λ s. s.held.0 };
+
+    ghost object_rest = { λ s. s.held.0 };
+
+    ghost array_walks = { λ s. (tt, tt) };
+
+    ghost object_walks = { λ s. (tt, tt) };
+
+    ghost array_steps = { λ s t r steps. steps };
+
+    ghost object_steps = { λ s t r steps. steps };
+
+    #[inline(always)]
+    fn as_nested(&self) -> NestedValue<'_, CompactDocValue<'a>> {
+        match self.as_value() {
+            ReferenceValue::Leaf(leaf) => NestedValue::Leaf(leaf),
+            ReferenceValue::Array(items) => NestedValue::Array(items),
+            ReferenceValue::Object(members) => NestedValue::Object(members),
         }
     }
 }
