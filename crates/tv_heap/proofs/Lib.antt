@@ -7,3 +7,4 @@ pub mod Shapes
 pub mod InPlace
 pub mod Children
 pub mod Lists
+pub mod ListRooms

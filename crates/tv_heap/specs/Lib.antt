@@ -1,5 +1,5 @@
 pub mod Room
-pub mod RoomLeft
+pub mod ChildrenRoom
 pub mod LeafBytes
 pub mod Weight
 pub mod Reads

@@ -1,16 +1,16 @@
 //! How many bytes of heap a value may take.
 
-ghost use Rattle.std.specs.Prelude.{◌≡◌, ◌+◌, ◌<◌, ◌≤◌, ◌^◌, IfSome, MatchOption, SomeIff};
+ghost use Rattle.std.specs.Prelude.{◌+◌, ◌<◌, ◌^◌, SomeIff, option_map};
 ghost use Rattle.std.specs.List.{sum_by};
-ghost use Rattle.tv_heap.specs.Room.{leaf_room, room, elements_room, entries_room, token_room};
-ghost use Rattle.tv_heap.specs.RoomLeft.{met_room, room_left, size_left};
+ghost use Rattle.tv_heap.specs.ChildrenRoom.{children_room, key_room};
+ghost use Rattle.tv_heap.specs.Room.{leaf_room, room, token_room};
+ghost use Rattle.tv_value.specs.Children.{children_left};
 ghost use Rattle.tv_value.specs.Lent.{leaf_of, nested_tree};
 ghost use Rattle.tv_value.specs.PreTokenized.{tokens_left};
-ghost use Rattle.tv_format.specs.Size.{elements_size, entries_size};
-ghost use Rattle.tv_format.specs.Tree.{elements, entries};
 
 use std::alloc::Global;
 use std::convert::AsStr;
+use tv_value::children::Children;
 use tv_value::content::LeafContent;
 use tv_value::leaf::ReferenceValueLeaf;
 use tv_value::nested::{Nested, NestedValue, lend};
@@ -64,132 +64,54 @@ pub fn leaf_room(value: &ReferenceValueLeaf<'_>) -> Option<u32>
     }
 }
 
-// The children of a list that are left.
-#[derive(Drop)]
-enum Rest<N: Nested> {
-    Array(N::ArrayIter),
-    Object(N::ObjectIter),
-}
-
-// The room of the values that are left of an array up to one that is a list, above what there is, where the sum fits. The list counts
-// without its children, which are returned.
-fn items_to_list<N: Nested>(items: &mut N::ArrayIter, base: u32) -> Option<(u32, Option<Rest<N>>)>
-    ensures counts { let total = base + elements_room (elements (N.array_rest items.old)) in
-        MatchOption result (2 ^ 32 ≤ total)
-        (λ x. (x.0 < 2 ^ 32) × (x.0 + met_room (room_left N.array_rest N.object_rest)
-        (elements_room (elements (N.array_rest items.new))) x.1 ≡ total)) }
-    ensures fewer { IfSome result
-        (λ x. IfSome x.1
-        (λ inner. size_left N.array_rest N.object_rest inner
-        + elements_size (elements (N.array_rest items.new)) + 2
-        ≤ elements_size (elements (N.array_rest items.old)))) }
+// The room of a child above what there is, where the sum fits, but for its value: 6 bytes in its parent's list, and for a key 11 beside its own.
+#[inline(always)]
+fn child_above<K: AsStr + Drop>(key: Option<K>, base: u32) -> Option<u32>
+    ensures { let total = base
+        + (6 + key_room (option_map K.text key)) in SomeIff result (total < 2 ^ 32) total }
 {
-    let mut total = base;
-    while let Some(item) = items.next() {
-        total = total.checked_add(6)?;
-        match item.as_nested() {
-            NestedValue::Leaf(single) => total = total.checked_add(leaf_room(&single)?)?,
-            NestedValue::Array(inner) => {
-                return Some((total.checked_add(5)?, Some(Rest::Array(inner))));
-            }
-            NestedValue::Object(inner) => {
-                return Some((total.checked_add(5)?, Some(Rest::Object(inner))));
-            }
-        }
-    }
-    Some((total, None))
-}
-
-// The same of the keys and values that are left of an object.
-fn members_to_list<N: Nested>(
-    members: &mut N::ObjectIter,
-    base: u32,
-) -> Option<(u32, Option<Rest<N>>)>
-    ensures counts { let total = base + entries_room (entries (N.object_rest members.old)) in
-        MatchOption result (2 ^ 32 ≤ total)
-        (λ x. (x.0 < 2 ^ 32) × (x.0 + met_room (room_left N.array_rest N.object_rest)
-        (entries_room (entries (N.object_rest members.new))) x.1 ≡ total)) }
-    ensures fewer { IfSome result
-        (λ x. IfSome x.1
-        (λ inner. size_left N.array_rest N.object_rest inner
-        + entries_size (entries (N.object_rest members.new)) + 2
-        ≤ entries_size (entries (N.object_rest members.old)))) }
-{
-    let mut total = base;
-    while let Some((key, item)) = members.next() {
-        total = total.checked_add(u32::try_from(key.as_str().len()).ok()?)?;
-        total = total.checked_add(17)?;
-        match item.as_nested() {
-            NestedValue::Leaf(single) => total = total.checked_add(leaf_room(&single)?)?,
-            NestedValue::Array(inner) => {
-                return Some((total.checked_add(5)?, Some(Rest::Array(inner))));
-            }
-            NestedValue::Object(inner) => {
-                return Some((total.checked_add(5)?, Some(Rest::Object(inner))));
-            }
-        }
-    }
-    Some((total, None))
-}
-
-// The same of either.
-fn rest_to_list<N: Nested>(rest: &mut Rest<N>, base: u32) -> Option<(u32, Option<Rest<N>>)>
-    ensures counts { let total = base + room_left N.array_rest N.object_rest rest.old in
-        MatchOption result (2 ^ 32 ≤ total)
-        (λ x. (x.0 < 2 ^ 32) × (x.0 + met_room (room_left N.array_rest N.object_rest)
-        (room_left N.array_rest N.object_rest rest.new) x.1 ≡ total)) }
-    ensures fewer { IfSome result
-        (λ x. IfSome x.1
-        (λ inner. size_left N.array_rest N.object_rest inner
-        + size_left N.array_rest N.object_rest rest.new + 2
-        ≤ size_left N.array_rest N.object_rest rest.old)) }
-{
-    match rest {
-        Rest::Array(items) => items_to_list::<N>(items, base),
-        Rest::Object(members) => members_to_list::<N>(members, base),
-    }
+    let Some(key) = key else {
+        return base.checked_add(6);
+    };
+    base.checked_add(u32::try_from(key.as_str().len()).ok()?)?.checked_add(17)
 }
 
 // The room of the children that are left of a list above what there is, where the sum fits. The open lists stand on a stack in memory.
 // A list is counted by recursion if memory is refused for the one around it.
 #[inline(never)]
 #[cycle(values)]
-fn nested_above<N: Nested>(alloc: Global, outermost: Rest<N>, base: u32) -> Option<u32>
+#[tactic(auto, using(tv_value::proofs::ListChildren::list_size, crate::proofs::ListRooms::list_room))]
+fn nested_above<N: Nested>(alloc: Global, outermost: Children<N>, base: u32) -> Option<u32>
     ensures { let total = base
-        + room_left N.array_rest N.object_rest outermost in SomeIff result (total < 2 ^ 32) total }
+        + children_room (children_left N.array_rest N.object_rest outermost) in SomeIff result
+        (total < 2 ^ 32) total }
 {
     let mut around = Vec::new(alloc);
     let mut list = outermost;
     let mut total = base;
     'lists: loop {
-        let (so_far, met) = rest_to_list(&mut list, total)?;
-        total = so_far;
-        let Some(inner) = met else {
+        let Some((key, item)) = list.next() else {
             let Some(outer) = around.pop() else {
                 return Some(total);
             };
             list = outer;
             continue 'lists;
         };
-        match around.push(list) {
-            Ok(()) => list = inner,
-            Err(refused) => {
-                list = refused.value;
-                total = rest_above(alloc, inner, total)?;
+        total = child_above(key, total)?;
+        let inner = match item.as_nested().into_children() {
+            Ok(inner) => inner,
+            Err(single) => {
+                total = total.checked_add(leaf_room(&single)?)?;
+                continue 'lists;
             }
+        };
+        total = total.checked_add(5)?;
+        if let Err(refused) = around.push(list) {
+            list = refused.value;
+            total = children_above(alloc, inner, total, u32::MAX)?;
+            continue 'lists;
         }
-    }
-}
-
-// The room of the children that are left of a list above what there is, where the sum fits, by recursion alone.
-#[cycle(values)]
-fn rest_above<N: Nested>(alloc: Global, rest: Rest<N>, base: u32) -> Option<u32>
-    ensures { let total = base
-        + room_left N.array_rest N.object_rest rest in SomeIff result (total < 2 ^ 32) total }
-{
-    match rest {
-        Rest::Array(items) => items_above::<N>(alloc, items, base, u32::MAX),
-        Rest::Object(members) => members_above::<N>(alloc, members, base, u32::MAX),
+        list = inner;
     }
 }
 
@@ -197,6 +119,7 @@ fn rest_above<N: Nested>(alloc: Global, rest: Rest<N>, base: u32) -> Option<u32>
 // taken.
 #[inline(always)]
 #[cycle(values)]
+#[tactic(auto, using(tv_value::proofs::ListChildren::list_size, crate::proofs::ListRooms::list_room))]
 fn value_above<N: Nested>(
     alloc: Global,
     value: NestedValue<'_, N>,
@@ -207,55 +130,31 @@ fn value_above<N: Nested>(
         + room (nested_tree N.array_rest N.object_rest value.entry) in SomeIff result
         (total < 2 ^ 32) total }
 {
-    match value {
-        NestedValue::Leaf(single) => base.checked_add(leaf_room(&single)?),
-        NestedValue::Array(items) => {
-            items_above::<N>(alloc, items, base.checked_add(5)?, levels)
-        }
-        NestedValue::Object(members) => {
-            members_above::<N>(alloc, members, base.checked_add(5)?, levels)
-        }
+    match value.into_children() {
+        Ok(children) => children_above(alloc, children, base.checked_add(5)?, levels),
+        Err(single) => base.checked_add(leaf_room(&single)?),
     }
 }
 
-// The room of the values that are left of an array above what there is, where the sum fits. Each takes 6 bytes in the list.
+// The room of the children that are left of a list above what there is, where the sum fits.
 #[inline(never)]
 #[cycle(values)]
-fn items_above<N: Nested>(alloc: Global, items: N::ArrayIter, base: u32, levels: u32) -> Option<u32>
-    ensures { let total = base
-        + elements_room (elements (N.array_rest items)) in SomeIff result (total < 2 ^ 32) total }
-{
-    if levels == 0 {
-        return nested_above(alloc, Rest::<N>::Array(items), base);
-    }
-    let mut total = base;
-    for item in items {
-        total = total.checked_add(6)?;
-        total = value_above(alloc, item.as_nested(), total, levels - 1)?;
-    }
-    Some(total)
-}
-
-// The room of the keys and values that are left of an object above what there is, where the sum fits. Each key takes 11 bytes
-// beside its own, and each value 6.
-#[inline(never)]
-#[cycle(values)]
-fn members_above<N: Nested>(
+fn children_above<N: Nested>(
     alloc: Global,
-    members: N::ObjectIter,
+    children: Children<N>,
     base: u32,
     levels: u32,
 ) -> Option<u32>
     ensures { let total = base
-        + entries_room (entries (N.object_rest members)) in SomeIff result (total < 2 ^ 32) total }
+        + children_room (children_left N.array_rest N.object_rest children) in SomeIff result
+        (total < 2 ^ 32) total }
 {
     if levels == 0 {
-        return nested_above(alloc, Rest::<N>::Object(members), base);
+        return nested_above(alloc, children, base);
     }
     let mut total = base;
-    for (key, item) in members {
-        total = total.checked_add(u32::try_from(key.as_str().len()).ok()?)?;
-        total = total.checked_add(17)?;
+    for (key, item) in children {
+        total = child_above(key, total)?;
         total = value_above(alloc, item.as_nested(), total, levels - 1)?;
     }
     Some(total)
