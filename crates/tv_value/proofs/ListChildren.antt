@@ -46,3 +46,11 @@ list_of_items (t ∷ ts) = ap (λ z. without_key t ∷ z) (list_of_items ts)
 pub list_of_members : (es : List (List ℕ × Tree)) → IsListOf (map with_key es) (object (entries es))
 list_of_members [] = refl
 list_of_members (e ∷ es) = ap (λ z. with_key e ∷ z) (list_of_members es)
+
+pub items_size : (ts : List Tree) → elements_size (elements ts) ≡ children_size (map without_key ts)
+items_size [] = refl
+items_size (t ∷ ts) = ap (λ z. suc (size t + z)) (items_size ts)
+
+pub members_size : (es : List (List ℕ × Tree)) → entries_size (entries es) ≡ children_size (map with_key es)
+members_size [] = refl
+members_size (e ∷ es) = ap (λ z. suc (size e.1 + z)) (members_size es)

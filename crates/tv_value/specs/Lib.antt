@@ -7,6 +7,7 @@ pub mod SameLaws
 pub mod Owned
 pub mod Nesting
 pub mod Children
+pub mod SameChildren
 pub mod HeldTokens
 pub mod TokenRef
 pub mod InPlace

@@ -1,12 +1,14 @@
 //! Whether two values are one, in place and without memory.
 
-ghost use Rattle.std.specs.Prelude.{◌≡◌, ◌↔◌, IfOk, IsErr, OnOk};
-ghost use Rattle.tv_format.specs.Tree.{elements, entries};
+ghost use Rattle.std.specs.Prelude.{◌≡◌, ◌↔◌, IfOk, IsErr, OnOk, option_map};
+ghost use Rattle.tv_value.specs.Children.{children_left};
 ghost use Rattle.tv_value.specs.LeafParts.{content_of};
 ghost use Rattle.tv_value.specs.Lent.{leaf_of, nested_tree};
 ghost use Rattle.tv_value.specs.Nesting.{NestsWithin};
-ghost use Rattle.tv_value.specs.Same.{content_eq, leaf_eq, tree_eq, elements_eq, entries_eq};
+ghost use Rattle.tv_value.specs.Same.{content_eq, leaf_eq, tree_eq};
+ghost use Rattle.tv_value.specs.SameChildren.{key_eq, children_eq};
 
+use crate::children::Children;
 use crate::content::LeafContent;
 use crate::leaf::ReferenceValueLeaf;
 use crate::nested::{Nested, NestedValue, lend};
@@ -39,8 +41,20 @@ pub fn same_leaf(one: ReferenceValueLeaf<'_>, other: ReferenceValueLeaf<'_>) -> 
         && same_content(one.content(), other.content())
 }
 
+// Whether two children have one key, or both none.
+fn same_keys<K: AsStr, L: AsStr>(one: &Option<K>, other: &Option<L>) -> bool
+    ensures { result ≡ key_eq (option_map K.text one.now) (option_map L.text other.now) }
+{
+    match (one, other) {
+        (None, None) => true,
+        (Some(key), Some(other)) => key.as_str() == other.as_str(),
+        _ => false,
+    }
+}
+
 // Whether two values that are lent are one.
 #[cycle(same)]
+#[tactic(auto, using(crate::proofs::ListChildren::items_size, crate::proofs::ListChildren::members_size, crate::proofs::SameChildren::items_eq, crate::proofs::SameChildren::members_eq))]
 fn same_nested<M: Nested, N: Nested>(one: NestedValue<'_, M>, other: NestedValue<'_, N>) -> bool
     ensures { result
         ≡ tree_eq (nested_tree M.array_rest M.object_rest one.entry)
@@ -49,47 +63,28 @@ fn same_nested<M: Nested, N: Nested>(one: NestedValue<'_, M>, other: NestedValue
     match (one, other) {
         (NestedValue::Leaf(s), NestedValue::Leaf(t)) => same_leaf(s, t),
         (NestedValue::Array(items), NestedValue::Array(others)) => {
-            same_items::<M, N>(items, others)
+            same_children(Children::<M>::Array(items), Children::<N>::Array(others))
         }
         (NestedValue::Object(members), NestedValue::Object(others)) => {
-            same_members::<M, N>(members, others)
+            same_children(Children::<M>::Object(members), Children::<N>::Object(others))
         }
         _ => false,
     }
 }
 
-// Whether two arrays are one.
+// Whether two lists of children are one.
 #[cycle(same)]
-fn same_items<M: Nested, N: Nested>(items: M::ArrayIter, others: N::ArrayIter) -> bool
+fn same_children<M: Nested, N: Nested>(children: Children<M>, others: Children<N>) -> bool
     ensures { result
-        ≡ elements_eq (elements (M.array_rest items)) (elements (N.array_rest others)) }
+        ≡ children_eq (children_left M.array_rest M.object_rest children)
+        (children_left N.array_rest N.object_rest others) }
 {
     let mut others = others;
-    for item in items {
-        let Some(other) = others.next() else {
-            return false;
-        };
-        if !same_nested(item.as_nested(), other.as_nested()) {
-            return false;
-        }
-    }
-    others.next().is_none()
-}
-
-// Whether two objects are one.
-#[cycle(same)]
-fn same_members<M: Nested, N: Nested>(members: M::ObjectIter, others: N::ObjectIter) -> bool
-    ensures { result
-        ≡ entries_eq (entries (M.object_rest members)) (entries (N.object_rest others)) }
-{
-    let mut others = others;
-    for (key, value) in members {
+    for (key, child) in children {
         let Some((other_key, other)) = others.next() else {
             return false;
         };
-        if key.as_str() != other_key.as_str()
-            || !same_nested(value.as_nested(), other.as_nested())
-        {
+        if !same_keys(&key, &other_key) || !same_nested(child.as_nested(), other.as_nested()) {
             return false;
         }
     }
