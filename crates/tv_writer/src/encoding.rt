@@ -1,9 +1,11 @@
 //! Whether values have an encoding.
 
 ghost use Rattle.std.specs.Bool.{MatchBool};
+ghost use Rattle.std.specs.Prelude.{option_map};
 ghost use Rattle.tv_value.specs.LeafParts.{content_of};
 ghost use Rattle.tv_value.specs.Lent.{nested_tree};
 ghost use Rattle.tv_format.specs.Short.{IsContent, IsText, IsSized, IsValue};
+ghost use Rattle.tv_writer.specs.Children.{IsKey};
 
 use std::convert::AsStr;
 use tv_value::content::LeafContent;
@@ -41,34 +43,35 @@ fn is_content(content: LeafContent<'_>) -> bool
     }
 }
 
+// Whether a key is short enough, if there is one.
+fn is_key<K: AsStr>(key: &Option<K>) -> bool
+    ensures { MatchBool result (IsKey (option_map K.text key.now))
+        (¬ IsKey (option_map K.text key.now)) }
+{
+    match key {
+        None => true,
+        Some(key) => is_text(key.as_str()),
+    }
+}
+
 // Whether a value and all its children have one.
+#[tactic(auto, using(crate::proofs::WriterSteps::list_fits, crate::proofs::WriterSteps::list_parts, crate::proofs::WriterSteps::list_valid, tv_value::proofs::ListChildren::list_size))]
 fn is_encoded<N: Nested>(value: NestedValue<'_, N>) -> bool
     ensures { MatchBool result (IsValue (nested_tree N.array_rest N.object_rest value.entry))
         (¬ IsValue (nested_tree N.array_rest N.object_rest value.entry)) }
 {
-    match value {
-        NestedValue::Leaf(leaf) => is_content(leaf.content()),
-        NestedValue::Array(items) => {
-            let mut count = 0;
-            for item in items {
-                if count == MOST || !is_encoded(item.as_nested()) {
-                    return false;
-                }
-                count += 1;
-            }
-            true
+    let children = match value.into_children() {
+        Ok(children) => children,
+        Err(leaf) => return is_content(leaf.content()),
+    };
+    let mut count = 0;
+    for (key, item) in children {
+        if count == MOST || !is_key(&key) || !is_encoded(item.as_nested()) {
+            return false;
         }
-        NestedValue::Object(members) => {
-            let mut count = 0;
-            for (key, item) in members {
-                if count == MOST || !is_text(key.as_str()) || !is_encoded(item.as_nested()) {
-                    return false;
-                }
-                count += 1;
-            }
-            true
-        }
+        count += 1;
     }
+    true
 }
 
 /// Whether a value has an encoding: no array and no object in it has 2^63 children, and no text and no bytes have that length.

@@ -3,16 +3,16 @@
 //! Each function hands on the error of a failed write. The sink then holds what it held before, and a beginning of what was
 //! to be written.
 
-ghost use Rattle.std.specs.Prelude.{◌≡◌, ◌<◌, ◌^◌, ◌∷◌};
+ghost use Rattle.std.specs.Prelude.{◌≡◌, ◌<◌, ◌^◌, ◌∷◌, option_map};
 ghost use Rattle.tv_base.specs.Number.{vnum};
 ghost use Rattle.tv_base.specs.Writing.{Writes};
-ghost use Rattle.tv_format.specs.Short.{short, short_elements, short_entries, short_key, IsValue};
-ghost use Rattle.tv_format.specs.Short.{AreElements, AreEntries};
-ghost use Rattle.tv_format.specs.Tree.{elements, entries, element_count, entry_count};
+ghost use Rattle.tv_format.specs.Short.{short, short_key, IsValue};
 ghost use Rattle.tv_format.specs.Version.{entry_total};
 ghost use Rattle.tv_format.specs.WriteVersion.{written_version};
+ghost use Rattle.tv_value.specs.Children.{children_left};
 ghost use Rattle.tv_value.specs.Lent.{nested_tree};
-ghost use Rattle.tv_writer.specs.Children.{child_count};
+ghost use Rattle.tv_writer.specs.Children.{AreValues, child_count, short_children};
+ghost use Rattle.tv_writer.specs.Children.{short_key_of};
 
 use crate::leaf_writer::{write_coded_count, write_coded_text, write_leaf};
 use std::convert::AsStr;
@@ -21,7 +21,8 @@ use tv_base::ByteSink;
 use tv_base::write::write_text;
 use tv_format::type_codes::{ARRAY_CODE, OBJECT_CODE, TEXT_CODE};
 use tv_format::version::WriteVersion;
-use tv_value::nested::{Lent, Nested, NestedValue, lend};
+use tv_value::children::Children;
+use tv_value::nested::{Nested, NestedValue, lend};
 use tv_value::value::Value;
 
 /// Writes a key of an object: its length and its text, in version 2 behind the code of a text. It takes no memory.
@@ -63,98 +64,81 @@ pub fn write_object_head<K: ByteSink>(
     }
 }
 
-// How many values are left of an array.
-fn array_count<N: Nested>(items: N::ArrayIter) -> u64
-    requires { element_count (elements (N.array_rest items)) < 2 ^ 63 }
-    ensures { result ≡ element_count (elements (N.array_rest items)) }
-{
-    let mut count = 0;
-    for _item in items {
-        count += 1;
-    }
-    count
-}
-
-// How many entries are left of an object.
-fn object_count<N: Nested>(members: N::ObjectIter) -> u64
-    requires { entry_count (entries (N.object_rest members)) < 2 ^ 63 }
-    ensures { result ≡ entry_count (entries (N.object_rest members)) }
-{
-    let mut count = 0;
-    for _member in members {
-        count += 1;
-    }
-    count
-}
-
 // How many children a value has.
-#[inline]
-fn children<N: Nested>(value: NestedValue<'_, N>) -> u64
+#[tactic(auto, using(crate::proofs::WriterSteps::list_counted, crate::proofs::WriterSteps::list_fits))]
+fn child_count<N: Nested>(value: NestedValue<'_, N>) -> u64
     requires { IsValue (nested_tree N.array_rest N.object_rest value) }
     ensures { result ≡ child_count (nested_tree N.array_rest N.object_rest value.entry) }
 {
-    match value {
-        NestedValue::Leaf(_) => 0,
-        NestedValue::Array(items) => array_count::<N>(items),
-        NestedValue::Object(members) => object_count::<N>(members),
+    let mut count = 0;
+    if let Ok(children) = value.into_children() {
+        for _child in children {
+            count += 1;
+        }
+    }
+    count
+}
+
+// The key of a child, if it has one.
+#[inline(always)]
+fn write_key_of<K: ByteSink, T: AsStr + Drop>(
+    sink: &mut K,
+    version: WriteVersion,
+    key: Option<T>,
+) -> Result<(), io::ErrorKind>
+    ensures { Writes K.ByteSink sink.old sink.new result
+        (short_key_of (written_version version) (option_map T.text key)) }
+{
+    match key {
+        None => Ok(()),
+        Some(key) => write_key(sink, version, key.as_str()),
     }
 }
 
-// A value: its code, and what it holds. Of an array or an object the children are counted first, on a walk of their own.
+// A value of so many children: its code, and what it holds.
 #[cycle(values)]
-fn write_tree<K: ByteSink, N: Nested>(
+#[tactic(auto, using(crate::proofs::WriterSteps::items_valid, crate::proofs::WriterSteps::members_valid, tv_value::proofs::ListChildren::items_size, tv_value::proofs::ListChildren::members_size))]
+fn write_nested<K: ByteSink, N: Nested>(
     sink: &mut K,
-    value: &N,
+    value: NestedValue<'_, N>,
+    count: u64,
     version: WriteVersion,
 ) -> Result<(), io::ErrorKind>
-    requires { IsValue (N.tree value.now) }
+    requires valid { IsValue (nested_tree N.array_rest N.object_rest value) }
+    requires counted { count ≡ child_count (nested_tree N.array_rest N.object_rest value) }
     ensures { Writes K.ByteSink sink.old sink.new result
-        (short (written_version version) (N.tree value.now)) }
+        (short (written_version version) (nested_tree N.array_rest N.object_rest value.entry)) }
 {
-    match value.as_nested() {
+    match value {
         NestedValue::Leaf(leaf) => write_leaf(sink, &leaf),
         NestedValue::Array(items) => {
-            write_coded_count(sink, ARRAY_CODE, children(value.as_nested()))?;
-            write_items::<K, N>(sink, items, version)
+            write_coded_count(sink, ARRAY_CODE, count)?;
+            write_children(sink, Children::<N>::Array(items), version)
         }
         NestedValue::Object(members) => {
-            write_object_head(sink, version, children(value.as_nested()))?;
-            write_members::<K, N>(sink, members, version)
+            write_object_head(sink, version, count)?;
+            write_children(sink, Children::<N>::Object(members), version)
         }
     }
 }
 
-// The values that are left of an array, in order.
+// The children that are left of a list, in order, each behind its key, if it has one. Those of a list among them are counted first, on a
+// walk of their own.
 #[cycle(values)]
-fn write_items<K: ByteSink, N: Nested>(
+fn write_children<K: ByteSink, N: Nested>(
     sink: &mut K,
-    items: N::ArrayIter,
+    children: Children<N>,
     version: WriteVersion,
 ) -> Result<(), io::ErrorKind>
-    requires { AreElements (elements (N.array_rest items)) }
+    requires { AreValues (children_left N.array_rest N.object_rest children) }
     ensures { Writes K.ByteSink sink.old sink.new result
-        (short_elements (written_version version) (elements (N.array_rest items))) }
+        (short_children (written_version version)
+        (children_left N.array_rest N.object_rest children)) }
 {
-    for item in items {
-        write_tree(sink, &item, version)?;
-    }
-    Ok(())
-}
-
-// The keys and values that are left of an object, in order.
-#[cycle(values)]
-fn write_members<K: ByteSink, N: Nested>(
-    sink: &mut K,
-    members: N::ObjectIter,
-    version: WriteVersion,
-) -> Result<(), io::ErrorKind>
-    requires { AreEntries (entries (N.object_rest members)) }
-    ensures { Writes K.ByteSink sink.old sink.new result
-        (short_entries (written_version version) (entries (N.object_rest members))) }
-{
-    for (key, item) in members {
-        write_key(sink, version, key.as_str())?;
-        write_tree(sink, &item, version)?;
+    for (key, item) in children {
+        write_key_of(sink, version, key)?;
+        let count = child_count(item.as_nested());
+        write_nested(sink, item.as_nested(), count, version)?;
     }
     Ok(())
 }
@@ -172,15 +156,6 @@ pub fn write_value<'a, K: ByteSink, V: Value<'a>>(
     ensures { Writes K.ByteSink sink.old sink.new result
         (short (written_version version) (V.tree value.now)) }
 {
-    match lend(value) {
-        NestedValue::Leaf(leaf) => write_leaf(sink, &leaf),
-        NestedValue::Array(items) => {
-            write_coded_count(sink, ARRAY_CODE, children(lend(value)))?;
-            write_items::<K, Lent<'a, V>>(sink, items, version)
-        }
-        NestedValue::Object(members) => {
-            write_object_head(sink, version, children(lend(value)))?;
-            write_members::<K, Lent<'a, V>>(sink, members, version)
-        }
-    }
+    let count = child_count(lend(value));
+    write_nested(sink, lend(value), count, version)
 }
