@@ -3,6 +3,7 @@ use Rattle.std.proofs.Common.{◌≡◌, ℕ, ◌<◌, arith, List, [], ◌∷�
 use Rattle.std.specs.List.{AllByRecursion}
 use Rattle.std.specs.Prelude.{IsUtf8, slice_get, string_bytes}
 use Rattle.std.proofs.lemmas.List.Sums.{sum_by_push}
+use Rattle.std.proofs.lemmas.Option.{same_Some}
 use Rattle.serde_json.specs.Data as json
 use Rattle.serde_json.specs.Data.{Data, Items, Members}
 use Rattle.tv_blocks.specs.LineRefusals.{IsLineDocument, IsUnparsed, bad_value_of, line_error, refused_for, value_refusal}
@@ -26,9 +27,6 @@ use Rattle.tv_field.specs.declared.value_parsing_error.ValueParsingError.TheVari
 use Rattle.tv_format.specs.Tree.{Tree, Document}
 use Rattle.tv_heap.specs.Room.{room, document_room}
 use Rattle.tv_schema.specs.Schema.{field_named}
-
-some_is : {A : Type 0} {x y : A} → Some x ≡ Some y → x ≡ y
-some_is e = cc
 
 -- ---- the field of a value is the one with its name
 
@@ -72,11 +70,11 @@ named_at schema members before behind at joined =
 
 -- the error says what the table does
 said_for : (e : ValueParsingError) (why : Refusal) → error_of e ≡ Some why → value_refusal e ≡ Some (refused_for why)
-said_for (values.OverflowError expected json) why is = ap (λ w. Some (refused_for w)) (some_is is)
-said_for (values.TypeError expected json) why is = ap (λ w. Some (refused_for w)) (some_is is)
-said_for (values.ParseError cause json) why is = ap (λ w. Some (refused_for w)) (some_is is)
-said_for (values.InvalidBase64 text) why is = ap (λ w. Some (refused_for w)) (some_is is)
-said_for values.FloatNumber why is = ap (λ w. Some (refused_for w)) (some_is is)
+said_for (values.OverflowError expected json) why is = ap (λ w. Some (refused_for w)) (same_Some _ _ is)
+said_for (values.TypeError expected json) why is = ap (λ w. Some (refused_for w)) (same_Some _ _ is)
+said_for (values.ParseError cause json) why is = ap (λ w. Some (refused_for w)) (same_Some _ _ is)
+said_for (values.InvalidBase64 text) why is = ap (λ w. Some (refused_for w)) (same_Some _ _ is)
+said_for values.FloatNumber why is = ap (λ w. Some (refused_for w)) (same_Some _ _ is)
 said_for values.Memory why is = absurd cc
 
 pairs-snoc : (before : List FieldJson) (at : FieldJson) (tree : Tree) (pairs : Document) → Pairs before pairs → Table at.field_type at.value (Ok tree)

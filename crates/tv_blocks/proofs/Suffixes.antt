@@ -3,6 +3,7 @@ use Rattle.std.proofs.Common.{◌≡◌, ℕ, zero, suc, ◌+◌, ◌-◌, ◌<�
 use Rattle.std.proofs.lemmas.List.{length-drop}
 use Rattle.std.proofs.Math.Seq.{drop-length}
 use Rattle.std.specs.Option.{option_or, option_map}
+use Rattle.std.proofs.lemmas.Option.{same_Some}
 use Rattle.tv_field.specs.Entry.{Entry}
 use Rattle.tv_schema.specs.Path.{is_splitting_dot, field_of_prefix, parted_at, last_given, find}
 use Rattle.tv_schema.specs.Schema.{field_named}
@@ -25,12 +26,9 @@ no_longer path text s =
     let len : length text ≡ length path - s.place = ap length s.is ∙ length-drop s.place path in
     omega (arith, len)
 
-some_is : {A : Type 0} {x y : A} → Some x ≡ Some y → x ≡ y
-some_is e = cc
-
 parted : (path : List ℕ) (place : ℕ) (dot : Bool) (field : Option ℕ) (x : ℕ × List ℕ) → place < length path
     → (if dot then option_map (λ f. (f, drop (place + 1) path)) field else None) ≡ Some x → IsSuffix path x.1
-parted path place true (Some f) x within e = record { place = place + 1; within = omega (arith, within); is = ap (λ p. p.1) (sym (some_is e)) }
+parted path place true (Some f) x within e = record { place = place + 1; within = omega (arith, within); is = ap (λ p. p.1) (sym (same_Some _ _ e)) }
 parted path place true None x within e = absurd cc
 parted path place false field x within e = absurd cc
 
@@ -47,7 +45,7 @@ last_suffix schema path (suc n) x within e =
 
 find_case : (path : List ℕ) (named : Option ℕ) (others : Option (ℕ × List ℕ)) (x : ℕ × List ℕ) → (others ≡ Some x → IsSuffix path x.1)
     → option_or (option_map (λ f. (f, [])) named) others ≡ Some x → IsSuffix path x.1
-find_case path (Some f) others x below e = record { place = length path; within = omega arith; is = ap (λ p. p.1) (sym (some_is e)) ∙ sym (drop-length path) }
+find_case path (Some f) others x below e = record { place = length path; within = omega arith; is = ap (λ p. p.1) (sym (same_Some _ _ e)) ∙ sym (drop-length path) }
 find_case path None others x below e = below e
 
 pub found_suffix : (schema : List Entry) (path : List ℕ) (x : ℕ × List ℕ) → find schema path ≡ Some x → IsSuffix path x.1

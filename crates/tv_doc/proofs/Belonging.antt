@@ -2,6 +2,7 @@
 use Rattle.std.proofs.Common.{◌≡◌, ℕ, zero, suc, ◌<◌, List, [], ◌∷◌, ◌++◌, length, Option, Some, None, refl, subst, sym, arith}
 use Rattle.std.specs.Prelude.{slice_get}
 use Rattle.std.specs.List.{AllByRecursion}
+use Rattle.std.proofs.lemmas.Option.{slice_get_within}
 use Rattle.serde_json.specs.Data as json
 use Rattle.serde_json.specs.Data.{Data, Items, Members}
 use Rattle.tv_doc.specs.Belongs.{Belongs}
@@ -30,14 +31,9 @@ value_has n field below name field_type (json.number m) = (below, tt)
 value_has n field below name field_type (json.string s) = (below, tt)
 value_has n field below name field_type (json.object ms) = (below, tt)
 
-within : (schema : List Entry) (field : ℕ) (entry : Entry) → slice_get schema field ≡ Some entry → field < length schema
-within [] field entry e = absurd (cc)
-within (first ∷ schema) zero entry e = omega arith
-within (first ∷ schema) (suc field) entry e = omega (arith, within schema field entry e)
-
 entry_has : (schema : List Entry) (name : List ℕ) (field : ℕ) (found : Option Entry) → slice_get schema field ≡ found → (d : Data) → HaveFields (length schema) (values_of_entry name field found d)
 entry_has schema name field None e d = tt
-entry_has schema name field (Some entry) e d = value_has (length schema) field (within schema field entry e) name entry.field_type d
+entry_has schema name field (Some entry) e d = value_has (length schema) field (slice_get_within schema field entry e) name entry.field_type d
 
 at_has : (schema : List Entry) (name : List ℕ) (field : Option ℕ) (d : Data) → HaveFields (length schema) (values_at schema name field d)
 at_has schema name None d = tt

@@ -10,6 +10,7 @@ use Rattle.tv_format.specs.Content.{Content, no_content, truth_content, unsigned
 use Rattle.tv_format.specs.Leaves.{content}
 use Rattle.tv_format.specs.Short.{IsSized, IsText, IsToken, AreTokens, IsContent, IsValue, AreElements, AreEntries, IsPair, IsDocument}
 use Rattle.tv_format.specs.Tree.{Token, Tree, leaf, array, object, Elements, no_elements, element, Entries, no_entries, entry, element_count, entry_count, Document}
+use Rattle.tv_format.specs.ShortLaws.{AreTokens-prop, IsText-prop}
 use Rattle.tv_doc.specs.declared.document.CompactDoc.{CompactDoc}
 use Rattle.tv_builder.specs.declared.heap_pair.HeapPair.{HeapPair}
 use Rattle.tv_doc.specs.Document.{document_of}
@@ -20,9 +21,6 @@ use Rattle.tv_builder.proofs.Documents.{document_length}
 
 -- there is one proof at most of each of these
 
-IsText-prop : (t : List ℕ) → IsProp (IsText t)
-IsText-prop t = hlevel props
-
 IsSized-prop : (t : List ℕ) → IsProp (IsSized t)
 IsSized-prop t = hlevel props
 
@@ -32,11 +30,6 @@ IsToken-prop t = hlevel props
 all-prop : {A : Type 0} (P : A → Type 0) → ((x : A) → IsProp (P x)) → (xs : List A) → IsProp (AllByRecursion P xs)
 all-prop P one [] = hlevel props
 all-prop P one (x ∷ xs) = λ p q. λ i. (one x p.0 q.0 i, all-prop P one xs p.1 q.1 i)
-
-AreTokens-prop : (ts : List Token) → IsProp (AreTokens ts)
-AreTokens-prop ts p q =
-    let count : IsProp (length ts < 2 ^ 63) = hlevel props in
-    λ i. record { count = count p.count q.count i; each = all-prop IsToken IsToken-prop ts p.each q.each i }
 
 IsContent-prop : (c : Content) → IsProp (IsContent c)
 IsContent-prop no_content = hlevel props

@@ -2,6 +2,7 @@
 use Rattle.std.proofs.Common.{◌≡◌, ℕ, suc, codes, ◌<◌, ◌^◌, List, [], ◌∷◌, ◌++◌, take, drop, length, Option, Some, None, option_map, option_and_then, Bool, true, false, Result, Ok, Err, refl, sym, ap, ◌∙◌, arith, append_assoc, append-nil}
 use Rattle.std.specs.List.{AllByRecursion, flat_map}
 use Rattle.std.proofs.lemmas.List.{take-append-drop}
+use Rattle.std.proofs.lemmas.Option.{same_Some}
 use Rattle.serde_json.proofs.Views.{items_len-items_view}
 use Rattle.serde_json.specs.Data as json
 use Rattle.serde_json.specs.Data.{Data, Items}
@@ -58,17 +59,14 @@ encoded_once bytes content t tokens ts n text valid is prefix =
     ((agree_tokenized t content ts tokens).agree (take n bytes) (short_tokenized content tokens) (drop n bytes) [] prefix (tokenized_of content tokens text valid)
     (take-append-drop n bytes ∙ is ∙ sym (append-nil (short_tokenized content tokens)))).1
 
-unsome : {A : Type 0} (a b : A) → Some a ≡ Some b → a ≡ b
-unsome a b e = cc
-
 count_at : (o : Option Token) (p : Option (List Token)) (n : ℕ) → ((us : List Token) → p ≡ Some us → length us ≡ n) → (ts : List Token)
     → option_and_then (λ t. option_map (λ us. t ∷ us) p) o ≡ Some ts → length ts ≡ suc n
 count_at None p n h ts e = absurd (cc)
 count_at (Some t) None n h ts e = absurd (cc)
-count_at (Some t) (Some us) n h ts e = ap length (sym (unsome (t ∷ us) ts e)) ∙ ap suc (h us refl)
+count_at (Some t) (Some us) n h ts e = ap length (sym (same_Some (t ∷ us) ts e)) ∙ ap suc (h us refl)
 
 tokens_count : (items : Items) (ts : List Token) → tokens_in items ≡ Some ts → length ts ≡ items_len items
-tokens_count json.no_items ts e = ap length (sym (unsome [] ts e))
+tokens_count json.no_items ts e = ap length (sym (same_Some [] ts e))
 tokens_count (json.item d ds) ts e = count_at (token_in d) (tokens_in ds) (items_len ds) (tokens_count ds) ts e
 
 -- a text and its tokens, encoded one after the other

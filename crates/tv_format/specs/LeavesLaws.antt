@@ -1,7 +1,7 @@
 -- A leaf is its type and what it holds, and a code is that of one type.
 use Rattle.std.specs.Prelude.{◌≡◌, ◌≢◌, ◌==◌, ◌||◌, ◌&&◌, ℕ, zero, suc, ◌<◌, ◌≤◌, Bool, true, false, Option, Some, None, is_some, refl}
 use Rattle.std.proofs.Common.{ap, sym, ◌∙◌, arith, subst, inl, inr}
-use Rattle.std.proofs.lemmas.Bool.{cases_lt}
+use Rattle.std.proofs.lemmas.Bool.{cases_lt, and_parts}
 use Rattle.std.proofs.lemmas.Bool.Decides.{eqb_tells}
 use Rattle.tv_format.specs.Content.{Content, no_content, form_of}
 use Rattle.tv_format.specs.Leaves.{type_of, content, leaf_with, form, store_code, last_code, type_with, heap_code}
@@ -94,15 +94,10 @@ abbrev all_known : ℕ → Bool
 all_known zero = is_known zero
 all_known (suc n) = is_known (suc n) && all_known n
 
-both : (a b : Bool) → (a && b) ≡ true → (a ≡ true) × (b ≡ true)
-both true true e = (refl, refl)
-both true false e = cc
-both false b e = cc
-
 up_to : (n code : ℕ) → all_known n ≡ true → code ≤ n → is_known code ≡ true
 up_to zero code all small = let e : code ≡ 0 = omega arith in subst (λ m. is_known m ≡ true) (sym e) all
 up_to (suc n) code all small =
-    let tests = both (is_known (suc n)) (all_known n) all in
+    let tests = and_parts (is_known (suc n)) (all_known n) all in
     elim (cases_lt code (suc n)) [
       | inl less ↦ up_to n code tests.1 (omega (arith, less))
       | inr more ↦ let e : code ≡ suc n = omega (arith, more, small) in subst (λ m. is_known m ≡ true) (sym e) tests.0

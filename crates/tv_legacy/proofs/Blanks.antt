@@ -2,7 +2,7 @@
 use Rattle.std.proofs.Common.{◌≡◌, ◌⊎◌, ℕ, Bool, true, false, eqb, List, [], ◌∷◌, ◌++◌, Ok, Err, refl, sym, ap, subst, ◌∙◌, append_assoc, inl, inr}
 use Rattle.std.specs.Prelude.{◌||◌}
 use Rattle.std.specs.List.{AllByRecursion}
-use Rattle.std.proofs.lemmas.Bool.{cases_Bool, eqb-true, eqb-false}
+use Rattle.std.proofs.lemmas.Bool.{cases_Bool, eqb-true, eqb-false, or_parts}
 use Rattle.tv_base.specs.declared.cause.Cause.TheVariants.{UnexpectedEnd}
 use Rattle.tv_base.proofs.Agrees.{Agrees, same_start}
 use Rattle.tv_legacy.specs.Legacy.{IsBlank}
@@ -12,10 +12,6 @@ use Rattle.tv_legacy.proofs.Ended.{Prefix, EndsBefore, ended_agrees}
 either : (a b : Bool) → (a || b) ≡ true → (a ≡ true) ⊎ (b ≡ true)
 either true b e = inl refl
 either false b e = inr e
-
-neither : (a b : Bool) → (a || b) ≡ false → (a ≡ false) × (b ≡ false)
-neither true b e = absurd cc
-neither false b e = (refl, e)
 
 is_true : (b : ℕ) → is_blank b ≡ true → IsBlank b
 is_true b e = elim (either (eqb b 9) _ e) [
@@ -28,9 +24,9 @@ is_true b e = elim (either (eqb b 9) _ e) [
 
 is_false : (b : ℕ) → is_blank b ≡ false → ¬ (IsBlank b)
 is_false b e h =
-    let p = neither (eqb b 9) _ e in
-    let q = neither (eqb b 10) _ p.1 in
-    let r = neither (eqb b 13) _ q.1 in
+    let p = or_parts (eqb b 9) _ e in
+    let q = or_parts (eqb b 10) _ p.1 in
+    let r = or_parts (eqb b 13) _ q.1 in
     elim h [
       | inl s ↦ eqb-false b 9 p.0 s
       | inr s ↦ elim s [ inl t ↦ eqb-false b 10 q.0 t | inr t ↦ elim t [ inl u ↦ eqb-false b 13 r.0 u | inr u ↦ eqb-false b 32 r.1 u ] ]

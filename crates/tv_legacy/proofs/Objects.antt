@@ -3,6 +3,7 @@ use Rattle.std.proofs.Common.{◌≡◌, ℕ, Bool, true, false, cond, List, Opt
 use Rattle.std.specs.Prelude.{IsUtf8, is_some}
 use Rattle.std.specs.Str.{is_utf8}
 use Rattle.std.proofs.lemmas.Str.{is_utf8-from_IsUtf8, IsUtf8-from_is_utf8}
+use Rattle.std.proofs.lemmas.Option.{same_Some}
 use Rattle.serde_json.specs.Data as json
 use Rattle.serde_json.specs.Data.{Data, Members}
 use Rattle.serde_json.specs.Find.{as_object}
@@ -45,13 +46,10 @@ slice_answer slice = text_answer slice (is_utf8 slice) refl
 same_members : (slice : List ℕ) (m n : Members) → ReadsObject slice m → ReadsObject slice n → m ≡ n
 same_members slice m n p q = let e = sym p.1 ∙ q.1 in cc
 
-some_is : {A : Type 0} (x y : A) → Some x ≡ Some y → x ≡ y
-some_is x y e = cc
-
 -- what is returned where the slice reads as an object
 pub reads_tree : (slice : List ℕ) (ms : Members) (t : Tree) (answer : Result Tree Cause) → ReadsObject slice ms → json_tree (json.object ms) ≡ Some t → SliceAnswer slice answer → answer ≡ Ok t
 reads_tree slice ms t answer reads e (is_object others u read tree is) =
-    is ∙ ap (λ z. Ok z) (some_is u t (sym tree ∙ ap (λ m. json_tree (json.object m)) (same_members slice others ms read reads) ∙ e))
+    is ∙ ap (λ z. Ok z) (same_Some u t (sym tree ∙ ap (λ m. json_tree (json.object m)) (same_members slice others ms read reads) ∙ e))
 reads_tree slice ms t answer reads e (has_no_tree others read tree is) =
     let q = sym tree ∙ ap (λ m. json_tree (json.object m)) (same_members slice others ms read reads) ∙ e in absurd cc
 reads_tree slice ms t answer reads e (is_none none is) = absurd (none ms reads)
@@ -70,7 +68,7 @@ reads_none slice answer none (is_none other is) = is
 -- the tree of an object is an object
 object_of : (ms : Members) (t : Tree) (float : Bool) → cond float None (Some (object (whole_entries ms))) ≡ Some t → t ≡ object (whole_entries ms)
 object_of ms t true e = absurd cc
-object_of ms t false e = sym (some_is _ t e)
+object_of ms t false e = sym (same_Some _ t e)
 
 pub object_entries : (ms : Members) (t : Tree) → json_tree (json.object ms) ≡ Some t → t ≡ object (whole_entries ms)
 object_entries ms t e = object_of ms t (has_float (json.object ms)) e
@@ -86,7 +84,7 @@ no_json slice text same none = reads_none slice (slice_tree slice) (λ ms r. let
 pub other_json : (slice text : List ℕ) (d : Data) → text ≡ slice → read text ≡ Some d → is_some (as_object d) ≡ false → slice_tree slice ≡ Err LegacyJson
 other_json slice text d same reads none =
     reads_none slice (slice_tree slice)
-    (λ ms r. let is = some_is d (json.object ms) (sym reads ∙ ap read same ∙ r.1) in let q = sym none ∙ ap (λ z. is_some (as_object z)) is in absurd cc)
+    (λ ms r. let is = same_Some d (json.object ms) (sym reads ∙ ap read same ∙ r.1) in let q = sym none ∙ ap (λ z. is_some (as_object z)) is in absurd cc)
     (slice_answer slice)
 
 members_of : (d : Data) → is_some (as_object d) ≡ true → (ms : Members) × (d ≡ json.object ms)

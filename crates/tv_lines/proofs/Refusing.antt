@@ -4,6 +4,7 @@ use Rattle.std.specs.Prelude.{IsUtf8, OnOk, IfErr}
 use lib.Chars.{codes}
 use Rattle.std.proofs.lemmas.List.{append-nil}
 use Rattle.std.proofs.lemmas.List.Sums.{sum_by_push}
+use Rattle.std.proofs.lemmas.Option.{same_Some}
 use Rattle.tv_heap.specs.Room.{room, document_room}
 use Rattle.tv_doc.specs.Additions.{AddsEach, IsEmpty}
 use Rattle.tv_doc.proofs.Additions.{from_empty}
@@ -30,15 +31,12 @@ no_text schema line none = answered (no_object (λ members h. none h.0) refl)
 
 -- ---- refusals of values
 
-some_is : {A : Type 0} {x y : A} → Some x ≡ Some y → x ≡ y
-some_is e = cc
-
 named_by : (e : ValueParsingError) (refusal : Refusal) → error_of e ≡ Some refusal → value_error_text e ≡ codes "error ValueError " ++ refusal_name refusal
-named_by (values.OverflowError expected json) refusal is = rw (← some_is is)
-named_by (values.TypeError expected json) refusal is = rw (← some_is is)
-named_by (values.ParseError cause json) refusal is = rw (← some_is is)
-named_by (values.InvalidBase64 text) refusal is = rw (← some_is is)
-named_by values.FloatNumber refusal is = rw (← some_is is)
+named_by (values.OverflowError expected json) refusal is = rw (← same_Some _ _ is)
+named_by (values.TypeError expected json) refusal is = rw (← same_Some _ _ is)
+named_by (values.ParseError cause json) refusal is = rw (← same_Some _ _ is)
+named_by (values.InvalidBase64 text) refusal is = rw (← same_Some _ _ is)
+named_by values.FloatNumber refusal is = rw (← same_Some _ _ is)
 named_by values.Memory refusal is = absurd (cc)
 
 pairs-snoc : (before : List FieldJson) (at : FieldJson) (tree : Tree) (pairs : Document) → Pairs before pairs → Table at.field_type at.value (Ok tree)

@@ -5,6 +5,7 @@ use Rattle.std.specs.Int.{w64}
 use Rattle.std.specs.Int.Signed.{lt_z}
 use Rattle.std.proofs.lemmas.Int.{ints}
 use Rattle.std.proofs.lemmas.List.{append-nil}
+use Rattle.std.proofs.lemmas.Bool.{false_from_ne_true}
 use Rattle.tv_base.specs.declared.cause.Cause.{Cause}
 use Rattle.tv_base.specs.declared.cause.Cause.TheVariants.{UnexpectedEnd, DateRange, LegacyJson}
 use Rattle.tv_base.specs.Source.{AllBytes}
@@ -53,12 +54,8 @@ at_least a b e = omega (arith, ints)
 below : (a b : ℤ) → lt_z a b ≡ true → a <ℤ b
 below a b e = omega (arith, ints)
 
-no_true : (b : Bool) → (b ≡ true → ⊥) → b ≡ false
-no_true true h = absurd (h refl)
-no_true false h = refl
-
 not_below : (a b : ℤ) → b ≤ℤ a → lt_z a b ≡ false
-not_below a b e = no_true (lt_z a b) (λ h. let l : a <ℤ b = below a b h in omega (arith, ints))
+not_below a b e = false_from_ne_true (lt_z a b) (λ h. let l : a <ℤ b = below a b h in omega (arith, ints))
 
 within_fits : (z : ℤ) → negsuc 9223372036854774 ≤ℤ z → z ≤ℤ pos 9223372036854775 → FitsSigned w64 z
 within_fits (pos n) p q = record { sfits = omega (arith, ints) }

@@ -70,7 +70,7 @@ deepens_then {left = left} {old = old} {mid = mid} {new = new} {result = result}
 not_err : {X : Type 0} (x : X) (e : DeserializeError) → IsErrOf {T = X} (Ok x) e → ⊥
 not_err x e is = absurd cc
 
-err_of : {A B : Type 0} (e d : DeserializeError) → IsErrOf {T = A} (Err e) d → IsErrOf {T = B} (Err e) d
+pub err_of : {A B : Type 0} (e d : DeserializeError) → IsErrOf {T = A} (Err e) d → IsErrOf {T = B} (Err e) d
 err_of e d is = let same : e ≡ d = cc in ap (λ (z : DeserializeError). Err z) same
 
 err_is : {X : Type 0} (e d : DeserializeError) → IsErrOf {T = X} (Err e) d → e ≡ d

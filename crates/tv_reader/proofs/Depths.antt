@@ -51,8 +51,8 @@ behind x a b c d e f p q same =
 cut : (a b c d e f x y : List ℕ) → a ≡ b ++ c → d ≡ e ++ f → a ++ x ≡ d ++ y → b ++ (c ++ x) ≡ e ++ (f ++ y)
 cut a b c d e f x y p q same = sym (append_assoc b c x) ∙ ap (λ (l : List ℕ). l ++ x) (sym p) ∙ same ∙ ap (λ (l : List ℕ). l ++ y) q ∙ append_assoc e f y
 
-rests : (b e c f : List ℕ) → b ≡ e → b ++ c ≡ e ++ f → c ≡ f
-rests b e c f same joined = append_cancel_left e c f (ap (λ (l : List ℕ). l ++ c) (sym same) ∙ joined)
+pub same_rest : (b e c f : List ℕ) → b ≡ e → b ++ c ≡ e ++ f → c ≡ f
+same_rest b e c f same joined = append_cancel_left e c f (ap (λ (l : List ℕ). l ++ c) (sym same) ∙ joined)
 
 -- ---- one too many among the children
 
@@ -69,7 +69,7 @@ module _ (v : Version) (n : ℕ) (P : List ℕ → Type 0) (excludes : Excludes 
   elements_exclude (element s ss) (element t ts) prefix rest x b y fewer w p h same =
       let there = cut prefix w.prefix w.rest b h.prefix h.rest (rest ++ x) y w.joined h.joined same in
       let one = one_tree Legacy v one_legacy w.prefix h.prefix (w.rest ++ (rest ++ x)) (h.rest ++ y) s t (within_encodes v n s w.prefix w.first) (within_encodes v n t h.prefix h.first) there in
-      elements_exclude ss ts w.rest rest x h.rest y (omega (arith, fewer)) w.second p h.second (rests w.prefix h.prefix (w.rest ++ (rest ++ x)) (h.rest ++ y) one.0 there)
+      elements_exclude ss ts w.rest rest x h.rest y (omega (arith, fewer)) w.second p h.second (same_rest w.prefix h.prefix (w.rest ++ (rest ++ x)) (h.rest ++ y) one.0 there)
 
   entries_exclude : (before es : Entries) (prefix rest x b y : List ℕ) → entry_count before < entry_count es → EntriesWithin v n prefix before → BehindKey v P rest → EntriesWithin v n b es → prefix ++ (rest ++ x) ≡ b ++ y → ⊥
   entries_exclude no_entries no_entries prefix rest x b y fewer w p h same = absurd (omega (arith, fewer))
@@ -79,18 +79,18 @@ module _ (v : Version) (n : ℕ) (P : List ℕ → Type 0) (excludes : Excludes 
       let all : rest ++ x ≡ b ++ y = ap (λ (l : List ℕ). l ++ (rest ++ x)) (sym w) ∙ same in
       let there = cut rest q.prefix q.rest b h.prefix h.rest x y q.joined h.joined all in
       let one = (agree_key v p.0 k).agree q.prefix h.prefix (q.rest ++ x) (h.rest ++ y) q.first h.first there in
-      let value = rests q.prefix h.prefix (q.rest ++ x) (h.rest ++ y) one.0 there in
+      let value = same_rest q.prefix h.prefix (q.rest ++ x) (h.rest ++ y) one.0 there in
       excludes q.rest x h.second.prefix (h.second.rest ++ y) t q.second h.second.first
       (value ∙ ap (λ (l : List ℕ). l ++ y) h.second.joined ∙ append_assoc h.second.prefix h.second.rest y)
   entries_exclude (entry l s fs) (entry k t es) prefix rest x b y fewer w p h same =
       let there = cut prefix w.prefix w.rest b h.prefix h.rest (rest ++ x) y w.joined h.joined same in
       let one = (agree_key v l k).agree w.prefix h.prefix (w.rest ++ (rest ++ x)) (h.rest ++ y) w.first h.first there in
-      let value = rests w.prefix h.prefix (w.rest ++ (rest ++ x)) (h.rest ++ y) one.0 there in
+      let value = same_rest w.prefix h.prefix (w.rest ++ (rest ++ x)) (h.rest ++ y) one.0 there in
       let c = w.second in
       let d = h.second in
       let then = cut w.rest c.prefix c.rest h.rest d.prefix d.rest (rest ++ x) y c.joined d.joined value in
       let tree = one_tree Legacy v one_legacy c.prefix d.prefix (c.rest ++ (rest ++ x)) (d.rest ++ y) s t (within_encodes v n s c.prefix c.first) (within_encodes v n t d.prefix d.first) then in
-      entries_exclude fs es c.rest rest x d.rest y (omega (arith, fewer)) c.second p d.second (rests c.prefix d.prefix (c.rest ++ (rest ++ x)) (d.rest ++ y) tree.0 then)
+      entries_exclude fs es c.rest rest x d.rest y (omega (arith, fewer)) c.second p d.second (same_rest c.prefix d.prefix (c.rest ++ (rest ++ x)) (d.rest ++ y) tree.0 then)
 
 -- ---- values
 
@@ -109,7 +109,7 @@ opens_excludes v (suc n) p x b y (array ts) (inl o) h same =
     let inner = behind 12 o.body h.body p b x y o.joined h.joined same in
     let there = cut o.body q.prefix q.rest h.body g.prefix g.rest x y q.joined g.joined inner in
     let one = one_number q.prefix g.prefix (q.rest ++ x) (g.rest ++ y) count (element_count ts) q.first g.first there in
-    let children = rests q.prefix g.prefix (q.rest ++ x) (g.rest ++ y) one.0 there in
+    let children = same_rest q.prefix g.prefix (q.rest ++ x) (g.rest ++ y) one.0 there in
     let a = q.second.parts in
     elements_exclude v n (Opens v n) (opens_excludes v n) q.second.before ts a.prefix a.rest x g.rest y (omega (arith, q.second.fewer, one.1)) a.first a.second g.second
     (sym (append_assoc a.prefix a.rest x) ∙ ap (λ (l : List ℕ). l ++ x) (sym a.joined) ∙ children)
@@ -125,7 +125,7 @@ opens_excludes v (suc n) p x b y (object es) (inr o) (inl h) same =
     let there = cut o.body q.prefix q.rest h.body g.prefix g.rest x y q.joined g.joined inner in
     let one = one_number q.prefix g.prefix (q.rest ++ x) (g.rest ++ y) (entry_total v count) (entry_total v (entry_count es)) q.first g.first there in
     let many = total_same v count (entry_count es) one.1 in
-    let children = rests q.prefix g.prefix (q.rest ++ x) (g.rest ++ y) one.0 there in
+    let children = same_rest q.prefix g.prefix (q.rest ++ x) (g.rest ++ y) one.0 there in
     let a = q.second.parts in
     entries_exclude v n (Opens v n) (opens_excludes v n) q.second.before es a.prefix a.rest x g.rest y (omega (arith, q.second.fewer, many)) a.first a.second g.second
     (sym (append_assoc a.prefix a.rest x) ∙ ap (λ (l : List ℕ). l ++ x) (sym a.joined) ∙ children)

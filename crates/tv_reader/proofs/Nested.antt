@@ -11,7 +11,7 @@ use Rattle.tv_format.proofs.Leaves.{agree_key}
 use Rattle.tv_format.proofs.Trees.{one_tree}
 use Rattle.tv_reader.specs.Depth.{EncodesWithin, ElementsWithin, EntriesWithin}
 use Rattle.tv_value.specs.Nesting.{NestsWithin, ElementsNestWithin, EntriesNestWithin}
-use Rattle.tv_reader.proofs.Depths.{within_encodes}
+use Rattle.tv_reader.proofs.Depths.{within_encodes, same_rest}
 
 mutual
   pub nested_within : (v : Version) (n : ℕ) (t : Tree) (b : List ℕ) → Encodes Legacy v b t → NestsWithin n t → EncodesWithin v n b t
@@ -58,9 +58,6 @@ codes_apart a b c p q = let same : 13 ∷ a ≡ 8 ∷ b = sym p ∙ q in absurd 
 
 same_body : (x : ℕ) (a b c : List ℕ) → c ≡ x ∷ a → c ≡ x ∷ b → a ≡ b
 same_body x a b c p q = let same : x ∷ a ≡ x ∷ b = sym p ∙ q in cc
-
-same_rest : (a b c d : List ℕ) → a ≡ b → a ++ c ≡ b ++ d → c ≡ d
-same_rest a b c d same joined = append_cancel_left b c d (ap (λ (l : List ℕ). l ++ c) (sym same) ∙ joined)
 
 mutual
   pub within_nests : (v : Version) (n : ℕ) (t : Tree) (b : List ℕ) → Encodes NoLegacy v b t → EncodesWithin v n b t → NestsWithin n t

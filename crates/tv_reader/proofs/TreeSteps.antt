@@ -89,7 +89,7 @@ pub plain_key_fails : {S : Type 0} {is_known : S → Type 0} {left : S → List 
 plain_key_fails are_bytes h = finds_part_fails _ _ raised_roomy are_bytes text_agrees (λ w c f. corrupt f) h
 
 -- where there are no bytes, their end is the error
-no_key : (v : Version) → ErrorInKey v [] end
+pub no_key : (v : Version) → ErrorInKey v [] end
 no_key V1 = key_ends
 no_key V2 = key_ends
 no_key V3 = corrupt (in_sized (inl (number_ends (omega arith) tt)))
@@ -326,7 +326,7 @@ member_value_fails {key = key} version p q =
     (λ a f r other nothing start byte last. absurd (other (value_ended refl nothing)))
     (finds_ok tree_stop StoreMayStopDeep p) (finds_fails (λ b z. ⊥) (NoValue (version_of version)) (λ w c f. f) q)
 
-no_rest : (prefix rest : List ℕ) → [] ≡ prefix ++ rest → rest ≡ []
+pub no_rest : (prefix rest : List ℕ) → [] ≡ prefix ++ rest → rest ≡ []
 no_rest [] rest e = sym e
 no_rest (b ∷ prefix) rest e = absurd cc
 

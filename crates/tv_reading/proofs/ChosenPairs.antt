@@ -32,6 +32,7 @@ use Rattle.tv_reader.specs.Trees.{NoValue}
 use Rattle.tv_reader.specs.declared.error.DeserializeError.{DeserializeError}
 use Rattle.tv_reader.proofs.BehindKinds.{value_ended}
 use Rattle.tv_reader.proofs.Finding.{finds_then, finds_as, finds_fails, finds_any}
+use Rattle.tv_reader.proofs.TreeSteps.{no_rest}
 use Rattle.tv_reading.specs.Skip.{IsValue}
 use Rattle.tv_reading.proofs.Passing.{bytes_ended}
 use Rattle.tv_value.specs.declared.field.Field.{Field}
@@ -100,13 +101,9 @@ buffered v fields old new number taken left whole (suc (suc n)) most h joined na
 
 -- ---- at the end of the bytes
 
-rest_none : (a b : List ℕ) → [] ≡ a ++ b → b ≡ []
-rest_none [] b e = sym e
-rest_none (x ∷ a) b e = absurd cc
-
 pub pair_ended : (v : Version) (r : Refusal) → ErrorInPair Legacy ErrorInLegacy v [] r → r ≡ end
 pair_ended v r (inl h) = bytes_ended 4 r h
-pair_ended v r (inr h) = value_ended (rest_none h.1.prefix h.1.rest h.1.joined) h.1.second
+pair_ended v r (inr h) = value_ended (no_rest h.1.prefix h.1.rest h.1.joined) h.1.second
 
 module _ {S : Type 0} {is_known : S → Type 0} {left : S → List ℕ} {failures : S → Failures} (v : Version) (fields : List Field) where
   pub pair_buffered : {os ns : S} {i k : ℕ} (before after : HeapPairs) (number n : ℕ) → n ≤ 1 → (is_known os → BeginsAsPair (left os) number) → is_among fields number ≡ true → FindsIf StoreMayStop is_known left failures os i ns k (Ok n) (λ b added. AddsPairs v before after b added) Nothing

@@ -12,7 +12,7 @@ use Rattle.tv_format.specs.Version.{Version, entry_total}
 use Rattle.tv_legacy.specs.Legacy.{Legacy, ErrorInLegacy}
 use Rattle.tv_reader.specs.Trees.{NoValue}
 use Rattle.tv_reader.proofs.BehindKinds.{value_ended}
-use Rattle.tv_reader.proofs.TreeSteps.{key_error_ended}
+use Rattle.tv_reader.proofs.TreeSteps.{key_error_ended, no_rest}
 use Rattle.tv_reading.specs.Skip.{Before, ErrorBefore, IsValue, OpensList, IsItem, ErrorInItem, AreItems, ErrorInItems, AreLeft, ErrorInLeft, Passed}
 use Rattle.tv_reading.specs.declared.items.ItemKind.{ItemKind}
 use Rattle.tv_reading.specs.declared.items.ItemKind.TheVariants as kinds
@@ -21,10 +21,6 @@ use Rattle.tv_reading.proofs.Passing.{end, bytes_ended}
 
 -- ---- errors of no bytes
 
-rest_none : (a b : List ℕ) → [] ≡ a ++ b → b ≡ []
-rest_none [] b e = sym e
-rest_none (x ∷ a) b e = absurd cc
-
 before_ended : (v : Version) (kind : ItemKind) (r : Refusal) → ErrorBefore v kind [] r → r ≡ end
 before_ended v kinds.Value r f = absurd f
 before_ended v kinds.Entry r f = key_error_ended v [] r refl f
@@ -32,12 +28,12 @@ before_ended v kinds.Pair r f = bytes_ended 4 r f
 
 pub item_ended : (v : Version) (kind : ItemKind) (r : Refusal) → ErrorInItem v kind [] r → r ≡ end
 item_ended v kind r (inl f) = before_ended v kind r f
-item_ended v kind r (inr p) = value_ended (rest_none p.prefix p.rest p.joined) p.second
+item_ended v kind r (inr p) = value_ended (no_rest p.prefix p.rest p.joined) p.second
 
 items_ended : (v : Version) (kind : ItemKind) (E : List ℕ → Refusal → Type 0) → ((r : Refusal) → E [] r → r ≡ end) → (n : ℕ) (r : Refusal) → ErrorInItems v kind E n [] r → r ≡ end
 items_ended v kind E ended zero r f = ended r f
 items_ended v kind E ended (suc n) r (inl f) = item_ended v kind r f
-items_ended v kind E ended (suc n) r (inr p) = items_ended v kind E ended n r (subst (λ l. ErrorInItems v kind E n l r) (rest_none p.prefix p.rest p.joined) p.second)
+items_ended v kind E ended (suc n) r (inr p) = items_ended v kind E ended n r (subst (λ l. ErrorInItems v kind E n l r) (no_rest p.prefix p.rest p.joined) p.second)
 
 pub left_ended : (v : Version) (items : List ItemsLeft) (r : Refusal) → ErrorInLeft v items [] r → r ≡ end
 left_ended v [] r f = absurd f

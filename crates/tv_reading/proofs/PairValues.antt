@@ -31,8 +31,9 @@ use Rattle.tv_reader.specs.declared.error.DeserializeError.{DeserializeError}
 use Rattle.tv_reader.proofs.Finding.{finds_as, finds_fails}
 use Rattle.tv_reading.specs.PairValue.{CanStand, AddsValue, ValueHasNoRoom}
 use Rattle.tv_reading.specs.Prefix.{HasNoRoom}
-use Rattle.tv_reading.proofs.RoomWithin.{rest_is, both_cut, document_room-cons, state_within}
+use Rattle.tv_reading.proofs.RoomWithin.{both_cut, document_room-cons, state_within}
 use Rattle.tv_reader.specs.Error.{StoreMayStop}
+use Rattle.tv_reader.proofs.Depths.{same_rest}
 
 -- ---- bytes that encode the pairs, and the field of one more
 
@@ -59,13 +60,13 @@ module _ (v : Version) (d : Document) (f : ℕ) (few : length d + 1 < 2 ^ 64) (i
   behind_number w number rest y n counted e =
       let whole : vnum (length d + 1) ++ ((bytes ++ four_bytes f) ++ w) ≡ number ++ (rest ++ y) = sym (append_assoc (vnum (length d + 1)) (bytes ++ four_bytes f) w) ∙ e in
       let same = one_number (vnum (length d + 1)) number ((bytes ++ four_bytes f) ++ w) (rest ++ y) (length d + 1) n (vnum_encodes (length d + 1) few) counted whole in
-      (same.1, sym (append_assoc bytes (four_bytes f) w) ∙ rest_is (vnum (length d + 1)) number ((bytes ++ four_bytes f) ++ w) (rest ++ y) same.0 whole)
+      (same.1, sym (append_assoc bytes (four_bytes f) w) ∙ same_rest (vnum (length d + 1)) number ((bytes ++ four_bytes f) ++ w) (rest ++ y) same.0 whole)
 
   -- behind the field
   behind_field : (w number rest : List ℕ) (g : ℕ) → Fixed 4 number g → four_bytes f ++ w ≡ number ++ rest → (f ≡ g) × (w ≡ rest)
   behind_field w number rest g fixed e =
       let same = one_fixed 4 (four_bytes f) number w rest f g (four_bytes_encode f is_field) fixed e in
-      (same.1, rest_is (four_bytes f) number w rest same.0 e)
+      (same.1, same_rest (four_bytes f) number w rest same.0 e)
 
 -- ---- a value was read
 
@@ -85,7 +86,7 @@ last_pair v (q ∷ d) [] bytes w whole p s many joined = absurd (omega (arith, m
 last_pair v (q ∷ d) (r ∷ e) bytes w whole p s many joined =
     let cut : p.prefix ++ (p.rest ++ w) ≡ s.prefix ++ s.rest = sym (append_assoc p.prefix p.rest w) ∙ ap (λ (z : List ℕ). z ++ w) (sym p.joined) ∙ joined ∙ s.joined in
     let same = one_pair Legacy v one_legacy p.prefix s.prefix (p.rest ++ w) s.rest q r p.first s.first cut in
-    let more = last_pair v d e p.rest w s.rest p.second s.second (omega (arith, many)) (rest_is p.prefix s.prefix (p.rest ++ w) s.rest same.0 cut) in
+    let more = last_pair v d e p.rest w s.rest p.second s.second (omega (arith, many)) (same_rest p.prefix s.prefix (p.rest ++ w) s.rest same.0 cut) in
     record { pair = more.pair; encoded = more.encoded; last = λ i. sym same.1 i ∷ more.last i }
 
 pub value_added : (v : Version) (d : Document) (f : ℕ) (b : List ℕ) (new : HeapPairs) → length d + 1 < 2 ^ 64 → f < 2 ^ 32 → ((bytes : List ℕ) → Encoded Legacy v bytes (open_parts (length d + 1) d f (in_lists [])) → EncodesDocument Legacy v (bytes ++ b) (document_of new))
@@ -118,7 +119,7 @@ pair_error v (q ∷ d) bytes w whole r p joined (inr h) =
     let s = h.1 in
     let cut : p.prefix ++ (p.rest ++ w) ≡ s.prefix ++ s.rest = sym (append_assoc p.prefix p.rest w) ∙ ap (λ (z : List ℕ). z ++ w) (sym p.joined) ∙ joined ∙ s.joined in
     let same = one_pair Legacy v one_legacy p.prefix s.prefix (p.rest ++ w) s.rest q h.0 p.first s.first cut in
-    pair_error v d p.rest w s.rest r p.second (rest_is p.prefix s.prefix (p.rest ++ w) s.rest same.0 cut) s.second
+    pair_error v d p.rest w s.rest r p.second (same_rest p.prefix s.prefix (p.rest ++ w) s.rest same.0 cut) s.second
 
 module _ (v : Version) (d : Document) (f : ℕ) (few : length d + 1 < 2 ^ 64) (is_field : f < 2 ^ 32) (bytes : List ℕ) (pairs : Each (EncodesPair Legacy v) bytes d) where
   -- the field is there
@@ -165,14 +166,14 @@ module _ (v : Version) (f : ℕ) (is_field : f < 2 ^ 32) (left : List ℕ) where
   no_room taken [] g st [] p x bytes is less h s e full =
       let cut : h.prefix ++ (h.rest ++ x) ≡ four_bytes f ++ left = sym (append_assoc h.prefix h.rest x) ∙ ap (λ (z : List ℕ). z ++ x) (sym h.joined) ∙ e ∙ ap (λ (z : List ℕ). z ++ (four_bytes f ++ left)) s in
       let same = one_fixed 4 h.prefix (four_bytes f) (h.rest ++ x) left g f h.first (four_bytes_encode f is_field) cut in
-      record { state = st; prefix = h.rest; rest = x; joined = sym (rest_is h.prefix (four_bytes f) (h.rest ++ x) left same.0 cut); is = is; encoded = h.second; full = full }
+      record { state = st; prefix = h.rest; rest = x; joined = sym (same_rest h.prefix (four_bytes f) (h.rest ++ x) left same.0 cut); is = is; encoded = h.second; full = full }
   no_room taken [] g st (r ∷ d) p x bytes is less h s e full =
       let y = four_bytes f ++ left in
       let whole = both_cut p bytes h.prefix h.rest s.prefix s.rest x y h.joined s.joined e in
       let t = s.first in
       let all : h.prefix ++ (h.rest ++ x) ≡ t.prefix ++ (t.rest ++ (s.rest ++ y)) = whole ∙ ap (λ (z : List ℕ). z ++ (s.rest ++ y)) t.joined ∙ append_assoc t.prefix t.rest (s.rest ++ y) in
       let same = one_fixed 4 h.prefix t.prefix (h.rest ++ x) (t.rest ++ (s.rest ++ y)) g r.0 h.first t.first all in
-      let within = state_within Legacy v one_legacy st h.rest x t.rest (s.rest ++ y) r.1 is h.second (rest_is h.prefix t.prefix (h.rest ++ x) (t.rest ++ (s.rest ++ y)) same.0 all) t.second in
+      let within = state_within Legacy v one_legacy st h.rest x t.rest (s.rest ++ y) r.1 is h.second (same_rest h.prefix t.prefix (h.rest ++ x) (t.rest ++ (s.rest ++ y)) same.0 all) t.second in
       pairs_too_large taken (r ∷ d) (omega (arith, full, within, document_room-cons r d))
   no_room taken (q ∷ o) g st [] p x bytes is less h s e full = absurd (omega (arith, less))
   no_room taken (q ∷ o) g st (r ∷ d) p x bytes is less h s e full =
@@ -180,7 +181,7 @@ module _ (v : Version) (f : ℕ) (is_field : f < 2 ^ 32) (left : List ℕ) where
       let whole = both_cut p bytes h.prefix h.rest s.prefix s.rest x y h.joined s.joined e in
       let same = one_pair Legacy v one_legacy h.prefix s.prefix (h.rest ++ x) (s.rest ++ y) q r h.first s.first whole in
       let rooms = ap (λ (z : ℕ × Tree). room z.1) same.1 in
-      let more = no_room (taken + room r.1) o g st d h.rest x s.rest is (omega (arith, less)) h.second s.second (rest_is h.prefix s.prefix (h.rest ++ x) (s.rest ++ y) same.0 whole) (omega (arith, full, document_room-cons q o, rooms)) in
+      let more = no_room (taken + room r.1) o g st d h.rest x s.rest is (omega (arith, less)) h.second s.second (same_rest h.prefix s.prefix (h.rest ++ x) (s.rest ++ y) same.0 whole) (omega (arith, full, document_room-cons q o, rooms)) in
       record { state = more.state; prefix = more.prefix; rest = more.rest; joined = more.joined; is = more.is; encoded = more.encoded; full = omega (arith, more.full, document_room-cons r d) }
 
 pub value_too_large : (v : Version) (d : Document) (f : ℕ) (left : List ℕ) → length d + 1 < 2 ^ 64 → f < 2 ^ 32 → ((bytes : List ℕ) → Encoded Legacy v bytes (open_parts (length d + 1) d f (in_lists [])) → HasNoRoom v (bytes ++ left)) → CanStand v d

@@ -1,5 +1,6 @@
 -- What has come of the chosen pairs needs no more room than those of the whole document.
 use Rattle.std.proofs.Common.{◌≡◌, ℕ, ◌+◌, ◌<◌, ◌≤◌, Bool, true, false, List, [], ◌∷◌, ◌++◌, length, refl, sym, ◌∙◌, ap, subst, append_assoc, arith}
+use Rattle.tv_reader.proofs.Depths.{same_rest}
 use Rattle.std.proofs.lemmas.Bool.{cond-true, cond-false}
 use Rattle.tv_base.specs.Parts.{Each}
 use Rattle.tv_base.proofs.Numbers.{one_number, one_fixed}
@@ -15,7 +16,7 @@ use Rattle.tv_format.specs.Tree.{Tree, Document}
 use Rattle.tv_format.specs.Version.{Version}
 use Rattle.tv_format.proofs.Trees.{one_pair}
 use Rattle.tv_value.specs.declared.field.Field.{Field}
-use Rattle.tv_reading.proofs.RoomWithin.{rest_is, both_cut, document_room-cons, state_within}
+use Rattle.tv_reading.proofs.RoomWithin.{both_cut, document_room-cons, state_within}
 use Rattle.tv_reading.specs.ChosenFields.{is_among, chosen, HasNoRoomChosen}
 
 chosen-cons : (fields : List Field) (q : ℕ × Tree) (d : Document) → is_among fields q.0 ≡ true → chosen fields (q ∷ d) ≡ q ∷ chosen fields d
@@ -41,12 +42,12 @@ pairs_within v fields [] f st (r ∷ d) p x b y among is less h e s =
     let t = s.first in
     let all : h.prefix ++ (h.rest ++ x) ≡ t.prefix ++ (t.rest ++ (s.rest ++ y)) = whole ∙ ap (λ (z : List ℕ). z ++ (s.rest ++ y)) t.joined ∙ append_assoc t.prefix t.rest (s.rest ++ y) in
     let same = one_fixed 4 h.prefix t.prefix (h.rest ++ x) (t.rest ++ (s.rest ++ y)) f r.0 h.first t.first all in
-    let within = state_within Legacy v one_legacy st h.rest x t.rest (s.rest ++ y) r.1 is h.second (rest_is h.prefix t.prefix (h.rest ++ x) (t.rest ++ (s.rest ++ y)) same.0 all) t.second in
+    let within = state_within Legacy v one_legacy st h.rest x t.rest (s.rest ++ y) r.1 is h.second (same_rest h.prefix t.prefix (h.rest ++ x) (t.rest ++ (s.rest ++ y)) same.0 all) t.second in
     omega (arith, within, document_room-cons r (chosen fields d), ap document_room (chosen-cons fields r d (ap (is_among fields) (sym same.1) ∙ among)))
 pairs_within v fields (q ∷ o) f st (r ∷ d) p x b y among is less h e s =
     let whole = both_cut p b h.prefix h.rest s.prefix s.rest x y h.joined s.joined e in
     let same = one_pair Legacy v one_legacy h.prefix s.prefix (h.rest ++ x) (s.rest ++ y) q r h.first s.first whole in
-    let more = pairs_within v fields o f st d h.rest x s.rest y among is (omega (arith, less)) h.second (rest_is h.prefix s.prefix (h.rest ++ x) (s.rest ++ y) same.0 whole) s.second in
+    let more = pairs_within v fields o f st d h.rest x s.rest y among is (omega (arith, less)) h.second (same_rest h.prefix s.prefix (h.rest ++ x) (s.rest ++ y) same.0 whole) s.second in
     subst (λ (z : ℕ × Tree). document_room (chosen fields (q ∷ o)) + state_room st ≤ document_room (chosen fields (z ∷ d))) same.1 (chosen_room fields q o d (state_room st) more)
 
 -- where a prefix encodes a document whose chosen pairs have room
@@ -55,5 +56,5 @@ chosen_has_room v fields whole prefix rest d joined encoded full small =
     let h = full.encoded in
     let cut = both_cut full.prefix prefix h.prefix h.rest encoded.prefix encoded.rest full.rest rest h.joined encoded.joined (sym full.joined ∙ joined) in
     let same = one_number h.prefix encoded.prefix (h.rest ++ full.rest) (encoded.rest ++ rest) full.announced (length d) h.first encoded.first cut in
-    let within = pairs_within v fields full.finished full.number full.state d h.rest full.rest encoded.rest rest full.among full.is (omega (arith, full.less, same.1)) h.second (rest_is h.prefix encoded.prefix (h.rest ++ full.rest) (encoded.rest ++ rest) same.0 cut) encoded.second in
+    let within = pairs_within v fields full.finished full.number full.state d h.rest full.rest encoded.rest rest full.among full.is (omega (arith, full.less, same.1)) h.second (same_rest h.prefix encoded.prefix (h.rest ++ full.rest) (encoded.rest ++ rest) same.0 cut) encoded.second in
     omega (arith, full.full, small, within)

@@ -28,11 +28,9 @@ use Rattle.tv_builder.specs.Parts.{Part, field, value, bytes_head, some_bytes}
 use Rattle.tv_builder.specs.State.{OpenList, State, complete, in_lists, in_bytes, text_of, IsKey, AreEntries, AreChildren, AreLists, IsValueNext, IsKeyNext, AllAwait, OthersAwait, HeadNext, IsState, key_parts, list_head, children_parts, list_parts, lists_parts, parts_of, children_room, lists_room, state_room}
 use Rattle.tv_builder.proofs.Grammar.{each_split}
 use Rattle.tv_reader.specs.Heads.{HasLength}
+use Rattle.tv_reader.proofs.Depths.{same_rest}
 
 -- ---- lists of bytes
-
-pub rest_is : (a b x y : List ℕ) → a ≡ b → a ++ x ≡ b ++ y → x ≡ y
-rest_is a b x y same e = append_cancel_left b x y (ap (λ (z : List ℕ). z ++ x) (sym same) ∙ e)
 
 heads : (m n : ℕ) (a b : List ℕ) → m ∷ a ≡ n ∷ b → (m ≡ n) × (a ≡ b)
 heads m n a b e = let code : m ≡ n = cc in let body : a ≡ b = cc in (code, body)
@@ -88,7 +86,7 @@ module _ (L : List ℕ → Entries → Type 0) (v : Version) (one_l : OneReading
   next_element (t ∷ ts) (element u us) c q d y p s less e =
       let whole = both_cut c d p.prefix p.rest s.prefix s.rest q y p.joined s.joined e in
       let same = one_tree L v one_l p.prefix s.prefix (p.rest ++ q) (s.rest ++ y) t u p.first s.first whole in
-      let n = next_element ts us p.rest q s.rest y p.second s.second (omega (arith, less)) (rest_is p.prefix s.prefix (p.rest ++ q) (s.rest ++ y) same.0 whole) in
+      let n = next_element ts us p.rest q s.rest y p.second s.second (omega (arith, less)) (same_rest p.prefix s.prefix (p.rest ++ q) (s.rest ++ y) same.0 whole) in
       record { next = n.next; starts = n.starts; room_is = omega (arith, n.room_is, ap room same.1) }
 
   -- ---- the next value behind a key
@@ -100,7 +98,7 @@ module _ (L : List ℕ → Entries → Type 0) (v : Version) (one_l : OneReading
   next_behind_key (k ∷ []) (entry l u es) c q d y are odd p s less e =
       let whole = both_cut c d p.prefix p.rest s.prefix s.rest q y p.joined s.joined e in
       let same = (agree_key v (text_of k) l).agree p.prefix s.prefix (p.rest ++ q) (s.rest ++ y) p.first s.first whole in
-      let rest = rest_is p.prefix s.prefix (p.rest ++ q) (s.rest ++ y) same.0 whole in
+      let rest = same_rest p.prefix s.prefix (p.rest ++ q) (s.rest ++ y) same.0 whole in
       let t = s.second in
       record {
         next = u;
@@ -110,12 +108,12 @@ module _ (L : List ℕ → Entries → Type 0) (v : Version) (one_l : OneReading
   next_behind_key (k ∷ t ∷ ts) (entry l u es) c q d y are odd p s less e =
       let whole = both_cut c d p.prefix p.rest s.prefix s.rest q y p.joined s.joined e in
       let same = (agree_key v (text_of k) l).agree p.prefix s.prefix (p.rest ++ q) (s.rest ++ y) p.first s.first whole in
-      let rest = rest_is p.prefix s.prefix (p.rest ++ q) (s.rest ++ y) same.0 whole in
+      let rest = same_rest p.prefix s.prefix (p.rest ++ q) (s.rest ++ y) same.0 whole in
       let r = p.second in
       let o = s.second in
       let more = both_cut p.rest s.rest r.prefix r.rest o.prefix o.rest q y r.joined o.joined rest in
       let tree = one_tree L v one_l r.prefix o.prefix (r.rest ++ q) (o.rest ++ y) t u r.first o.first more in
-      let n = next_behind_key ts es r.rest q o.rest y are.1 (omega (arith, odd)) r.second o.second (omega (arith, less)) (rest_is r.prefix o.prefix (r.rest ++ q) (o.rest ++ y) tree.0 more) in
+      let n = next_behind_key ts es r.rest q o.rest y are.1 (omega (arith, odd)) r.second o.second (omega (arith, less)) (same_rest r.prefix o.prefix (r.rest ++ q) (o.rest ++ y) tree.0 more) in
       record { next = n.next; starts = n.starts; room_is = omega (arith, n.room_is, key_room k are.0, ap length same.1, ap room tree.1) }
 
   -- ---- the next key
@@ -144,12 +142,12 @@ module _ (L : List ℕ → Entries → Type 0) (v : Version) (one_l : OneReading
   next_key (k ∷ t ∷ ts) (entry l u es) c q d y are even p s less e =
       let whole = both_cut c d p.prefix p.rest s.prefix s.rest q y p.joined s.joined e in
       let same = (agree_key v (text_of k) l).agree p.prefix s.prefix (p.rest ++ q) (s.rest ++ y) p.first s.first whole in
-      let rest = rest_is p.prefix s.prefix (p.rest ++ q) (s.rest ++ y) same.0 whole in
+      let rest = same_rest p.prefix s.prefix (p.rest ++ q) (s.rest ++ y) same.0 whole in
       let r = p.second in
       let o = s.second in
       let more = both_cut p.rest s.rest r.prefix r.rest o.prefix o.rest q y r.joined o.joined rest in
       let tree = one_tree L v one_l r.prefix o.prefix (r.rest ++ q) (o.rest ++ y) t u r.first o.first more in
-      let n = next_key ts es r.rest q o.rest y are.1 (omega (arith, even)) r.second o.second (omega (arith, less)) (rest_is r.prefix o.prefix (r.rest ++ q) (o.rest ++ y) tree.0 more) in
+      let n = next_key ts es r.rest q o.rest y are.1 (omega (arith, even)) r.second o.second (omega (arith, less)) (same_rest r.prefix o.prefix (r.rest ++ q) (o.rest ++ y) tree.0 more) in
       record { next = n.next; prefix = n.prefix; rest = n.rest; joined = n.joined; encoded = n.encoded; room_is = omega (arith, n.room_is, key_room k are.0, ap length same.1, ap room tree.1) }
 
   -- ---- a list that is open, and the value that it becomes
@@ -180,7 +178,7 @@ module _ (L : List ℕ → Entries → Type 0) (v : Version) (one_l : OneReading
       let parts = s.encoded in
       let all : p.body ++ (c ++ q) ≡ parts.prefix ++ (parts.rest ++ y) = k.1 ∙ ap (λ (z : List ℕ). z ++ y) parts.joined ∙ append_assoc parts.prefix parts.rest y in
       let same = one_number p.body parts.prefix (c ++ q) (parts.rest ++ y) n (element_count us) p.encoded parts.first all in
-      record { us = us; d = parts.rest; y = y; is = refl; counted = same.1; encoded = parts.second; joined = rest_is p.body parts.prefix (c ++ q) (parts.rest ++ y) same.0 all }
+      record { us = us; d = parts.rest; y = y; is = refl; counted = same.1; encoded = parts.second; joined = same_rest p.body parts.prefix (c ++ q) (parts.rest ++ y) same.0 all }
   is_array n whole h c q b y (object es) cut p e s = elim s [
     | inl o ↦ absurd (let k = behind_codes 12 13 whole b h c p.body o.body q y cut p.joined o.joined e in omega (arith, k.0))
     | inr o ↦ absurd (let k = behind_codes 12 8 whole b h c p.body o.body q y cut p.joined o.joined e in omega (arith, k.0))
@@ -195,7 +193,7 @@ module _ (L : List ℕ → Entries → Type 0) (v : Version) (one_l : OneReading
         let parts = o.encoded in
         let all : p.body ++ (c ++ q) ≡ parts.prefix ++ (parts.rest ++ y) = k.1 ∙ ap (λ (z : List ℕ). z ++ y) parts.joined ∙ append_assoc parts.prefix parts.rest y in
         let same = one_number p.body parts.prefix (c ++ q) (parts.rest ++ y) (entry_total v n) (entry_total v (entry_count es)) p.encoded parts.first all in
-        record { es = es; d = parts.rest; y = y; is = refl; counted = total_same v n (entry_count es) same.1; encoded = parts.second; joined = rest_is p.body parts.prefix (c ++ q) (parts.rest ++ y) same.0 all }
+        record { es = es; d = parts.rest; y = y; is = refl; counted = total_same v n (entry_count es) same.1; encoded = parts.second; joined = same_rest p.body parts.prefix (c ++ q) (parts.rest ++ y) same.0 all }
     | inr o ↦ absurd (let k = behind_codes 13 8 whole b h c p.body o.body q y cut p.joined o.joined e in omega (arith, k.0))
   ]
 
@@ -336,12 +334,12 @@ module _ (L : List ℕ → Entries → Type 0) (v : Version) (one_l : OneReading
       let t = s.first in
       let all : h.prefix ++ (h.rest ++ x) ≡ t.prefix ++ (t.rest ++ (s.rest ++ y)) = whole ∙ ap (λ (z : List ℕ). z ++ (s.rest ++ y)) t.joined ∙ append_assoc t.prefix t.rest (s.rest ++ y) in
       let same = one_fixed 4 h.prefix t.prefix (h.rest ++ x) (t.rest ++ (s.rest ++ y)) f r.0 h.first t.first all in
-      let within = state_within st h.rest x t.rest (s.rest ++ y) r.1 is h.second (rest_is h.prefix t.prefix (h.rest ++ x) (t.rest ++ (s.rest ++ y)) same.0 all) t.second in
+      let within = state_within st h.rest x t.rest (s.rest ++ y) r.1 is h.second (same_rest h.prefix t.prefix (h.rest ++ x) (t.rest ++ (s.rest ++ y)) same.0 all) t.second in
       omega (arith, within, document_room-cons r d)
   pairs_within (q ∷ o) f st (r ∷ d) p x b y is less h e s =
       let whole = both_cut p b h.prefix h.rest s.prefix s.rest x y h.joined s.joined e in
       let same = one_pair L v one_l h.prefix s.prefix (h.rest ++ x) (s.rest ++ y) q r h.first s.first whole in
-      let more = pairs_within o f st d h.rest x s.rest y is (omega (arith, less)) h.second (rest_is h.prefix s.prefix (h.rest ++ x) (s.rest ++ y) same.0 whole) s.second in
+      let more = pairs_within o f st d h.rest x s.rest y is (omega (arith, less)) h.second (same_rest h.prefix s.prefix (h.rest ++ x) (s.rest ++ y) same.0 whole) s.second in
       omega (arith, more, document_room-cons q o, document_room-cons r d, ap (λ (z : ℕ × Tree). room z.1) same.1)
 
   pub document_within : (n : ℕ) (o : Document) (f : ℕ) (st : State) (p x b y : List ℕ) (d : Document) → IsState st → length o < n → Each R p (open_parts n o f st) → p ++ x ≡ b ++ y → EncodesDocument L v b d
@@ -349,4 +347,4 @@ module _ (L : List ℕ → Entries → Type 0) (v : Version) (one_l : OneReading
   document_within n o f st p x b y d is less h e s =
       let whole = both_cut p b h.prefix h.rest s.prefix s.rest x y h.joined s.joined e in
       let same = one_number h.prefix s.prefix (h.rest ++ x) (s.rest ++ y) n (length d) h.first s.first whole in
-      pairs_within o f st d h.rest x s.rest y is (omega (arith, less, same.1)) h.second (rest_is h.prefix s.prefix (h.rest ++ x) (s.rest ++ y) same.0 whole) s.second
+      pairs_within o f st d h.rest x s.rest y is (omega (arith, less, same.1)) h.second (same_rest h.prefix s.prefix (h.rest ++ x) (s.rest ++ y) same.0 whole) s.second

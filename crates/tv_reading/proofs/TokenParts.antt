@@ -21,6 +21,7 @@ use Rattle.tv_reader.proofs.Finding.{finds_fails}
 use Rattle.tv_reading.specs.Skip.{IsNumber, IsText, IsTextAndNumber, IsToken, AreTokens, ErrorInTextAndNumber, ErrorInTokens, AreCounted, ErrorInCounted, IsTokenized, IsValue}
 use Rattle.tv_reading.proofs.Passing.{end, finds_after}
 use Rattle.tv_reader.specs.Error.{StoreMayStopRoomy}
+use Rattle.tv_reader.proofs.TreeSteps.{no_rest}
 
 -- ---- one part, and what is behind it
 
@@ -58,14 +59,10 @@ number_ends_first c f = single_number.single [] c UnexpectedEnd f (number_ends (
 text_ends_first : EndsFirst ErrorInText
 text_ends_first c f = single_text.single [] c UnexpectedEnd f (in_sized (inl (number_ends (omega arith) tt)))
 
-rest_none : (a b : List ℕ) → [] ≡ a ++ b → b ≡ []
-rest_none [] b e = sym e
-rest_none (x ∷ a) b e = absurd cc
-
 then_ends_first : {A : Type 0} (F : List ℕ → Cause → Type 0) (R : List ℕ → A → Type 0) (G : A → List ℕ → Cause → Type 0) → EndsFirst F → ((x : A) → EndsFirst (G x)) → EndsFirst (InThen F R G)
 then_ends_first F R G f g c h = elim h [
   | inl p ↦ f c p
-  | inr q ↦ g q.0 c (subst (λ l. G q.0 l c) (rest_none q.1.prefix q.1.rest q.1.joined) q.1.second)
+  | inr q ↦ g q.0 c (subst (λ l. G q.0 l c) (no_rest q.1.prefix q.1.rest q.1.joined) q.1.second)
 ]
 
 pub text_and_number_ends_first : EndsFirst ErrorInTextAndNumber

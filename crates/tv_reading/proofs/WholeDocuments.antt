@@ -37,6 +37,8 @@ use Rattle.tv_reading.specs.declared.reading.Reading.{Reading}
 use Rattle.tv_reading.proofs.BufferedPairs.{pairs_as_parts}
 use Rattle.tv_reading.proofs.WithErrors.{number_at_error, field_at_error, value_at_error, key_at_error, end_at_error}
 use Rattle.tv_reader.specs.Error.{StoreMayStop, StoreMayStopLean}
+use Rattle.tv_reader.proofs.TreeSteps.{no_key}
+use Rattle.tv_reader.proofs.DepthSteps.{err_of}
 
 abbrev end : Refusal
 end = corrupted causes.UnexpectedEnd
@@ -59,11 +61,6 @@ done_encodes v r document b sound done is p = subst (λ d. EncodesDocument Legac
 
 -- ---- at the end of the bytes more is awaited
 
-key_ended : (v : Version) → ErrorInKey v [] end
-key_ended V1 = key_ends
-key_ended V2 = key_ends
-key_ended V3 = corrupt (in_sized (inl (number_ends (omega arith) tt)))
-
 pair_lacks : (a : Option ℕ) (d : Document) (finished : ℕ) (s : State) → finished ≡ length d → IsPlace a d None s → ¬ AllFinished a finished → a ≢ None → LacksPair a finished
 pair_lacks None d finished s counted h more some = absurd (some refl)
 pair_lacks (Some n) d finished s counted h more some = elim (eqb_tells finished n) [ inl p ↦ absurd (more p.1) | inr p ↦ omega (arith, p.1, counted, h.0) ]
@@ -77,7 +74,7 @@ value_ended_at v r sound has (in_lists (l ∷ ls)) is lacks = by_next l.kind ref
     a_value e = value_at_error v r [] end (record { sound = sound; field = has; next = ap awaited is ∙ e }) value_ends
 
     a_key : next_in (l ∷ ls) ≡ awaits.Key → NoPrefix v r [] end
-    a_key e = key_at_error v r [] end (record { sound = sound; field = has; next = ap awaited is ∙ e }) (key_ended v)
+    a_key e = key_at_error v r [] end (record { sound = sound; field = has; next = ap awaited is ∙ e }) (no_key v)
 
     by_next : (kind : ListKind) → l.kind ≡ kind → NoPrefix v r [] end
     by_next Array e = a_value (ap (λ z. next_at z (length l.children)) e)
@@ -111,10 +108,6 @@ two_steps v a b c x y p q = λ bytes s. subst (λ z. Encoded Legacy v z (parts_r
 
 refused_behind : (v : Version) (a b : Reading) (x w : List ℕ) (f : Refusal) → Advances Legacy v a b x → NoPrefix v b w f → NoPrefix v a (x ++ w) f
 refused_behind v a b x w f p q = λ bytes s. subst (λ z. ErrorInDocument Legacy ErrorInLegacy v z f) (append_assoc bytes x w) (q (bytes ++ x) (p bytes s))
-
--- a refusal is the same, whatever was wanted
-pub same_refusal : {A B : Type 0} (e f : DeserializeError) → IsErrOf {T = A} (Err e) f → IsErrOf {T = B} (Err e) f
-same_refusal e f is = let same : e ≡ f = cc in ap (λ x. Err x) same
 
 module _ {S : Type 0} {is_known : S → Type 0} {left : S → List ℕ} {failures : S → Failures} (v : Version) (begun r : Reading) where
   pub step_more : {old mid new : S} {i j k : ℕ} (x : Unit {0}) (legacy : Bool) (after : Reading) → FindsIf StoreMayStop is_known left failures old i mid j (Ok r) (Goes v begun) Nothing → FindsIf StoreMayStop is_known left failures mid j new k (Ok x) (λ b _. Stepped v legacy r after b) (NoPrefix v r) → FindsIf StoreMayStop is_known left failures old i new k (Ok after) (Goes v begun) Nothing

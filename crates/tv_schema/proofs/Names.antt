@@ -4,7 +4,7 @@ use Rattle.std.specs.Prelude.{slice_get, IfSome, IsSomeAnd, AllPairs}
 use Rattle.std.specs.Str.{bytes_eq}
 use Rattle.std.proofs.lemmas.Slice.Eq.{bytes_eq-Decides}
 use Rattle.std.proofs.lemmas.Bool.{false_from_ne_true}
-use Rattle.std.proofs.lemmas.Option.{get_or_from_slice_get}
+use Rattle.std.proofs.lemmas.Option.{get_or_from_slice_get, slice_get_within}
 use Rattle.tv_field.specs.Entry.{Entry}
 use Rattle.tv_schema.specs.Schema.{IsSchema, place_from, field_named}
 
@@ -44,15 +44,10 @@ field_named-named schema name number e =
     let same : number ≡ at.0 = omega (arith, at.1) in
     rw same at.2
 
-slice_get-within : (schema : List Entry) (number : ℕ) (entry : Entry) → slice_get schema number ≡ Some entry → number < length schema
-slice_get-within [] number entry e = cc
-slice_get-within (x ∷ xs) zero entry e = omega arith
-slice_get-within (x ∷ xs) (suc n) entry e = let h = slice_get-within xs n entry e in omega arith
-
 pub field_named-found : (schema : List Entry) (number : ℕ) (entry : Entry) → IsSchema schema → slice_get schema number ≡ Some entry → field_named schema entry.name ≡ Some number
 field_named-found schema number entry is at =
     rw (get_or_from_slice_get schema number entry entry at, zero-add) at
-    (place_from-found 0 schema number entry is.distinct (slice_get-within schema number entry at))
+    (place_from-found 0 schema number entry is.distinct (slice_get_within schema number entry at))
 
 place_case : (b : Bool) (n number : ℕ) (rest : Option ℕ) (most : ℕ) → n < most → cond b (Some n) rest ≡ Some number → (rest ≡ Some number → number < most) → number < most
 place_case true n number rest most h e more = let same : n ≡ number = cc in omega arith

@@ -9,6 +9,7 @@ use Rattle.std.proofs.lemmas.List.{get_or-drop}
 use Rattle.std.proofs.Math.Seq.{get_or-append_seam}
 use Rattle.std.specs.Global.{Vec}
 use Rattle.std.specs.List.{IsLastAndRest}
+use Rattle.std.proofs.lemmas.Bool.{and_from, and_parts}
 use Rattle.tv_base.specs.Sink.{IsPrefix}
 use Rattle.tv_term.specs.Range.{EndsPrefix, IsFrom, IsWithin}
 
@@ -106,25 +107,13 @@ prefix-begins (x ∷ p) (y ∷ b) h =
     let more = prefix-begins p b rest in
     (more.0, ap (λ z. z ∷ b) (sym first) ∙ ap (λ z. x ∷ z) more.1)
 
-and_true : (a b : Bool) → a ≡ true → b ≡ true → (a && b) ≡ true
-and_true true b e f = f
-and_true false b e f = e
-
-and_left : (a b : Bool) → (a && b) ≡ true → a ≡ true
-and_left true b e = refl
-and_left false b e = e
-
-and_right : (a b : Bool) → (a && b) ≡ true → b ≡ true
-and_right true b e = e
-and_right false b e = cc
-
 within : (p end bytes : List ℕ) → (upto p bytes && below bytes end) ≡ begins p bytes → (IsFrom p bytes × IsTrue (is_lt (slice_cmp nat_cmp bytes end))) ↔ IsPrefix p bytes
 within p end bytes same_tests =
     let from = is_upto p bytes (slice_cmp nat_cmp p bytes) refl in
     let under = is_below bytes end (slice_cmp nat_cmp bytes end) refl in (
-      (λ w. prefix-begins p bytes (sym same_tests ∙ and_true (upto p bytes) (below bytes end) (sym from ∙ w.0) (sym under ∙ w.1))),
+      (λ w. prefix-begins p bytes (sym same_tests ∙ and_from (upto p bytes) (below bytes end) (sym from ∙ w.0) (sym under ∙ w.1))),
       (λ h. let tests = same_tests ∙ begins-prefix p bytes h in
-          (from ∙ and_left (upto p bytes) (below bytes end) tests, under ∙ and_right (upto p bytes) (below bytes end) tests)),
+          (from ∙ (and_parts (upto p bytes) (below bytes end) tests).0, under ∙ (and_parts (upto p bytes) (below bytes end) tests).1)),
     )
 
 -- the end of the range of a prefix: it without the largest bytes at its end, and the last one more

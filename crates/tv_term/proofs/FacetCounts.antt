@@ -17,6 +17,7 @@ use Rattle.std.proofs.lemmas.List.Sums.{length-filter, count_by-le-length}
 use Rattle.std.proofs.lemmas.List.Splits.{join_with_byte-slice_split}
 use Rattle.std.proofs.lemmas.Map.Lookups.{exact_bytes}
 use Rattle.std.proofs.lemmas.Slice.Eq.{bytes_eq-Decides}
+use Rattle.std.proofs.lemmas.Bool.{false_from_ne_true, and_parts}
 use Rattle.tv_base.specs.Facet.{path, steps, IsStep, Descends}
 use Rattle.tv_base.proofs.Steps.{path-not_nil, path-append, path-joined, Descends-rest, Descends-from_rest, Descends-itself, false_true}
 use Rattle.tv_term.specs.FacetCounting.{begins_with, is_within, count_within, IsChild, IsChildCount, AreChildCounts, AreRising, entry_of}
@@ -39,11 +40,6 @@ all-append P (x ∷ l) m h k = (h.0, all-append P l m h.1 k)
 all-parts : {X : Type 0} (P : X → Type 0) (l m : List X) → AllByRecursion P (l ++ m) → AllByRecursion P l × AllByRecursion P m
 all-parts P [] m h = (tt, h)
 all-parts P (x ∷ l) m h = let rest = all-parts P l m h.1 in ((h.0, rest.0), rest.1)
-
--- texts that begin with others
-and_parts : (a b : Bool) → (a && b) ≡ true → (a ≡ true) × (b ≡ true)
-and_parts true b h = (refl, h)
-and_parts false b h = absurd (false_true h)
 
 begins-more : (upper texts : List (List ℕ)) → begins_with upper texts ≡ true → (more : List (List ℕ)) × (texts ≡ upper ++ more)
 begins-more [] texts h = (texts, refl)
@@ -283,13 +279,9 @@ counts-none ancestor facets counts f p h = record {
   others = λ child is_child all. count-no child facets f (h child is_child) ∙ p.others child is_child all;
 }
 
-different : (b : Bool) → (b ≡ true → ⊥) → b ≡ false
-different true h = absurd (h refl)
-different false h = refl
-
 -- a facet is at or below no other child
 apart : (ancestor f c child : List ℕ) → IsChildAbove ancestor f c → IsChild ancestor child → child ≢ c → is_within child f ≡ false
-apart ancestor f c child p is_child h = different (is_within child f) (λ above. h (same-child ancestor child c f is_child p.is_child above p.is_above))
+apart ancestor f c child p is_child h = false_from_ne_true (is_within child f) (λ above. h (same-child ancestor child c f is_child p.is_child above p.is_above))
 
 one-entry : (ancestor : List ℕ) (facets : List (List ℕ)) (f c : List ℕ) (count : ℕ) → IsChildAbove ancestor f c → count_within c facets + 1 ≡ count → IsChildCount ancestor (facets ++ f ∷ []) c count
 one-entry ancestor facets f c count p e = record { is_child = p.is_child; count_is = sym e ∙ sym (count-yes c facets f p.is_above); has_facets = omega arith }
@@ -437,7 +429,7 @@ child-descends ancestor facet child (s, e) above =
     (s ∷ more.0, (λ none. cc), more.1 ∙ ap (λ l. l ++ more.0) e ∙ append_assoc (steps ancestor) (s ∷ []) more.0)
 
 pub no-child_outside : (ancestor facet : List ℕ) → (Descends ancestor facet → ⊥) → HasNoChild ancestor facet
-no-child_outside ancestor facet h child is_child = different (is_within child facet) (λ above. h (child-descends ancestor facet child is_child above))
+no-child_outside ancestor facet h child is_child = false_from_ne_true (is_within child facet) (λ above. h (child-descends ancestor facet child is_child above))
 
 front-not_nil : (ancestor : List ℕ) → length (front ancestor) ≡ 0 → ancestor ≡ []
 front-not_nil [] e = refl
@@ -462,7 +454,7 @@ no-child_empty ancestor facet n d none ended child is_child =
     let child_of_root : IsChild [] child = subst (λ a. IsChild a child) root is_child in
     let not_root : facet ≢ [] = λ e. Descends-itself [] facet e below in
     let first : 0 < length facet → get_or facet 0 0 ≡ 0 = subst (λ k. k < length facet → get_or facet k 0 ≡ 0) length_none (subst (λ k. n < length (drop k facet) → get_or (drop k facet) n 0 ≡ 0) start ended) in
-    different (is_within child facet) (λ above.
+    false_from_ne_true (is_within child facet) (λ above.
     let form = child-form [] child child_of_root in
     let whole = within-form child facet (child-not_root [] child child_of_root) above in
     no-empty facet form.step whole.0 not_root (first (length-some facet not_root)) form.is_step (form.has_step refl) (whole.2 ∙ ap (λ l. l ++ whole.0) form.child_is))

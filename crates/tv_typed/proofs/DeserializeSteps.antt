@@ -25,6 +25,7 @@ use Rattle.tv_reader.specs.declared.error.DeserializeError.TheVariants as errors
 use Rattle.tv_reader.specs.declared.value_type.ValueType.{ValueType}
 use Rattle.tv_reader.proofs.BehindKinds.{kind_edge}
 use Rattle.tv_reader.proofs.Finding.{found_behind, stop_map}
+use Rattle.tv_reader.proofs.DepthSteps.{err_of}
 use Rattle.tv_typed.specs.Typed.{typed_stop, ReadsIf, DeserializesBy}
 use Rattle.tv_typed.specs.Excluding.{leaf_type, leaf_excludes, tree_excludes, next_excludes}
 use Rattle.tv_typed.specs.Excluding.{with_legacy}
@@ -63,9 +64,6 @@ deserializes {left = left} {old = old} {new = new} {result = result} {B = B} {Q 
 not_ok : {X : Type 0} (x : X) → IsErrOf {T = X} (Ok x) errors.AlreadyFailed → ⊥
 not_ok x e = absurd cc
 
-pub err_for : {A B : Type 0} (e d : DeserializeError) → IsErrOf {T = A} (Err e) d → IsErrOf {T = B} (Err e) d
-err_for e d is = let same : e ≡ d = cc in ap (λ (z : DeserializeError). Err z) same
-
 pub goes_then : {S X Y : Type 0} {is_known : S → Type 0} {left : S → List ℕ} {failures : S → Failures} {old mid new : StoreReader S} {x : X} {result : Result Y DeserializeError} {R : List ℕ → X → Type 0} {I : List ℕ → DeserializeError → Type 0} {A : List ℕ → Y → Type 0} {P : List ℕ → DeserializeError → Type 0}
     (B : List ℕ → Y → Type 0) (Q : List ℕ → DeserializeError → Type 0)
     → ((a b : List ℕ) (y : Y) → R a x → A b y → B (a ++ b) y) → ((a w : List ℕ) (c : DeserializeError) → R a x → P w c → Q (a ++ w) c)
@@ -100,7 +98,7 @@ goes_as {x = x} y B Q map p = record {
 pub goes_fails : {S X Y : Type 0} {is_known : S → Type 0} {left : S → List ℕ} {failures : S → Failures} {old new : StoreReader S} {e : DeserializeError} {R : List ℕ → X → Type 0} {P : List ℕ → DeserializeError → Type 0} (B : List ℕ → Y → Type 0) (Q : List ℕ → DeserializeError → Type 0)
     → ((w : List ℕ) (c : DeserializeError) → P w c → Q w c) → DeserializesBy {X = X} is_known left failures old new (Err e) R P → DeserializesBy {X = Y} is_known left failures old new (Err e) B Q
 goes_fails {left = left} {old = old} {new = new} {e = e} {P = P} B Q map p = record {
-  closed = λ failed. let c = p.closed failed in (err_for e errors.AlreadyFailed c.0, c.1, c.2);
+  closed = λ failed. let c = p.closed failed in (err_of e errors.AlreadyFailed c.0, c.1, c.2);
   unmarked = tt;
   found = λ is_open t. stop_map end P Q (typed_stop e) (left old.source) (left new.source) new.count map (p.found is_open t);
   taken = p.taken;

@@ -26,7 +26,7 @@ use Rattle.tv_reader.specs.declared.value_type.ValueType.{ValueType}
 use Rattle.tv_reader.specs.declared.value_type.ValueType.TheVariants as types
 use Rattle.tv_reader.specs.declared.version.DocStoreVersion.{DocStoreVersion}
 use Rattle.tv_reader.proofs.AgreeKinds.{same_coded}
-use Rattle.tv_reader.proofs.TreeSteps.{entry_count_agrees, key_error_ended}
+use Rattle.tv_reader.proofs.TreeSteps.{entry_count_agrees, key_error_ended, no_rest}
 use Rattle.tv_typed.specs.Typed.{raised, IsMismatch, ReadsIf, DeserializesBy}
 use Rattle.tv_typed.specs.Values.{EncodesAs, in_code, NextRefused}
 use Rattle.tv_typed.specs.Lists.{Length, element_total, EncodesEntry, LengthRefused, other_collection, in_length, no_total, KeyRefused, EntryRefused}
@@ -125,14 +125,10 @@ entry_value_fails {old = old} {key = key} is refused p h =
     (λ a f r other nothing start byte last. absurd (other (next_ended refused v f nothing)))
     (deserializes (λ b key. Key v b (string_bytes key)) (λ b x q. q) p) (goes_fails (λ b z. ⊥) (NextRefused refused v) (λ w c f. f) (at_version (EncodesAs is) (NextRefused refused) old.version p.same_version h))
 
-no_bytes : (a b : List ℕ) → [] ≡ a ++ b → b ≡ []
-no_bytes [] b e = sym e
-no_bytes (x ∷ a) b e = absurd cc
-
 told_ended : (e : DeserializeError) (r : Refusal) → IsRefusal e r → r ≡ corrupted UnexpectedEnd → e ≡ end
 told_ended _ _ is_corrupted is = cc
 told_ended _ _ is_no_text is = cc
 
 pub entry_ended : (refused : Version → ValueType → List ℕ → DeserializeError → Type 0) (version : DocStoreVersion) (e : DeserializeError) → EntryRefused refused (version_of version) [] e → e ≡ end
 entry_ended refused version e (inl f) = told_ended e f.refusal f.told (key_error_ended (version_of version) [] f.refusal refl f.error)
-entry_ended refused version e (inr f) = next_ended refused (version_of version) e (subst (λ w. NextRefused refused (version_of version) w e) (no_bytes f.1.prefix f.1.rest f.1.joined) f.1.second)
+entry_ended refused version e (inr f) = next_ended refused (version_of version) e (subst (λ w. NextRefused refused (version_of version) w e) (no_rest f.1.prefix f.1.rest f.1.joined) f.1.second)

@@ -4,6 +4,7 @@ use Rattle.std.proofs.lemmas.Bool.Decides.{Decides-eqb, Decides-int_eq}
 use Rattle.std.proofs.lemmas.Slice.Eq.{bytes_eq-Decides}
 use Rattle.std.specs.Prelude.{nat_eq}
 use Rattle.std.specs.Str.{bytes_eq}
+use Rattle.std.proofs.lemmas.Bool.{and_from, and_parts}
 use Rattle.tv_value.specs.SameTokensLaws.{tokenized_eq-Decides}
 use Rattle.tv_format.specs.Content.{Content, no_content, truth_content, unsigned_content, signed_content, wide_content, text_content, bytes_content, tokens_content}
 use Rattle.tv_format.specs.Leaves.{type_of, content}
@@ -11,17 +12,6 @@ use Rattle.tv_format.specs.LeavesLaws.{one_leaf, one_code}
 use Rattle.tv_format.specs.Encoding.{leaf_code}
 use Rattle.tv_format.specs.Tree.{Leaf, Tree, leaf, array, object, Elements, no_elements, element, Entries, no_entries, entry}
 use Rattle.tv_value.specs.Same.{bool_eq, content_eq, leaf_eq, tree_eq, elements_eq, entries_eq}
-
-left_true : (a b : Bool) → (a && b) ≡ true → a ≡ true
-left_true true b h = refl
-left_true false b h = h
-
-right_true : (a b : Bool) → (a && b) ≡ true → b ≡ true
-right_true true b h = h
-right_true false b h = cc
-
-both : (a b : Bool) → a ≡ true → b ≡ true → (a && b) ≡ true
-both a b p q = ap (λ x. x && b) p ∙ q
 
 bool_same : (a b : Bool) → bool_eq a b ≡ true → a ≡ b
 bool_same true b h = sym h
@@ -61,11 +51,11 @@ content_refl (tokens_content s ss) = (tokenized_eq-Decides (s, ss) (s, ss)).1 re
 
 leaf_same : (l m : Leaf) → leaf_eq l m ≡ true → l ≡ m
 leaf_same l m h =
-    let code : leaf_code l ≡ leaf_code m = (Decides-eqb (leaf_code l) (leaf_code m)).0 (left_true _ _ h) in
-    one_leaf l m (one_code (type_of l) (type_of m) code) (content_same (content l) (content m) (right_true _ _ h))
+    let code : leaf_code l ≡ leaf_code m = (Decides-eqb (leaf_code l) (leaf_code m)).0 (and_parts _ _ h).0 in
+    one_leaf l m (one_code (type_of l) (type_of m) code) (content_same (content l) (content m) (and_parts _ _ h).1)
 
 leaf_refl : (l : Leaf) → leaf_eq l l ≡ true
-leaf_refl l = both _ _ (number_refl (leaf_code l)) (content_refl (content l))
+leaf_refl l = and_from _ _ (number_refl (leaf_code l)) (content_refl (content l))
 
 mutual
   tree_same : (t u : Tree) → tree_eq t u ≡ true → t ≡ u
@@ -77,15 +67,15 @@ mutual
   elements_same : (ts us : Elements) → elements_eq ts us ≡ true → ts ≡ us
   elements_same no_elements no_elements h = refl
   elements_same (element t ts) (element u us) h =
-      ap (λ x. element x ts) (tree_same t u (left_true _ _ h)) ∙ ap (element u) (elements_same ts us (right_true _ _ h))
+      ap (λ x. element x ts) (tree_same t u (and_parts _ _ h).0) ∙ ap (element u) (elements_same ts us (and_parts _ _ h).1)
   elements_same _ _ h = cc
 
   entries_same : (es fs : Entries) → entries_eq es fs ≡ true → es ≡ fs
   entries_same no_entries no_entries h = refl
   entries_same (entry k t es) (entry j u fs) h =
-      let head = left_true _ _ h in
-      ap (λ x. entry x t es) ((bytes_eq-Decides k j).0 (left_true _ _ head))
-      ∙ (ap (λ x. entry j x es) (tree_same t u (right_true _ _ head)) ∙ ap (entry j u) (entries_same es fs (right_true _ _ h)))
+      let head = (and_parts _ _ h).0 in
+      ap (λ x. entry x t es) ((bytes_eq-Decides k j).0 (and_parts _ _ head).0)
+      ∙ (ap (λ x. entry j x es) (tree_same t u (and_parts _ _ head).1) ∙ ap (entry j u) (entries_same es fs (and_parts _ _ h).1))
   entries_same _ _ h = cc
 
 mutual
@@ -96,11 +86,11 @@ mutual
 
   elements_refl : (ts : Elements) → elements_eq ts ts ≡ true
   elements_refl no_elements = refl
-  elements_refl (element t ts) = both _ _ (tree_refl t) (elements_refl ts)
+  elements_refl (element t ts) = and_from _ _ (tree_refl t) (elements_refl ts)
 
   entries_refl : (es : Entries) → entries_eq es es ≡ true
   entries_refl no_entries = refl
-  entries_refl (entry k t es) = both _ _ (both _ _ (bytes_refl k) (tree_refl t)) (entries_refl es)
+  entries_refl (entry k t es) = and_from _ _ (and_from _ _ (bytes_refl k) (tree_refl t)) (entries_refl es)
 
 pub leaf_eq-Decides : (l m : Leaf) → Decides (leaf_eq l m) (l ≡ m)
 leaf_eq-Decides l m = (leaf_same l m, λ e. subst (λ x. leaf_eq l x ≡ true) e (leaf_refl l))

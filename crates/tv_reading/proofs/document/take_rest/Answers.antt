@@ -6,7 +6,8 @@ use Rattle.tv_reader.specs.Version.{version_of}
 use Rattle.tv_reader.specs.declared.error.DeserializeError.TheVariants.{HeapFull}
 use Rattle.tv_reading.specs.Prefix.{parts_read}
 use Rattle.tv_reader.proofs.Lending.{none_buffered}
-use Rattle.tv_reading.proofs.WholeDocuments.{Goes, step_more, step_fails, step_takes, pairs_more, all_finished, no_room, too_many, same_refusal}
+use Rattle.tv_reader.proofs.DepthSteps.{err_of}
+use Rattle.tv_reading.proofs.WholeDocuments.{Goes, step_more, step_fails, step_takes, pairs_more, all_finished, no_room, too_many}
 use Rattle.tv_reading.proofs.document.take_rest.Goals as goal
 
 pub loop-init : goal.loop-init
@@ -31,7 +32,7 @@ returns-in_err-advance-clause-finds g c =
 pub returns-in_err-advance-clause-full : goal.returns-in_err-advance-clause-full
 returns-in_err-advance-clause-full g c =
     let p = err_from_is_err_and c.from_residual.result c.from_residual.ensures.1 in
-    rw (p.1, p.2) (λ told full. no_room (version_of c.args.version) c.args.begun c.loop.reading c.loop.invariant.1 told (c.in_err-advance.ensures.full (c.loop.invariant.1.stays_known told) (same_refusal _ HeapFull full)))
+    rw (p.1, p.2) (λ told full. no_room (version_of c.args.version) c.args.begun c.loop.reading c.loop.invariant.1 told (c.in_err-advance.ensures.full (c.loop.invariant.1.stays_known told) (err_of _ HeapFull full)))
 
 pub loop-preserved : goal.loop-preserved
 loop-preserved g c =

@@ -2,7 +2,7 @@ use Rattle.std.proofs.Common.{◌≡◌, ◌∙◌, ◌++◌, ◌∷◌, [], ap}
 use Rattle.std.proofs.lemmas.Result.{err_from_is_err_and}
 use Rattle.tv_typed.specs.Values.{EncodesAs, NextRefused}
 use Rattle.tv_reader.specs.Version.{version_of}
-use Rattle.tv_typed.proofs.DeserializeSteps.{err_for}
+use Rattle.tv_reader.proofs.DepthSteps.{err_of}
 use Rattle.tv_typed.proofs.DepthSteps.{among_fails}
 use Rattle.tv_typed.specs.Depths.{NextTooDeep}
 use Rattle.tv_typed.proofs.ItemSteps.{into_none, into_more, into_fail, into_short}
@@ -38,4 +38,4 @@ pub returns-in_err-item-clause-deep : goal.returns-in_err-item-clause-deep
 returns-in_err-item-clause-deep g c =
     let p = err_from_is_err_and c.from_residual.result c.from_residual.ensures.1 in
     let T = g.T.ValueDeserialize in
-    rw (p.1, p.2) (among_fails (λ items xs. items.items ≡ xs) (EncodesAs T.is (version_of c.args.reader.now.version)) _ (λ v l. NextTooDeep T.deep v l) c.requires c.loop-test.true c.loop.invariant (λ o t is. c.in_err-item.ensures.deep o t (err_for _ _ is)))
+    rw (p.1, p.2) (among_fails (λ items xs. items.items ≡ xs) (EncodesAs T.is (version_of c.args.reader.now.version)) _ (λ v l. NextTooDeep T.deep v l) c.requires c.loop-test.true c.loop.invariant (λ o t is. c.in_err-item.ensures.deep o t (err_of _ _ is)))

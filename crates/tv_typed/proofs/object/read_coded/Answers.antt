@@ -2,12 +2,13 @@ use Rattle.std.proofs.lemmas.Result.{err_from_is_err_and}
 use Rattle.tv_format.specs.Version.{entry_total}
 use Rattle.tv_reader.specs.Version.{version_of}
 use Rattle.tv_reader.specs.declared.value_type.ValueType.TheVariants as types
+use Rattle.tv_reader.proofs.DepthSteps.{err_of}
 use Rattle.tv_typed.specs.Lists.{EncodesEntry, EntryRefused}
 use Rattle.tv_typed.specs.Values.{EncodedAs}
 use Rattle.tv_typed.proofs.DepthSteps.{deep_behind}
 use Rattle.tv_typed.specs.Depths.{AmongRead, EntryTooDeep}
 use Rattle.std.proofs.Common.{refl}
-use Rattle.tv_typed.proofs.DeserializeSteps.{goes_told, err_for, reads_calm}
+use Rattle.tv_typed.proofs.DeserializeSteps.{goes_told, reads_calm}
 use Rattle.tv_typed.proofs.ItemSteps.{object_then, collection_fails}
 use Rattle.tv_typed.proofs.object.read_coded.Goals as goal
 
@@ -27,7 +28,7 @@ returns-clause-deserializes g c =
 pub returns-in_err-announced-clause-deep : goal.returns-in_err-announced-clause-deep
 returns-in_err-announced-clause-deep g c =
     let p = err_from_is_err_and c.from_residual.result c.from_residual.ensures.1 in
-    rw (p.1, p.2) (λ o t is. absurd (reads_calm _ refl c.in_err-announced.ensures.reads (err_for _ _ is)))
+    rw (p.1, p.2) (λ o t is. absurd (reads_calm _ refl c.in_err-announced.ensures.reads (err_of _ _ is)))
 
 pub returns-clause-deep : goal.returns-clause-deep
 returns-clause-deep g c =

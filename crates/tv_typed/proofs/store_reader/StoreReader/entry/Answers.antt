@@ -1,6 +1,7 @@
 use Rattle.std.proofs.Common.{refl}
+use Rattle.tv_reader.proofs.DepthSteps.{err_of}
 use Rattle.std.proofs.lemmas.Result.{err_from_is_err_and}
-use Rattle.tv_typed.proofs.DeserializeSteps.{err_for, reads_calm}
+use Rattle.tv_typed.proofs.DeserializeSteps.{reads_calm}
 use Rattle.tv_typed.proofs.DepthSteps.{deep_behind}
 use Rattle.tv_typed.specs.Depths.{NextTooDeep}
 use Rattle.std.specs.Prelude.{string_bytes}
@@ -27,11 +28,11 @@ returns-clause-deserializes g c =
 pub returns-in_err-key-clause-deep : goal.returns-in_err-key-clause-deep
 returns-in_err-key-clause-deep g c =
     let p = err_from_is_err_and c.from_residual.result c.from_residual.ensures.1 in
-    rw (p.1, p.2) (λ o t is. absurd (reads_calm _ refl c.in_err-key.ensures (err_for _ _ is)))
+    rw (p.1, p.2) (λ o t is. absurd (reads_calm _ refl c.in_err-key.ensures (err_of _ _ is)))
 
 pub returns-in_err-value-clause-deep : goal.returns-in_err-value-clause-deep
 returns-in_err-value-clause-deep g c =
     let p = err_from_is_err_and c.from_residual-in_err-value.result c.from_residual-in_err-value.ensures.1 in
     let V = g.V.ValueDeserialize in
-    let d = deep_behind _ (λ v l. NextTooDeep V.deep v l) c.in_ok-key.ensures (λ o t is. c.in_err-value.ensures.deep o t (err_for _ _ is)) in
+    let d = deep_behind _ (λ v l. NextTooDeep V.deep v l) c.in_ok-key.ensures (λ o t is. c.in_err-value.ensures.deep o t (err_of _ _ is)) in
     rw (p.1, p.2) (λ o t is. let x = d o t is in (string_bytes c.in_ok-key.key, _, x.0, x.1))
