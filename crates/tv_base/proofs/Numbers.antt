@@ -48,7 +48,7 @@ groups_encode (suc k) n h =
           rw (groups_large (suc k) n p) (subst (λ z. Groups (n % 128 ∷ groups_of (suc k) (n / 128)) z) whole (more low (groups_encode k (n / 128) below)))
     ]
 
-length_groups : (k n : ℕ) → length (groups_of k n) ≤ k
+pub length_groups : (k n : ℕ) → length (groups_of k n) ≤ k
 length_groups zero n = omega arith
 length_groups (suc k) n =
     elim (cases_lt n 128) [

@@ -70,17 +70,17 @@ Descends-from_rest (b ∷ f) rest h = (path rest, path-not_nil rest, path-append
 abbrev pub InRange : List ℕ → List ℕ → Type 0
 InRange f g = IsTrue (is_le (slice_cmp nat_cmp (f ++ 0 ∷ []) g)) × IsTrue (is_lt (slice_cmp nat_cmp g (f ++ 1 ∷ [])))
 
-nat_itself : (x : ℕ) → nat_cmp x x ≡ Equal
+pub nat_itself : (x : ℕ) → nat_cmp x x ≡ Equal
 nat_itself x = grind (arith, nat_tests)
 
-greater : (a b : ℕ) → b < a → nat_cmp a b ≡ Greater
+pub greater : (a b : ℕ) → b < a → nat_cmp a b ≡ Greater
 greater a b h = grind (arith, nat_tests)
 
 not_below_nil : (xs : List ℕ) → IsTrue (is_lt (slice_cmp nat_cmp xs [])) → ⊥
 not_below_nil [] h = false_true h
 not_below_nil (x ∷ xs) h = false_true h
 
-same_head : (x : ℕ) (o : Ordering) → ordering_then (nat_cmp x x) o ≡ o
+pub same_head : (x : ℕ) (o : Ordering) → ordering_then (nat_cmp x x) o ≡ o
 same_head x o = grind (arith, nat_tests)
 
 at_zero : (rest : List ℕ) → is_le (slice_cmp nat_cmp [] rest) ≡ true
@@ -164,7 +164,7 @@ joined-more first others i d h =
     ap (λ l. join_with_byte 0 (first ∷ l)) (ap (map now) (take_more others i d h) ∙ map-append now (take i others) (get_or others i d ∷ []))
     ∙ join-append (first ∷ map now (take i others)) ((get_or others i d).now ∷ []) (λ e. cc) (λ e. cc)
 
-path-one : (text : List ℕ) → IsStep text → path text ≡ text ∷ []
+pub path-one : (text : List ℕ) → IsStep text → path text ≡ text ∷ []
 path-one [] h = refl
 path-one (b ∷ text) h = ap (λ c. cond c ([] ∷ path text) (onto_first b (path text))) (ne_eqb b 0 h.0) ∙ ap (onto_first b) (path-one text h.1)
 

@@ -1,5 +1,6 @@
 -- Documents of lines, and why there is none.
 use Rattle.std.proofs.Common.{◌≡◌, ℕ, ◌<◌, arith, List, [], ◌∷◌, ◌++◌, Option, Some, None, Ok, Err, refl, sym, ap, subst, ◌∙◌, append_assoc}
+use Rattle.tv_lines.proofs.Refusing.{pairs-snoc, full_room}
 use Rattle.std.specs.List.{AllByRecursion}
 use Rattle.std.specs.Prelude.{IsUtf8, slice_get, string_bytes}
 use Rattle.std.proofs.lemmas.List.Sums.{sum_by_push}
@@ -76,18 +77,6 @@ said_for (values.ParseError cause json) why is = ap (λ w. Some (refused_for w))
 said_for (values.InvalidBase64 text) why is = ap (λ w. Some (refused_for w)) (same_Some _ _ is)
 said_for values.FloatNumber why is = ap (λ w. Some (refused_for w)) (same_Some _ _ is)
 said_for values.Memory why is = absurd cc
-
-pairs-snoc : (before : List FieldJson) (at : FieldJson) (tree : Tree) (pairs : Document) → Pairs before pairs → Table at.field_type at.value (Ok tree)
-    → Pairs (before ++ at ∷ []) (pairs ++ (at.field, tree) ∷ [])
-pairs-snoc [] at tree pairs made row = (tree, [], row, ap (λ (d : Document). d ++ (at.field, tree) ∷ []) made, refl)
-pairs-snoc (v ∷ vs) at tree pairs made row =
-    (made.0, made.1 ++ (at.field, tree) ∷ [], made.2, ap (λ (d : Document). d ++ (at.field, tree) ∷ []) made.3, pairs-snoc vs at tree made.1 made.4 row)
-
--- the heap has no room, so the pairs have none
-full_room : (pairs : Document) (start mid : CompactDoc) (field : ℕ) (t : Tree) → IsEmpty start → AddsEach pairs start mid → IsFull mid t → 4294967295 < document_room (pairs ++ (field, t) ∷ [])
-full_room pairs start mid field t none adds full =
-    let within = mid.values.room in
-    omega (arith, full, within, ap document_room (from_empty pairs start mid none adds), sum_by_push (λ (pair : ℕ × Tree). room pair.1) pairs (field, t))
 
 pub no_text : (schema : List Entry) (line : List ℕ) → ¬ IsUtf8 line → IsUnparsed schema line (blocks.BadLine lines.InvalidJson)
 no_text schema line none = no_object (λ members h. none h.0) refl

@@ -29,7 +29,7 @@ use Rattle.tv_builder.specs.Weight.{keys_weight, values_weight, children_weight,
 use Rattle.tv_builder.proofs.Grammar.{then_length, each_split, head_takes, frames_paid}
 use Rattle.tv_builder.proofs.Within.{token_parts}
 
-groups_take : {b : List ℕ} {n : ℕ} → Groups b n → 0 < length b
+pub groups_take : {b : List ℕ} {n : ℕ} → Groups b n → 0 < length b
 groups_take (last l) = omega arith
 groups_take (more l h) = omega arith
 
@@ -38,7 +38,7 @@ number_takes b n h = groups_take h.groups
 
 -- ---- leaves
 
-scaled_length : (s : Scale) (b : List ℕ) (z : ℤ) → Scaled s b z → length b ≡ 8
+pub scaled_length : (s : Scale) (b : List ℕ) (z : ℤ) → Scaled s b z → length b ≡ 8
 scaled_length plain b z h = length-fixed h.encoded
 scaled_length thousands b z h = length-fixed h.encoded
 

@@ -6,7 +6,7 @@ use Rattle.std.proofs.lemmas.Bool.{cases_lt}
 use Rattle.std.proofs.lemmas.List.Sums.{sum_by-cons}
 use Rattle.tv_base.specs.Number.{vnum, groups_of}
 use Rattle.tv_base.specs.Parts.{short_sized}
-use Rattle.tv_base.proofs.Numbers.{groups_small, groups_large}
+use Rattle.tv_base.proofs.Numbers.{groups_small, groups_large, length_groups}
 use Rattle.tv_format.specs.Content.{Content, no_content, truth_content, unsigned_content, signed_content, wide_content, text_content, bytes_content, tokens_content}
 use Rattle.tv_format.specs.Leaves.{content}
 use Rattle.tv_format.specs.Short.{short_token}
@@ -14,19 +14,13 @@ use Rattle.tv_format.specs.Tree.{Token, Tree, leaf, array, object, Elements, no_
 use Rattle.tv_heap.specs.LeafBytes.{content_bytes, content_address, leaf_bytes}
 use Rattle.tv_heap.specs.Room.{content_room, token_room, room, elements_room, entries_room, document_room}
 use Rattle.tv_heap.specs.Weight.{tree_weight, elements_weight, entries_weight, document_weight}
-use Rattle.tv_heap.proofs.Writes.{vnum_five, length_eight, length_sixteen}
+use Rattle.tv_heap.proofs.Writes.{vnum_five, length_eight, length_sixteen, address_small}
 use Rattle.tv_builder.specs.Given.{place_bytes}
 use Rattle.tv_builder.specs.State.{OpenList, State, complete, in_lists, in_bytes, IsState, children_room, lists_room, state_room, trees_weight, lists_written, written}
 use Rattle.tv_builder.specs.StateHeap.{lists_heap, state_heap, full_length}
 use Rattle.tv_builder.specs.TreeBytes.{tree_heap, tree_place, elements_heap, elements_places, entries_heap, entries_places}
 
 -- ---- the weight
-
-address_small : (len : ℕ) (c : Content) → len < 2 ^ 32 → content_address len c < 2 ^ 32
-address_small len no_content h = omega arith
-address_small len (truth_content false) h = omega arith
-address_small len (truth_content true) h = omega arith
-address_small len _ h = h
 
 -- the address of what stands in a heap
 place_five : (heap : List ℕ) (t : Tree) → length (tree_heap heap t) < 2 ^ 32 → length (vnum (tree_place heap t).address) ≤ 5
@@ -90,14 +84,9 @@ state_within base s h = below _ _ (state_least base s) h
 
 -- ---- the room
 
--- a number has ten groups at most
-groups_most : (k n : ℕ) → length (groups_of k n) ≤ k
-groups_most zero n = omega arith
-groups_most (suc k) n = elim (cases_lt n 128) [ inl p ↦ rw (groups_small k n p) (omega arith) | inr p ↦ rw (groups_large k n p) (omega (arith, groups_most k (n / 128))) ]
-
 vnum_ten : (n : ℕ) → length (vnum n) ≤ 10
 unfolding vnum
-vnum_ten n = groups_most 10 n
+vnum_ten n = length_groups 10 n
 
 pub token_parts : (token : Token) → length (short_token token) ≡ length (vnum token.offset_from) + length (vnum token.offset_to) + length (vnum token.position) + length (short_sized token.text) + length (vnum token.position_length)
 token_parts token =

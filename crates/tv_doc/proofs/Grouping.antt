@@ -266,7 +266,7 @@ values_seen {A = A} {B = B} see g xs =
     let both : ℕ × A → ℕ × B = λ p. (p.0, see p.1) in
     ap (map (λ p. p.1)) (filter_map_first both (λ p. nat_eq p.0 g) xs) ∙ map_map both (λ p. p.1) (filter (λ p. nat_eq p.0 g) xs) ∙ sym (map_map (λ p. p.1) see (filter (λ p. nat_eq p.0 g) xs))
 
-seen_filled : {A B : Type 0} (see : A → B) (xs : List A) → xs ≢ [] → map see xs ≢ []
+pub seen_filled : {A B : Type 0} (see : A → B) (xs : List A) → xs ≢ [] → map see xs ≢ []
 seen_filled see [] h e = h refl
 seen_filled see (x ∷ xs) h e = cc
 

@@ -20,6 +20,7 @@ use Rattle.tv_doc.specs.Named.{Named, IsNamed, by_name, field_names, put_under}
 use Rattle.tv_doc.specs.NamedPairs.{named_pairs, pairs_of_field}
 use Rattle.tv_doc.specs.FieldValues.{values_of}
 use Rattle.tv_doc.proofs.FieldTexts.{first_in, later_in, in_cases}
+use Rattle.tv_doc.proofs.Grouping.{nil_or}
 
 -- ---- lists
 
@@ -30,10 +31,6 @@ nil_left (x ∷ xs) ys e = absurd (cc)
 nil_right : {A : Type 0} (xs ys : List A) → xs ++ ys ≡ [] → ys ≡ []
 nil_right [] ys e = e
 nil_right (x ∷ xs) ys e = absurd (cc)
-
-nil_or : {A : Type 0} (xs : List A) → (xs ≡ []) ⊎ (xs ≢ [])
-nil_or [] = inl refl
-nil_or (x ∷ xs) = inr (λ e. cc)
 
 differs : (g f : ℕ) → (g ≡ f → ⊥) → nat_eq g f ≡ false
 differs g f h = grind (arith, nat_tests)

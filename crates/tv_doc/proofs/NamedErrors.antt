@@ -4,6 +4,7 @@ use Rattle.std.specs.Prelude.{nat_eq}
 use Rattle.std.proofs.lemmas.Bool.Decides.{Decides-eqb}
 use Rattle.std.proofs.lemmas.List.Sums.{sum_by-cons, sum_by-append}
 use Rattle.tv_heap.specs.Room.{room, document_room}
+use Rattle.tv_heap.proofs.ListRooms.{document_room-cons}
 use Rattle.tv_format.specs.Tree.{Tree, Document}
 use Rattle.tv_doc.specs.AdditionError.{addition_error}
 use Rattle.tv_doc.specs.Additions.{IsEmpty}
@@ -15,9 +16,6 @@ use Rattle.tv_doc.specs.declared.doc_parsing_error.DocParsingError.{DocParsingEr
 use Rattle.tv_doc.specs.declared.document.CompactDoc.{CompactDoc}
 use Rattle.tv_doc.proofs.Additions.{from_empty}
 use Rattle.tv_doc.proofs.Pairs.{value_first, other_first}
-
-room-cons : (p : ℕ × Tree) (d : Document) → document_room (p ∷ d) ≡ room p.1 + document_room d
-room-cons p d = sum_by-cons (λ (pair : ℕ × Tree). room pair.1) p d
 
 -- a document without the first value of a field
 record Without (f : ℕ) (t : Tree) (ts : List Tree) (d : Document) : Type 0 where
@@ -49,7 +47,7 @@ without f t ts ((g, u) ∷ d) e = by_test (nat_eq g f) refl (without f t ts d)
         let field : g ≡ f = (Decides-eqb g f).0 test in
         record {
           rest = d;
-          fills = room-cons (g, u) d ∙ ap (λ x. room x + document_room d) (head_is both);
+          fills = document_room-cons (g, u) d ∙ ap (λ x. room x + document_room d) (head_is both);
           own = tail_is both;
           others = λ h no. sym (other_first h g u _ d refl (ap (λ n. nat_eq n h) field ∙ no));
         }
@@ -57,7 +55,7 @@ without f t ts ((g, u) ∷ d) e = by_test (nat_eq g f) refl (without f t ts d)
         let r = again (sym (other_first f g u _ d refl test) ∙ e) in
         record {
           rest = (g, u) ∷ r.rest;
-          fills = omega (arith, room-cons (g, u) d, room-cons (g, u) r.rest, r.fills);
+          fills = omega (arith, document_room-cons (g, u) d, document_room-cons (g, u) r.rest, r.fills);
           own = other_first f g u _ r.rest refl test ∙ r.own;
           others = λ h no. same_behind g h u r.rest d (r.others h no);
         }
@@ -88,10 +86,10 @@ room_within : (a d : Document) → Parts a d → document_room a ≤ document_ro
 room_within [] d h = omega arith
 room_within ((f, t) ∷ a) d h =
     let w = without f t (values_of f a) d (parts_first f t a d h) in
-    omega (arith, room-cons (f, t) a, w.fills, room_within a w.rest (parts_rest f t a d h w))
+    omega (arith, document_room-cons (f, t) a, w.fills, room_within a w.rest (parts_rest f t a d h w))
 
 middle_room : (p : ℕ × Tree) (before behind : Document) → document_room before + room p.1 ≤ document_room (before ++ p ∷ behind)
-middle_room p before behind = omega (arith, sum_by-append (λ (pair : ℕ × Tree). room pair.1) before (p ∷ behind), room-cons p behind)
+middle_room p before behind = omega (arith, sum_by-append (λ (pair : ℕ × Tree). room pair.1) before (p ∷ behind), document_room-cons p behind)
 
 refusal_back : (pairs d : Document) (start : CompactDoc) (r : AddError) → Parts pairs d → IsEmpty start → StopsAtPair pairs start r → IsConversionError d (addition_error r)
 refusal_back pairs d start HeapFull h none s =

@@ -1,5 +1,6 @@
 -- Runs of pairs of one field, whose fields' names rise.
 use Rattle.std.proofs.Common.{◌≡◌, ◌≢◌, ◌⊎◌, ◌↔◌, ℕ, zero, suc, ◌<◌, Bool, true, false, cond, List, [], ◌∷◌, ◌++◌, length, map, get_or, Option, Some, None, IfSome, Ordering, Less, Equal, Greater, Bor, refl, sym, ap, subst, ◌∙◌, append_assoc, arith, inl, inr}
+use Rattle.tv_borrowed.proofs.Copies.{turned, turned_back}
 use Rattle.std.specs.Prelude.{nat_eq, nat_lt, slice_get}
 use Rattle.std.specs.BTreeMap.{insert_entry}
 use Rattle.std.specs.Cmp.Lexicographic.{slice_cmp}
@@ -14,7 +15,7 @@ use Rattle.tv_value.specs.declared.field.Field.{Field}
 use Rattle.tv_format.specs.Tree.{Tree, Document}
 use Rattle.tv_doc.specs.FieldValues.{pair_seen, values_of}
 use Rattle.tv_doc.specs.Named.{Named, IsNamed, by_name, put_under}
-use Rattle.tv_doc.proofs.Grouping.{Up, all_more, up_increasing, append_filled, nil_or, group_of}
+use Rattle.tv_doc.proofs.Grouping.{Up, all_more, up_increasing, append_filled, nil_or, group_of, seen_filled}
 
 -- ---- a name that is above all others
 
@@ -24,12 +25,6 @@ AllBelow n = AllByRecursion (λ e. slice_cmp nat_cmp n e.0 ≡ Greater)
 abbrev NameBelow : List ℕ → Option (List ℕ) → Type 0
 NameBelow n None = ⊥
 NameBelow n (Some m) = slice_cmp nat_cmp m n ≡ Less
-
-turned : (k l : List ℕ) → slice_cmp nat_cmp k l ≡ Less → slice_cmp nat_cmp l k ≡ Greater
-turned k l h = nat_list_cmp_total.antisymm l k ∙ ap ordering_reverse h
-
-turned_back : (k l : List ℕ) → slice_cmp nat_cmp k l ≡ Greater → slice_cmp nat_cmp l k ≡ Less
-turned_back k l h = nat_list_cmp_total.antisymm l k ∙ ap ordering_reverse h
 
 all_below_higher : (m n : List ℕ) (es : Named) → slice_cmp nat_cmp m n ≡ Less → AllBelow m es → AllBelow n es
 all_below_higher m n [] low h = tt
@@ -180,10 +175,6 @@ behind_filled : {A : Type 0} (xs ys : List A) → ys ≢ [] → xs ++ ys ≢ []
 behind_filled [] ys h e = h e
 behind_filled (x ∷ xs) ys h e = cc
 
-map_filled : {A B : Type 0} (f : A → B) (xs : List A) → xs ≢ [] → map f xs ≢ []
-map_filled f [] h e = h refl
-map_filled f (x ∷ xs) h e = cc
-
 groups_others : (f : ℕ) (d run : Document) (gs : List ℕ) → IsRun f run → AllByRecursion (λ g. g ≢ f) gs → map (group_of (d ++ run)) gs ≡ map (group_of d) gs
 groups_others f d run [] same others = refl
 groups_others f d run (g ∷ gs) same others =
@@ -243,7 +234,7 @@ one_more names d run named f n is same some above r =
     }
   where
     to : (g : ℕ) → (f ≡ g) ⊎ Has r.fields g → values_of g (d ++ run) ≢ []
-    to g (inl one) none = behind_filled (values_of f d) (values_of f run) (λ e. map_filled (λ p. p.1) run some (sym (run_values f run same) ∙ e)) (sym (values_append f d run) ∙ ap (λ h. values_of h (d ++ run)) one ∙ none)
+    to g (inl one) none = behind_filled (values_of f d) (values_of f run) (λ e. seen_filled (λ p. p.1) run some (sym (run_values f run same) ∙ e)) (sym (values_append f d run) ∙ ap (λ h. values_of h (d ++ run)) one ∙ none)
     to g (inr there) none = append_filled (values_of g d) (values_of g run) ((r.exact g).0 there) (sym (values_append g d run) ∙ none)
 
     back : (g : ℕ) → values_of g (d ++ run) ≢ [] → (f ≡ g) ⊎ Has r.fields g
@@ -304,7 +295,7 @@ in_runs_next tree names pairs rest run others named f n cut some same is above r
   runs =
       subst (λ ts. Runs names (map (pair_seen tree) (r.front ++ run)) (named ++ (n, ts) ∷ [])) (values_seen tree run)
       (subst (λ d. Runs names d (named ++ (n, map (λ p. p.1) (map (pair_seen tree) run)) ∷ [])) (sym (map-append (pair_seen tree) r.front run))
-      (one_more names (map (pair_seen tree) r.front) (map (pair_seen tree) run) named f n is (run_seen tree f run same) (map_filled (pair_seen tree) run some) above r.runs));
+      (one_more names (map (pair_seen tree) r.front) (map (pair_seen tree) run) named f n is (run_seen tree f run same) (seen_filled (pair_seen tree) run some) above r.runs));
 }
 
 pub in_runs_done : {V : Type 0} (tree : V → Tree) (names : List (List ℕ)) (pairs rest : List (Field × V)) (named : Named) → rest ≡ [] → InRuns tree names pairs rest named → IsNamed names (map (pair_seen tree) pairs) named

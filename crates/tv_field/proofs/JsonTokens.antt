@@ -1,5 +1,6 @@
 -- Tokens that are encoded one after the other, and the view of their encoding.
 use Rattle.std.proofs.Common.{◌≡◌, ℕ, suc, codes, ◌<◌, ◌^◌, List, [], ◌∷◌, ◌++◌, take, drop, length, Option, Some, None, option_map, option_and_then, Bool, true, false, Result, Ok, Err, refl, sym, ap, ◌∙◌, arith, append_assoc, append-nil}
+use Rattle.tv_value.proofs.GatheredTokens.{each_more, short_more}
 use Rattle.std.specs.List.{AllByRecursion, flat_map}
 use Rattle.std.proofs.lemmas.List.{take-append-drop}
 use Rattle.std.proofs.lemmas.Option.{same_Some}
@@ -34,22 +35,14 @@ one_more_at : (done : List Token) (t : Token) (o : Option (List Token)) → opti
 one_more_at done t None = refl
 one_more_at done t (Some ts) = ap Some (sym (append_assoc done (t ∷ []) ts))
 
-all_and_one : (done : List Token) (t : Token) → AllByRecursion IsToken done → IsToken t → AllByRecursion IsToken (done ++ t ∷ [])
-all_and_one [] t h k = (k, tt)
-all_and_one (d ∷ ds) t h k = (h.0, all_and_one ds t h.1 k)
-
-flat_and_one : (done : List Token) (t : Token) → flat_map short_token (done ++ t ∷ []) ≡ flat_map short_token done ++ short_token t
-flat_and_one [] t = append-nil (short_token t)
-flat_and_one (d ∷ ds) t = ap (λ bs. short_token d ++ bs) (flat_and_one ds t) ∙ sym (append_assoc (short_token d) (flat_map short_token ds) (short_token t))
-
 pub one_more_token : (all rest others : Items) (d : Data) (t : Token) (old mid new : List ℕ) → TokensSoFar all rest old mid → rest ≡ json.item d others → token_in d ≡ Some t → IsToken t → new ≡ mid ++ short_token t
     → TokensSoFar all others old new
 one_more_token all rest others d t old mid new s first is valid grown = record {
   done = s.done ++ t ∷ [];
   parted = s.parted ∙ ap (λ xs. option_map (λ ts. s.done ++ ts) (tokens_in xs)) first
       ∙ ap (λ o. option_map (λ ts. s.done ++ ts) (option_and_then (λ x. option_map (λ ts. x ∷ ts) (tokens_in others)) o)) is ∙ one_more_at s.done t (tokens_in others);
-  valid = all_and_one s.done t s.valid valid;
-  grown = grown ∙ ap (λ bs. bs ++ short_token t) s.grown ∙ append_assoc old (flat_map short_token s.done) (short_token t) ∙ ap (λ bs. old ++ bs) (sym (flat_and_one s.done t));
+  valid = each_more s.done t s.valid valid;
+  grown = grown ∙ ap (λ bs. bs ++ short_token t) s.grown ∙ append_assoc old (flat_map short_token s.done) (short_token t) ∙ ap (λ bs. old ++ bs) (sym (short_more s.done t));
 }
 
 -- what a prefix of the shortest encoding encodes

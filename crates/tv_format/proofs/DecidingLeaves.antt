@@ -30,10 +30,10 @@ use Rattle.tv_format.specs.declared.leaf_type.LeafType.{LeafType}
 
 -- ---- dates
 
-below : (a b : ℤ) → lt_z a b ≡ true → a <ℤ b
+pub below : (a b : ℤ) → lt_z a b ≡ true → a <ℤ b
 below a b e = omega (arith, ints)
 
-at_least : (a b : ℤ) → lt_z a b ≡ false → b ≤ℤ a
+pub at_least : (a b : ℤ) → lt_z a b ≡ false → b ≤ℤ a
 at_least a b e = omega (arith, ints)
 
 above : (z : ℤ) (whole prefix rest : List ℕ) (b : Bool) → lt_z (pos 9223372036854775) z ≡ b → whole ≡ prefix ++ rest → Signed prefix z → negsuc 9223372036854774 ≤ℤ z → Decided Microseconds ErrorInMicroseconds whole

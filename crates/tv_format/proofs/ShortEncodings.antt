@@ -15,18 +15,16 @@ use Rattle.tv_format.specs.declared.leaf_type.LeafType.TheVariants as types
 use Rattle.tv_base.proofs.Numbers.{vnum_encodes, low_bytes_encode}
 use Rattle.tv_base.specs.Number.{Signed}
 use Rattle.tv_base.specs.Parts.{Then, Behind, Sized, Text, Each, short_sized}
+use Rattle.tv_base.proofs.Shortest.{four_bytes_encode, eight_bytes_encode, sixteen_bytes_encode}
 
-four : (n : ℕ) → n < 2 ^ 32 → Fixed 4 (four_bytes n) n
 unfolding four_bytes
-four n h = low_bytes_encode 4 n h
+four_bytes_encode n h = low_bytes_encode 4 n h
 
-eight : (n : ℕ) → n < 2 ^ 64 → Fixed 8 (eight_bytes n) n
 unfolding eight_bytes
-eight n h = low_bytes_encode 8 n h
+eight_bytes_encode n h = low_bytes_encode 8 n h
 
-sixteen : (n : ℕ) → n < 2 ^ 128 → Fixed 16 (sixteen_bytes n) n
 unfolding sixteen_bytes
-sixteen n h = low_bytes_encode 16 n h
+sixteen_bytes_encode n h = low_bytes_encode 16 n h
 
 -- parts that are encoded make a whole that is
 then : {P Q : List ℕ → Type 0} (prefix rest : List ℕ) → P prefix → Q rest → Then P Q (prefix ++ rest)
@@ -41,12 +39,12 @@ sized content h = record { size = vnum (length content); joined = refl; number =
 text_of : (content : List ℕ) → IsText content → Text (short_sized content) content
 text_of content h = record { sized = sized content h.size; utf8 = h.utf8 }
 
-unsigned_fits : (z : ℤ) → FitsSigned w64 z → cast_unsigned w64 z < 2 ^ 64
+pub unsigned_fits : (z : ℤ) → FitsSigned w64 z → cast_unsigned w64 z < 2 ^ 64
 unsigned_fits (pos n) f = omega (arith, f.sfits)
 unsigned_fits (negsuc n) f = omega arith
 
 signed_of : (z : ℤ) → FitsSigned w64 z → Signed (eight_bytes (cast_unsigned w64 z)) z
-signed_of z f = record { fits = f; encoded = eight (cast_unsigned w64 z) (unsigned_fits z f) }
+signed_of z f = record { fits = f; encoded = eight_bytes_encode (cast_unsigned w64 z) (unsigned_fits z f) }
 
 truth : (b : Bool) → Truth (truth_byte b) b
 truth true = refl
@@ -82,7 +80,7 @@ key_of V1 k h = behind _ (text_of k h)
 key_of V2 k h = behind _ (text_of k h)
 key_of V3 k h = text_of k h
 
-total_fits : (v : Version) (n : ℕ) → n < 2 ^ 63 → entry_total v n < 2 ^ 64
+pub total_fits : (v : Version) (n : ℕ) → n < 2 ^ 63 → entry_total v n < 2 ^ 64
 total_fits V1 n h = omega arith
 total_fits V2 n h = omega arith
 total_fits V3 n h = omega arith
@@ -90,9 +88,9 @@ total_fits V3 n h = omega arith
 content_encoded : (h : Content) → IsContent h → ContentBody plain (short_content h) h
 content_encoded no_content h = refl
 content_encoded (truth_content b) h = truth b
-content_encoded (unsigned_content n) h = eight n h
+content_encoded (unsigned_content n) h = eight_bytes_encode n h
 content_encoded (signed_content z) h = signed_of z h
-content_encoded (wide_content n) h = sixteen n h
+content_encoded (wide_content n) h = sixteen_bytes_encode n h
 content_encoded (text_content t) h = text_of t h
 content_encoded (bytes_content bs) h = sized bs h.size
 content_encoded (tokens_content t ts) h = behind _ (tokenized_of t ts h.0 h.1)
@@ -117,7 +115,7 @@ module _ (Legacy : List ℕ → Entries → Type 0) (v : Version) (written : IsW
     entries_encode (entry k t es) h = then _ _ (key_of v k h.0) (then _ _ (short_encodes t h.1) (entries_encode es h.2))
 
   pair : (p : ℕ × Tree) → IsPair p → EncodesPair Legacy v (short_pair v p) p
-  pair p h = then _ _ (four p.0 h.field) (short_encodes p.1 h.value)
+  pair p h = then _ _ (four_bytes_encode p.0 h.field) (short_encodes p.1 h.value)
 
   pub short_document_encodes : (d : Document) → IsDocument d → EncodesDocument Legacy v (short_document v d) d
   short_document_encodes d h = then _ _ (vnum_encodes (length d) (omega (arith, h.count))) (each_of (EncodesPair Legacy v) IsPair (short_pair v) pair d h.each)

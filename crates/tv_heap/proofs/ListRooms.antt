@@ -17,3 +17,6 @@ pub list_room : (cs : List Child) (t : Tree) → IsListOf cs t → room t ≡ 5 
 list_room cs (leaf l) is = absurd is
 list_room cs (array ts) is = ap (λ z. 5 + z) (elements_rooms ts ∙ ap children_room (sym is))
 list_room cs (object es) is = ap (λ z. 5 + z) (entries_rooms es ∙ ap children_room (sym is))
+
+pub document_room-cons : (pair : ℕ × Tree) (d : Document) → document_room (pair ∷ d) ≡ room pair.1 + document_room d
+document_room-cons q d = omega (arith, sum_by-append (λ (pair : ℕ × Tree). room pair.1) (q ∷ []) d)

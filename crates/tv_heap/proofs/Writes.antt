@@ -23,6 +23,7 @@ use Rattle.tv_format.specs.Content.{Content, no_content, truth_content, unsigned
 use Rattle.tv_format.specs.Leaves.{type_of, content, heap_code}
 use Rattle.tv_format.specs.declared.leaf_type.LeafType.{LeafType}
 use Rattle.tv_format.specs.Tree.{Token, Leaf, null, boolean, Tree, leaf}
+use Rattle.tv_format.proofs.ShortEncodings.{unsigned_fits}
 use Rattle.tv_heap.specs.Reads.{Stands, leaf_type, flag, ContentStands}
 use Rattle.tv_heap.specs.LeafBytes.{content_bytes, content_address, leaf_bytes, leaf_address}
 use Rattle.tv_heap.specs.Room.{content_room, leaf_room, token_room}
@@ -157,10 +158,6 @@ flag_small : (b : Bool) → flag b < 2 ^ 32
 flag_small false = omega arith
 flag_small true = omega arith
 
-unsigned_fits : (z : ℤ) → FitsSigned w64 z → cast_unsigned w64 z < 2 ^ 64
-unsigned_fits (pos n) f = omega (arith, f.sfits)
-unsigned_fits (negsuc n) f = omega arith
-
 bytes_fit : (c : Content) → IsContent c → length (content_bytes c) < 2 ^ 32 → FitsHeap c
 bytes_fit (text_content t) h small = sized_fits t small
 bytes_fit (bytes_content bs) h small = sized_fits bs small
@@ -193,7 +190,7 @@ address_is len no_content h = absurd h
 address_is len (truth_content b) h = absurd h
 address_is len _ h = refl
 
-address_small : (len : ℕ) (c : Content) → len < 2 ^ 32 → content_address len c < 2 ^ 32
+pub address_small : (len : ℕ) (c : Content) → len < 2 ^ 32 → content_address len c < 2 ^ 32
 address_small len no_content h = omega arith
 address_small len (truth_content b) h = flag_small b
 address_small len _ h = h

@@ -39,14 +39,14 @@ named_by (values.InvalidBase64 text) refusal is = rw (← same_Some _ _ is)
 named_by values.FloatNumber refusal is = rw (← same_Some _ _ is)
 named_by values.Memory refusal is = absurd (cc)
 
-pairs-snoc : (before : List FieldJson) (at : FieldJson) (tree : Tree) (pairs : Document) → Pairs before pairs → Table at.field_type at.value (Ok tree)
+pub pairs-snoc : (before : List FieldJson) (at : FieldJson) (tree : Tree) (pairs : Document) → Pairs before pairs → Table at.field_type at.value (Ok tree)
     → Pairs (before ++ at ∷ []) (pairs ++ (at.field, tree) ∷ [])
 pairs-snoc [] at tree pairs made row = (tree, [], row, ap (λ (d : Document). d ++ (at.field, tree) ∷ []) made, refl)
 pairs-snoc (v ∷ vs) at tree pairs made row =
     (made.0, made.1 ++ (at.field, tree) ∷ [], made.2, ap (λ (d : Document). d ++ (at.field, tree) ∷ []) made.3, pairs-snoc vs at tree made.1 made.4 row)
 
 -- the heap has no room, so the pairs have none
-full_room : (pairs : Document) (start mid : CompactDoc) (field : ℕ) (t : Tree) → IsEmpty start → AddsEach pairs start mid → IsFull mid t → 4294967295 < document_room (pairs ++ (field, t) ∷ [])
+pub full_room : (pairs : Document) (start mid : CompactDoc) (field : ℕ) (t : Tree) → IsEmpty start → AddsEach pairs start mid → IsFull mid t → 4294967295 < document_room (pairs ++ (field, t) ∷ [])
 full_room pairs start mid field t none adds full =
     let within = mid.values.room in
     omega (arith, full, within, ap document_room (from_empty pairs start mid none adds), sum_by_push (λ (pair : ℕ × Tree). room pair.1) pairs (field, t))

@@ -28,6 +28,8 @@ use Rattle.tv_format.specs.declared.leaf_type.Form.{Form}
 use Rattle.tv_format.specs.declared.leaf_type.Form.TheVariants as forms
 use Rattle.tv_format.specs.declared.leaf_type.LeafType.{LeafType}
 use Rattle.tv_format.specs.declared.leaf_type.LeafType.TheVariants as leaves
+use Rattle.tv_format.proofs.Leaves.{fits_microseconds}
+use Rattle.tv_format.proofs.DecidingLeaves.{below, at_least}
 use Rattle.tv_reader.specs.LeafBodies.{TokenizedPair, Held, ErrorInHeld, LeafOfType, ErrorInLeafOfType, LeafOf, ErrorInLeafOf}
 use Rattle.tv_reader.specs.Leaves.{micros_of, date_at, token_at, tokens_at, counted_tokens_at, tokenized_at, leaf_holding, number_at, content_at, leaf_of_type, leaf_at}
 use Rattle.tv_reader.specs.ValueType.{leaf_type}
@@ -48,18 +50,8 @@ ErrorInRange z rest c =
     ⊎ ((lt_z z (negsuc 9223372036854774) ≡ false) × (((lt_z (pos 9223372036854775) z ≡ true) × (c ≡ DateRange))
     ⊎ ((lt_z (pos 9223372036854775) z ≡ false) × ⊥)))
 
-at_least : (a b : ℤ) → lt_z a b ≡ false → b ≤ℤ a
-at_least a b e = omega (arith, ints)
-
-below : (a b : ℤ) → lt_z a b ≡ true → a <ℤ b
-below a b e = omega (arith, ints)
-
 not_below : (a b : ℤ) → b ≤ℤ a → lt_z a b ≡ false
 not_below a b e = false_from_ne_true (lt_z a b) (λ h. let l : a <ℤ b = below a b h in omega (arith, ints))
-
-within_fits : (z : ℤ) → negsuc 9223372036854774 ≤ℤ z → z ≤ℤ pos 9223372036854775 → FitsSigned w64 z
-within_fits (pos n) p q = record { sfits = omega (arith, ints) }
-within_fits (negsuc n) p q = record { sfits = omega (arith, ints) }
 
 micros_to : (whole : List ℕ) (n : ℤ) → AllBytes whole → InTurn Signed Ranged whole n → Microseconds whole n
 micros_to whole n small p = elim p.1.second [
@@ -86,7 +78,7 @@ micros_from whole n h = (
     prefix = whole;
     rest = [];
     joined = sym (append-nil whole);
-    first = record { fits = within_fits h.microseconds h.from h.to; encoded = h.encoded };
+    first = record { fits = fits_microseconds h.microseconds h.from h.to; encoded = h.encoded };
     second = inr (not_below h.microseconds (negsuc 9223372036854774) h.from, inr (not_below (pos 9223372036854775) h.microseconds h.to, (refl, h.same)));
   },
 )

@@ -14,7 +14,7 @@ use Rattle.tv_base.specs.Stop.Stop.{InputError, Uncounted, Failed, Short, Never}
 use Rattle.tv_base.specs.Take.{TakesIf, MayStop, MayStopLean, read_stop}
 use Rattle.tv_base.proofs.Agrees.{Agrees, empty, ends_in, ends, same_start, no_last}
 use Rattle.tv_base.proofs.ByGrammar.{shows_by, early_by}
-use Rattle.tv_base.proofs.TakeSteps.{Taken_none, Taken_then, CountsStop-from, read_ok}
+use Rattle.tv_base.proofs.TakeSteps.{Taken_none, Taken_then, CountsStop-from, read_ok, Counts-from}
 use Rattle.tv_format.specs.InputError.{Refusal, corrupted}
 use Rattle.tv_reader.specs.Error.{read_error, store_stop, tree_stop, StoreMayStop, StoreMayStopRoomy, StoreMayStopDeep, StoreMayStopLean}
 use Rattle.tv_reader.specs.Error as store
@@ -80,10 +80,6 @@ stop_behind end P Q (Failed kind) prefix old mid new count joined behind edge h 
 stop_behind end P Q Short prefix old mid new count joined behind edge h = tt
 stop_behind end P Q Never prefix old mid new count joined behind edge h = h
 
-counts_from : {E F X : Type 0} (stop : E → Stop F) (result : Result X E) (old mid new : Failures) → mid ≡ old → Counts stop result mid new → Counts stop result old new
-counts_from stop (Ok x) old mid new same h = h ∙ same
-counts_from stop (Err e) old mid new same h = CountsStop-from (stop e) old mid new same h
-
 -- ---- readers
 
 pub found_behind : {E F X Y : Type 0} (stop : E → Stop F) (end : F) (R : List ℕ → X → Type 0) (P Q : List ℕ → F → Type 0) (A B : List ℕ → Y → Type 0) (x : X) (result : Result Y E) (old mid new : List ℕ) (count : ℕ)
@@ -108,7 +104,7 @@ finds_then {stop = stop} {end = end} {left = left} {failures = failures} {old = 
   found = λ t. found_behind stop end R P Q A B x result (left old) (left mid) (left new) k join behind edge (p.found t) (h.found (p.stays_known t));
   taken = λ t. Taken_then (p.taken t) (h.taken (p.stays_known t));
   stays_known = λ t. h.stays_known (p.stays_known t);
-  counts = counts_from stop result (failures old) (failures mid) (failures new) p.counts h.counts;
+  counts = Counts-from stop result (failures old) (failures mid) (failures new) p.counts h.counts;
   rises = omega (arith, p.rises, h.rises);
   may_stop = h.may_stop;
 }
@@ -170,7 +166,7 @@ finds_refused stop end is_known left failures p i e f R Q is may other q = recor
 
 -- ---- parts that a reading of lists gives
 
-same_cause : (c : Cause) → corrupted c ≡ corrupted UnexpectedEnd → c ≡ UnexpectedEnd
+pub same_cause : (c : Cause) → corrupted c ≡ corrupted UnexpectedEnd → c ≡ UnexpectedEnd
 same_cause c e = cc
 
 part_found : {X Y : Type 0} (view : X → Y) {reading : List ℕ → Result (Y × List ℕ) (Cause × List ℕ)} {Encodes : List ℕ → Y → Type 0} {HasError : List ℕ → Cause → Type 0}

@@ -16,6 +16,7 @@ use Rattle.tv_builder.specs.HeldPairs.{document_of}
 use Rattle.tv_builder.specs.declared.heap_pairs.HeapPairs.{HeapPairs}
 use Rattle.tv_builder.proofs.Grammar.{each_append}
 use Rattle.tv_heap.specs.Room.{room, document_room}
+use Rattle.tv_heap.proofs.ListRooms.{document_room-cons}
 use Rattle.tv_legacy.specs.Legacy.{Legacy, ErrorInLegacy}
 use Rattle.tv_legacy.proofs.Unique.{one_legacy, legacy_excludes}
 use Rattle.tv_format.specs.Encoding.{Encodes, EncodesPair, EncodesDocument}
@@ -31,7 +32,7 @@ use Rattle.tv_reader.specs.declared.error.DeserializeError.{DeserializeError}
 use Rattle.tv_reader.proofs.Finding.{finds_as, finds_fails}
 use Rattle.tv_reading.specs.PairValue.{CanStand, AddsValue, ValueHasNoRoom}
 use Rattle.tv_reading.specs.Prefix.{HasNoRoom}
-use Rattle.tv_reading.proofs.RoomWithin.{both_cut, document_room-cons, state_within}
+use Rattle.tv_reading.proofs.RoomWithin.{both_cut, state_within}
 use Rattle.tv_reader.specs.Error.{StoreMayStop}
 use Rattle.tv_reader.proofs.Depths.{same_rest}
 

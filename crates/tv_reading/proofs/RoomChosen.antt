@@ -9,6 +9,7 @@ use Rattle.tv_builder.specs.Prefix.{EncodesPart}
 use Rattle.tv_builder.specs.Parts.{field}
 use Rattle.tv_builder.specs.State.{State, IsState, parts_of, state_room}
 use Rattle.tv_heap.specs.Room.{room, document_room}
+use Rattle.tv_heap.proofs.ListRooms.{document_room-cons}
 use Rattle.tv_legacy.specs.Legacy.{Legacy}
 use Rattle.tv_legacy.proofs.Unique.{one_legacy}
 use Rattle.tv_format.specs.Encoding.{EncodesPair, EncodesDocument}
@@ -16,7 +17,7 @@ use Rattle.tv_format.specs.Tree.{Tree, Document}
 use Rattle.tv_format.specs.Version.{Version}
 use Rattle.tv_format.proofs.Trees.{one_pair}
 use Rattle.tv_value.specs.declared.field.Field.{Field}
-use Rattle.tv_reading.proofs.RoomWithin.{both_cut, document_room-cons, state_within}
+use Rattle.tv_reading.proofs.RoomWithin.{both_cut, state_within}
 use Rattle.tv_reading.specs.ChosenFields.{is_among, chosen, HasNoRoomChosen}
 
 chosen-cons : (fields : List Field) (q : ℕ × Tree) (d : Document) → is_among fields q.0 ≡ true → chosen fields (q ∷ d) ≡ q ∷ chosen fields d

@@ -17,6 +17,7 @@ use Rattle.tv_format.specs.declared.leaf_type.LeafType.TheVariants as types
 use Rattle.tv_format.proofs.Leaves.{agree_key, total_same}
 use Rattle.tv_format.proofs.Trees.{one_tree, one_pair}
 use Rattle.tv_heap.specs.Room.{room, content_room, elements_room, entries_room, document_room}
+use Rattle.tv_heap.proofs.ListRooms.{document_room-cons}
 use Rattle.tv_builder.specs.declared.bytes_kind.BytesKind.{BytesKind}
 use Rattle.tv_builder.specs.declared.bytes_kind.BytesKind.TheVariants as kinds
 use Rattle.tv_builder.specs.declared.list_kind.ListKind.{ListKind}
@@ -53,9 +54,6 @@ key_room _ h = absurd h
 -- two codes at the same place
 coded : (m n : ℕ) (h b body rest x y : List ℕ) → h ≡ m ∷ body → b ≡ n ∷ rest → h ++ x ≡ b ++ y → (m ≡ n) × (body ++ x ≡ rest ++ y)
 coded m n h b body rest x y f g e = heads m n (body ++ x) (rest ++ y) (ap (λ (z : List ℕ). z ++ x) (sym f) ∙ e ∙ ap (λ (z : List ℕ). z ++ y) g)
-
-pub document_room-cons : (q : ℕ × Tree) (d : Document) → document_room (q ∷ d) ≡ room q.1 + document_room d
-document_room-cons q d = omega (arith, sum_by-append (λ (pair : ℕ × Tree). room pair.1) (q ∷ []) d)
 
 module _ (L : List ℕ → Entries → Type 0) (v : Version) (one_l : OneReading L) where
   abbrev R : List ℕ → Part → Type 0

@@ -14,6 +14,7 @@ use Rattle.tv_builder.proofs.Grammar.{each_append, trades_sound}
 use Rattle.tv_builder.proofs.Trading.{trades_as, trades_from}
 use Rattle.tv_builder.specs.declared.pair_builder.PairBuilder.{PairBuilder}
 use Rattle.tv_builder.specs.Builder.{built, state_of}
+use Rattle.tv_builder.proofs.Paid.{groups_take, scaled_length}
 use Rattle.tv_legacy.specs.Legacy.{Legacy}
 use Rattle.tv_reader.specs.Finds.{FindsIf}
 use Rattle.tv_reader.specs.HeadReading.{head_part}
@@ -54,12 +55,8 @@ none_seen v legacy old new taken h = record { some = h.some; few = h.few; goes =
 
 -- ---- the number of the pairs
 
-some_groups : {b : List ℕ} {n : ℕ} → Groups b n → 0 < length b
-some_groups (last l) = omega arith
-some_groups (more l g) = omega arith
-
 pub some_number : {b : List ℕ} {n : ℕ} → VNum b n → 0 < length b
-some_number h = some_groups h.groups
+some_number h = groups_take h.groups
 
 pub number_put : (r new : Reading) (n : ℕ) → IsSound r → r.announced ≡ None → new.announced ≡ Some n → new.finished ≡ r.finished → new.field ≡ r.field → new.builder ≡ r.builder → Put r new (number n ∷ [])
 number_put r new n sound none announced finished field_is builder =
@@ -180,10 +177,6 @@ key_part V3 old n a h = record { some = some_number h; few = inl (omega (arith, 
 truth_length : (t : Bool) (b : List ℕ) → Truth b t → length b ≡ 1
 truth_length true b h = ap length h
 truth_length false b h = ap length h
-
-scaled_length : (s : Scale) (b : List ℕ) (z : ℤ) → Scaled s b z → length b ≡ 8
-scaled_length scales.plain b z h = length-fixed h.encoded
-scaled_length scales.thousands b z h = length-fixed h.encoded
 
 small_content : (s : Scale) (b : List ℕ) (c : Content) → HasWidth (form_of c) → ContentBody s b c → length b ≤ 16
 small_content s b no_content w h = omega (arith, ap length h)

@@ -1,5 +1,6 @@
 -- Fields by their names.
 use Rattle.std.proofs.Common.{◌≡◌, ◌≢◌, ℕ, suc, zero, ◌+◌, ◌<◌, Bool, true, false, cond, List, [], ◌∷◌, length, get_or, Option, None, Some, refl, ◌∙◌, ap, arith, add-zero, zero-add}
+use Rattle.tv_value.specs.SameLaws.{bytes_refl}
 use Rattle.std.specs.Prelude.{slice_get, IfSome, IsSomeAnd, AllPairs}
 use Rattle.std.specs.Str.{bytes_eq}
 use Rattle.std.proofs.lemmas.Slice.Eq.{bytes_eq-Decides}
@@ -14,12 +15,9 @@ apart_names one other h = false_from_ne_true (bytes_eq one other) (λ t. h ((byt
 found_case : (b : Bool) (n m : ℕ) (rest : Option ℕ) → b ≡ false → rest ≡ Some m → cond b (Some n) rest ≡ Some m
 found_case b n m rest other e = rw other e
 
-itself : (name : List ℕ) → bytes_eq name name ≡ true
-itself name = (bytes_eq-Decides name name).1 refl
-
 pub place_from-found : (n : ℕ) (schema : List Entry) (number : ℕ) (d : Entry) → AllPairs (λ one other. one.name ≢ other.name) schema → number < length schema → place_from n schema (get_or schema number d).name ≡ Some (n + number)
 place_from-found n [] number d apart h = absurd (omega arith)
-place_from-found n (e ∷ es) zero d apart h = rw (itself e.name, add-zero) refl
+place_from-found n (e ∷ es) zero d apart h = rw (bytes_refl e.name, add-zero) refl
 place_from-found n (e ∷ es) (suc k) d apart h =
     let other : bytes_eq e.name (get_or es k d).name ≡ false = apart_names e.name (get_or es k d).name (apart 0 (suc k) d (omega arith) h) in
     let next : (n + 1) + k ≡ n + suc k = omega arith in

@@ -14,6 +14,7 @@ use Rattle.tv_format.specs.Version.{Version}
 use Rattle.tv_reader.specs.declared.error.DeserializeError.{DeserializeError}
 use Rattle.tv_reader.specs.declared.error.DeserializeError.TheVariants as errors
 use Rattle.tv_reader.specs.declared.value_type.ValueType.{ValueType}
+use Rattle.tv_reader.proofs.DepthSteps.{err_of}
 use Rattle.tv_store.specs.Error.{add_error}
 use Rattle.tv_store.specs.PairsGiven.{IsGiven, document_stop, PairsRefused, no_room, no_memory}
 use Rattle.tv_value.specs.declared.field.Field.{Field}
@@ -63,9 +64,6 @@ was_open true x closed = let e = (closed refl).0 in absurd cc
 
 pub both : false ≡ true → ⊥
 both e = absurd cc
-
-pub err_for : {A B : Type 0} (e d : DeserializeError) → IsErrOf {T = A} (Err e) d → IsErrOf {T = B} (Err e) d
-err_for e d is = let same : e ≡ d = cc in ap (λ (z : DeserializeError). Err z) same
 
 -- a refusal of a pair is one of the document
 pub document_counts : (e : DeserializeError) (old new : Failures) → CountsStop (typed_stop e) old new → CountsStop (document_stop e) old new

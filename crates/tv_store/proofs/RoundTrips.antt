@@ -19,11 +19,13 @@ use Rattle.tv_doc.proofs.Additions.{runs_keep, unchanged_same, unchanged_from, a
 use Rattle.tv_builder.proofs.Documents.{read_at, none_at, place_at, no_place}
 use Rattle.tv_field.specs.Entry.{Entry}
 use Rattle.tv_heap.specs.Room.{room, document_room}
+use Rattle.tv_heap.proofs.ListRooms.{document_room-cons}
 use Rattle.tv_reader.specs.Error.{store_stop}
 use Rattle.tv_reader.specs.ValueType.{type_code}
 use Rattle.tv_reader.specs.declared.error.DeserializeError.{DeserializeError}
 use Rattle.tv_reader.specs.declared.error.DeserializeError.TheVariants as errors
 use Rattle.tv_reader.specs.declared.value_type.ValueType.TheVariants as types
+use Rattle.tv_reader.proofs.Depths.{same_rest}
 use Rattle.tv_store.specs.Documents.{IsReadingError, SaysNothing}
 use Rattle.tv_store.specs.RoundTrip.{asked, given, IsCalled, IsKept}
 use Rattle.tv_format.specs.InputError.{Refusal, corrupted, no_text_key}
@@ -88,16 +90,13 @@ each_read d i = by_pair (slice_get d.values.pairs.items i) refl
 
 -- ---- the accepted pairs are some of those that were asked for
 
-room-cons : (p : ℕ × Tree) (d : Document) → document_room (p ∷ d) ≡ room p.1 + document_room d
-room-cons p d = sum_by-cons (λ (pair : ℕ × Tree). room pair.1) p d
-
 pair_room : (answer : Result (Unit {0}) AddError) (field : ℕ) (t : Tree) (d : Document) → document_room (pair_of answer field t ++ d) ≤ room t + document_room d
-pair_room (Ok x) field t d = omega (arith, room-cons (field, t) d)
+pair_room (Ok x) field t d = omega (arith, document_room-cons (field, t) d)
 pair_room (Err e) field t d = omega arith
 
 accepted_room : (additions : List Addition) → document_room (accepted additions) ≤ document_room (map asked additions)
 accepted_room [] = omega arith
-accepted_room (a ∷ rest) = omega (arith, pair_room a.answer a.field a.tree (accepted rest), accepted_room rest, room-cons (asked a) (map asked rest))
+accepted_room (a ∷ rest) = omega (arith, pair_room a.answer a.field a.tree (accepted rest), accepted_room rest, document_room-cons (asked a) (map asked rest))
 
 pub kept_room : (values : List (Field × OwnedValue)) (new : CompactDoc) → IsKept values new → document_room (document_of new) ≤ document_room (map given values)
 kept_room values new k = omega (arith, accepted_room k.additions, ap document_room k.document, ap document_room k.called)
@@ -144,12 +143,6 @@ above n m not = omega (arith, not)
 
 pub full_answers_none : (e : DeserializeError) → e ≡ errors.HeapFull → SaysNothing e → ⊥
 full_answers_none e is h = subst SaysNothing is h
-
-pub left_behind : (a b x y : List ℕ) → a ≡ b → a ++ x ≡ b ++ y → x ≡ y
-left_behind a b x y same joined = cancel a (joined ∙ ap (λ l. l ++ y) (sym same))
-  where
-    tail_is : {m n : ℕ} {xs ys : List ℕ} → m ∷ xs ≡ n ∷ ys → xs ≡ ys
-    tail_is e = cc
 
     cancel : (c : List ℕ) → c ++ x ≡ c ++ y → x ≡ y
     cancel [] e = e

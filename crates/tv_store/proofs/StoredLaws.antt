@@ -3,6 +3,7 @@ use Rattle.std.proofs.Common.{◌≡◌, ℕ, ◌+◌, ◌≤◌, Bool, true, fa
 use Rattle.std.specs.List.{AllByRecursion}
 use Rattle.std.proofs.lemmas.List.Sums.{sum_by-cons}
 use Rattle.tv_heap.specs.Room.{room, document_room}
+use Rattle.tv_heap.proofs.ListRooms.{document_room-cons}
 use Rattle.tv_field.specs.Entry.{Entry}
 use Rattle.tv_format.specs.Short.{IsLeaf, IsValue, IsPair, IsDocument}
 use Rattle.tv_format.specs.Tree.{Leaf, tokenized, Tree, leaf, array, object, Document}
@@ -39,9 +40,6 @@ tree_room_written : (t : Tree) → room (tree_written t) ≤ room t
 tree_room_written (leaf l) = leaf_room_written l
 tree_room_written (array ts) = omega arith
 tree_room_written (object es) = omega arith
-
-document_room-cons : (p : ℕ × Tree) (d : Document) → document_room (p ∷ d) ≡ room p.1 + document_room d
-document_room-cons p d = sum_by-cons (λ (pair : ℕ × Tree). room pair.1) p d
 
 room_case : (b : Bool) (p : ℕ × Tree) (ps : Document) → document_room (cond b (p ∷ ps) ps) ≤ room p.1 + document_room ps
 room_case true p ps = omega (arith, document_room-cons p ps)

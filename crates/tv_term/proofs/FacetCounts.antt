@@ -19,7 +19,7 @@ use Rattle.std.proofs.lemmas.Map.Lookups.{exact_bytes}
 use Rattle.std.proofs.lemmas.Slice.Eq.{bytes_eq-Decides}
 use Rattle.std.proofs.lemmas.Bool.{false_from_ne_true, and_parts}
 use Rattle.tv_base.specs.Facet.{path, steps, IsStep, Descends}
-use Rattle.tv_base.proofs.Steps.{path-not_nil, path-append, path-joined, Descends-rest, Descends-from_rest, Descends-itself, false_true}
+use Rattle.tv_base.proofs.Steps.{path-not_nil, path-append, path-joined, Descends-rest, Descends-from_rest, Descends-itself, false_true, same_head, path-one}
 use Rattle.tv_term.specs.FacetCounting.{begins_with, is_within, count_within, IsChild, IsChildCount, AreChildCounts, AreRising, entry_of}
 use Rattle.tv_term.specs.ChildPlaces.{front, entries, HasNoChild, IsChildAbove, GoesOn, CountsOne}
 use Rattle.tv_term.specs.declared.facet_counts.FacetCount.{FacetCount}
@@ -97,9 +97,6 @@ path-steps (b ∷ text) = path-steps_case (eqb b 0) b (path text) refl (path-ste
 path-same : (f g : List ℕ) → path f ≡ path g → f ≡ g
 path-same f g e = sym (join_with_byte-slice_split 0 f) ∙ ap (join_with_byte 0) e ∙ join_with_byte-slice_split 0 g
 
-path-step : (step : List ℕ) → IsStep step → path step ≡ step ∷ []
-path-step step h = path-joined (step ∷ []) (h, tt) (λ e. cc)
-
 no_steps : (l : List (List ℕ)) (x : List ℕ) → [] ≡ l ++ x ∷ [] → ⊥
 no_steps [] x e = cc
 no_steps (y ∷ l) x e = cc
@@ -121,22 +118,22 @@ pub child-form : (ancestor child : List ℕ) → IsChild ancestor child → Chil
 child-form ancestor [] is_child = absurd (child-not_root ancestor [] is_child refl)
 child-form [] (b ∷ bs) (s, e) =
     let step : IsStep s = last-step [] s (b ∷ bs) e in
-    let child_is : b ∷ bs ≡ s = path-same (b ∷ bs) s (e ∙ sym (path-step s step)) in
+    let child_is : b ∷ bs ≡ s = path-same (b ∷ bs) s (e ∙ sym (path-one s step)) in
     record { step = s; is_step = step; child_is = child_is; has_step = λ _ empty. (let same : b ∷ bs ≡ [] = child_is ∙ empty in cc) }
 child-form (x ∷ xs) (b ∷ bs) (s, e) =
     let step : IsStep s = last-step (path (x ∷ xs)) s (b ∷ bs) e in
     let child_is : b ∷ bs ≡ (x ∷ xs) ++ 0 ∷ s =
-    path-same (b ∷ bs) ((x ∷ xs) ++ 0 ∷ s) (e ∙ ap (λ l. path (x ∷ xs) ++ l) (sym (path-step s step)) ∙ sym (path-append (x ∷ xs) s)) in
+    path-same (b ∷ bs) ((x ∷ xs) ++ 0 ∷ s) (e ∙ ap (λ l. path (x ∷ xs) ++ l) (sym (path-one s step)) ∙ sym (path-append (x ∷ xs) s)) in
     record { step = s; is_step = step; child_is = child_is ∙ sym (append_assoc (x ∷ xs) (0 ∷ []) s); has_step = λ none. absurd (let same : x ∷ xs ≡ [] = none in cc) }
 
 pub child-from_form : (ancestor child : List ℕ) → ChildForm ancestor child → IsChild ancestor child
 child-from_form [] child p =
     elim p.step as (λ s. child ≡ s → IsStep s → s ≢ [] → IsChild [] child) [
       | [] ↦ λ e h k. absurd (k refl)
-      | b ∷ bs ↦ λ e h k. (b ∷ bs, ap steps e ∙ path-step (b ∷ bs) h)
+      | b ∷ bs ↦ λ e h k. (b ∷ bs, ap steps e ∙ path-one (b ∷ bs) h)
     ] p.child_is p.is_step (p.has_step refl)
 child-from_form (x ∷ xs) child p =
-    (p.step, ap steps (p.child_is ∙ append_assoc (x ∷ xs) (0 ∷ []) p.step) ∙ path-append (x ∷ xs) p.step ∙ ap (λ l. path (x ∷ xs) ++ l) (path-step p.step p.is_step))
+    (p.step, ap steps (p.child_is ∙ append_assoc (x ∷ xs) (0 ∷ []) p.step) ∙ path-append (x ∷ xs) p.step ∙ ap (λ l. path (x ∷ xs) ++ l) (path-one p.step p.is_step))
 
 -- what may stand behind a step
 abbrev pub Ends : List ℕ → Type 0
@@ -157,10 +154,6 @@ within-from_form upper facet rest h (inl none) e =
 within-from_form upper facet rest h (inr (more, is)) e =
     let below = Descends-from_rest upper more h in
     within-from_steps upper facet below.0 (ap steps (e ∙ ap (λ l. upper ++ l) is) ∙ below.2)
-
--- the order of children is that of the facets at or below them
-same_head : (x : ℕ) (o : Ordering) → ordering_then (nat_cmp x x) o ≡ o
-same_head x o = grind (arith, nat_tests)
 
 front-order : (front one other : List ℕ) → slice_cmp nat_cmp (front ++ one) (front ++ other) ≡ slice_cmp nat_cmp one other
 front-order [] one other = refl

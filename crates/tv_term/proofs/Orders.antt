@@ -1,5 +1,7 @@
 -- The order of bytes is the order of what they encode.
 use Rattle.std.proofs.Common.{◌≡◌, ◌≢◌, ℕ, suc, zero, ◌+◌, ◌*◌, ◌/◌, ◌%◌, ◌^◌, ◌<◌, Bool, true, false, List, [], ◌∷◌, ◌++◌, length, refl, sym, ◌∙◌, ap, arith}
+use Rattle.tv_base.proofs.Steps.{greater}
+use Rattle.tv_base.proofs.Widths.{byte_is}
 use Rattle.std.specs.Prelude.{ℤ, FitsSigned}
 use Rattle.std.specs.Int.{to_be_bytes, bytes_high_first, byte_at, w32, w64}
 use Rattle.std.specs.Ordering.{nat_cmp, int_cmp, bool_cmp, ordering_then}
@@ -33,9 +35,6 @@ slice_cmp-append (c ∷ a) (d ∷ b) x y e =
 less : (a b : ℕ) → a < b → nat_cmp a b ≡ Less
 less a b h = grind (arith, nat_tests)
 
-greater : (a b : ℕ) → b < a → nat_cmp a b ≡ Greater
-greater a b h = grind (arith, nat_tests)
-
 -- the high digit decides first
 digits : (b q r s t : ℕ) → r < b → t < b → ordering_then (nat_cmp q s) (nat_cmp r t) ≡ nat_cmp (q * b + r) (s * b + t)
 digits b q r s t h k =
@@ -43,10 +42,6 @@ digits b q r s t h k =
     (λ e below. rw e (sym (less (q * b + r) (s * b + t) (omega (arith, mul-le-mul_right b below)))))
     (λ e same. rw (e, same) (grind (arith, nat_tests)))
     (λ e above. rw e (sym (greater (q * b + r) (s * b + t) (omega (arith, mul-le-mul_right b above)))))
-
-byte_at-is : (k n : ℕ) → byte_at k n ≡ n / 256 ^ k % 256
-byte_at-is zero n = rw div-one refl
-byte_at-is (suc k) n = refl
 
 power-positive : (k : ℕ) → 0 < 256 ^ k
 power-positive zero = omega arith
@@ -59,7 +54,7 @@ bytes-order (suc k) m n =
     let low = power-positive k in
     let high : zero < 256 = omega arith in
     let split : (a : ℕ) → (a / 256 ^ k % 256) * 256 ^ k + a % 256 ^ k ≡ a % 256 ^ suc k = λ a. sym (rw (pow-succ' 256 k) (mod-mul a high low)) in
-    rw (byte_at-is k m, byte_at-is k n, bytes-order k m n)
+    rw (byte_is k m, byte_is k n, bytes-order k m n)
     (digits (256 ^ k) (m / 256 ^ k % 256) (m % 256 ^ k) (n / 256 ^ k % 256) (n % 256 ^ k) (mod-lt m low) (mod-lt n low)
     ∙ ap (λ a. nat_cmp a ((n / 256 ^ k % 256) * 256 ^ k + n % 256 ^ k)) (split m) ∙ ap (nat_cmp (m % 256 ^ suc k)) (split n))
 

@@ -1,5 +1,6 @@
 -- Terms that constructors made, and JSON terms with a value.
 use Rattle.std.proofs.Common.{◌≡◌, ℕ, ◌<◌, ◌^◌, List, [], ◌∷◌, ◌++◌, Option, None, Some, Result, OnOk, IsUtf8, sym, ◌∙◌, ap, append_assoc, arith}
+use Rattle.tv_base.proofs.Steps.{nat_itself}
 use Rattle.std.specs.Int.{to_be_bytes, w32, w64}
 use Rattle.std.specs.Ordering.{nat_cmp, ordering_then}
 use Rattle.std.specs.declared.cmp.Ordering.TheVariants.{Equal}
@@ -22,12 +23,9 @@ pub terms-order : (one other : List ℕ) (f g : ℕ) (a b : TermValue) → IsTer
 terms-order one other f g a b p q =
     rw (p.bytes_are, q.bytes_are) (term-order f g a b p.field_fits q.field_fits p.value_fits q.value_fits)
 
-nat_cmp-same : (n : ℕ) → nat_cmp n n ≡ Equal
-nat_cmp-same n = grind (arith, nat_tests)
-
 -- two terms of one field compare as their values
 pub values-order : (one other : List ℕ) (f : ℕ) (a b : TermValue) → IsTerm one f a → IsTerm other f b → slice_cmp nat_cmp one other ≡ value_cmp a b
-values-order one other f a b p q = terms-order one other f f a b p q ∙ ap (λ o. ordering_then o (value_cmp a b)) (nat_cmp-same f)
+values-order one other f a b p q = terms-order one other f f a b p q ∙ ap (λ o. ordering_then o (value_cmp a b)) (nat_itself f)
 
 joined : (f : ℕ) (path : List ℕ) (value : TermValue) → json_term f path ++ coded value ≡ term f (Json path value)
 joined f path value = ap (λ rest. to_be_bytes w32 f ++ code tag.Json ∷ rest) (append_assoc path (0 ∷ []) (coded value))
@@ -53,7 +51,7 @@ pub fast-order : (a b : TermValue) (t : TypeTag) (m n : ℕ) → Fits a → Fits
 fast-order a b t m n a_fits b_fits p q m_small n_small =
     sym (coded-order a b a_fits b_fits) ∙ ap (λ bytes. slice_cmp nat_cmp bytes (coded b)) (coded-is a t m p)
     ∙ ap (slice_cmp nat_cmp (code t ∷ to_be_bytes w64 m)) (coded-is b t n q)
-    ∙ ap (λ o. ordering_then o (slice_cmp nat_cmp (to_be_bytes w64 m) (to_be_bytes w64 n))) (nat_cmp-same (code t))
+    ∙ ap (λ o. ordering_then o (slice_cmp nat_cmp (to_be_bytes w64 m) (to_be_bytes w64 n))) (nat_itself (code t))
     ∙ number-order 8 m n m_small n_small
 
 -- the path and the value of a JSON term

@@ -34,7 +34,7 @@ none_gathered bytes e y = same_tokens [] bytes 0 y ([], none_held bytes e)
 
 -- ---- one more
 
-each_more : (ts : List Token) (t : Token) → AllByRecursion IsToken ts → IsToken t → AllByRecursion IsToken (ts ++ t ∷ [])
+pub each_more : (ts : List Token) (t : Token) → AllByRecursion IsToken ts → IsToken t → AllByRecursion IsToken (ts ++ t ∷ [])
 each_more [] t p h = (h, tt)
 each_more (x ∷ xs) t p h = (p.0, each_more xs t p.1 h)
 

@@ -25,7 +25,7 @@ bool_refl false = refl
 number_refl : (n : ℕ) → nat_eq n n ≡ true
 number_refl n = (Decides-eqb n n).1 refl
 
-bytes_refl : (s : List ℕ) → bytes_eq s s ≡ true
+pub bytes_refl : (s : List ℕ) → bytes_eq s s ≡ true
 bytes_refl s = (bytes_eq-Decides s s).1 refl
 
 content_same : (h i : Content) → content_eq h i ≡ true → h ≡ i

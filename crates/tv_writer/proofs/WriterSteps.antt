@@ -4,6 +4,7 @@ use Rattle.tv_base.specs.Number.{vnum}
 use Rattle.tv_format.specs.Short.{short, short_elements, short_entries, short_key, IsValue, AreElements, AreEntries}
 use Rattle.tv_format.specs.Tree.{Tree, leaf, array, object, Elements, no_elements, element, Entries, no_entries, entry, elements, entries, element_count, entry_count, element_list, entry_list}
 use Rattle.tv_format.specs.Version.{Version, V1, V2, V3, entry_total}
+use Rattle.tv_format.proofs.ShortEncodings.{total_fits}
 use Rattle.tv_value.specs.Children.{Child, IsListOf, without_key, with_key}
 use Rattle.tv_writer.specs.Children.{AreKeys, AreValues, child_count, short_children}
 
@@ -71,9 +72,3 @@ items_valid (t ∷ ts) h = (h.0, items_valid ts h.1)
 pub members_valid : (es : List (List ℕ × Tree)) → AreEntries (entries es) → AreValues (map with_key es)
 members_valid [] h = tt
 members_valid (e ∷ es) h = (h.1, members_valid es h.2)
-
--- what a number of entries below 2 ^ 63 announces has 64 bits
-pub total_fits : (v : Version) (n : ℕ) → n < 2 ^ 63 → entry_total v n < 2 ^ 64
-total_fits V1 n h = omega arith
-total_fits V2 n h = omega arith
-total_fits V3 n h = omega arith

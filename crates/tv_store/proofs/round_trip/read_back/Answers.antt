@@ -4,8 +4,9 @@ use Rattle.tv_legacy.specs.Legacy.{Legacy}
 use Rattle.tv_format.specs.Encoding.{Derives}
 use Rattle.tv_format.specs.Short.{short_document}
 use Rattle.tv_reader.specs.Version.{version_of}
+use Rattle.tv_reader.proofs.Depths.{same_rest}
 use Rattle.tv_store.proofs.Promises.{never_long}
-use Rattle.tv_store.proofs.RoundTrips.{only_short, above, full_answers_none, left_behind, err_is}
+use Rattle.tv_store.proofs.RoundTrips.{only_short, above, full_answers_none, err_is}
 use Rattle.tv_store.proofs.round_trip.read_back.Goals as goal
 
 pub reading_error-requires : goal.reading_error-requires
@@ -27,7 +28,7 @@ returns-in_ok-left-in-Ok-clause-found c = λ d rest valid same.
     let begins = c.in-Ok.ensures.found tt in
     let joined = sym begins.joined ∙ c.new-source.ensures ∙ same in
     let one = c.documents_have_one_reading.ensures v begins.prefix (short_document v d) _ rest _ d begins.encoded (c.short_documents_encode.ensures v c.requires.written d valid) joined in
-    (one.1, c.in_ok-left-in-Ok.ensures.items ∙ c.rest.ensures ∙ left_behind begins.prefix (short_document v d) _ rest one.0 joined)
+    (one.1, c.in_ok-left-in-Ok.ensures.items ∙ c.rest.ensures ∙ same_rest begins.prefix (short_document v d) _ rest one.0 joined)
 
 pub returns-in-Err-clause-full : goal.returns-in-Err-clause-full
 returns-in-Err-clause-full c = λ d rest valid same e.

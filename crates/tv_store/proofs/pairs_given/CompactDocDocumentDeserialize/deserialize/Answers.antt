@@ -1,4 +1,5 @@
 use Rattle.std.proofs.Common.{◌∙◌, refl, sym, subst, arith}
+use Rattle.tv_reader.proofs.DepthSteps.{err_of}
 use Rattle.std.proofs.lemmas.Result.{err_from_is_err_and}
 use Rattle.tv_base.specs.Stop.{CountsStop}
 use Rattle.tv_doc.specs.Document.{document_of}
@@ -7,7 +8,7 @@ use Rattle.tv_typed.specs.Typed.{typed_stop}
 use Rattle.tv_typed.specs.Values.{IsTree}
 use Rattle.tv_value.specs.Owned.{owned_tree}
 use Rattle.tv_store.specs.PairsGiven.{in_next}
-use Rattle.tv_store.proofs.GivenSteps.{gives_push, addition_refused, given_next, all_given, was_open, err_for, document_counts}
+use Rattle.tv_store.proofs.GivenSteps.{gives_push, addition_refused, given_next, all_given, was_open, document_counts}
 use Rattle.tv_store.proofs.pairs_given.CompactDocDocumentDeserialize.deserialize.Goals as goal
 
 pub loop-document-init : goal.loop-document-init
@@ -34,7 +35,7 @@ pub returns-in_err-field-clause-closed : goal.returns-in_err-field-clause-closed
 returns-in_err-field-clause-closed g c =
     let p = err_from_is_err_and c.from_residual.result c.from_residual.ensures.1 in
     let i = c.loop-document.invariant in
-    λ failed. let q = c.in_err-field.ensures.closed (i.1 ∙ failed) in rw (p.1, p.2) (err_for _ _ q.0, q.1 ∙ i.2)
+    λ failed. let q = c.in_err-field.ensures.closed (i.1 ∙ failed) in rw (p.1, p.2) (err_of _ _ q.0, q.1 ∙ i.2)
 
 -- the pair can't be kept
 
