@@ -1,7 +1,7 @@
 //! Taking what a source has buffered, without a read.
 
 ghost use Rattle.std.specs.Prelude.{◌≡◌, ◌≤◌, drop, length, Ok, IfSome};
-ghost use Rattle.tv_base.specs.Lend.{Fills, PassesNumber};
+ghost use Rattle.tv_base.specs.Lend.{TakesContent, PassesNumber};
 ghost use Rattle.tv_base.specs.Reading.{vint_at};
 
 use crate::source::ByteSource;
@@ -11,7 +11,7 @@ use crate::source::ByteSource;
 #[inline]
 pub(crate) fn fill<S: ByteSource>(source: &mut S, buf: &mut [u8]) -> bool
     ensures bytes { S.is_known source.old
-        → Fills (S.left source.old) (S.left source.new) buf.new result }
+        → TakesContent (S.left source.old) (S.left source.new) buf.new result }
     ensures is_known { S.is_known source.old → S.is_known source.new }
     ensures failures { S.failures source.new ≡ S.failures source.old }
     ensures length { length buf.new ≡ length buf.old }

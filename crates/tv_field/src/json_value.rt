@@ -8,7 +8,7 @@ ghost use Rattle.tv_field.specs.JsonTable.{SignedText, UnsignedText, signed_numb
 ghost use Rattle.tv_field.specs.JsonTable.{boolean_text, date_row, date_text, facet_row, bytes_row};
 ghost use Rattle.tv_field.specs.JsonTable.{json_row, IpRow, IpText, leaf_or, mismatch};
 ghost use Rattle.tv_field.specs.JsonTokens.{tokenized_in};
-ghost use Rattle.tv_field.specs.JsonAnswer.{Lends, LendsLeaf, Answers, TakesMemory, IsText};
+ghost use Rattle.tv_field.specs.JsonAnswer.{Lends, LendsLeaf, AnswersOwned, TakesMemory, IsJsonString};
 ghost use Rattle.tv_field.specs.JsonAnswer.{IsNumberOrObject};
 
 use crate::field_type::FieldType;
@@ -221,7 +221,7 @@ fn lend_facet<'a>(
     scratch: &'a mut JsonScratch,
 ) -> Result<ReferenceValueLeaf<'a>, JsonRefusal>
     ensures row { LendsLeaf (data_of json.now) (λ o. o ≡ facet_row (data_of json.now)) result }
-    ensures memory { IsErrOf result JsonRefusal.Memory → IsText (data_of json.now) }
+    ensures memory { IsErrOf result JsonRefusal.Memory → IsJsonString (data_of json.now) }
 {
     match json {
         Value::String(path) => lend_facet_text(path.as_str(), scratch),
@@ -252,7 +252,7 @@ fn lend_bytes<'a>(
     scratch: &'a mut JsonScratch,
 ) -> Result<ReferenceValueLeaf<'a>, JsonRefusal>
     ensures row { LendsLeaf (data_of json.now) (λ o. o ≡ bytes_row (data_of json.now)) result }
-    ensures memory { IsErrOf result JsonRefusal.Memory → IsText (data_of json.now) }
+    ensures memory { IsErrOf result JsonRefusal.Memory → IsJsonString (data_of json.now) }
 {
     match json {
         Value::String(text) => lend_bytes_text(text.as_str(), scratch),
@@ -341,11 +341,11 @@ fn lend_str<'a>(
 }
 
 impl JsonRefusal {
-    ghost use Rattle.tv_field.specs.JsonAnswer.{Refuses};
+    ghost use Rattle.tv_field.specs.JsonAnswer.{RefusesJson};
 
     /// The same as an error that holds the value that was refused. (Not in tantivy.)
     pub fn with_json(self, alloc: Global, json: Value) -> ValueParsingError
-        ensures { Refuses (data_of json) self result }
+        ensures { RefusesJson (data_of json) self result }
     {
         match self {
             JsonRefusal::Overflow(expected) => ValueParsingError::OverflowError { expected, json },
@@ -402,7 +402,7 @@ impl FieldType {
         alloc: Global,
         json: Value,
     ) -> Result<OwnedValue, ValueParsingError>
-        ensures { Answers (Table self.now (data_of json)) result }
+        ensures { AnswersOwned (Table self.now (data_of json)) result }
     {
         let mut scratch = JsonScratch::new(alloc);
         let made = match self.lend_json(&json, &mut scratch) {

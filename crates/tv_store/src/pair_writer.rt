@@ -79,7 +79,7 @@ fn write_field_encoded<K: ByteSink>(
     encoded: Encoded<'_>,
 ) -> Result<(), SerializeError>
     requires { HasFewEntries encoded }
-    ensures writes { store.Writes K.ByteSink sink.old sink.new result
+    ensures writes { store.WritesStore K.ByteSink sink.old sink.new result
         (Ok (four_bytes field.id ++ encoded_bytes (written_version version) encoded.entry)) }
     ensures errors { IfErr result IsIoOrMemory }
     ensures lean { HeldNestsWithin 64 encoded.entry → IfErr result IsIo }
@@ -98,7 +98,7 @@ pub(crate) fn write_pair<K: ByteSink>(
     encoded: Encoded<'_>,
 ) -> Result<(), SerializeError>
     requires { HasFewEntries encoded }
-    ensures writes { store.Writes K.ByteSink sink.old sink.new result
+    ensures writes { store.WritesStore K.ByteSink sink.old sink.new result
         (Ok (four_bytes field.id ++ encoded_bytes (written_version version) encoded.entry)) }
     ensures errors { IfErr result IsIoOrMemory }
     ensures lean { HeldNestsWithin 64 encoded.entry → IfErr result IsIo }
@@ -152,7 +152,7 @@ pub(crate) fn write_stored_pair<K: ByteSink>(
     field: Field,
     value: CompactDocValue<'_>,
 ) -> Result<(), SerializeError>
-    ensures writes { store.Writes K.ByteSink sink.old sink.new result
+    ensures writes { store.WritesStore K.ByteSink sink.old sink.new result
         (Ok (short_pair (written_version version) (field.id, tree_written (tree_of value.entry)))) }
     ensures errors { IfErr result IsIoOrMemory }
     ensures lean { NestsWithin 64 (tree_of value.entry) → IfErr result IsIo }
@@ -170,7 +170,7 @@ fn write_pairs<K: ByteSink>(
     version: WriteVersion,
     document: &CompactDoc,
 ) -> Result<(), SerializeError>
-    ensures writes { store.Writes K.ByteSink sink.old sink.new result
+    ensures writes { store.WritesStore K.ByteSink sink.old sink.new result
         (Ok (flat_map (short_pair (written_version version)) (document_of document.now))) }
     ensures errors { IfErr result IsIoOrMemory }
     ensures lean { AllNestWithin 64 (document_of document.now) → IfErr result IsIo }
@@ -188,7 +188,7 @@ pub(crate) fn write_document<K: ByteSink>(
     version: WriteVersion,
     document: &CompactDoc,
 ) -> Result<(), SerializeError>
-    ensures writes { store.Writes K.ByteSink sink.old sink.new result
+    ensures writes { store.WritesStore K.ByteSink sink.old sink.new result
         (Ok (short_document (written_version version) (document_of document.now))) }
     ensures errors { IfErr result IsIoOrMemory }
     ensures lean { AllNestWithin 64 (document_of document.now) → IfErr result IsIo }

@@ -4,7 +4,7 @@ use Rattle.tv_doc.specs.Document.{document_of}
 use Rattle.tv_reader.specs.Version.{version_of}
 use Rattle.tv_reader.specs.declared.version.DocStoreVersion.{DocStoreVersion}
 use Rattle.tv_reader.specs.declared.error.DeserializeError.TheVariants.{AlreadyFailed}
-use Rattle.tv_store.specs.Documents.{BeginsWith, NoDocument, HasNoRoom}
+use Rattle.tv_store.specs.Documents.{BeginsWithDocument, NoDocument, HasNoRoom}
 use Rattle.tv_store.specs.Reading.{reading}
 use Rattle.tv_store.proofs.Promises.{refusal_is_true}
 use Rattle.tv_store.proofs.Resuming.{reads_live}
@@ -26,7 +26,7 @@ loop-reader-preserved c =
     record {
       live = c.in-Ok-true.ensures.live;
       version = c.advance.ensures.version ∙ i.version;
-      so_far = printed_more i.so_far (subst (λ (w : DocStoreVersion). BeginsWith (version_of w) c.loop-reader.source.rest.now c.advance.new.source.rest.now (document_of c.advance.new.self.document)) i.version (reads.found tt))
+      so_far = printed_more i.so_far (subst (λ (w : DocStoreVersion). BeginsWithDocument (version_of w) c.loop-reader.source.rest.now c.advance.new.source.rest.now (document_of c.advance.new.self.document)) i.version (reads.found tt))
           (subst (λ d. AppendsLine c.args.schema.now (document_of d) c.loop-reader.text.items c.append_line.new.text.items) c.document.ensures c.in_ok-append_line-in-Ok-true.ensures);
     }
 
