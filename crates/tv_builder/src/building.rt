@@ -213,7 +213,7 @@ impl Building {
         ensures does { Does self.old self.new
             (InState self.old (λ s. TakesBytes s (length bytes.now))) (Unit {0}) (Unit {0})
             (λ s. and_bytes s bytes.now) result }
-        ensures roomy { ¬ IsErrOf result BuildError.HeapFull }
+        ensures no_heap_full { ¬ IsErrOf result BuildError.HeapFull }
     {
         let Some(open) = self.open else {
             return Err(BuildError::OutOfPlace);

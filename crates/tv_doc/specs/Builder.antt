@@ -13,7 +13,7 @@
 -- Then nothing is open, and the finished pairs stay.
 -- `BuildsLeaf`, `BuildsTree`, `BuildsList`, `BuildsKey`, `BeginsBytes`: such a call for a value without children; for a whole value; for a list that
 -- opens with this many announced children; for a key of the innermost object; for the head of bytes, of which this many are announced.
--- `BuildsBytes`: some of the announced bytes. `builds`: it is such a call. `roomy`: it never returns `HeapFull`.
+-- `BuildsBytes`: some of the announced bytes. `builds`: it is such a call. `no_heap_full`: it never returns `HeapFull`.
 -- `Ends`: the announced bytes are a finished value or key, or the call is refused. `Finishes`: the complete value becomes that of a pair, or the call
 -- is refused.
 -- `HoldsState`: all of a builder's state stands in its heap. `bytes`: behind the heap of the finished pairs its bytes are those of the state.
@@ -120,7 +120,7 @@ BeginsBytes old new kind n r = Builds old new (awaited (state_of old) ≡ head_a
 -- some of the announced bytes
 pub record BuildsBytes (old new : TreeBuilder) (bs : List ℕ) (r : Result (Unit {0}) BuildError) : Type 0 where
   pub builds : Builds old new (TakesBytes (state_of old) (length bs)) (Unit {0}) (λ s. and_bytes s bs) r
-  pub roomy : ¬ IsErrOf r HeapFull
+  pub no_heap_full : ¬ IsErrOf r HeapFull
 
 -- ---- a law
 

@@ -15,7 +15,7 @@ use tv_base::take::take_u32;
 pub fn take_field<S: ByteSource>(source: &mut S, count: &mut u64) -> Result<u32, DeserializeError>
     ensures takes { StoreTakesLean S.ByteSource source.old count.old source.new count.new
         (λ x. x) result field_at }
-    ensures few { count.new ≤ count.old + 4 }
+    ensures at_most { count.new ≤ count.old + 4 }
 {
     Ok(take_u32(source, count)?)
 }

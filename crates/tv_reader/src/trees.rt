@@ -37,7 +37,7 @@ use tv_value::owned_value::OwnedValue;
 fn take_half<S: ByteSource>(source: &mut S, count: &mut u64) -> Result<u64, ReadError>
     ensures takes { reads.TakesLean S.ByteSource source.old count.old source.new
         count.new (λ x. x) result half_at }
-    ensures few { count.new ≤ count.old + 10 }
+    ensures at_most { count.new ≤ count.old + 10 }
 {
     let number = take_vint(source, count)?;
     if number % 2 == 0 {
@@ -58,7 +58,7 @@ pub fn take_entry_count<S: ByteSource>(
 ) -> Result<u64, ReadError>
     ensures takes { reads.TakesLean S.ByteSource source.old count.old source.new
         count.new (λ x. x) result (entry_count_at (version_of version)) }
-    ensures few { count.new ≤ count.old + 10 }
+    ensures at_most { count.new ≤ count.old + 10 }
 {
     match version {
         DocStoreVersion::V1 | DocStoreVersion::V2 => take_half(source, count),

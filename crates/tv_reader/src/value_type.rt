@@ -122,7 +122,7 @@ pub(crate) fn take_head_behind<S: ByteSource>(
 ) -> Result<Head, ReadError>
     ensures takes { TakesLean S.ByteSource source.old count.old source.new count.new
         head_part result (head_at (version_of version) kind) }
-    ensures few { count.new ≤ count.old + 16 }
+    ensures at_most { count.new ≤ count.old + 16 }
 {
     match kind {
         ValueType::String => Ok(Head::Length(LeafType::Str, take_vint(source, count)?)),

@@ -169,7 +169,7 @@ fn skip_head<S: ByteSource>(
 ) -> Result<Option<ItemsLeft>, DeserializeError>
     ensures finds { FindsRoomy S.ByteSource source.old count.old source.new
         count.new result (OpensValue (version_of version)) (NoValue (version_of version)) }
-    ensures rises { OnOk result (count.old < count.new) }
+    ensures advances { OnOk result (count.old < count.new) }
 {
     let kind = take_kind(source, count)?;
     skip_behind(alloc, source, count, version, scratch, kind)
@@ -187,7 +187,7 @@ fn skip_item<S: ByteSource>(
     ensures finds { FindsRoomy S.ByteSource source.old count.old source.new
         count.new result (OpensItem (version_of version) kind)
         (ErrorInItem (version_of version) kind) }
-    ensures rises { OnOk result (count.old < count.new) }
+    ensures advances { OnOk result (count.old < count.new) }
 {
     skip_before(source, count, version, scratch, kind)?;
     skip_head(alloc, source, count, version, scratch)

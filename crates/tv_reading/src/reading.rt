@@ -120,7 +120,7 @@ impl Reading {
             ≡ open_parts (length (document_of document) + 1) (document_of document) field
             (in_lists []) }
         ensures sound { IsSound result }
-        ensures few { length (document_of document) + 1 < 2 ^ 64 }
+        ensures at_most { length (document_of document) + 1 < 2 ^ 64 }
     {
         let finished = document.pairs.len() as u64;
         Reading {
@@ -328,7 +328,7 @@ impl Reading {
         ensures finds { (v : Version)
             → FindsLean S.ByteSource source.old count.old source.new count.new
             result (λ b _. Stepped v false self.old self.new b) (IsMalformedNext v self.old) }
-        ensures few { count.new ≤ count.old + 4096 }
+        ensures at_most { count.new ≤ count.old + 4096 }
     {
         let announced = take_document_head(source, count)?;
         self.announced = Some(announced);
@@ -350,7 +350,7 @@ impl Reading {
         ensures finds { (v : Version)
             → FindsLean S.ByteSource source.old count.old source.new count.new
             result (λ b _. Stepped v false self.old self.new b) (IsMalformedNext v self.old) }
-        ensures few { count.new ≤ count.old + 4096 }
+        ensures at_most { count.new ≤ count.old + 4096 }
     {
         let field = take_field(source, count)?;
         self.field = Some(field);
@@ -377,7 +377,7 @@ impl Reading {
             → NoRoomBehind (version_of version) self.old (S.left source.old) }
         ensures seen { S.is_known source.old
             → Sees self.old (S.left source.old) legacy_seen.old legacy_seen.new }
-        ensures few { S.is_known source.old
+        ensures at_most { S.is_known source.old
             → IsFew self.old (S.left source.old) count.old count.new }
     {
         let head = take_head(source, count, version)?;
@@ -411,7 +411,7 @@ impl Reading {
             (IsMalformedNext (version_of version) self.old) }
         ensures full { S.is_known source.old → IsErrOf result HeapFull
             → NoRoomBehind (version_of version) self.old (S.left source.old) }
-        ensures few { count.new ≤ count.old + 4096 }
+        ensures at_most { count.new ≤ count.old + 4096 }
     {
         let len = take_key_head(source, count, version)?;
         self.put_bytes_head(BytesKind::Key, len)
@@ -434,7 +434,7 @@ impl Reading {
             (λ b _. Stepped v false self.old self.new b) (IsMalformedNext v self.old) }
         ensures full { (v : Version) → S.is_known source.old → IsErrOf result HeapFull
             → NoRoomBehind v self.old (S.left source.old) }
-        ensures few { count.new ≤ count.old + 4096 }
+        ensures at_most { count.new ≤ count.old + 4096 }
     {
         let len = missing.min(PIECE);
         bytes.clear();
@@ -470,7 +470,7 @@ impl Reading {
             → NoRoomBehind (version_of version) self.old (S.left source.old) }
         ensures seen { S.is_known source.old
             → Sees self.old (S.left source.old) legacy_seen.old legacy_seen.new }
-        ensures few { S.is_known source.old
+        ensures at_most { S.is_known source.old
             → IsFew self.old (S.left source.old) count.old count.new }
     {
         if self.announced.is_none() {

@@ -216,7 +216,7 @@ pub(crate) fn write_encoded<K: ByteSink>(
     ensures writes { store.WritesStore K.ByteSink sink.old sink.new result
         (Ok (encoded_bytes (written_version version) encoded.entry)) }
     ensures errors { IfErr result IsIoOrMemory }
-    ensures lean { HeldNestsWithin levels encoded.entry → IfErr result IsIo }
+    ensures only_io { HeldNestsWithin levels encoded.entry → IfErr result IsIo }
 {
     match encoded {
         Encoded::Array(count, items) => {
@@ -247,7 +247,7 @@ fn write_encoded_items<K: ByteSink>(
     ensures writes { store.WritesStore K.ByteSink sink.old sink.new result
         (Ok (short_elements (written_version version) (elements items.entry.held.0))) }
     ensures errors { IfErr result IsIoOrMemory }
-    ensures lean { NestsWithin levels (array (elements items.entry.held.0)) → IfErr result IsIo }
+    ensures only_io { NestsWithin levels (array (elements items.entry.held.0)) → IfErr result IsIo }
 {
     if levels == 0 {
         return write_nested(sink, alloc, version, Open::Items(items));
@@ -271,7 +271,7 @@ fn write_encoded_members<K: ByteSink>(
     ensures writes { store.WritesStore K.ByteSink sink.old sink.new result
         (Ok (short_entries (written_version version) (entries members.entry.held.0))) }
     ensures errors { IfErr result IsIoOrMemory }
-    ensures lean { NestsWithin levels (object (entries members.entry.held.0)) → IfErr result IsIo }
+    ensures only_io { NestsWithin levels (object (entries members.entry.held.0)) → IfErr result IsIo }
 {
     if levels == 0 {
         return write_nested(sink, alloc, version, Open::Members(members));

@@ -182,8 +182,8 @@ fn step_capped<S: ByteSource>(
     ensures full { S.is_known source.old → IsErrOf result (Read HeapFull)
         → NoRoomBehind (version_of decoder.old.version) decoder.old.reading (S.left source.old) }
     ensures done { IfOk result (λ step. SaysDone step ↔ IsDone decoder.new.reading) }
-    ensures live { OnOk result (decoder.new.failed ≡ false) }
-    ensures mark { OnErr result (decoder.new.failed ≡ true) }
+    ensures not_failed { OnOk result (decoder.new.failed ≡ false) }
+    ensures failed { OnErr result (decoder.new.failed ≡ true) }
     ensures limit { IfErr result (IsCapped most decoder.new.count) }
     ensures most { ¬ IsPast most decoder.new.count }
     ensures grows { OnOk result (Grows decoder.old.reading decoder.new.reading) }
@@ -220,7 +220,7 @@ fn take_within<S: ByteSource>(
         (Checks limits (length (heap_so_far decoder.new.reading.builder))
         (length (lists_of (state_of decoder.new.reading.builder)))) }
     ensures done { IfOk result (λ passed. passed ≡ None → IsDone decoder.new.reading) }
-    ensures live { IfOk result (λ _. decoder.new.failed ≡ false) }
+    ensures not_failed { IfOk result (λ _. decoder.new.failed ≡ false) }
     ensures version { decoder.new.version ≡ decoder.old.version }
 {
     // each part takes a byte at least

@@ -56,7 +56,7 @@ fn write_if_stored<K: ByteSink>(
         (Ok (written_pairs (written_version version) schema.now
         ((field.id, tree_of value.entry) ∷ []))) }
     ensures errors { IfErr result IsIoOrMemory }
-    ensures lean { NestsWithin 64 (tree_of value.entry) → IfErr result IsIo }
+    ensures only_io { NestsWithin 64 (tree_of value.entry) → IfErr result IsIo }
 {
     if schema.get_field_entry(field).is_stored() {
         write_stored_pair(sink, alloc, version, field, value)
@@ -76,7 +76,7 @@ fn write_stored_pairs<K: ByteSink>(
     ensures writes { store.WritesStore K.ByteSink sink.old sink.new result
         (Ok (written_pairs (written_version version) schema.now (document_of document.now))) }
     ensures errors { IfErr result IsIoOrMemory }
-    ensures lean { AllNestWithin 64 (document_of document.now) → IfErr result IsIo }
+    ensures only_io { AllNestWithin 64 (document_of document.now) → IfErr result IsIo }
 {
     let alloc = document.allocator();
     for (field, value) in document.field_values() {

@@ -231,7 +231,7 @@ pub reads_leaf : {S X : Type 0} {is_known : S → Type 0} {left : S → List ℕ
 reads_leaf {old = old} expected make typed kind h spares =
     let v = version_of old.version in
     let as_type = leaf_deserializes make v kind h in
-    record { reads = h; only = only_by (IsLeafOf make) v (type_prefix kind) (LeafRefused expected v kind) (leaf_excludes expected make typed v kind) as_type; deserializes = as_type; spares = spares; roomy = reads_calm _ refl h }
+    record { reads = h; only = only_by (IsLeafOf make) v (type_prefix kind) (LeafRefused expected v kind) (leaf_excludes expected make typed v kind) as_type; deserializes = as_type; no_memory = spares; not_too_deep = reads_calm _ refl h }
 
 -- a value of any type behind its code
 pub tree_deserializes : {May : DeserializeError → ℕ → Type 0} {S : Type 0} {is_known : S → Type 0} {left : S → List ℕ} {failures : S → Failures} {old new : StoreReader S} {result : Result OwnedValue DeserializeError} {Q : List ℕ → DeserializeError → Type 0} (v : Version) (kind : ValueType)

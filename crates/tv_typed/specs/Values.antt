@@ -118,8 +118,8 @@ pub record ReadsLeafBy {S X : Type 0} (is_known : S → Type 0) (left : S → Li
   pub reads : ReadsIf StoreMayStop is_known left failures old new result (EncodesLeaf (version_of old.version) kind make) (LeafRefused expected (version_of old.version) kind)
   pub only : OnlyBy is_known left old new result (IsLeafOf make) (version_of old.version) (type_prefix kind)
   pub deserializes : DeserializesAsBy is_known left failures (IsLeafOf make) (LeafRefused expected) kind old new result
-  pub spares : IsFixed (leaf_type expected) → ¬ IsErrOf result errors.Memory
-  pub roomy : ¬ IsErrOf result errors.TooDeep
+  pub no_memory : IsFixed (leaf_type expected) → ¬ IsErrOf result errors.Memory
+  pub not_too_deep : ¬ IsErrOf result errors.TooDeep
 
 -- ---- as contracts say it, of a source
 

@@ -56,7 +56,7 @@ impl<'de, S: ByteSource> BinaryValueDeserializer<'de, S> {
         ensures reads { IfOk result
             (λ d. ReadsThrough S.ByteSource reader.entry.now d.reader.now (Ok d.kind)
             IsCoded CodeRefused) }
-        ensures spares { ¬ IsErrOf result errors.Memory }
+        ensures no_memory { ¬ IsErrOf result errors.Memory }
     {
         let kind = reader.code()?;
         Ok(BinaryValueDeserializer { kind, reader })
@@ -77,7 +77,7 @@ impl<'de, S: ByteSource> BinaryValueDeserializer<'de, S> {
             (type_prefix self.entry.kind) }
         ensures deep { IsTooDeep S.ByteSource self.entry.reader.now self.exit.1.0.now result
             (type_prefix self.entry.kind) }
-        ensures roomy { HasDepth S.ByteSource self.entry.reader.now result (type_prefix self.entry.kind) }
+        ensures no_heap_full { HasDepth S.ByteSource self.entry.reader.now result (type_prefix self.entry.kind) }
     {
         let BinaryValueDeserializer { kind, reader } = self;
         reader.go_on()?;
@@ -131,7 +131,7 @@ impl<S: ByteSource> StoreReader<S> {
             (NextRefused V.refused (version_of self.old.version)) }
         ensures only { Only S.ByteSource self.old self.new result V.is
             (version_of self.old.version) [] }
-        ensures marks { OnErr result (self.new.has_failed ≡ true) }
+        ensures marks_failure { OnErr result (self.new.has_failed ≡ true) }
         ensures deep { WhereTooDeep S.ByteSource self.old self.new result (NextTooDeep V.deep) }
     {
         let kind = self.code()?;
@@ -152,7 +152,7 @@ impl<S: ByteSource> StoreReader<S> {
         ensures deserializes { Deserializes S.ByteSource self.old self.new result
             (EncodesEntry V.is (version_of self.old.version))
             (EntryRefused V.refused (version_of self.old.version)) }
-        ensures marks { OnErr result (self.new.has_failed ≡ true) }
+        ensures marks_failure { OnErr result (self.new.has_failed ≡ true) }
         ensures deep { WhereTooDeep S.ByteSource self.old self.new result (EntryTooDeep V.deep) }
     {
         let key = self.key(alloc)?;
@@ -183,7 +183,7 @@ impl ValueDeserialize for OwnedValue {
             deserializer.exit.1.0.now result (type_prefix deserializer.entry.kind) }
         ensures deep { IsTooDeep S.ByteSource deserializer.entry.reader.now
             deserializer.exit.1.0.now result (type_prefix deserializer.entry.kind) }
-        ensures roomy { HasDepth S.ByteSource deserializer.entry.reader.now result
+        ensures no_heap_full { HasDepth S.ByteSource deserializer.entry.reader.now result
             (type_prefix deserializer.entry.kind) }
     {
         deserializer.deserialize_tree(alloc)

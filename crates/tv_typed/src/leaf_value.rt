@@ -36,7 +36,7 @@ pub(crate) trait LeafValue: Sized + Drop {
             (leaf_at (version_of reader.old.version) expected) }
         ensures version { reader.new.version ≡ reader.old.version }
         ensures levels { reader.new.levels ≡ reader.old.levels }
-        ensures spares { IsFixed (held_type expected)
+        ensures no_memory { IsFixed (held_type expected)
             → IfErr result (λ e. MayStopLean e reader.new.count) };
 
     /// It is a type of leaves, and the leaf is of this type.

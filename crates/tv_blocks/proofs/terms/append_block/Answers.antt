@@ -32,7 +32,7 @@ loop-writer-preserved c =
     let is = c.in-Ok-true.is ∙ ap Ok c.in-Ok-true.field-0-test in
     let reads = reads_live reading AlreadyFailed i.live (rw c.in-Ok-true.field-0-test at c.in-Ok-true.ensures.reads) in
     record {
-      live = c.in-Ok-true.ensures.live;
+      live = c.in-Ok-true.ensures.not_failed;
       version = c.advance.ensures.version ∙ i.version;
       few = omega (arith, i.few, c.advance.ensures.fewer tt is);
       so_far = terms_more (document_of c.advance.new.self.document) i.so_far (subst (λ (w : DocStoreVersion). BeginsWithDocument (version_of w) c.loop-writer.source.rest.now c.advance.new.source.rest.now (document_of c.advance.new.self.document)) i.version (reads.found tt))

@@ -31,5 +31,5 @@ returns-clause-within g c = λ is_open told. c.take_behind-answer.ensures.within
 pub returns-clause-deep : goal.returns-clause-deep
 returns-clause-deep g c = λ is_open told is. c.take_behind-answer.ensures.deep told is
 
-pub returns-clause-roomy : goal.returns-clause-roomy
-returns-clause-roomy g c = has_depth g.S.ByteSource.is_known g.S.ByteSource.left c.args.self.reader.now c.take_behind-answer.result (type_prefix c.args.self.kind) _ c.take_behind-answer.ensures.deep
+pub returns-clause-no_heap_full : goal.returns-clause-no_heap_full
+returns-clause-no_heap_full g c = has_depth g.S.ByteSource.is_known g.S.ByteSource.left c.args.self.reader.now c.take_behind-answer.result (type_prefix c.args.self.kind) _ c.take_behind-answer.ensures.deep

@@ -31,4 +31,4 @@ returns g c =
     reads_leaf T.expected T.make g.met.T.LeafValue.typed.1 c.args.self.kind
     (leaf_reads c.args.self.reader.now c.expect.new.self c.marked.new.self c.marked.result v c.args.self.kind T.expected T.make g.met.S.ByteSource.are_bytes (leaf_agrees v T.expected)
     (λ a x h. h) (λ w c f. f) g.met.T.LeafValue.typed.0 (e.ok.2 ∙ c.requires) e.ok.0 e.source e.count e.version e.levels part m.source m.count (m.version ∙ t.version) (m.levels ∙ t.levels) m.marks m.told)
-    (λ spared. raised_spares c.take-answer.result c.marked.result _ m.told (t.spares spared))
+    (λ spared. raised_spares c.take-answer.result c.marked.result _ m.told (t.no_memory spared))
