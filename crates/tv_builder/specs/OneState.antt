@@ -105,14 +105,14 @@ one_state heap fs places whole bytes (in_lists ls) (in_bytes ms j m cs) h g = ab
 one_state heap fs places whole bytes (in_bytes ls k n bs) (complete t) h g = absurd (both whole g.at g.is h.none)
 one_state heap fs places whole bytes (in_bytes ls k n bs) (in_lists ms) h g = absurd (both bytes h.piece h.is g.closed)
 
-pub Stands-prop : (b : Building) → IsProp (HoldsSomeState b)
-Stands-prop b x y =
+pub HoldsSomeState-prop : (b : Building) → IsProp (HoldsSomeState b)
+HoldsSomeState-prop b x y =
     let set = Coded-set coded_state x.0 y.0 in
     Σ_prop_path (λ s. ∥∥₁_prop) (∥∥₁_elim x.1 set (λ p. ∥∥₁_elim y.1 set (λ q. one_state b.heap.items (frames_of b) b.places.items b.complete b.open x.0 y.0 p.at q.at)))
 
 -- the state does not depend on how it was shown
 pub same_state : (b : Building) (x y : HoldsSomeState b) → x.0 ≡ y.0
-same_state b x y = ap (λ p. p.0) (Stands-prop b x y)
+same_state b x y = ap (λ p. p.0) (HoldsSomeState-prop b x y)
 
 -- ---- a state behind a heap
 
