@@ -2,7 +2,6 @@
 use Rattle.std.proofs.Common.{◌≡◌, ℕ, ◌+◌, ◌≤◌, List, [], ◌∷◌, ◌++◌, length, drop, refl, sym, ◌∙◌, ap, subst, append_assoc, length-append, arith, inl}
 use Rattle.tv_base.specs.Number.{VNum}
 use Rattle.tv_base.specs.Parts.{Begins, Then, Each}
-use Rattle.tv_base.specs.Sink.{IsPrefix}
 use Rattle.tv_format.specs.Content.{Content, form_of}
 use Rattle.tv_format.specs.Leaves.{form, store_code}
 use Rattle.tv_format.specs.declared.leaf_type.LeafType.{LeafType}
@@ -19,7 +18,7 @@ use Rattle.tv_builder.specs.EncodedPut.{EncodedPut}
 use Rattle.tv_builder.specs.Whole.{Put, PutWith, ListPut}
 use Rattle.tv_value.proofs.Found.{leaf_begins}
 use Rattle.tv_builder.proofs.Grammar.{elements_counted, entries_counted}
-use Rattle.tv_builder.proofs.Putting.{ChildPut, ChildrenPut, no_children, one_child_more, all_put, items_make, members_make, put_grows, flat_entries, flat_push}
+use Rattle.tv_builder.proofs.Putting.{ChildPut, ChildrenPut, none_put, one_child_more, all_put, items_make, members_make, flat_entries, flat_push}
 
 -- ---- a leaf
 
@@ -29,8 +28,38 @@ leaf_encoded version t c code bytes rest old new p is formed begins put =
     let m = leaf_begins version t c code bytes rest is formed begins in
     record { tree = leaf m.0; encoded = m.2; put = put.put m.0 m.1.0 m.1.1 }
 
-pub encoded_grows : (v : Version) (whole rest old new : List ℕ) (p : Place) → EncodedPut v whole rest old new p → IsPrefix old new
-encoded_grows v whole rest old new p s = put_grows old s.tree new p s.put
+-- ---- lists
+
+-- So many children, of a list that announces a total, were read behind that number, and written.
+pub record ReadPut {T : Type 0} (Child : List ℕ → T → Type 0) (trees : List T → List Tree) (total count : ℕ) (bytes rest old before heap places : List ℕ) : Type 0 where
+  pub behind : List ℕ
+  pub number : Begins (λ b. VNum b total) bytes behind
+  pub done : List T
+  pub counted : length done ≡ count
+  pub encoded : Begins (λ b. Each Child b done) behind rest
+  pub put : ChildrenPut old before (trees done) heap places
+
+pub none_read : {T : Type 0} (Child : List ℕ → T → Type 0) (trees : List T → List Tree) (total : ℕ) (bytes behind heap places : List ℕ) → trees [] ≡ [] → length heap ≤ 4294967295 → Begins (λ b. VNum b total) bytes behind
+    → ReadPut Child trees total 0 bytes behind heap places heap places
+none_read Child trees total bytes behind heap places none fits number = record {
+  behind = behind;
+  number = number;
+  done = [];
+  counted = refl;
+  encoded = begins_nothing behind refl;
+  put = subst (λ z. ChildrenPut heap places z heap places) (sym none) (none_put heap places fits);
+}
+
+pub one_read : {T : Type 0} (Child : List ℕ → T → Type 0) (trees : List T → List Tree) (total n : ℕ) (bytes rest after old before heap places new later : List ℕ) (child : T) (s : ReadPut Child trees total n bytes rest old before heap places)
+    → Begins (λ b. Child b child) rest after → ChildrenPut old before (trees (s.done ++ child ∷ [])) new later → ReadPut Child trees total (n + 1) bytes after old before new later
+one_read Child trees total n bytes rest after old before heap places new later child s encoded put = record {
+  behind = s.behind;
+  number = s.number;
+  done = s.done ++ child ∷ [];
+  counted = omega (arith, s.counted, length-append s.done (child ∷ []));
+  encoded = begins_item Child s.done child s.behind rest after s.encoded encoded;
+  put = put;
+}
 
 -- ---- arrays
 
@@ -41,30 +70,13 @@ items_encode : (v : Version) (ts : List Tree) (b : List ℕ) → Each (Item v) b
 items_encode v [] b p = p
 items_encode v (t ∷ ts) b p = record { prefix = p.prefix; rest = p.rest; joined = p.joined; first = p.first; second = items_encode v ts p.rest p.second }
 
--- So many elements of those that are announced were read behind their number, and written.
-pub record ItemsPut (v : Version) (announced count : ℕ) (bytes rest old before heap places : List ℕ) : Type 0 where
-  pub behind : List ℕ
-  pub number : Begins (λ b. VNum b announced) bytes behind
-  pub done : List Tree
-  pub counted : length done ≡ count
-  pub encoded : Begins (λ b. Each (Item v) b done) behind rest
-  pub put : ChildrenPut old before done heap places
-
-pub no_items : (v : Version) (announced : ℕ) (bytes behind heap places : List ℕ) → length heap ≤ 4294967295 → Begins (λ b. VNum b announced) bytes behind → ItemsPut v announced 0 bytes behind heap places heap places
-no_items v announced bytes behind heap places fits number = record { behind = behind; number = number; done = []; counted = refl; encoded = begins_nothing behind refl; put = no_children heap places fits }
+abbrev pub ItemsPut : Version → ℕ → ℕ → List ℕ → List ℕ → List ℕ → List ℕ → List ℕ → List ℕ → Type 0
+ItemsPut v announced = ReadPut (Item v) (λ ts. ts) announced
 
 pub one_item : (v : Version) (announced n : ℕ) (bytes rest after old before heap places new later : List ℕ) (p : Place) → ItemsPut v announced n bytes rest old before heap places → EncodedPut v rest after heap new p → later ≡ places ++ place_bytes p
     → ItemsPut v announced (n + 1) bytes after old before new later
 one_item v announced n bytes rest after old before heap places new later p s w e =
-    let t = w.tree in
-    record {
-      behind = s.behind;
-      number = s.number;
-      done = s.done ++ t ∷ [];
-      counted = omega (arith, s.counted, length-append s.done (t ∷ []));
-      encoded = begins_item (Item v) s.done t s.behind rest after s.encoded w.encoded;
-      put = one_child_more old before heap places new later s.done t s.put (p, w.put, e);
-    }
+    one_read (Item v) (λ ts. ts) announced n bytes rest after old before heap places new later w.tree s w.encoded (one_child_more old before heap places new later s.done w.tree s.put (p, w.put, e))
 
 pub array_encoded : (v : Version) (announced n m : ℕ) (bytes rest old before heap places new : List ℕ) (p : Place) → announced ≡ n → ItemsPut v announced n bytes rest old before heap places → m ≡ length before → ListPut heap Array (drop m places) new p
     → EncodedPut v (12 ∷ bytes) rest old new p
@@ -94,31 +106,15 @@ members_encode v (e ∷ es) b p =
       second = record { prefix = m.rest; rest = p.rest; joined = refl; first = m.second; second = members_encode v es p.rest p.second };
     }
 
--- So many entries of those that are announced were read behind their number, and written.
-pub record MembersPut (v : Version) (announced count : ℕ) (bytes rest old before heap places : List ℕ) : Type 0 where
-  pub behind : List ℕ
-  pub number : Begins (λ b. VNum b (entry_total v announced)) bytes behind
-  pub done : List (List ℕ × Tree)
-  pub counted : length done ≡ count
-  pub encoded : Begins (λ b. Each (Member v) b done) behind rest
-  pub put : ChildrenPut old before (flat_entries done) heap places
-
-pub no_members : (v : Version) (announced : ℕ) (bytes behind heap places : List ℕ) → length heap ≤ 4294967295 → Begins (λ b. VNum b (entry_total v announced)) bytes behind → MembersPut v announced 0 bytes behind heap places heap places
-no_members v announced bytes behind heap places fits number = record { behind = behind; number = number; done = []; counted = refl; encoded = begins_nothing behind refl; put = no_children heap places fits }
+abbrev pub MembersPut : Version → ℕ → ℕ → List ℕ → List ℕ → List ℕ → List ℕ → List ℕ → List ℕ → Type 0
+MembersPut v announced = ReadPut (Member v) flat_entries (entry_total v announced)
 
 pub one_member : (v : Version) (announced n : ℕ) (bytes rest between after old before heap places mid now new later k : List ℕ) (p : Place) → MembersPut v announced n bytes rest old before heap places → Begins (λ b. Key v b k) rest between
     → ChildPut heap places (leaf (text k)) mid now → EncodedPut v between after mid new p → later ≡ now ++ place_bytes p → MembersPut v announced (n + 1) bytes after old before new later
 one_member v announced n bytes rest between after old before heap places mid now new later k p s key named w e =
-    let t = w.tree in
     let keyed = one_child_more old before heap places mid now (flat_entries s.done) (leaf (text k)) s.put named in
-    record {
-      behind = s.behind;
-      number = s.number;
-      done = s.done ++ (k, t) ∷ [];
-      counted = omega (arith, s.counted, length-append s.done ((k, t) ∷ []));
-      encoded = begins_item (Member v) s.done (k, t) s.behind rest after s.encoded (begins_then rest between after key w.encoded);
-      put = subst (λ z. ChildrenPut old before z new later) (flat_push s.done k t) (one_child_more old before mid now new later (flat_entries s.done ++ leaf (text k) ∷ []) t keyed (p, w.put, e));
-    }
+    let both = one_child_more old before mid now new later (flat_entries s.done ++ leaf (text k) ∷ []) w.tree keyed (p, w.put, e) in
+    one_read (Member v) flat_entries (entry_total v announced) n bytes rest after old before heap places new later (k, w.tree) s (begins_then rest between after key w.encoded) (subst (λ z. ChildrenPut old before z new later) (flat_push s.done k w.tree) both)
 
 pub object_encoded : (v : Version) (announced n m : ℕ) (bytes rest old before heap places new : List ℕ) (p : Place) → announced ≡ n → MembersPut v announced n bytes rest old before heap places → m ≡ length before → ListPut heap Object (drop m places) new p
     → EncodedPut v (13 ∷ bytes) rest old new p

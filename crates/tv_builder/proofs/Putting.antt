@@ -31,7 +31,7 @@ use Rattle.tv_builder.proofs.Images.{heap_join, places_push, list_heap_is}
 -- ---- the heap only grows
 
 mutual
-  pub tree_prefix : (heap : List ℕ) (t : Tree) → IsPrefix heap (tree_heap heap t)
+  tree_prefix : (heap : List ℕ) (t : Tree) → IsPrefix heap (tree_heap heap t)
   tree_prefix heap (leaf l) = (leaf_bytes l, refl)
   tree_prefix heap (array ts) = prefix_then heap (elements_heap heap ts) _ (elements_prefix heap ts) (short_sized (elements_places heap ts), refl)
   tree_prefix heap (object es) = prefix_then heap (entries_heap heap es) _ (entries_prefix heap es) (short_sized (entries_places heap es), refl)
@@ -40,7 +40,7 @@ mutual
   elements_prefix heap no_elements = prefix_same heap heap refl
   elements_prefix heap (element t ts) = prefix_then heap (tree_heap heap t) _ (tree_prefix heap t) (elements_prefix (tree_heap heap t) ts)
 
-  entries_prefix : (heap : List ℕ) (es : Entries) → IsPrefix heap (entries_heap heap es)
+  pub entries_prefix : (heap : List ℕ) (es : Entries) → IsPrefix heap (entries_heap heap es)
   entries_prefix heap no_entries = prefix_same heap heap refl
   entries_prefix heap (entry k t es) =
       let mid = heap ++ short_sized k in
@@ -74,8 +74,8 @@ pub record ChildrenPut (old before : List ℕ) (ts : List Tree) (new left : List
   pub prefix : IsPrefix old new
   pub reads : ReadsElements new (length new) (elements_places old (elements ts)) (elements ts)
 
-pub no_children : (heap before : List ℕ) → length heap ≤ 4294967295 → ChildrenPut heap before [] heap before
-no_children heap before fits = record { heap = refl; places = sym (append-nil before); fits = fits; prefix = prefix_same heap heap refl; reads = refl }
+pub none_put : (heap before : List ℕ) → length heap ≤ 4294967295 → ChildrenPut heap before [] heap before
+none_put heap before fits = record { heap = refl; places = sym (append-nil before); fits = fits; prefix = prefix_same heap heap refl; reads = refl }
 
 pub one_child_more : (old before mid now new left : List ℕ) (ts : List Tree) (t : Tree) → ChildrenPut old before ts mid now → ChildPut mid now t new left → ChildrenPut old before (ts ++ t ∷ []) new left
 one_child_more old before mid now new left ts t v w =
@@ -91,7 +91,7 @@ one_child_more old before mid now new left ts t v w =
       fits = put.fits;
       prefix = prefix_then old mid new v.prefix grows;
       reads = subst (λ z. ReadsElements new (length new) z (elements (ts ++ t ∷ []))) (sym same)
-      (elements_push new (length new) own ts (type_code p.value_type) p.address t grown put.placed.reads put.placed.fits put.placed.below);
+          (elements_push new (length new) own ts (type_code p.value_type) p.address t grown put.placed.reads put.placed.fits put.placed.below);
     }
 
 -- ---- lists of children
@@ -146,7 +146,7 @@ children_make Object cs (object es) of is = subst (λ z. Makes Object (flat z) (
 children_make _ cs _ of is = absurd of
 
 -- what is written of it
-made_heap : (kind : ListKind) (heap : List ℕ) (ts : List Tree) (t : Tree) → Makes kind ts t → tree_heap heap t ≡ elements_heap heap (elements ts) ++ short_sized (elements_places heap (elements ts))
+pub made_heap : (kind : ListKind) (heap : List ℕ) (ts : List Tree) (t : Tree) → Makes kind ts t → tree_heap heap t ≡ elements_heap heap (elements ts) ++ short_sized (elements_places heap (elements ts))
 made_heap kind heap ts t m = ap (tree_heap heap) m.tree ∙ (list_heap_is kind m.count heap ts m.counted m.children).0
 
 own_places : (old before heap places : List ℕ) (ts : List Tree) (n : ℕ) → ChildrenPut old before ts heap places → n ≡ length before → drop n places ≡ elements_places old (elements ts)
@@ -179,7 +179,7 @@ pub record ListOpen (kind : ListKind) (old before : List ℕ) (whole : Tree) (he
   pub put : ChildrenPut old before done heap places
 
 pub list_opens : (kind : ListKind) (heap places : List ℕ) (ts : List Tree) (t : Tree) → length heap ≤ 4294967295 → Makes kind ts t → ListOpen kind heap places t heap places ts
-list_opens kind heap places ts t fits m = record { done = []; list = m; put = no_children heap places fits }
+list_opens kind heap places ts t fits m = record { done = []; list = m; put = none_put heap places fits }
 
 pub list_goes_on : (kind : ListKind) (old before heap places new later : List ℕ) (whole t : Tree) (left ts : List Tree) → ListOpen kind old before whole heap places left → left ≡ t ∷ ts → ChildPut heap places t new later → ListOpen kind old before whole new later ts
 list_goes_on kind old before heap places new later whole t left ts s is w = record {

@@ -29,6 +29,7 @@ struct UnfinishedList<N: Nested> {
 }
 
 // Opens a list, the places of whose children begin at `first`. A leaf is returned as the error.
+#[tactic(auto, using(tv_value::proofs::ListChildren::list_of_items, tv_value::proofs::ListChildren::list_of_members))]
 fn open_list<'s, N: Nested>(
     value: NestedValue<'s, N>,
     first: usize,

@@ -5,7 +5,7 @@ use Rattle.tv_builder.specs.Given.{place_bytes}
 use Rattle.tv_builder.specs.EncodedPut.{EncodedPut}
 use Rattle.tv_builder.proofs.Giving.{prefix_then}
 use Rattle.tv_builder.proofs.Putting.{first_within, other_places}
-use Rattle.tv_builder.proofs.Encoding.{encoded_grows, no_items, one_item, array_encoded, no_members, one_member, object_encoded}
+use Rattle.tv_builder.proofs.Encoding.{none_read, one_item, array_encoded, one_member, object_encoded}
 use Rattle.tv_builder.proofs.encoded.+encoded.Goals as goal
 
 -- ---- a value of any kind
@@ -27,7 +27,7 @@ put_encoded-returns-in_ok-rest-in-13-clause-found t c =
 -- ---- arrays
 
 pub put_encoded_array-loop-i-init : goal.put_encoded_array-loop-i-init
-put_encoded_array-loop-i-init t c = no_items _ _ _ _ _ _ c.requires c.in_ok-announced.ensures.found
+put_encoded_array-loop-i-init t c = none_read _ _ _ _ _ _ _ refl c.requires c.in_ok-announced.ensures.found
 
 pub put_encoded_array-put_encoded-requires : goal.put_encoded_array-put_encoded-requires
 put_encoded_array-put_encoded-requires t c = (omega (arith, c.decreases, c.if-levels-eq0.false), c.loop-i.invariant.put.fits)
@@ -58,9 +58,7 @@ put_encoded_array-returns-clause-found t c =
     array_encoded _ _ c.loop-i._i _ _ _ _ _ _ _ _ _ (omega (arith, c.loop-i-test.false)) c.loop-i.invariant start c.in-Ok-put_list.ensures.ok
 
 pub put_encoded_array-returns-clause-prefix : goal.put_encoded_array-returns-clause-prefix
-put_encoded_array-returns-clause-prefix t c =
-    let start : c.len-first.result ≡ length c.args.places.now.items = omega (arith, c.args.places.now.ok.0, c.len-first.ensures) in
-    encoded_grows _ _ c.loop-i.rest.now _ _ _ (array_encoded _ _ c.loop-i._i _ _ _ _ _ _ _ _ _ (omega (arith, c.loop-i-test.false)) c.loop-i.invariant start c.in-Ok-put_list.ensures.ok)
+put_encoded_array-returns-clause-prefix t c = prefix_then c.args.heap.now.items c.loop-i.heap.items c.put_list.new.heap.items c.loop-i.invariant.put.prefix (_, c.in-Ok-put_list.ensures.ok.heap)
 
 pub put_encoded_array-returns-clause-places : goal.put_encoded_array-returns-clause-places
 put_encoded_array-returns-clause-places t c = other_places _ _ _ _ _ _ _ c.loop-i.invariant.put (omega (arith, c.args.places.now.ok.0, c.len-first.ensures)) c.in-Ok-put_list.ensures.places
@@ -68,7 +66,7 @@ put_encoded_array-returns-clause-places t c = other_places _ _ _ _ _ _ _ c.loop-
 -- ---- objects
 
 pub put_encoded_object-loop-i-init : goal.put_encoded_object-loop-i-init
-put_encoded_object-loop-i-init t c = no_members _ _ _ _ _ _ c.requires c.in_ok-announced.ensures
+put_encoded_object-loop-i-init t c = none_read _ _ _ _ _ _ _ refl c.requires c.in_ok-announced.ensures
 
 pub put_encoded_object-put_content-requires : goal.put_encoded_object-put_content-requires
 put_encoded_object-put_content-requires t c = c.loop-i.invariant.put.fits
@@ -112,9 +110,7 @@ put_encoded_object-returns-clause-found t c =
     object_encoded _ _ c.loop-i._i _ _ _ _ _ _ _ _ _ (omega (arith, c.loop-i-test.false)) c.loop-i.invariant start c.in-Ok-put_list.ensures.ok
 
 pub put_encoded_object-returns-clause-prefix : goal.put_encoded_object-returns-clause-prefix
-put_encoded_object-returns-clause-prefix t c =
-    let start : c.len-first.result ≡ length c.args.places.now.items = omega (arith, c.args.places.now.ok.0, c.len-first.ensures) in
-    encoded_grows _ _ c.loop-i.rest.now _ _ _ (object_encoded _ _ c.loop-i._i _ _ _ _ _ _ _ _ _ (omega (arith, c.loop-i-test.false)) c.loop-i.invariant start c.in-Ok-put_list.ensures.ok)
+put_encoded_object-returns-clause-prefix t c = prefix_then c.args.heap.now.items c.loop-i.heap.items c.put_list.new.heap.items c.loop-i.invariant.put.prefix (_, c.in-Ok-put_list.ensures.ok.heap)
 
 pub put_encoded_object-returns-clause-places : goal.put_encoded_object-returns-clause-places
 put_encoded_object-returns-clause-places t c = other_places _ _ _ _ _ _ _ c.loop-i.invariant.put (omega (arith, c.args.places.now.ok.0, c.len-first.ensures)) c.in-Ok-put_list.ensures.places

@@ -19,9 +19,8 @@ lists-init g c =
     let old = c.args.heap.now.items in
     let start = c.args.places.now.items in
     let t = nested_tree items members c.args.value in
-    let begins : c.in-Ok.list.first ≡ length start = omega (arith, c.in-Ok.ensures.first, c.len.ensures, c.args.places.now.ok.0) in
     let alone = subst (λ os. Around {N = g.row.N.Denot} {K = g.row.N-Key.Denot} items members old start t os old start t) (sym (ap reverse c.new-around.ensures.items)) (refl, refl, refl) in
-    opens _ _ _ _ _ _ c.requires alone begins c.in-Ok.ensures.kind c.in-Ok.ensures.children
+    opens _ _ _ _ _ _ c.requires alone (omega (arith, c.in-Ok.ensures.first, c.len.ensures, c.args.places.now.ok.0)) c.in-Ok.ensures.kind c.in-Ok.ensures.children
 
 -- ---- a child
 
@@ -74,13 +73,10 @@ lists-preserved-in-Ok-open_list g c =
     let items = g.N.Nested.array_rest in
     let members = g.N.Nested.object_rest in
     let next = child_next _ _ _ _ _ _ _ _ _ _ _ c.lists.invariant c.in-Some.ensures.steps c.in_ok-put_key.ensures.ok in
-    let heap = c.put_key.new.heap.items in
-    let places = c.put_key.new.places.items in
     let around = Around {N = g.row.N.Denot} {K = g.row.N-Key.Denot} items members c.args.heap.now.items c.args.places.now.items (nested_tree items members c.args.value) in
-    let begins : c.in-Ok-open_list.inner.first ≡ length places = omega (arith, c.in-Ok-open_list.ensures.first, c.len-in-Some.ensures, c.put_key.new.places.ok.0) in
-    let stacked = subst (λ os. around os heap places (g.N.Nested.tree c.in-Some.child)) (sym (pushed _ _ _ c.in_ok-push_list-in-Ok-open_list.ensures)) next in
-    let inner = subst (λ z. around (reverse c.push_list.new.lists.items) heap places z) (sym c.as_nested.ensures) stacked in
-    opens _ _ _ _ _ _ next.list.put.fits inner begins c.in-Ok-open_list.ensures.kind c.in-Ok-open_list.ensures.children
+    let inner = subst (λ os. around os c.put_key.new.heap.items c.put_key.new.places.items (g.N.Nested.tree c.in-Some.child)) (sym (pushed _ _ _ c.in_ok-push_list-in-Ok-open_list.ensures)) next in
+    let seen = subst (around (reverse c.push_list.new.lists.items) c.put_key.new.heap.items c.put_key.new.places.items) (sym c.as_nested.ensures) inner in
+    opens _ _ _ _ _ _ next.list.put.fits seen (omega (arith, c.in-Ok-open_list.ensures.first, c.len-in-Some.ensures, c.put_key.new.places.ok.0)) c.in-Ok-open_list.ensures.kind c.in-Ok-open_list.ensures.children
 
 -- ---- the end of a list
 
