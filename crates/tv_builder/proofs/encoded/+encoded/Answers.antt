@@ -32,12 +32,6 @@ put_encoded_array-loop-i-init t c = none_read _ _ _ _ _ _ _ refl c.requires c.in
 pub put_encoded_array-put_encoded-requires : goal.put_encoded_array-put_encoded-requires
 put_encoded_array-put_encoded-requires t c = (omega (arith, c.decreases, c.if-levels-eq0.false), c.loop-i.invariant.put.fits)
 
-pub put_encoded_array-returns-in_err-after-clause-prefix : goal.put_encoded_array-returns-in_err-after-clause-prefix
-put_encoded_array-returns-in_err-after-clause-prefix t c = prefix_then c.args.heap.now.items c.loop-i.heap.items c.put_encoded.new.heap.items c.loop-i.invariant.put.prefix c.in_err-after.ensures.prefix
-
-pub put_encoded_array-returns-in_default-clause-prefix : goal.put_encoded_array-returns-in_default-clause-prefix
-put_encoded_array-returns-in_default-clause-prefix t c = prefix_then c.args.heap.now.items c.loop-i.heap.items c.put_encoded.new.heap.items c.loop-i.invariant.put.prefix c.in_ok-after.ensures.prefix
-
 pub put_encoded_array-loop-i-preserved : goal.put_encoded_array-loop-i-preserved
 put_encoded_array-loop-i-preserved t c =
     let x = c.in_ok-after in
@@ -49,16 +43,10 @@ put_encoded_array-put_list-requires-clause-fits t c = c.loop-i.invariant.put.fit
 pub put_encoded_array-put_list-requires-clause-first : goal.put_encoded_array-put_list-requires-clause-first
 put_encoded_array-put_list-requires-clause-first t c = first_within _ _ _ _ _ _ c.loop-i.invariant.put (omega (arith, c.args.places.now.ok.0, c.len-first.ensures))
 
-pub put_encoded_array-returns-in_default-put_list-clause-prefix : goal.put_encoded_array-returns-in_default-put_list-clause-prefix
-put_encoded_array-returns-in_default-put_list-clause-prefix t c = prefix_then c.args.heap.now.items c.loop-i.heap.items c.put_list.new.heap.items c.loop-i.invariant.put.prefix c.in_default-put_list.ensures.err.prefix
-
 pub put_encoded_array-returns-clause-found : goal.put_encoded_array-returns-clause-found
 put_encoded_array-returns-clause-found t c =
     let start : c.len-first.result ≡ length c.args.places.now.items = omega (arith, c.args.places.now.ok.0, c.len-first.ensures) in
     array_encoded _ _ c.loop-i._i _ _ _ _ _ _ _ _ _ (omega (arith, c.loop-i-test.false)) c.loop-i.invariant start c.in-Ok-put_list.ensures.ok
-
-pub put_encoded_array-returns-clause-prefix : goal.put_encoded_array-returns-clause-prefix
-put_encoded_array-returns-clause-prefix t c = prefix_then c.args.heap.now.items c.loop-i.heap.items c.put_list.new.heap.items c.loop-i.invariant.put.prefix (_, c.in-Ok-put_list.ensures.ok.heap)
 
 pub put_encoded_array-returns-clause-places : goal.put_encoded_array-returns-clause-places
 put_encoded_array-returns-clause-places t c = other_places _ _ _ _ _ _ _ c.loop-i.invariant.put (omega (arith, c.args.places.now.ok.0, c.len-first.ensures)) c.in-Ok-put_list.ensures.places
@@ -71,23 +59,8 @@ put_encoded_object-loop-i-init t c = none_read _ _ _ _ _ _ _ refl c.requires c.i
 pub put_encoded_object-put_content-requires : goal.put_encoded_object-put_content-requires
 put_encoded_object-put_content-requires t c = c.loop-i.invariant.put.fits
 
-pub put_encoded_object-returns-in_err-key-clause-prefix : goal.put_encoded_object-returns-in_err-key-clause-prefix
-put_encoded_object-returns-in_err-key-clause-prefix t c = c.loop-i.invariant.put.prefix
-
-pub put_encoded_object-returns-in_err-name-clause-prefix : goal.put_encoded_object-returns-in_err-name-clause-prefix
-put_encoded_object-returns-in_err-name-clause-prefix t c = prefix_then c.args.heap.now.items c.loop-i.heap.items c.put_content.new.heap.items c.loop-i.invariant.put.prefix c.in_err-name.ensures.prefix
-
-pub put_encoded_object-returns-in_default-clause-prefix : goal.put_encoded_object-returns-in_default-clause-prefix
-put_encoded_object-returns-in_default-clause-prefix t c = prefix_then c.args.heap.now.items c.loop-i.heap.items c.put_content.new.heap.items c.loop-i.invariant.put.prefix c.in_ok-name.ensures.prefix
-
 pub put_encoded_object-put_encoded-requires : goal.put_encoded_object-put_encoded-requires
 put_encoded_object-put_encoded-requires t c = (omega (arith, c.decreases, c.if-levels-eq0.false), (c.in_ok-name.ensures.found.put (text c.in_ok-key.key.now) refl refl).fits)
-
-pub put_encoded_object-returns-in_err-after-clause-prefix : goal.put_encoded_object-returns-in_err-after-clause-prefix
-put_encoded_object-returns-in_err-after-clause-prefix t c = prefix_then c.args.heap.now.items c.put_content.new.heap.items c.put_encoded.new.heap.items (prefix_then c.args.heap.now.items c.loop-i.heap.items c.put_content.new.heap.items c.loop-i.invariant.put.prefix c.in_ok-name.ensures.prefix) c.in_err-after.ensures.prefix
-
-pub put_encoded_object-returns-in_default-push_place-clause-prefix : goal.put_encoded_object-returns-in_default-push_place-clause-prefix
-put_encoded_object-returns-in_default-push_place-clause-prefix t c = prefix_then c.args.heap.now.items c.put_content.new.heap.items c.put_encoded.new.heap.items (prefix_then c.args.heap.now.items c.loop-i.heap.items c.put_content.new.heap.items c.loop-i.invariant.put.prefix c.in_ok-name.ensures.prefix) c.in_ok-after.ensures.prefix
 
 pub put_encoded_object-loop-i-preserved : goal.put_encoded_object-loop-i-preserved
 put_encoded_object-loop-i-preserved t c =
@@ -101,16 +74,10 @@ put_encoded_object-put_list-requires-clause-fits t c = c.loop-i.invariant.put.fi
 pub put_encoded_object-put_list-requires-clause-first : goal.put_encoded_object-put_list-requires-clause-first
 put_encoded_object-put_list-requires-clause-first t c = first_within _ _ _ _ _ _ c.loop-i.invariant.put (omega (arith, c.args.places.now.ok.0, c.len-first.ensures))
 
-pub put_encoded_object-returns-in_default-put_list-clause-prefix : goal.put_encoded_object-returns-in_default-put_list-clause-prefix
-put_encoded_object-returns-in_default-put_list-clause-prefix t c = prefix_then c.args.heap.now.items c.loop-i.heap.items c.put_list.new.heap.items c.loop-i.invariant.put.prefix c.in_default-put_list.ensures.err.prefix
-
 pub put_encoded_object-returns-clause-found : goal.put_encoded_object-returns-clause-found
 put_encoded_object-returns-clause-found t c =
     let start : c.len-first.result ≡ length c.args.places.now.items = omega (arith, c.args.places.now.ok.0, c.len-first.ensures) in
     object_encoded _ _ c.loop-i._i _ _ _ _ _ _ _ _ _ (omega (arith, c.loop-i-test.false)) c.loop-i.invariant start c.in-Ok-put_list.ensures.ok
-
-pub put_encoded_object-returns-clause-prefix : goal.put_encoded_object-returns-clause-prefix
-put_encoded_object-returns-clause-prefix t c = prefix_then c.args.heap.now.items c.loop-i.heap.items c.put_list.new.heap.items c.loop-i.invariant.put.prefix (_, c.in-Ok-put_list.ensures.ok.heap)
 
 pub put_encoded_object-returns-clause-places : goal.put_encoded_object-returns-clause-places
 put_encoded_object-returns-clause-places t c = other_places _ _ _ _ _ _ _ c.loop-i.invariant.put (omega (arith, c.args.places.now.ok.0, c.len-first.ensures)) c.in-Ok-put_list.ensures.places
