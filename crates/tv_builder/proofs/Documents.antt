@@ -8,7 +8,7 @@ use Rattle.std.proofs.Math.Logic.{∥∥₁_elim, ∥∥₁_map}
 use Rattle.std.proofs.Math.Seq.{take-append_seam}
 use Rattle.std.proofs.Math.Nat.{ℕ_set}
 use base.Stored.{Coded-set}
-use Rattle.tv_format.specs.Tree.{Leaf, null, boolean, Tree, leaf, array, object, Elements, no_elements, element, Entries, no_entries, entry, Document}
+use Rattle.tv_format.specs.Tree.{Leaf, null, boolean, Tree, leaf, array, object, Document}
 use Rattle.tv_format.specs.TreeCode.{coded_document}
 use Rattle.tv_builder.specs.declared.heap_pairs.HeapPairs.{HeapPairs}
 use Rattle.tv_builder.specs.declared.heap_pair.HeapPair.{HeapPair}
@@ -17,12 +17,11 @@ use Rattle.tv_builder.specs.Holds.{pair_at, ReadsPair, ReadsPairs, Holds, one_do
 use Rattle.tv_heap.specs.Room.{room}
 use Rattle.tv_heap.specs.Weight.{tree_weight, document_weight}
 use Rattle.tv_heap.specs.TypeCode.{type_code}
-use Rattle.tv_base.specs.Parts.{short_sized}
 use Rattle.tv_base.specs.Sink.{IsPrefix}
 use Rattle.tv_heap.specs.Reads.{Reads}
 use Rattle.tv_heap.specs.declared.place.Place.{Place}
 use Rattle.tv_heap.proofs.Grown.{grown}
-use Rattle.tv_builder.specs.TreeBytes.{leaf_place, tree_heap, tree_place, elements_heap, entries_heap}
+use Rattle.tv_builder.specs.TreeBytes.{leaf_place, tree_place, elements_heap, entries_heap}
 use Rattle.tv_builder.specs.Whole.{Put}
 use Rattle.tv_builder.proofs.Giving.{prefix_length}
 use Rattle.tv_builder.proofs.Putting.{elements_prefix, entries_prefix, put_grows}

@@ -15,7 +15,7 @@ use Rattle.tv_builder.specs.declared.list_kind.ListKind.TheVariants.{Array, Obje
 use Rattle.tv_heap.specs.declared.place.Place.{Place}
 use Rattle.tv_builder.specs.Given.{place_bytes}
 use Rattle.tv_builder.specs.EncodedPut.{EncodedPut}
-use Rattle.tv_builder.specs.Whole.{Put, PutWith, ListPut}
+use Rattle.tv_builder.specs.Whole.{PutWith, ListPut}
 use Rattle.tv_value.proofs.Found.{leaf_begins}
 use Rattle.tv_builder.proofs.Grammar.{elements_counted, entries_counted}
 use Rattle.tv_builder.proofs.Putting.{ChildPut, ChildrenPut, none_put, one_child_more, all_put, items_make, members_make, flat_entries, flat_push}

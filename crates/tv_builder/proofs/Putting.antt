@@ -1,11 +1,11 @@
 -- How children that are written make a whole value.
-use Rattle.std.proofs.Common.{◌≡◌, ℕ, ◌+◌, ◌*◌, ◌≤◌, List, [], ◌∷◌, ◌++◌, length, map, take, drop, Option, Some, None, Result, Ok, Err, IfOk, OnOk, IfErr, IsErrAnd, refl, sym, ◌∙◌, ap, subst, append_assoc, length-append, arith}
+use Rattle.std.proofs.Common.{◌≡◌, ℕ, ◌*◌, ◌≤◌, List, [], ◌∷◌, ◌++◌, length, map, take, drop, Option, Some, None, Result, Ok, Err, IfOk, OnOk, IfErr, IsErrAnd, refl, sym, ◌∙◌, ap, subst, append_assoc, length-append, arith}
 use Rattle.std.proofs.lemmas.List.{append-nil}
 use Rattle.std.proofs.Math.Seq.{drop-append_seam, take-append_seam}
 use Rattle.tv_base.specs.Parts.{short_sized}
 use Rattle.tv_base.specs.Sink.{IsPrefix}
 use Rattle.tv_format.specs.Tree.{Leaf, text, Tree, leaf, array, object, Elements, no_elements, element, Entries, no_entries, entry, elements, entries, element_list, entry_list}
-use Rattle.tv_value.specs.Children.{Child, IsListOf, without_key, with_key}
+use Rattle.tv_value.specs.Children.{Child, IsListOf, without_key}
 use Rattle.tv_heap.specs.LeafBytes.{leaf_bytes}
 use Rattle.tv_heap.specs.Reads.{ReadsElements}
 use Rattle.tv_heap.specs.TypeCode.{type_code}

@@ -1,9 +1,8 @@
-use Rattle.std.proofs.Common.{◌≡◌, ◌++◌, [], ◌∷◌, length, take, refl, sym, ap, ◌∙◌, subst, arith, length-append, append-nil}
+use Rattle.std.proofs.Common.{◌≡◌, ◌++◌, ◌∷◌, length, refl, sym, ap, ◌∙◌, subst, arith}
 use Rattle.tv_format.specs.Tree.{text}
 use Rattle.tv_format.specs.WriteVersion.{written_version}
 use Rattle.tv_builder.specs.Given.{place_bytes}
 use Rattle.tv_builder.specs.EncodedPut.{EncodedPut}
-use Rattle.tv_builder.proofs.Giving.{prefix_then}
 use Rattle.tv_builder.proofs.Putting.{first_within, other_places}
 use Rattle.tv_builder.proofs.Encoding.{none_read, one_item, array_encoded, one_member, object_encoded}
 use Rattle.tv_builder.proofs.encoded.+encoded.Goals as goal
@@ -29,16 +28,10 @@ put_encoded-returns-in_ok-rest-in-13-clause-found t c =
 pub put_encoded_array-loop-i-init : goal.put_encoded_array-loop-i-init
 put_encoded_array-loop-i-init t c = none_read _ _ _ _ _ _ _ refl c.requires c.in_ok-announced.ensures.found
 
-pub put_encoded_array-put_encoded-requires : goal.put_encoded_array-put_encoded-requires
-put_encoded_array-put_encoded-requires t c = (omega (arith, c.decreases, c.if-levels-eq0.false), c.loop-i.invariant.put.fits)
-
 pub put_encoded_array-loop-i-preserved : goal.put_encoded_array-loop-i-preserved
 put_encoded_array-loop-i-preserved t c =
     let x = c.in_ok-after in
     one_item _ _ _ _ _ _ _ _ _ _ _ _ x.place c.loop-i.invariant x.ensures.found (c.in-Ok.ensures ∙ ap (λ z. z ++ place_bytes x.place) x.ensures.places)
-
-pub put_encoded_array-put_list-requires-clause-fits : goal.put_encoded_array-put_list-requires-clause-fits
-put_encoded_array-put_list-requires-clause-fits t c = c.loop-i.invariant.put.fits
 
 pub put_encoded_array-put_list-requires-clause-first : goal.put_encoded_array-put_list-requires-clause-first
 put_encoded_array-put_list-requires-clause-first t c = first_within _ _ _ _ _ _ c.loop-i.invariant.put (omega (arith, c.args.places.now.ok.0, c.len-first.ensures))
@@ -56,9 +49,6 @@ put_encoded_array-returns-clause-places t c = other_places _ _ _ _ _ _ _ c.loop-
 pub put_encoded_object-loop-i-init : goal.put_encoded_object-loop-i-init
 put_encoded_object-loop-i-init t c = none_read _ _ _ _ _ _ _ refl c.requires c.in_ok-announced.ensures
 
-pub put_encoded_object-put_content-requires : goal.put_encoded_object-put_content-requires
-put_encoded_object-put_content-requires t c = c.loop-i.invariant.put.fits
-
 pub put_encoded_object-put_encoded-requires : goal.put_encoded_object-put_encoded-requires
 put_encoded_object-put_encoded-requires t c = (omega (arith, c.decreases, c.if-levels-eq0.false), (c.in_ok-name.ensures.found.put (text c.in_ok-key.key.now) refl refl).fits)
 
@@ -67,9 +57,6 @@ put_encoded_object-loop-i-preserved t c =
     let k = c.in_ok-name in
     let x = c.in_ok-after in
     one_member _ _ _ _ _ _ _ _ _ _ _ _ _ _ _ _ x.place c.loop-i.invariant c.in_ok-key.ensures (k.name, k.ensures.found.put (text c.in_ok-key.key.now) refl refl, c.in-Ok.ensures) x.ensures.found (c.in-Ok-push_place.ensures ∙ ap (λ z. z ++ place_bytes x.place) x.ensures.places)
-
-pub put_encoded_object-put_list-requires-clause-fits : goal.put_encoded_object-put_list-requires-clause-fits
-put_encoded_object-put_list-requires-clause-fits t c = c.loop-i.invariant.put.fits
 
 pub put_encoded_object-put_list-requires-clause-first : goal.put_encoded_object-put_list-requires-clause-first
 put_encoded_object-put_list-requires-clause-first t c = first_within _ _ _ _ _ _ c.loop-i.invariant.put (omega (arith, c.args.places.now.ok.0, c.len-first.ensures))

@@ -4,7 +4,6 @@ use Rattle.std.proofs.lemmas.Int.{to_z-of_z}
 use Rattle.tv_format.specs.Content.{no_content, truth_content, unsigned_content, wide_content, text_content, bytes_content, tokens_content}
 use Rattle.tv_value.specs.PreTokenized.{text_of, tokens_of}
 use Rattle.tv_format.proofs.Prefixes.{begins_nothing}
-use Rattle.tv_builder.proofs.Giving.{prefix_same}
 use Rattle.tv_value.proofs.Found.{same_signed}
 use Rattle.tv_builder.proofs.Encoding.{leaf_encoded}
 use Rattle.tv_builder.proofs.encoded.put_encoded_leaf.Goals as goal

@@ -1,14 +1,14 @@
-use Rattle.std.proofs.Common.{◌≡◌, ◌≤◌, ◌+◌, suc, [], ◌∷◌, length, reverse, option_map, refl, sym, ◌∙◌, ap, subst, arith}
+use Rattle.std.proofs.Common.{reverse, refl, sym, ◌∙◌, ap, subst, arith}
 use Rattle.std.proofs.lemmas.List.{nil_from_length}
 use Rattle.tv_format.specs.Size.{size}
-use Rattle.tv_value.specs.Children.{children_left, children_size}
+use Rattle.tv_value.specs.Children.{children_size}
 use Rattle.tv_value.specs.Lent.{nested_tree}
 use Rattle.tv_value.proofs.ListChildren.{list_size}
 use Rattle.tv_builder.specs.Nested.{flat, ChildPut}
 use Rattle.tv_builder.specs.Whole.{PutNot}
 use Rattle.tv_builder.specs.declared.add_error.AddError.TheVariants.{Memory}
 use Rattle.tv_builder.proofs.Giving.{prefix_same}
-use Rattle.tv_builder.proofs.NestedLists.{Around, Within, around_refused, opens, goes_on, child_next, pushed, outer_goes_on, outermost_closes, left_size}
+use Rattle.tv_builder.proofs.NestedLists.{Around, around_refused, opens, goes_on, child_next, pushed, outer_goes_on, outermost_closes, left_size}
 use Rattle.tv_builder.proofs.Putting.{first_within, key_refused, list_closes, list_refused, memory_not, own_refused, put_grows, refused}
 use Rattle.tv_builder.proofs.nested.put_nested.Goals as goal
 
@@ -23,9 +23,6 @@ lists-init g c =
     opens _ _ _ _ _ _ c.requires alone (omega (arith, c.in-Ok.ensures.first, c.len.ensures, c.args.places.now.ok.0)) c.in-Ok.ensures.kind c.in-Ok.ensures.children
 
 -- ---- a child
-
-pub put_key-requires : goal.put_key-requires
-put_key-requires g c = c.lists.invariant.list.put.fits
 
 pub returns-in_err-put_key : goal.returns-in_err-put_key
 returns-in_err-put_key g c =
@@ -79,9 +76,6 @@ lists-preserved-in-Ok-open_list g c =
     opens _ _ _ _ _ _ next.list.put.fits seen (omega (arith, c.in-Ok-open_list.ensures.first, c.len-in-Some.ensures, c.put_key.new.places.ok.0)) c.in-Ok-open_list.ensures.kind c.in-Ok-open_list.ensures.children
 
 -- ---- the end of a list
-
-pub put_list-requires-clause-fits : goal.put_list-requires-clause-fits
-put_list-requires-clause-fits g c = c.lists.invariant.list.put.fits
 
 pub put_list-requires-clause-first : goal.put_list-requires-clause-first
 put_list-requires-clause-first g c = first_within _ _ _ _ _ _ c.lists.invariant.list.put c.lists.invariant.begins

@@ -49,9 +49,6 @@ put_array-loop-item-preserved g t c =
     let placed = c.in_ok-push_place.ensures ∙ ap (λ z. z ++ place_bytes x.place) x.ensures.1 in
     (list_goes_on _ _ _ _ _ _ _ _ _ _ _ l.invariant.0 first (x.place, x.ensures.0, placed), omega (arith, l.invariant.1, ap (λ z. elements_size (elements z)) step))
 
-pub put_array-put_list-requires-clause-fits : goal.put_array-put_list-requires-clause-fits
-put_array-put_list-requires-clause-fits g t c = c.loop-item.invariant.0.put.fits
-
 pub put_array-put_list-requires-clause-first : goal.put_array-put_list-requires-clause-first
 put_array-put_list-requires-clause-first g t c = first_within _ _ _ _ _ _ c.loop-item.invariant.0.put (omega (arith, c.args.places.now.ok.0, c.len-first.ensures))
 
@@ -71,9 +68,6 @@ put_object-loop-key-init g t c =
     let start = c.args.places.now.items in
     let whole = ap g.N.Nested.object_rest c.into_iter-key-iterator.ensures.into_iter_gives in
     subst (λ z. ListOpen Object old start (object (entries all)) old start (flat_entries z) × (entries_size (entries z) ≤ entries_size (entries all))) (sym whole) (list_opens _ _ _ _ _ c.requires (members_make all), omega arith)
-
-pub put_object-put_single-requires : goal.put_object-put_single-requires
-put_object-put_single-requires g t c = c.loop-key.invariant.0.put.fits
 
 pub put_object-returns-in_err-put_single : goal.put_object-returns-in_err-put_single
 put_object-returns-in_err-put_single g t c =
@@ -105,9 +99,6 @@ put_object-loop-key-preserved g t c =
     let placed = c.in_ok-push_place.ensures ∙ ap (λ z. z ++ place_bytes x.place) x.ensures.1 in
     (list_goes_on _ _ _ _ _ _ _ _ _ _ _ keyed refl (x.place, x.ensures.0, placed), omega (arith, l.invariant.1, ap (λ z. entries_size (entries z)) step))
 
-pub put_object-put_list-requires-clause-fits : goal.put_object-put_list-requires-clause-fits
-put_object-put_list-requires-clause-fits g t c = c.loop-key.invariant.0.put.fits
-
 pub put_object-put_list-requires-clause-first : goal.put_object-put_list-requires-clause-first
 put_object-put_list-requires-clause-first g t c = first_within _ _ _ _ _ _ c.loop-key.invariant.0.put (omega (arith, c.args.places.now.ok.0, c.len-first.ensures))
 
@@ -119,9 +110,6 @@ put_object-returns g t c =
     list_puts _ _ _ _ _ _ _ _ _ _ _ c.loop-key.invariant.0 (ap flat_entries done.0) start e.ok e.places e.err
 
 -- ---- values of any kind
-
-pub put_tree-put_leaf-requires : goal.put_tree-put_leaf-requires
-put_tree-put_leaf-requires g t c = c.requires
 
 pub put_tree-returns-in-Leaf : goal.put_tree-returns-in-Leaf
 put_tree-returns-in-Leaf g t c =
