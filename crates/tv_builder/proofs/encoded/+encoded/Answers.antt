@@ -3,6 +3,7 @@ use Rattle.tv_format.specs.Tree.{text}
 use Rattle.tv_format.specs.WriteVersion.{written_version}
 use Rattle.tv_builder.specs.Given.{place_bytes}
 use Rattle.tv_builder.specs.EncodedPut.{EncodedPut}
+use Rattle.tv_builder.proofs.Giving.{prefix_then}
 use Rattle.tv_builder.proofs.Putting.{first_within, other_places}
 use Rattle.tv_builder.proofs.Encoding.{none_read, one_item, array_encoded, one_member, object_encoded}
 use Rattle.tv_builder.proofs.encoded.+encoded.Goals as goal
@@ -51,6 +52,12 @@ put_encoded_object-loop-i-init t c = none_read _ _ _ _ _ _ _ refl c.requires c.i
 
 pub put_encoded_object-put_encoded-requires : goal.put_encoded_object-put_encoded-requires
 put_encoded_object-put_encoded-requires t c = (omega (arith, c.decreases, c.if-levels-eq0.false), (c.in_ok-name.ensures.found.put (text c.in_ok-key.key.now) refl refl).fits)
+
+pub put_encoded_object-returns-in_err-after-clause-prefix : goal.put_encoded_object-returns-in_err-after-clause-prefix
+put_encoded_object-returns-in_err-after-clause-prefix t c = prefix_then c.args.heap.now.items c.put_content.new.heap.items c.put_encoded.new.heap.items (prefix_then c.args.heap.now.items c.loop-i.heap.items c.put_content.new.heap.items c.loop-i.invariant.put.prefix c.in_ok-name.ensures.prefix) c.in_err-after.ensures.prefix
+
+pub put_encoded_object-returns-in_default-push_place-clause-prefix : goal.put_encoded_object-returns-in_default-push_place-clause-prefix
+put_encoded_object-returns-in_default-push_place-clause-prefix t c = prefix_then c.args.heap.now.items c.put_content.new.heap.items c.put_encoded.new.heap.items (prefix_then c.args.heap.now.items c.loop-i.heap.items c.put_content.new.heap.items c.loop-i.invariant.put.prefix c.in_ok-name.ensures.prefix) c.in_ok-after.ensures.prefix
 
 pub put_encoded_object-loop-i-preserved : goal.put_encoded_object-loop-i-preserved
 put_encoded_object-loop-i-preserved t c =
