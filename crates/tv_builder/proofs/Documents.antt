@@ -18,7 +18,7 @@ use Rattle.tv_heap.specs.Room.{room}
 use Rattle.tv_heap.specs.Weight.{tree_weight, document_weight}
 use Rattle.tv_heap.specs.TypeCode.{type_code}
 use Rattle.tv_base.specs.Sink.{IsPrefix}
-use Rattle.tv_heap.specs.Reads.{Reads}
+use Rattle.tv_heap.specs.Reads.{ReadsTree}
 use Rattle.tv_heap.specs.declared.place.Place.{Place}
 use Rattle.tv_heap.proofs.Grown.{grown}
 use Rattle.tv_builder.specs.TreeBytes.{leaf_place, tree_place, elements_heap, entries_heap}
@@ -71,7 +71,7 @@ tree_behind heap (leaf l) some other = leaf_behind (length heap) l some other
 tree_behind heap (array ts) some other = prefix_length heap (elements_heap heap ts) (elements_prefix heap ts)
 tree_behind heap (object es) some other = prefix_length heap (entries_heap heap es) (entries_prefix heap es)
 
-placed_reads : (old new : List ℕ) (at : Place) (t : Tree) → Put old t new at → Reads new (type_code at.value_type) at.address t
+placed_reads : (old new : List ℕ) (at : Place) (t : Tree) → Put old t new at → ReadsTree new (type_code at.value_type) at.address t
 placed_reads old new at t w = let placed = w.placed in placed.reads
 
 -- it grew by the tree's room at most

@@ -21,7 +21,7 @@ use Rattle.tv_builder.specs.Given.{place_bytes}
 use Rattle.tv_builder.specs.Kinds.{list_type, total}
 pub use Rattle.tv_builder.specs.Nested.{flat, flat_entries, IsOfKind, ChildPut, KeyNotPut}
 use Rattle.tv_builder.specs.Shows.{Placed}
-use Rattle.tv_builder.specs.State.{pairs_of, list_tree, AreEntries, AreChildren}
+use Rattle.tv_builder.specs.State.{pairs_of, list_tree, StartsWithKey, AreChildren}
 use Rattle.tv_builder.specs.TreeBytes.{leaf_place, tree_heap, tree_place, elements_heap, elements_places, entries_heap, entries_places}
 use Rattle.tv_builder.specs.Whole.{Put, PutNot, Puts, WhyUnwritten, ListPut, ListPutNot}
 use Rattle.tv_builder.proofs.Children.{list_placed}
@@ -118,7 +118,7 @@ pub flat_length : (es : List (List ℕ × Tree)) → length (flat_entries es) �
 flat_length [] = refl
 flat_length (e ∷ es) = omega (arith, flat_length es)
 
-flat_are : (es : List (List ℕ × Tree)) → AreEntries (flat_entries es)
+flat_are : (es : List (List ℕ × Tree)) → StartsWithKey (flat_entries es)
 flat_are [] = tt
 flat_are (e ∷ es) = (tt, flat_are es)
 
