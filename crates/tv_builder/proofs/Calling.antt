@@ -9,7 +9,7 @@ use Rattle.tv_builder.specs.Called.{parts_called, elements_called, entries_calle
 use Rattle.tv_builder.specs.Kinds.{total}
 use Rattle.tv_builder.specs.State.{OpenList, State, complete, in_lists, in_bytes, awaited, with_value, with_list, and_value, list_tree}
 use Rattle.tv_builder.proofs.Giving.{value_waits, value_closes}
-use Rattle.tv_builder.proofs.Putting.{flat, flat_length, flat_tree, flat_push}
+use Rattle.tv_builder.proofs.Putting.{flat_entries, flat_length, flat_tree, flat_push}
 
 -- ---- children that came before others
 
@@ -68,16 +68,16 @@ mutual
       ap (λ z. with_value ls (array z)) (next_element done t (element u us))
 
   entries_come : (es : Entries) (done : List (List ℕ × Tree)) (ls : List OpenList) (n : ℕ) → 0 < entry_count es → length done + entry_count es ≡ n
-      → entries_called (in_lists (list_of Object n (flat done) ∷ ls)) es ≡ with_value ls (object (with_entries done es))
+      → entries_called (in_lists (list_of Object n (flat_entries done) ∷ ls)) es ≡ with_value ls (object (with_entries done es))
   entries_come no_entries done ls n some all = absurd (omega (arith, some))
   entries_come (entry k t no_entries) done ls n some all =
-      let keyed = list_of Object n (flat done ++ leaf (text k) ∷ []) in
-      let counted = length-append (flat done) (leaf (text k) ∷ []) in
+      let keyed = list_of Object n (flat_entries done ++ leaf (text k) ∷ []) in
+      let counted = length-append (flat_entries done) (leaf (text k) ∷ []) in
       parts_are t (keyed ∷ ls) ∙ value_closes keyed ls t (le-ltb (suc (length keyed.children)) (total Object n) (omega (arith, all, counted, flat_length done))) ∙
       ap (λ z. with_value ls (list_tree Object z)) (flat_push done k t) ∙ ap (λ z. with_value ls z) (flat_tree (done ++ (k, t) ∷ [])) ∙ ap (λ z. with_value ls (object z)) (last_entry done k t)
   entries_come (entry k t (entry l u es)) done ls n some all =
-      let keyed = list_of Object n (flat done ++ leaf (text k) ∷ []) in
-      let counted = length-append (flat done) (leaf (text k) ∷ []) in
+      let keyed = list_of Object n (flat_entries done ++ leaf (text k) ∷ []) in
+      let counted = length-append (flat_entries done) (leaf (text k) ∷ []) in
       ap (λ s. entries_called s (entry l u es)) (parts_are t (keyed ∷ ls) ∙ value_waits keyed ls t (lt-ltb (suc (length keyed.children)) (total Object n) (omega (arith, all, counted, flat_length done))) ∙
       ap (λ z. in_lists (list_of Object n z ∷ ls)) (flat_push done k t)) ∙
       entries_come (entry l u es) (done ++ (k, t) ∷ []) ls n (omega arith) (omega (arith, all, length-append done ((k, t) ∷ []))) ∙

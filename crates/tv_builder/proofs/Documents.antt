@@ -8,7 +8,7 @@ use Rattle.std.proofs.Math.Logic.{∥∥₁_elim, ∥∥₁_map}
 use Rattle.std.proofs.Math.Seq.{take-append_seam}
 use Rattle.std.proofs.Math.Nat.{ℕ_set}
 use base.Stored.{Coded-set}
-use Rattle.tv_format.specs.Tree.{Leaf, null, boolean, Tree, leaf, array, object, Elements, no_elements, element, Entries, no_entries, entry, Document}
+use Rattle.tv_format.specs.Tree.{Leaf, null, boolean, Tree, leaf, array, object, Document}
 use Rattle.tv_format.specs.TreeCode.{coded_document}
 use Rattle.tv_builder.specs.declared.heap_pairs.HeapPairs.{HeapPairs}
 use Rattle.tv_builder.specs.declared.heap_pair.HeapPair.{HeapPair}
@@ -17,15 +17,14 @@ use Rattle.tv_builder.specs.Holds.{pair_at, ReadsPair, ReadsPairs, Holds, one_do
 use Rattle.tv_heap.specs.Room.{room}
 use Rattle.tv_heap.specs.Weight.{tree_weight, document_weight}
 use Rattle.tv_heap.specs.TypeCode.{type_code}
-use Rattle.tv_base.specs.Parts.{short_sized}
 use Rattle.tv_base.specs.Sink.{IsPrefix}
 use Rattle.tv_heap.specs.Reads.{ReadsTree}
 use Rattle.tv_heap.specs.declared.place.Place.{Place}
 use Rattle.tv_heap.proofs.Grown.{grown}
-use Rattle.tv_builder.specs.TreeBytes.{leaf_place, tree_heap, tree_place, elements_heap, entries_heap}
+use Rattle.tv_builder.specs.TreeBytes.{leaf_place, tree_place, elements_heap, entries_heap}
 use Rattle.tv_builder.specs.Whole.{Put}
 use Rattle.tv_builder.proofs.Giving.{prefix_length}
-use Rattle.tv_builder.proofs.Putting.{tree_prefix, put_grows}
+use Rattle.tv_builder.proofs.Putting.{elements_prefix, entries_prefix, put_grows}
 use Rattle.tv_builder.proofs.Within.{tree_within, tree_within_room}
 
 -- one heap and one list of pairs hold one document
@@ -62,16 +61,6 @@ pairs_push heap (q ∷ ps) [] p x r t = absurd r
 
 -- ---- a whole value stands behind the old heap
 
-elements_longer : (heap : List ℕ) (ts : Elements) → length heap ≤ length (elements_heap heap ts)
-elements_longer heap no_elements = omega arith
-elements_longer heap (element t ts) = omega (arith, prefix_length heap (tree_heap heap t) (tree_prefix heap t), elements_longer (tree_heap heap t) ts)
-
-entries_longer : (heap : List ℕ) (es : Entries) → length heap ≤ length (entries_heap heap es)
-entries_longer heap no_entries = omega arith
-entries_longer heap (entry k t es) =
-    let mid = heap ++ short_sized k in
-    omega (arith, length-append heap (short_sized k), prefix_length mid (tree_heap mid t) (tree_prefix mid t), entries_longer (tree_heap mid t) es)
-
 leaf_behind : (len : ℕ) (l : Leaf) → type_code (leaf_place len l).value_type ≢ 0 → type_code (leaf_place len l).value_type ≢ 9 → len ≤ (leaf_place len l).address
 leaf_behind len null some other = absurd (some refl)
 leaf_behind len (boolean b) some other = absurd (other refl)
@@ -79,8 +68,8 @@ leaf_behind len _ some other = omega arith
 
 tree_behind : (heap : List ℕ) (t : Tree) → type_code (tree_place heap t).value_type ≢ 0 → type_code (tree_place heap t).value_type ≢ 9 → length heap ≤ (tree_place heap t).address
 tree_behind heap (leaf l) some other = leaf_behind (length heap) l some other
-tree_behind heap (array ts) some other = elements_longer heap ts
-tree_behind heap (object es) some other = entries_longer heap es
+tree_behind heap (array ts) some other = prefix_length heap (elements_heap heap ts) (elements_prefix heap ts)
+tree_behind heap (object es) some other = prefix_length heap (entries_heap heap es) (entries_prefix heap es)
 
 placed_reads : (old new : List ℕ) (at : Place) (t : Tree) → Put old t new at → ReadsTree new (type_code at.value_type) at.address t
 placed_reads old new at t w = let placed = w.placed in placed.reads

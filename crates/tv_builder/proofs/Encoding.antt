@@ -1,9 +1,7 @@
 -- How values that stand encoded in bytes are written.
-use Rattle.std.proofs.Common.{◌≡◌, ℕ, ◌+◌, ◌≤◌, List, [], ◌∷◌, ◌++◌, length, refl, sym, ◌∙◌, ap, subst, append_assoc, length-append, arith, inl}
-use Rattle.std.proofs.lemmas.List.{append-nil}
-use Rattle.tv_base.specs.Number.{VNum, vnum}
-use Rattle.tv_base.specs.Parts.{Begins, Then, Each, short_sized}
-use Rattle.tv_base.specs.Sink.{IsPrefix}
+use Rattle.std.proofs.Common.{◌≡◌, ℕ, ◌+◌, ◌≤◌, List, [], ◌∷◌, ◌++◌, length, drop, refl, sym, ◌∙◌, ap, subst, append_assoc, length-append, arith, inl}
+use Rattle.tv_base.specs.Number.{VNum}
+use Rattle.tv_base.specs.Parts.{Begins, Then, Each}
 use Rattle.tv_format.specs.Content.{Content, form_of}
 use Rattle.tv_format.specs.Leaves.{form, store_code}
 use Rattle.tv_format.specs.declared.leaf_type.LeafType.{LeafType}
@@ -17,11 +15,10 @@ use Rattle.tv_builder.specs.declared.list_kind.ListKind.TheVariants.{Array, Obje
 use Rattle.tv_heap.specs.declared.place.Place.{Place}
 use Rattle.tv_builder.specs.Given.{place_bytes}
 use Rattle.tv_builder.specs.EncodedPut.{EncodedPut}
-use Rattle.tv_builder.specs.TreeBytes.{tree_heap, tree_place, elements_heap, elements_places, entries_heap, entries_places}
-use Rattle.tv_builder.specs.Whole.{Put, PutWith, ListPut}
+use Rattle.tv_builder.specs.Whole.{PutWith, ListPut}
 use Rattle.tv_value.proofs.Found.{leaf_begins}
 use Rattle.tv_builder.proofs.Grammar.{elements_counted, entries_counted}
-use Rattle.tv_builder.proofs.Putting.{Children, no_children, children_push, put_grows, ArrayPut, array_put, ObjectPut, object_put, flat, flat_append}
+use Rattle.tv_builder.proofs.Putting.{ChildPut, ChildrenPut, none_put, one_child_more, all_put, items_make, members_make, flat_entries, flat_push}
 
 -- ---- a leaf
 
@@ -31,8 +28,38 @@ leaf_encoded version t c code bytes rest old new p is formed begins put =
     let m = leaf_begins version t c code bytes rest is formed begins in
     record { tree = leaf m.0; encoded = m.2; put = put.put m.0 m.1.0 m.1.1 }
 
-pub encoded_grows : (v : Version) (whole rest old new : List ℕ) (p : Place) → EncodedPut v whole rest old new p → IsPrefix old new
-encoded_grows v whole rest old new p s = put_grows old s.tree new p s.put
+-- ---- lists
+
+-- So many children, of a list that announces a total, were read behind that number, and written.
+pub record ReadPut {T : Type 0} (Child : List ℕ → T → Type 0) (trees : List T → List Tree) (total count : ℕ) (bytes rest old before heap places : List ℕ) : Type 0 where
+  pub behind : List ℕ
+  pub number : Begins (λ b. VNum b total) bytes behind
+  pub done : List T
+  pub counted : length done ≡ count
+  pub encoded : Begins (λ b. Each Child b done) behind rest
+  pub put : ChildrenPut old before (trees done) heap places
+
+pub none_read : {T : Type 0} (Child : List ℕ → T → Type 0) (trees : List T → List Tree) (total : ℕ) (bytes behind heap places : List ℕ) → trees [] ≡ [] → length heap ≤ 4294967295 → Begins (λ b. VNum b total) bytes behind
+    → ReadPut Child trees total 0 bytes behind heap places heap places
+none_read Child trees total bytes behind heap places none fits number = record {
+  behind = behind;
+  number = number;
+  done = [];
+  counted = refl;
+  encoded = begins_nothing behind refl;
+  put = subst (λ z. ChildrenPut heap places z heap places) (sym none) (none_put heap places fits);
+}
+
+pub one_read : {T : Type 0} (Child : List ℕ → T → Type 0) (trees : List T → List Tree) (total n : ℕ) (bytes rest after old before heap places new later : List ℕ) (child : T) (s : ReadPut Child trees total n bytes rest old before heap places)
+    → Begins (λ b. Child b child) rest after → ChildrenPut old before (trees (s.done ++ child ∷ [])) new later → ReadPut Child trees total (n + 1) bytes after old before new later
+one_read Child trees total n bytes rest after old before heap places new later child s encoded put = record {
+  behind = s.behind;
+  number = s.number;
+  done = s.done ++ child ∷ [];
+  counted = omega (arith, s.counted, length-append s.done (child ∷ []));
+  encoded = begins_item Child s.done child s.behind rest after s.encoded encoded;
+  put = put;
+}
 
 -- ---- arrays
 
@@ -43,54 +70,23 @@ items_encode : (v : Version) (ts : List Tree) (b : List ℕ) → Each (Item v) b
 items_encode v [] b p = p
 items_encode v (t ∷ ts) b p = record { prefix = p.prefix; rest = p.rest; joined = p.joined; first = p.first; second = items_encode v ts p.rest p.second }
 
-elements_heap_more : (heap : List ℕ) (ts : List Tree) (t : Tree) → elements_heap heap (elements (ts ++ t ∷ [])) ≡ tree_heap (elements_heap heap (elements ts)) t
-elements_heap_more heap [] t = refl
-elements_heap_more heap (u ∷ ts) t = elements_heap_more (tree_heap heap u) ts t
+abbrev pub ItemsPut : Version → ℕ → ℕ → List ℕ → List ℕ → List ℕ → List ℕ → List ℕ → List ℕ → Type 0
+ItemsPut v announced = ReadPut (Item v) (λ ts. ts) announced
 
-elements_places_more : (heap : List ℕ) (ts : List Tree) (t : Tree) → elements_places heap (elements (ts ++ t ∷ [])) ≡ elements_places heap (elements ts) ++ place_bytes (tree_place (elements_heap heap (elements ts)) t)
-elements_places_more heap [] t = append-nil (place_bytes (tree_place heap t))
-elements_places_more heap (u ∷ ts) t =
-    let first = place_bytes (tree_place heap u) in
-    ap (λ z. first ++ z) (elements_places_more (tree_heap heap u) ts t) ∙ sym (append_assoc first (elements_places (tree_heap heap u) (elements ts)) (place_bytes (tree_place (elements_heap (tree_heap heap u) (elements ts)) t)))
+pub one_item : (v : Version) (announced n : ℕ) (bytes rest after old before heap places new later : List ℕ) (p : Place) → ItemsPut v announced n bytes rest old before heap places → EncodedPut v rest after heap new p → later ≡ places ++ place_bytes p
+    → ItemsPut v announced (n + 1) bytes after old before new later
+one_item v announced n bytes rest after old before heap places new later p s w e =
+    one_read (Item v) (λ ts. ts) announced n bytes rest after old before heap places new later w.tree s w.encoded (one_child_more old before heap places new later s.done w.tree s.put (p, w.put, e))
 
--- So many elements of those that are announced were read behind their number, and written.
-pub record ItemsPut (v : Version) (announced count : ℕ) (bytes rest old heap list : List ℕ) : Type 0 where
-  pub behind : List ℕ
-  pub number : Begins (λ b. VNum b announced) bytes behind
-  pub done : List Tree
-  pub counted : length done ≡ count
-  pub encoded : Begins (λ b. Each (Item v) b done) behind rest
-  pub children : Children old heap list done
-  pub heap_is : elements_heap old (elements done) ≡ heap
-  pub places_are : elements_places old (elements done) ≡ list
-
-pub no_items : (v : Version) (announced : ℕ) (bytes behind heap : List ℕ) → length heap ≤ 4294967295 → Begins (λ b. VNum b announced) bytes behind → ItemsPut v announced 0 bytes behind heap heap []
-no_items v announced bytes behind heap fits number = record { behind = behind; number = number; done = []; counted = refl; encoded = begins_nothing behind refl; children = no_children heap fits; heap_is = refl; places_are = refl }
-
-pub one_item : (v : Version) (announced n : ℕ) (bytes rest after old heap list new : List ℕ) (p : Place) → ItemsPut v announced n bytes rest old heap list → EncodedPut v rest after heap new p → ItemsPut v announced (n + 1) bytes after old new (list ++ place_bytes p)
-one_item v announced n bytes rest after old heap list new p s w =
-    let t = w.tree in
-    record {
-      behind = s.behind;
-      number = s.number;
-      done = s.done ++ t ∷ [];
-      counted = omega (arith, s.counted, length-append s.done (t ∷ []));
-      encoded = begins_item (Item v) s.done t s.behind rest after s.encoded w.encoded;
-      children = children_push old heap list new s.done t p s.children w.put;
-      heap_is = elements_heap_more old s.done t ∙ ap (λ z. tree_heap z t) s.heap_is ∙ sym w.put.heap;
-      places_are = elements_places_more old s.done t ∙ (λ i. s.places_are i ++ place_bytes (tree_place (s.heap_is i) t)) ∙ ap (λ q. list ++ place_bytes q) (sym w.put.place);
-    }
-
-pub array_encoded : (v : Version) (announced n : ℕ) (bytes rest old heap list new own : List ℕ) (p : Place) → announced ≡ n → ItemsPut v announced n bytes rest old heap list → own ≡ list → ListPut heap Array own new p → EncodedPut v (12 ∷ bytes) rest old new p
-array_encoded v announced n bytes rest old heap list new own p all_read s is written =
-    let w = subst (λ z. ListPut heap Array z new p) is written in
+pub array_encoded : (v : Version) (announced n m : ℕ) (bytes rest old before heap places new : List ℕ) (p : Place) → announced ≡ n → ItemsPut v announced n bytes rest old before heap places → m ≡ length before → ListPut heap Array (drop m places) new p
+    → EncodedPut v (12 ∷ bytes) rest old new p
+array_encoded v announced n m bytes rest old before heap places new p all_read s is w =
     let many : announced ≡ element_count (elements s.done) = all_read ∙ sym s.counted ∙ sym (elements_counted NoLegacy v s.done) in
-    let all : ArrayPut old heap list [] s.done = record { done = s.done; whole = append-nil s.done; children = s.children; heap_is = s.heap_is; places_are = s.places_are ∙ sym (append-nil list); smaller = omega arith } in
     let items : Begins (λ b. EncodesElements NoLegacy v b (elements s.done)) s.behind rest = record { prefix = s.encoded.prefix; joined = s.encoded.joined; encoded = items_encode v s.done s.encoded.prefix s.encoded.encoded } in
     record {
       tree = array (elements s.done);
       encoded = begins_behind 12 bytes rest (begins_then bytes s.behind rest (subst (λ m. Begins (λ b. VNum b m) bytes s.behind) many s.number) items);
-      put = array_put old heap list new [] s.done p all refl w;
+      put = all_put Array old before heap places new s.done (array (elements s.done)) m p (items_make s.done) s.put is w;
     }
 
 -- ---- objects
@@ -110,66 +106,24 @@ members_encode v (e ∷ es) b p =
       second = record { prefix = m.rest; rest = p.rest; joined = refl; first = m.second; second = members_encode v es p.rest p.second };
     }
 
-entries_heap_more : (heap : List ℕ) (es : List (List ℕ × Tree)) (k : List ℕ) (t : Tree) → entries_heap heap (entries (es ++ (k, t) ∷ [])) ≡ tree_heap (entries_heap heap (entries es) ++ short_sized k) t
-entries_heap_more heap [] k t = refl
-entries_heap_more heap (e ∷ es) k t = entries_heap_more (tree_heap (heap ++ short_sized e.0) e.1) es k t
+abbrev pub MembersPut : Version → ℕ → ℕ → List ℕ → List ℕ → List ℕ → List ℕ → List ℕ → List ℕ → Type 0
+MembersPut v announced = ReadPut (Member v) flat_entries (entry_total v announced)
 
--- the places of one entry more
-abbrev entry_places : List ℕ → List ℕ → Tree → List ℕ
-entry_places heap k t = (1 ∷ vnum (length heap)) ++ place_bytes (tree_place (heap ++ short_sized k) t)
+pub one_member : (v : Version) (announced n : ℕ) (bytes rest between after old before heap places mid now new later k : List ℕ) (p : Place) → MembersPut v announced n bytes rest old before heap places → Begins (λ b. Key v b k) rest between
+    → ChildPut heap places (leaf (text k)) mid now → EncodedPut v between after mid new p → later ≡ now ++ place_bytes p → MembersPut v announced (n + 1) bytes after old before new later
+one_member v announced n bytes rest between after old before heap places mid now new later k p s key named w e =
+    let keyed = one_child_more old before heap places mid now (flat_entries s.done) (leaf (text k)) s.put named in
+    let both = one_child_more old before mid now new later (flat_entries s.done ++ leaf (text k) ∷ []) w.tree keyed (p, w.put, e) in
+    one_read (Member v) flat_entries (entry_total v announced) n bytes rest after old before heap places new later (k, w.tree) s (begins_then rest between after key w.encoded) (subst (λ z. ChildrenPut old before z new later) (flat_push s.done k w.tree) both)
 
-entries_places_more : (heap : List ℕ) (es : List (List ℕ × Tree)) (k : List ℕ) (t : Tree) → entries_places heap (entries (es ++ (k, t) ∷ [])) ≡ entries_places heap (entries es) ++ entry_places (entries_heap heap (entries es)) k t
-entries_places_more heap [] k t = ap (λ z. (1 ∷ vnum (length heap)) ++ z) (append-nil (place_bytes (tree_place (heap ++ short_sized k) t)))
-entries_places_more heap (e ∷ es) k t =
-    let next = tree_heap (heap ++ short_sized e.0) e.1 in
-    let name = 1 ∷ vnum (length heap) in
-    let first = place_bytes (tree_place (heap ++ short_sized e.0) e.1) in
-    let others = entries_places next (entries es) in
-    let last = entry_places (entries_heap next (entries es)) k t in
-    ap (λ z. name ++ (first ++ z)) (entries_places_more next es k t) ∙ ap (λ z. name ++ z) (sym (append_assoc first others last)) ∙ sym (append_assoc name (first ++ others) last)
-
--- So many entries of those that are announced were read behind their number, and written.
-pub record MembersPut (v : Version) (announced count : ℕ) (bytes rest old heap list : List ℕ) : Type 0 where
-  pub behind : List ℕ
-  pub number : Begins (λ b. VNum b (entry_total v announced)) bytes behind
-  pub done : List (List ℕ × Tree)
-  pub counted : length done ≡ count
-  pub encoded : Begins (λ b. Each (Member v) b done) behind rest
-  pub children : Children old heap list (flat done)
-  pub heap_is : entries_heap old (entries done) ≡ heap
-  pub places_are : entries_places old (entries done) ≡ list
-
-pub no_members : (v : Version) (announced : ℕ) (bytes behind heap : List ℕ) → length heap ≤ 4294967295 → Begins (λ b. VNum b (entry_total v announced)) bytes behind → MembersPut v announced 0 bytes behind heap heap []
-no_members v announced bytes behind heap fits number = record { behind = behind; number = number; done = []; counted = refl; encoded = begins_nothing behind refl; children = no_children heap fits; heap_is = refl; places_are = refl }
-
-pub one_member : (v : Version) (announced n : ℕ) (bytes rest between after old heap list mid new k : List ℕ) (q p : Place) → MembersPut v announced n bytes rest old heap list → Begins (λ b. Key v b k) rest between → Put heap (leaf (text k)) mid q
-    → EncodedPut v between after mid new p → MembersPut v announced (n + 1) bytes after old new ((list ++ place_bytes q) ++ place_bytes p)
-one_member v announced n bytes rest between after old heap list mid new k q p s key named w =
-    let t = w.tree in
-    let keyed = children_push old heap list mid (flat s.done) (leaf (text k)) q s.children named in
-    let both = children_push old mid (list ++ place_bytes q) new (flat s.done ++ leaf (text k) ∷ []) t p keyed w.put in
-    let same_done : (flat s.done ++ leaf (text k) ∷ []) ++ t ∷ [] ≡ flat (s.done ++ (k, t) ∷ []) = append_assoc (flat s.done) (leaf (text k) ∷ []) (t ∷ []) ∙ sym (flat_append s.done ((k, t) ∷ [])) in
-    record {
-      behind = s.behind;
-      number = s.number;
-      done = s.done ++ (k, t) ∷ [];
-      counted = omega (arith, s.counted, length-append s.done ((k, t) ∷ []));
-      encoded = begins_item (Member v) s.done (k, t) s.behind rest after s.encoded (begins_then rest between after key w.encoded);
-      children = subst (Children old new ((list ++ place_bytes q) ++ place_bytes p)) same_done both;
-      heap_is = entries_heap_more old s.done k t ∙ ap (λ z. tree_heap (z ++ short_sized k) t) s.heap_is ∙ ap (λ z. tree_heap z t) (sym named.heap) ∙ sym w.put.heap;
-      places_are = entries_places_more old s.done k t ∙ (λ i. s.places_are i ++ entry_places (s.heap_is i) k t) ∙ (λ i. list ++ (place_bytes (sym named.place i) ++ place_bytes (tree_place (sym named.heap i) t))) ∙
-          ap (λ z. list ++ (place_bytes q ++ place_bytes z)) (sym w.put.place) ∙ sym (append_assoc list (place_bytes q) (place_bytes p));
-    }
-
-pub object_encoded : (v : Version) (announced n : ℕ) (bytes rest old heap list new own : List ℕ) (p : Place) → announced ≡ n → MembersPut v announced n bytes rest old heap list → own ≡ list → ListPut heap Object own new p → EncodedPut v (13 ∷ bytes) rest old new p
-object_encoded v announced n bytes rest old heap list new own p all_read s is written =
-    let w = subst (λ z. ListPut heap Object z new p) is written in
+pub object_encoded : (v : Version) (announced n m : ℕ) (bytes rest old before heap places new : List ℕ) (p : Place) → announced ≡ n → MembersPut v announced n bytes rest old before heap places → m ≡ length before → ListPut heap Object (drop m places) new p
+    → EncodedPut v (13 ∷ bytes) rest old new p
+object_encoded v announced n m bytes rest old before heap places new p all_read s is w =
     let many : entry_total v announced ≡ entry_total v (entry_count (entries s.done)) = ap (entry_total v) (all_read ∙ sym s.counted ∙ sym (entries_counted NoLegacy v s.done)) in
-    let all : ObjectPut old heap list [] s.done = record { done = s.done; whole = append-nil s.done; children = s.children; heap_is = s.heap_is; places_are = s.places_are ∙ sym (append-nil list); smaller = omega arith } in
     let members : Begins (λ b. EncodesEntries NoLegacy v b (entries s.done)) s.behind rest = record { prefix = s.encoded.prefix; joined = s.encoded.joined; encoded = members_encode v s.done s.encoded.prefix s.encoded.encoded } in
     let own_bytes = begins_behind 13 bytes rest (begins_then bytes s.behind rest (subst (λ m. Begins (λ b. VNum b m) bytes s.behind) many s.number) members) in
     record {
       tree = object (entries s.done);
       encoded = record { prefix = own_bytes.prefix; joined = own_bytes.joined; encoded = inl own_bytes.encoded };
-      put = object_put old heap list new [] s.done p all refl w;
+      put = all_put Object old before heap places new (flat_entries s.done) (object (entries s.done)) m p (members_make s.done) s.put is w;
     }

@@ -20,11 +20,11 @@ use Rattle.tv_builder.proofs.Giving.{Comes, comes, below, not_below, tested, giv
 
 -- ---- a list with one child more
 
-heap_push : (heap : List ℕ) (ts : List Tree) (t : Tree) → elements_heap heap (elements (ts ++ t ∷ [])) ≡ tree_heap (elements_heap heap (elements ts)) t
-heap_push heap [] t = refl
-heap_push heap (u ∷ ts) t = heap_push (tree_heap heap u) ts t
+pub heap_join : (heap : List ℕ) (ts us : List Tree) → elements_heap heap (elements (ts ++ us)) ≡ elements_heap (elements_heap heap (elements ts)) (elements us)
+heap_join heap [] us = refl
+heap_join heap (t ∷ ts) us = heap_join (tree_heap heap t) ts us
 
-places_push : (heap : List ℕ) (ts : List Tree) (t : Tree) → elements_places heap (elements (ts ++ t ∷ [])) ≡ elements_places heap (elements ts) ++ place_bytes (tree_place (elements_heap heap (elements ts)) t)
+pub places_push : (heap : List ℕ) (ts : List Tree) (t : Tree) → elements_places heap (elements (ts ++ t ∷ [])) ≡ elements_places heap (elements ts) ++ place_bytes (tree_place (elements_heap heap (elements ts)) t)
 places_push heap [] t = append-nil (place_bytes (tree_place heap t))
 places_push heap (u ∷ ts) t =
     let next = tree_heap heap u in
@@ -45,7 +45,7 @@ child_image base l ls t =
     let own = elements_places outer (elements l.children) in
     let more : length l.children + 1 ≡ length (l.children ++ t ∷ []) = omega (arith, length-append l.children (t ∷ [])) in
     λ i. record {
-      heap = sym (heap_push outer l.children t) i;
+      heap = sym (heap_join outer l.children (t ∷ [])) i;
       places = (append_assoc (lists_places base ls) own (place_bytes (tree_place (elements_heap outer (elements l.children)) t)) ∙ ap (λ z. lists_places base ls ++ z) (sym (places_push outer l.children t))) i;
       frames = record { kind = l.kind; announced = l.announced; finished = more i; first = length (lists_places base ls) } ∷ lists_frames base ls;
       complete = None;
@@ -94,7 +94,7 @@ given_image base (l ∷ ls) t are next = elim (tested (suc (length l.children)) 
       let whole = list_heap_is l.kind l.announced outer ts all next.0 in
       let own_is : drop (length places) ((places ++ own) ++ place_bytes p) ≡ elements_places outer (elements ts) =
       ap (λ z. drop (length places) z) (append_assoc places own (place_bytes p)) ∙ drop-append_seam places (own ++ place_bytes p) ∙ sym (places_push outer l.children t) in
-      let heap_is : tree_heap (lists_heap base (l ∷ ls)) t ≡ elements_heap outer (elements ts) = sym (heap_push outer l.children t) in
+      let heap_is : tree_heap (lists_heap base (l ∷ ls)) t ≡ elements_heap outer (elements ts) = sym (heap_join outer l.children (t ∷ [])) in
       given_closes (tree_heap (lists_heap base (l ∷ ls)) t) (lists_places base (l ∷ ls)) (list_frame base l ls) (lists_frames base ls) p e ∙
       (λ i. given (heap_is i ++ short_sized (own_is i)) (take-append_seam places own i) (lists_frames base ls) (record { value_type = list_type l.kind; address = length (heap_is i) })) ∙
       (λ i. given (sym whole.0 i) places (lists_frames base ls) (sym whole.1 i)) ∙ given_image base ls u are.1 (comes ls u are.1 next.1) ∙ ap (λ s. image_of base s) (sym (value_closes l ls t e))

@@ -24,14 +24,12 @@ use Rattle.tv_builder.specs.Kinds.{total}
 use Rattle.tv_builder.specs.Moves.{InState, Over, Does}
 use Rattle.tv_builder.specs.Builder.{TakesBytes}
 use Rattle.tv_builder.specs.Fits.{ListFits, HeadFits}
-use Rattle.tv_builder.specs.Shows.{Placed, ShowsList, ShowsLists, Shows, HoldsSomeState, frames_of, awaited_by}
+use Rattle.tv_builder.specs.Shows.{ShowsList, ShowsLists, Shows, HoldsSomeState, frames_of, awaited_by}
 use Rattle.tv_builder.specs.State.{OpenList, State, complete, in_lists, in_bytes, next_in, and_value, and_list, and_head, and_bytes, head_awaits, list_tree, AreChildren}
-use Rattle.tv_builder.specs.TreeBytes.{tree_heap}
 use Rattle.tv_builder.specs.Whole.{Put, PutNot, WhyUnwritten, ListPut, ListPutNot}
 use Rattle.tv_builder.proofs.Calls.{lists_as, lists_next, head_begins, head_next, Takes, value_taken}
-use Rattle.tv_builder.proofs.Children.{list_placed}
 use Rattle.tv_builder.proofs.Giving.{prefix_same, lists_grown}
-use Rattle.tv_builder.proofs.Images.{list_heap_is}
+use Rattle.tv_builder.proofs.Putting.{Makes, all_put, made_heap, none_put}
 use Rattle.tv_builder.proofs.Sound.{all_await}
 use Rattle.tv_builder.proofs.Within.{state_over}
 
@@ -55,17 +53,17 @@ pub empty_taken : (b : Building) (kind : ListKind) (n : ℕ) → n ≡ 0 → awa
 empty_taken b kind n none await base s h = subst (λ z. Takes base b z (list_tree kind [])) (sym (ap (λ m. and_list s kind m) none ∙ and_empty kind s)) (value_taken b (list_tree kind []) await base s h)
 
 -- it is written as a value
+none_make : (kind : ListKind) → Makes kind [] (list_tree kind [])
+none_make kind = record { count = 0; counted = no_total kind; children = no_children kind; tree = refl }
+
 pub empty_put : (old new own : List ℕ) (kind : ListKind) (p : Place) → own ≡ [] → ListPut old kind own new p → Put old (list_tree kind []) new p
 empty_put old new own kind p none w =
-    let whole = list_heap_is kind 0 old [] (no_total kind) (no_children kind) in
-    let heap : new ≡ old ++ short_sized [] = w.heap ∙ ap (λ z. old ++ short_sized z) none in
-    let placed = list_placed kind 0 old new [] [] (no_total kind) (no_children kind) refl heap w.fits in
-    record { heap = heap ∙ sym whole.0; place = w.place ∙ sym whole.1; fits = w.fits; placed = subst (λ q. Placed new q (list_tree kind [])) (sym w.place) placed }
+    let fits : length old ≤ 4294967295 = omega (arith, w.fits, ap length w.heap, length-append old (short_sized own)) in
+    all_put kind old [] old [] new [] (list_tree kind []) 0 p (none_make kind) (none_put old [] fits) refl (subst (λ z. ListPut old kind z new p) none w)
 
 pub empty_put_not : (old new own : List ℕ) (kind : ListKind) (e : AddError) → own ≡ [] → ListPutNot old own new e → PutNot old (list_tree kind []) new e
 empty_put_not old new own kind e none w =
-    let heap : old ++ short_sized own ≡ tree_heap old (list_tree kind []) = ap (λ z. old ++ short_sized z) none ∙ sym (list_heap_is kind 0 old [] (no_total kind) (no_children kind)).0 in
-    record { prefix = w.prefix; why = subst (λ z. WhyUnwritten z e) heap w.why }
+    record { prefix = w.prefix; why = subst (λ z. WhyUnwritten z e) (ap (λ z. old ++ short_sized z) none ∙ sym (made_heap kind old [] (list_tree kind []) (none_make kind))) w.why }
 
 -- ---- a list of which some child is awaited
 

@@ -1,35 +1,37 @@
 -- How children that are written make a whole value.
-use Rattle.std.proofs.Common.{◌≡◌, ℕ, suc, ◌+◌, ◌*◌, ◌≤◌, List, [], ◌∷◌, ◌++◌, length, take, drop, Result, Ok, Err, IfOk, OnOk, IfErr, IsErrAnd, refl, sym, ◌∙◌, ap, subst, append_assoc, length-append, arith}
+use Rattle.std.proofs.Common.{◌≡◌, ℕ, ◌*◌, ◌≤◌, List, [], ◌∷◌, ◌++◌, length, map, take, drop, Option, Some, None, Result, Ok, Err, IfOk, OnOk, IfErr, IsErrAnd, refl, sym, ◌∙◌, ap, subst, append_assoc, length-append, arith}
 use Rattle.std.proofs.lemmas.List.{append-nil}
 use Rattle.std.proofs.Math.Seq.{drop-append_seam, take-append_seam}
 use Rattle.tv_base.specs.Parts.{short_sized}
 use Rattle.tv_base.specs.Sink.{IsPrefix}
-use Rattle.tv_format.specs.Size.{size, elements_size, entries_size}
-use Rattle.tv_format.specs.Tree.{Leaf, text, Tree, leaf, array, object, Elements, no_elements, element, Entries, no_entries, entry, elements, entries}
+use Rattle.tv_format.specs.Tree.{Leaf, text, Tree, leaf, array, object, Elements, no_elements, element, Entries, no_entries, entry, elements, entries, element_list, entry_list}
+use Rattle.tv_value.specs.Children.{Child, IsListOf, without_key}
 use Rattle.tv_heap.specs.LeafBytes.{leaf_bytes}
 use Rattle.tv_heap.specs.Reads.{ReadsElements}
 use Rattle.tv_heap.specs.TypeCode.{type_code}
 use Rattle.tv_heap.specs.Wrote.{Wrote}
-use Rattle.tv_heap.specs.declared.value_type.ValueType.TheVariants as types
 use Rattle.tv_heap.proofs.Grown.{grown_elements}
 use Rattle.tv_heap.proofs.Lists.{elements_push}
 use Rattle.tv_builder.specs.declared.add_error.AddError.{AddError}
 use Rattle.tv_builder.specs.declared.add_error.AddError.TheVariants.{HeapFull, Memory}
+use Rattle.tv_builder.specs.declared.list_kind.ListKind.{ListKind}
 use Rattle.tv_builder.specs.declared.list_kind.ListKind.TheVariants.{Array, Object}
 use Rattle.tv_heap.specs.declared.place.Place.{Place}
 use Rattle.tv_builder.specs.Given.{place_bytes}
-pub use Rattle.tv_builder.specs.Nested.{flat}
+use Rattle.tv_builder.specs.Kinds.{list_type, total}
+pub use Rattle.tv_builder.specs.Nested.{flat, flat_entries, IsOfKind, ChildPut, KeyNotPut}
 use Rattle.tv_builder.specs.Shows.{Placed}
-use Rattle.tv_builder.specs.State.{pairs_of, list_tree, StartsWithKey}
+use Rattle.tv_builder.specs.State.{pairs_of, list_tree, StartsWithKey, AreChildren}
 use Rattle.tv_builder.specs.TreeBytes.{leaf_place, tree_heap, tree_place, elements_heap, elements_places, entries_heap, entries_places}
 use Rattle.tv_builder.specs.Whole.{Put, PutNot, Puts, WhyUnwritten, ListPut, ListPutNot}
 use Rattle.tv_builder.proofs.Children.{list_placed}
 use Rattle.tv_builder.proofs.Giving.{prefix_same, prefix_then, prefix_length}
+use Rattle.tv_builder.proofs.Images.{heap_join, places_push, list_heap_is}
 
 -- ---- the heap only grows
 
 mutual
-  pub tree_prefix : (heap : List ℕ) (t : Tree) → IsPrefix heap (tree_heap heap t)
+  tree_prefix : (heap : List ℕ) (t : Tree) → IsPrefix heap (tree_heap heap t)
   tree_prefix heap (leaf l) = (leaf_bytes l, refl)
   tree_prefix heap (array ts) = prefix_then heap (elements_heap heap ts) _ (elements_prefix heap ts) (short_sized (elements_places heap ts), refl)
   tree_prefix heap (object es) = prefix_then heap (entries_heap heap es) _ (entries_prefix heap es) (short_sized (entries_places heap es), refl)
@@ -38,7 +40,7 @@ mutual
   elements_prefix heap no_elements = prefix_same heap heap refl
   elements_prefix heap (element t ts) = prefix_then heap (tree_heap heap t) _ (tree_prefix heap t) (elements_prefix (tree_heap heap t) ts)
 
-  entries_prefix : (heap : List ℕ) (es : Entries) → IsPrefix heap (entries_heap heap es)
+  pub entries_prefix : (heap : List ℕ) (es : Entries) → IsPrefix heap (entries_heap heap es)
   entries_prefix heap no_entries = prefix_same heap heap refl
   entries_prefix heap (entry k t es) =
       let mid = heap ++ short_sized k in
@@ -64,206 +66,171 @@ leaf_put old new l p grows place fits w = record {
 
 -- ---- children
 
--- the children of a list that are written so far
-pub record Children (old heap list : List ℕ) (done : List Tree) : Type 0 where
-  pub fits : length heap ≤ 4294967295
-  pub prefix : IsPrefix old heap
-  pub reads : ReadsElements heap (length heap) list (elements done)
+-- Children are written one behind the other at the end of a heap, and their places behind others.
+pub record ChildrenPut (old before : List ℕ) (ts : List Tree) (new left : List ℕ) : Type 0 where
+  pub heap : new ≡ elements_heap old (elements ts)
+  pub places : left ≡ before ++ elements_places old (elements ts)
+  pub fits : length new ≤ 4294967295
+  pub prefix : IsPrefix old new
+  pub reads : ReadsElements new (length new) (elements_places old (elements ts)) (elements ts)
 
-pub no_children : (heap : List ℕ) → length heap ≤ 4294967295 → Children heap heap [] []
-no_children heap fits = record { fits = fits; prefix = prefix_same heap heap refl; reads = refl }
+pub none_put : (heap before : List ℕ) → length heap ≤ 4294967295 → ChildrenPut heap before [] heap before
+none_put heap before fits = record { heap = refl; places = sym (append-nil before); fits = fits; prefix = prefix_same heap heap refl; reads = refl }
 
-pub children_push : (old heap list new : List ℕ) (done : List Tree) (t : Tree) (p : Place) → Children old heap list done → Put heap t new p → Children old new (list ++ place_bytes p) (done ++ t ∷ [])
-children_push old heap list new done t p c w =
-    let grows = put_grows heap t new p w in
-    let le : length heap ≤ length new = prefix_length heap new grows in
+pub one_child_more : (old before mid now new left : List ℕ) (ts : List Tree) (t : Tree) → ChildrenPut old before ts mid now → ChildPut mid now t new left → ChildrenPut old before (ts ++ t ∷ []) new left
+one_child_more old before mid now new left ts t v w =
+    let p = w.0 in
+    let put = w.1 in
+    let own = elements_places old (elements ts) in
+    let grows = put_grows mid t new p put in
+    let same : elements_places old (elements (ts ++ t ∷ [])) ≡ own ++ place_bytes p = places_push old ts t ∙ (λ i. own ++ place_bytes (tree_place (sym v.heap i) t)) ∙ ap (λ q. own ++ place_bytes q) (sym put.place) in
+    let grown = grown_elements mid new grows.0 (length mid) (length new) own (elements ts) grows.1 (prefix_length mid new grows) v.reads in
     record {
-      fits = w.fits;
-      prefix = prefix_then old heap new c.prefix grows;
-      reads = elements_push new (length new) list done (type_code p.value_type) p.address t (grown_elements heap new grows.0 (length heap) (length new) list (elements done) grows.1 le c.reads) w.placed.reads w.placed.fits w.placed.below;
+      heap = put.heap ∙ ap (λ z. tree_heap z t) v.heap ∙ sym (heap_join old ts (t ∷ []));
+      places = w.2 ∙ ap (λ z. z ++ place_bytes p) v.places ∙ append_assoc before own (place_bytes p) ∙ ap (λ z. before ++ z) (sym same);
+      fits = put.fits;
+      prefix = prefix_then old mid new v.prefix grows;
+      reads = subst (λ z. ReadsElements new (length new) z (elements (ts ++ t ∷ []))) (sym same)
+          (elements_push new (length new) own ts (type_code p.value_type) p.address t grown put.placed.reads put.placed.fits put.placed.below);
     }
 
--- the places behind those of others
-pub own_places : (start places list : List ℕ) (n : ℕ) → places ≡ start ++ list → n ≡ length start → drop n places ≡ list
-own_places start places list n e is = (λ i. drop (is i) (e i)) ∙ drop-append_seam start list
+-- ---- lists of children
 
--- ---- arrays
+-- these children make the list
+pub record Makes (kind : ListKind) (ts : List Tree) (t : Tree) : Type 0 where
+  pub count : ℕ
+  pub counted : length ts ≡ total kind count
+  pub children : AreChildren kind ts
+  pub tree : t ≡ list_tree kind ts
 
-pub record ArrayPut (old heap list : List ℕ) (rest all : List Tree) : Type 0 where
-  pub done : List Tree
-  pub whole : done ++ rest ≡ all
-  pub children : Children old heap list done
-  pub heap_is : elements_heap old (elements all) ≡ elements_heap heap (elements rest)
-  pub places_are : elements_places old (elements all) ≡ list ++ elements_places heap (elements rest)
-  pub smaller : elements_size (elements rest) ≤ elements_size (elements all)
-
-pub array_start : (heap : List ℕ) (rest all : List Tree) → length heap ≤ 4294967295 → rest ≡ all → ArrayPut heap heap [] rest all
-array_start heap rest all fits e = subst (λ z. ArrayPut heap heap [] z all) (sym e) (record { done = []; whole = refl; children = no_children heap fits; heap_is = refl; places_are = refl; smaller = omega arith })
-
-pub array_step : (old heap list new : List ℕ) (ts us all : List Tree) (t : Tree) (p : Place) → ArrayPut old heap list ts all → ts ≡ t ∷ us → Put heap t new p → ArrayPut old new (list ++ place_bytes p) us all
-array_step old heap list new ts us all t p s e w =
-    let sizes : elements_size (elements ts) ≡ suc (size t + elements_size (elements us)) = ap (λ z. elements_size (elements z)) e in
-    record {
-      done = s.done ++ t ∷ [];
-      whole = append_assoc s.done (t ∷ []) us ∙ ap (λ z. s.done ++ z) (sym e) ∙ s.whole;
-      children = children_push old heap list new s.done t p s.children w;
-      heap_is = s.heap_is ∙ ap (λ z. elements_heap heap (elements z)) e ∙ ap (λ z. elements_heap z (elements us)) (sym w.heap);
-      places_are = s.places_are ∙ ap (λ z. list ++ elements_places heap (elements z)) e ∙ (λ i. list ++ (place_bytes (sym w.place i) ++ elements_places (sym w.heap i) (elements us))) ∙
-          sym (append_assoc list (place_bytes p) (elements_places new (elements us)));
-      smaller = omega (arith, s.smaller, sizes);
-    }
-
-array_all : (old heap list : List ℕ) (ts all : List Tree) (s : ArrayPut old heap list ts all) → ts ≡ [] → (all ≡ s.done) × (elements_heap old (elements all) ≡ heap) × (elements_places old (elements all) ≡ list)
-array_all old heap list ts all s none = (
-  sym s.whole ∙ ap (λ z. s.done ++ z) none ∙ append-nil s.done,
-  s.heap_is ∙ ap (λ z. elements_heap heap (elements z)) none,
-  s.places_are ∙ ap (λ z. list ++ elements_places heap (elements z)) none ∙ append-nil list,
-)
-
-pub array_put : (old heap list new : List ℕ) (ts all : List Tree) (p : Place) → ArrayPut old heap list ts all → ts ≡ [] → ListPut heap Array list new p → Put old (array (elements all)) new p
-array_put old heap list new ts all p s none w =
-    let a = array_all old heap list ts all s none in
-    let c = s.children in
-    let reads = c.reads in
-    let placed = list_placed Array (length s.done) heap new list s.done refl tt reads w.heap w.fits in
-    record {
-      heap = w.heap ∙ (λ i. sym a.1 i ++ short_sized (sym a.2 i));
-      place = w.place ∙ (λ i. record { value_type = types.Array; address = length (sym a.1 i) });
-      fits = w.fits;
-      placed = subst (λ q. Placed new q (array (elements all))) (sym w.place) (subst (λ z. Placed new (record { value_type = types.Array; address = length heap }) (array (elements z))) (sym a.0) placed);
-    }
-
-pub array_child_not : (old heap list new : List ℕ) (ts us all : List Tree) (t : Tree) (e : AddError) → ArrayPut old heap list ts all → ts ≡ t ∷ us → PutNot heap t new e → PutNot old (array (elements all)) new e
-array_child_not old heap list new ts us all t e s is w = record { prefix = prefix_then old heap new s.children.prefix w.prefix; why = unwritten_as _ _ e longer_is w.why }
-  where
-    longer_is : length (tree_heap heap t) ≤ length (tree_heap old (array (elements all)))
-    longer_is =
-        let same : elements_heap old (elements all) ≡ elements_heap (tree_heap heap t) (elements us) = s.heap_is ∙ ap (λ z. elements_heap heap (elements z)) is in
-        omega (arith, prefix_length (tree_heap heap t) _ (elements_prefix (tree_heap heap t) (elements us)), ap length same, length-append (elements_heap old (elements all)) (short_sized (elements_places old (elements all))))
-
-array_own_not : (old heap list new : List ℕ) (ts all : List Tree) (e : AddError) → ArrayPut old heap list ts all → ts ≡ [] → ListPutNot heap list new e → PutNot old (array (elements all)) new e
-array_own_not old heap list new ts all e s none w = record { prefix = prefix_then old heap new s.children.prefix w.prefix; why = subst (λ z. WhyUnwritten z e) (sym same) w.why }
-  where
-    same : tree_heap old (array (elements all)) ≡ heap ++ short_sized list
-    same = let a = array_all old heap list ts all s none in λ i. a.1 i ++ short_sized (a.2 i)
-
-pub array_puts : (r : Result Place AddError) (old heap list new start places left : List ℕ) (n : ℕ) (ts all : List Tree) → ArrayPut old heap list ts all → ts ≡ [] → places ≡ start ++ list → n ≡ length start
-    → IfOk r (λ p. ListPut heap Array (drop n places) new p) → OnOk r (left ≡ take n places) → IfErr r (λ x. ListPutNot heap (drop n places) new x) → Puts old start (array (elements all)) new left r
-array_puts (Ok p) old heap list new start places left n ts all s none e is ok kept err =
-    (array_put old heap list new ts all p s none (subst (λ z. ListPut heap Array z new p) (own_places start places list n e is) ok), kept ∙ (λ i. take (is i) (e i)) ∙ take-append_seam start list)
-array_puts (Err x) old heap list new start places left n ts all s none e is ok kept err =
-    array_own_not old heap list new ts all x s none (subst (λ z. ListPutNot heap z new x) (own_places start places list n e is) err)
-
--- ---- objects
-
-pub flat_append : (es fs : List (List ℕ × Tree)) → flat (es ++ fs) ≡ flat es ++ flat fs
+flat_append : (es fs : List (List ℕ × Tree)) → flat_entries (es ++ fs) ≡ flat_entries es ++ flat_entries fs
 flat_append [] fs = refl
 flat_append (e ∷ es) fs = ap (λ z. leaf (text e.0) ∷ e.1 ∷ z) (flat_append es fs)
 
-pub flat_push : (es : List (List ℕ × Tree)) (k : List ℕ) (t : Tree) → (flat es ++ leaf (text k) ∷ []) ++ t ∷ [] ≡ flat (es ++ (k, t) ∷ [])
-flat_push es k t = append_assoc (flat es) (leaf (text k) ∷ []) (t ∷ []) ∙ sym (flat_append es ((k, t) ∷ []))
+pub flat_push : (es : List (List ℕ × Tree)) (k : List ℕ) (t : Tree) → (flat_entries es ++ leaf (text k) ∷ []) ++ t ∷ [] ≡ flat_entries (es ++ (k, t) ∷ [])
+flat_push es k t = append_assoc (flat_entries es) (leaf (text k) ∷ []) (t ∷ []) ∙ sym (flat_append es ((k, t) ∷ []))
 
-flat_pairs : (es : List (List ℕ × Tree)) → pairs_of (flat es) ≡ es
+flat_pairs : (es : List (List ℕ × Tree)) → pairs_of (flat_entries es) ≡ es
 flat_pairs [] = refl
 flat_pairs (e ∷ es) = ap (λ z. e ∷ z) (flat_pairs es)
 
-pub flat_length : (es : List (List ℕ × Tree)) → length (flat es) ≡ 2 * length es
+pub flat_length : (es : List (List ℕ × Tree)) → length (flat_entries es) ≡ 2 * length es
 flat_length [] = refl
 flat_length (e ∷ es) = omega (arith, flat_length es)
 
-flat_are : (es : List (List ℕ × Tree)) → StartsWithKey (flat es)
+flat_are : (es : List (List ℕ × Tree)) → StartsWithKey (flat_entries es)
 flat_are [] = tt
 flat_are (e ∷ es) = (tt, flat_are es)
 
-pub flat_tree : (es : List (List ℕ × Tree)) → list_tree Object (flat es) ≡ object (entries es)
+pub flat_tree : (es : List (List ℕ × Tree)) → list_tree Object (flat_entries es) ≡ object (entries es)
 flat_tree es = ap (λ z. object (entries z)) (flat_pairs es)
 
-pub record ObjectPut (old heap list : List ℕ) (rest all : List (List ℕ × Tree)) : Type 0 where
-  pub done : List (List ℕ × Tree)
-  pub whole : done ++ rest ≡ all
-  pub children : Children old heap list (flat done)
-  pub heap_is : entries_heap old (entries all) ≡ entries_heap heap (entries rest)
-  pub places_are : entries_places old (entries all) ≡ list ++ entries_places heap (entries rest)
-  pub smaller : entries_size (entries rest) ≤ entries_size (entries all)
+pub items_make : (ts : List Tree) → Makes Array ts (array (elements ts))
+items_make ts = record { count = length ts; counted = refl; children = tt; tree = refl }
 
-pub object_start : (heap : List ℕ) (rest all : List (List ℕ × Tree)) → length heap ≤ 4294967295 → rest ≡ all → ObjectPut heap heap [] rest all
-object_start heap rest all fits e = subst (λ z. ObjectPut heap heap [] z all) (sym e) (record { done = []; whole = refl; children = no_children heap fits; heap_is = refl; places_are = refl; smaller = omega arith })
+pub members_make : (es : List (List ℕ × Tree)) → Makes Object (flat_entries es) (object (entries es))
+members_make es = record { count = length es; counted = flat_length es; children = flat_are es; tree = sym (flat_tree es) }
 
-pub object_step : (old heap list mid new : List ℕ) (es fs all : List (List ℕ × Tree)) (k : List ℕ) (t : Tree) (q p : Place) → ObjectPut old heap list es all → es ≡ (k, t) ∷ fs → Put heap (leaf (text k)) mid q → Put mid t new p
-    → ObjectPut old new ((list ++ place_bytes q) ++ place_bytes p) fs all
-object_step old heap list mid new es fs all k t q p s e v w =
-    let sizes : entries_size (entries es) ≡ suc (size t + entries_size (entries fs)) = ap (λ z. entries_size (entries z)) e in
-    let keyed = children_push old heap list mid (flat s.done) (leaf (text k)) q s.children v in
-    let both = children_push old mid (list ++ place_bytes q) new (flat s.done ++ leaf (text k) ∷ []) t p keyed w in
-    let left = entries_places new (entries fs) in
-    record {
-      done = s.done ++ (k, t) ∷ [];
-      whole = append_assoc s.done ((k, t) ∷ []) fs ∙ ap (λ z. s.done ++ z) (sym e) ∙ s.whole;
-      children = subst (Children old new ((list ++ place_bytes q) ++ place_bytes p)) (flat_push s.done k t) both;
-      heap_is = s.heap_is ∙ ap (λ z. entries_heap heap (entries z)) e ∙ ap (λ z. entries_heap (tree_heap z t) (entries fs)) (sym v.heap) ∙ ap (λ z. entries_heap z (entries fs)) (sym w.heap);
-      places_are = s.places_are ∙ ap (λ z. list ++ entries_places heap (entries z)) e ∙
-          (λ i. list ++ (place_bytes (sym v.place i) ++ (place_bytes (tree_place (sym v.heap i) t) ++ entries_places (tree_heap (sym v.heap i) t) (entries fs)))) ∙
-          (λ i. list ++ (place_bytes q ++ (place_bytes (sym w.place i) ++ entries_places (sym w.heap i) (entries fs)))) ∙
-          sym (append_assoc list (place_bytes q) (place_bytes p ++ left)) ∙ sym (append_assoc (list ++ place_bytes q) (place_bytes p) left);
-      smaller = omega (arith, s.smaller, sizes);
-    }
+elements_are : (ts : Elements) → elements (flat (map without_key (element_list ts))) ≡ ts
+elements_are no_elements = refl
+elements_are (element t ts) = ap (λ z. element t z) (elements_are ts)
 
-object_all : (old heap list : List ℕ) (es all : List (List ℕ × Tree)) (s : ObjectPut old heap list es all) → es ≡ [] → (all ≡ s.done) × (entries_heap old (entries all) ≡ heap) × (entries_places old (entries all) ≡ list)
-object_all old heap list es all s none = (
-  sym s.whole ∙ ap (λ z. s.done ++ z) none ∙ append-nil s.done,
-  s.heap_is ∙ ap (λ z. entries_heap heap (entries z)) none,
-  s.places_are ∙ ap (λ z. list ++ entries_places heap (entries z)) none ∙ append-nil list,
-)
+entries_are : (es : Entries) → entries (entry_list es) ≡ es
+entries_are no_entries = refl
+entries_are (entry k t es) = ap (λ z. entry k t z) (entries_are es)
 
-pub object_put : (old heap list new : List ℕ) (es all : List (List ℕ × Tree)) (p : Place) → ObjectPut old heap list es all → es ≡ [] → ListPut heap Object list new p → Put old (object (entries all)) new p
-object_put old heap list new es all p s none w =
-    let a = object_all old heap list es all s none in
-    let c = s.children in
-    let reads = c.reads in
-    let same : list_tree Object (flat s.done) ≡ object (entries all) = flat_tree s.done ∙ ap (λ z. object (entries z)) (sym a.0) in
-    let placed = list_placed Object (length s.done) heap new list (flat s.done) (flat_length s.done) (flat_are s.done) reads w.heap w.fits in
-    record {
-      heap = w.heap ∙ (λ i. sym a.1 i ++ short_sized (sym a.2 i));
-      place = w.place ∙ (λ i. record { value_type = types.Object; address = length (sym a.1 i) });
+pub children_make : (kind : ListKind) (cs : List Child) (t : Tree) → IsOfKind kind t → IsListOf cs t → Makes kind (flat cs) t
+children_make Array cs (array ts) of is =
+    subst (λ z. Makes Array (flat z) (array ts)) (sym is) (subst (λ z. Makes Array (flat (map without_key (element_list ts))) (array z)) (elements_are ts) (items_make _))
+children_make Object cs (object es) of is = subst (λ z. Makes Object (flat z) (object es)) (sym is) (subst (λ z. Makes Object (flat_entries (entry_list es)) (object z)) (entries_are es) (members_make _))
+children_make _ cs _ of is = absurd of
+
+-- what is written of it
+pub made_heap : (kind : ListKind) (heap : List ℕ) (ts : List Tree) (t : Tree) → Makes kind ts t → tree_heap heap t ≡ elements_heap heap (elements ts) ++ short_sized (elements_places heap (elements ts))
+made_heap kind heap ts t m = ap (tree_heap heap) m.tree ∙ (list_heap_is kind m.count heap ts m.counted m.children).0
+
+own_places : (old before heap places : List ℕ) (ts : List Tree) (n : ℕ) → ChildrenPut old before ts heap places → n ≡ length before → drop n places ≡ elements_places old (elements ts)
+own_places old before heap places ts n v is = (λ i. drop (is i) (v.places i)) ∙ drop-append_seam before (elements_places old (elements ts))
+
+pub other_places : (old before heap places later : List ℕ) (ts : List Tree) (n : ℕ) → ChildrenPut old before ts heap places → n ≡ length before → later ≡ take n places → later ≡ before
+other_places old before heap places later ts n v is kept = kept ∙ (λ i. take (is i) (v.places i)) ∙ take-append_seam before (elements_places old (elements ts))
+
+-- where its children's places begin
+pub first_within : (old before heap places : List ℕ) (ts : List Tree) (n : ℕ) → ChildrenPut old before ts heap places → n ≡ length before → n ≤ length places
+first_within old before heap places ts n v is = omega (arith, is, ap length v.places, length-append before (elements_places old (elements ts)))
+
+-- all children are written, and then the list
+pub all_put : (kind : ListKind) (old before heap places new : List ℕ) (ts : List Tree) (t : Tree) (n : ℕ) (p : Place) → Makes kind ts t → ChildrenPut old before ts heap places → n ≡ length before → ListPut heap kind (drop n places) new p → Put old t new p
+all_put kind old before heap places new ts t n p m v is w =
+    let cut = own_places old before heap places ts n v is in
+    let whole = list_heap_is kind m.count old ts m.counted m.children in
+    let heap_is = w.heap ∙ ap (λ z. heap ++ short_sized z) cut in
+    subst (λ z. Put old z new p) (sym m.tree) (record {
+      heap = heap_is ∙ ap (λ z. z ++ short_sized (elements_places old (elements ts))) v.heap ∙ sym whole.0;
+      place = w.place ∙ ap (λ z. record { value_type = list_type kind; address = length z }) v.heap ∙ sym whole.1;
       fits = w.fits;
-      placed = subst (λ q. Placed new q (object (entries all))) (sym w.place) (subst (Placed new (record { value_type = types.Object; address = length heap })) same placed);
-    }
+      placed = subst (λ q. Placed new q (list_tree kind ts)) (sym w.place) (list_placed kind m.count heap new (elements_places old (elements ts)) ts m.counted m.children v.reads heap_is w.fits);
+    })
 
--- a refusal at a key or at its value
-object_not : (old heap list new : List ℕ) (trees : List Tree) (all : List (List ℕ × Tree)) (t : Tree) (e : AddError) → Children old heap list trees → IsPrefix (tree_heap heap t) (entries_heap old (entries all)) → PutNot heap t new e
-    → PutNot old (object (entries all)) new e
-object_not old heap list new trees all t e c prefix w = record {
-  prefix = prefix_then old heap new c.prefix w.prefix;
-  why = unwritten_as _ _ e (omega (arith, prefix_length _ _ prefix, length-append (entries_heap old (entries all)) (short_sized (entries_places old (entries all))))) w.why;
+-- A list began at a heap and behind other places. Some of its children are written, and these are left.
+pub record ListOpen (kind : ListKind) (old before : List ℕ) (whole : Tree) (heap places : List ℕ) (left : List Tree) : Type 0 where
+  pub done : List Tree
+  pub list : Makes kind (done ++ left) whole
+  pub put : ChildrenPut old before done heap places
+
+pub list_opens : (kind : ListKind) (heap places : List ℕ) (ts : List Tree) (t : Tree) → length heap ≤ 4294967295 → Makes kind ts t → ListOpen kind heap places t heap places ts
+list_opens kind heap places ts t fits m = record { done = []; list = m; put = none_put heap places fits }
+
+pub list_goes_on : (kind : ListKind) (old before heap places new later : List ℕ) (whole t : Tree) (left ts : List Tree) → ListOpen kind old before whole heap places left → left ≡ t ∷ ts → ChildPut heap places t new later → ListOpen kind old before whole new later ts
+list_goes_on kind old before heap places new later whole t left ts s is w = record {
+  done = s.done ++ t ∷ [];
+  list = subst (λ z. Makes kind z whole) (ap (λ z. s.done ++ z) is ∙ sym (append_assoc s.done (t ∷ []) ts)) s.list;
+  put = one_child_more old before heap places new later s.done t s.put w;
 }
 
-pub object_key_not : (old heap list new : List ℕ) (es fs all : List (List ℕ × Tree)) (k : List ℕ) (t : Tree) (e : AddError) → ObjectPut old heap list es all → es ≡ (k, t) ∷ fs → PutNot heap (leaf (text k)) new e
-    → PutNot old (object (entries all)) new e
-object_key_not old heap list new es fs all k t e s is w =
-    let mid = heap ++ short_sized k in
-    let f = prefix_then mid (tree_heap mid t) _ (tree_prefix mid t) (entries_prefix (tree_heap mid t) (entries fs)) in
-    let same : entries_heap old (entries all) ≡ entries_heap (tree_heap mid t) (entries fs) = s.heap_is ∙ ap (λ z. entries_heap heap (entries z)) is in
-    object_not old heap list new (flat s.done) all (leaf (text k)) e s.children (f.0, same ∙ f.1) w
+all_made : (kind : ListKind) (old before heap places : List ℕ) (whole : Tree) (left : List Tree) (s : ListOpen kind old before whole heap places left) → left ≡ [] → Makes kind s.done whole
+all_made kind old before heap places whole left s none = subst (λ z. Makes kind z whole) (ap (λ z. s.done ++ z) none ∙ append-nil s.done) s.list
 
-pub object_value_not : (old heap list mid new : List ℕ) (es fs all : List (List ℕ × Tree)) (k : List ℕ) (t : Tree) (q : Place) (e : AddError) → ObjectPut old heap list es all → es ≡ (k, t) ∷ fs → Put heap (leaf (text k)) mid q
-    → PutNot mid t new e → PutNot old (object (entries all)) new e
-object_value_not old heap list mid new es fs all k t q e s is v w =
-    let f = entries_prefix (tree_heap mid t) (entries fs) in
-    let same : entries_heap old (entries all) ≡ entries_heap (tree_heap mid t) (entries fs) = s.heap_is ∙ ap (λ z. entries_heap heap (entries z)) is ∙ ap (λ z. entries_heap (tree_heap z t) (entries fs)) (sym v.heap) in
-    object_not old mid (list ++ place_bytes q) new (flat s.done ++ leaf (text k) ∷ []) all t e (children_push old heap list mid (flat s.done) (leaf (text k)) q s.children v) (f.0, same ∙ f.1) w
+pub list_closes : (kind : ListKind) (old before heap places new later : List ℕ) (whole : Tree) (left : List Tree) (n : ℕ) (p : Place) → ListOpen kind old before whole heap places left → left ≡ [] → n ≡ length before → ListPut heap kind (drop n places) new p
+    → later ≡ take n places → Put old whole new p × (later ≡ before)
+list_closes kind old before heap places new later whole left n p s none is w kept =
+    (all_put kind old before heap places new s.done whole n p (all_made kind old before heap places whole left s none) s.put is w, other_places old before heap places later s.done n s.put is kept)
 
-object_own_not : (old heap list new : List ℕ) (es all : List (List ℕ × Tree)) (e : AddError) → ObjectPut old heap list es all → es ≡ [] → ListPutNot heap list new e → PutNot old (object (entries all)) new e
-object_own_not old heap list new es all e s none w = record { prefix = prefix_then old heap new s.children.prefix w.prefix; why = subst (λ z. WhyUnwritten z e) (sym same) w.why }
+-- a refusal at a child, at a key and at the list itself
+pub list_refused : (kind : ListKind) (old before heap places new : List ℕ) (whole t : Tree) (left ts : List Tree) (e : AddError) → ListOpen kind old before whole heap places left → left ≡ t ∷ ts → PutNot heap t new e → PutNot old whole new e
+list_refused kind old before heap places new whole t left ts e s is w = record { prefix = prefix_then old heap new s.put.prefix w.prefix; why = unwritten_as _ _ e longer_is w.why }
   where
-    same : tree_heap old (object (entries all)) ≡ heap ++ short_sized list
-    same = let a = object_all old heap list es all s none in λ i. a.1 i ++ short_sized (a.2 i)
+    all : List Tree
+    all = s.done ++ left
 
-pub object_puts : (r : Result Place AddError) (old heap list new start places left : List ℕ) (n : ℕ) (es all : List (List ℕ × Tree)) → ObjectPut old heap list es all → es ≡ [] → places ≡ start ++ list → n ≡ length start
-    → IfOk r (λ p. ListPut heap Object (drop n places) new p) → OnOk r (left ≡ take n places) → IfErr r (λ x. ListPutNot heap (drop n places) new x) → Puts old start (object (entries all)) new left r
-object_puts (Ok p) old heap list new start places left n es all s none e is ok kept err =
-    (object_put old heap list new es all p s none (subst (λ z. ListPut heap Object z new p) (own_places start places list n e is) ok), kept ∙ (λ i. take (is i) (e i)) ∙ take-append_seam start list)
-object_puts (Err x) old heap list new start places left n es all s none e is ok kept err =
-    object_own_not old heap list new es all x s none (subst (λ z. ListPutNot heap z new x) (own_places start places list n e is) err)
+    longer_is : length (tree_heap heap t) ≤ length (tree_heap old whole)
+    longer_is =
+        let same : elements_heap old (elements all) ≡ elements_heap (tree_heap heap t) (elements ts) = heap_join old s.done left ∙ (λ i. elements_heap (sym s.put.heap i) (elements (is i))) in
+        omega (
+          arith,
+          prefix_length (tree_heap heap t) _ (elements_prefix (tree_heap heap t) (elements ts)),
+          ap length same,
+          ap length (made_heap kind old all whole s.list),
+          length-append (elements_heap old (elements all)) (short_sized (elements_places old (elements all))),
+        )
+
+pub key_refused : (key : Option (List ℕ)) (kind : ListKind) (old before heap places new : List ℕ) (whole u : Tree) (cs ds : List Child) (e : AddError) → ListOpen kind old before whole heap places (flat cs) → cs ≡ (key, u) ∷ ds → KeyNotPut heap key new e
+    → PutNot old whole new e
+key_refused None kind old before heap places new whole u cs ds e s is w = absurd w
+key_refused (Some k) kind old before heap places new whole u cs ds e s is w = list_refused kind old before heap places new whole (leaf (text k)) (flat cs) (u ∷ flat ds) e s (ap flat is) w
+
+pub own_refused : (kind : ListKind) (old before heap places new : List ℕ) (whole : Tree) (left : List Tree) (n : ℕ) (e : AddError) → ListOpen kind old before whole heap places left → left ≡ [] → n ≡ length before → ListPutNot heap (drop n places) new e
+    → PutNot old whole new e
+own_refused kind old before heap places new whole left n e s none is w = record { prefix = prefix_then old heap new s.put.prefix w.prefix; why = subst (λ z. WhyUnwritten z e) (sym same) w.why }
+  where
+    same : tree_heap old whole ≡ heap ++ short_sized (drop n places)
+    same = made_heap kind old s.done whole (all_made kind old before heap places whole left s none) ∙ (λ i. sym s.put.heap i ++ short_sized (sym (own_places old before heap places s.done n s.put is) i))
+
+-- its end
+pub list_puts : (r : Result Place AddError) (kind : ListKind) (old before heap places new later : List ℕ) (whole : Tree) (left : List Tree) (n : ℕ) → ListOpen kind old before whole heap places left → left ≡ [] → n ≡ length before
+    → IfOk r (λ p. ListPut heap kind (drop n places) new p) → OnOk r (later ≡ take n places) → IfErr r (λ x. ListPutNot heap (drop n places) new x) → Puts old before whole new later r
+list_puts (Ok p) kind old before heap places new later whole left n s none is ok kept err = list_closes kind old before heap places new later whole left n p s none is ok kept
+list_puts (Err e) kind old before heap places new later whole left n s none is ok kept err = own_refused kind old before heap places new whole left n e s none is err
 
 -- ---- for the walk
 

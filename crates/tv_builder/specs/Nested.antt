@@ -1,48 +1,41 @@
--- What is left of lists that are open, and what writing some of their children leaves.
-use Rattle.std.specs.Prelude.{◌≡◌, ℕ, ◌≤◌, List, [], ◌∷◌, ◌++◌, length, Option, Some, None}
-use Rattle.tv_base.specs.Sink.{IsPrefix}
-use Rattle.tv_format.specs.Tree.{Tree, leaf, text, array, object, elements, entries}
-use Rattle.tv_heap.specs.Reads.{ReadsElements}
+-- The children of lists in the order in which they are written, and what writing one of them leaves.
+use Rattle.std.specs.Prelude.{◌≡◌, ℕ, List, [], ◌∷◌, ◌++◌, map, Option, Some, None}
+use Rattle.tv_format.specs.Tree.{Tree, leaf, text, array, object}
+use Rattle.tv_heap.specs.declared.place.Place.{Place}
+use Rattle.tv_value.specs.Children.{Child, with_key}
 use Rattle.tv_builder.specs.declared.add_error.AddError.{AddError}
 use Rattle.tv_builder.specs.declared.list_kind.ListKind.{ListKind}
 use Rattle.tv_builder.specs.declared.list_kind.ListKind.TheVariants as lists
-use Rattle.tv_builder.specs.declared.nested.Rest.{Rest}
-use Rattle.tv_builder.specs.declared.nested.Rest.TheVariants as rest
-use Rattle.tv_builder.specs.TreeBytes.{elements_heap, elements_places}
-use Rattle.tv_builder.specs.Whole.{WhyUnwritten}
+use Rattle.tv_builder.specs.Given.{place_bytes}
+use Rattle.tv_builder.specs.Whole.{Put, PutNot}
 
--- keys, as texts, and values in turn
-abbrev pub flat : List (List ℕ × Tree) → List Tree
+-- a key, as a text, comes before its value
+abbrev pub key_then : Option (List ℕ) → List Tree → List Tree
+key_then None ts = ts
+key_then (Some k) ts = leaf (text k) ∷ ts
+
+abbrev pub flat : List Child → List Tree
 flat [] = []
-flat (e ∷ es) = leaf (text e.0) ∷ e.1 ∷ flat es
+flat (child ∷ children) = key_then child.0 (child.1 ∷ flat children)
 
-abbrev pub left_kind : {N K A O : Type 0} → Rest N K A O → ListKind
-left_kind (rest.Array it) = lists.Array
-left_kind (rest.Object it) = lists.Object
+abbrev pub flat_entries : List (List ℕ × Tree) → List Tree
+flat_entries es = flat (map with_key es)
 
--- the children that are left of a list, those of an object as keys and values in turn
-abbrev pub children_left : {N K A O : Type 0} → (A → List Tree) → (O → List (List ℕ × Tree)) → Rest N K A O → List Tree
-children_left items members (rest.Array it) = items it
-children_left items members (rest.Object it) = flat (members it)
+-- the tree is a list of this kind
+abbrev pub IsOfKind : ListKind → Tree → Type 0
+IsOfKind lists.Array (array ts) = Unit {0}
+IsOfKind lists.Object (object es) = Unit {0}
+IsOfKind _ _ = ⊥
 
--- the list that they are alone
-abbrev pub left_tree : {N K A O : Type 0} → (A → List Tree) → (O → List (List ℕ × Tree)) → Rest N K A O → Tree
-left_tree items members (rest.Array it) = array (elements (items it))
-left_tree items members (rest.Object it) = object (entries (members it))
+-- A child is written at the end of a heap, and its place behind others.
+abbrev pub ChildPut : List ℕ → List ℕ → Tree → List ℕ → List ℕ → Type 0
+ChildPut old before t new left = (p : Place) × Put old t new p × (left ≡ before ++ place_bytes p)
 
--- Children are written one behind the other at the end of a heap, and their places behind others.
-pub record ChildrenPut (old before : List ℕ) (ts : List Tree) (new left : List ℕ) : Type 0 where
-  pub heap : new ≡ elements_heap old (elements ts)
-  pub places : left ≡ before ++ elements_places old (elements ts)
-  pub fits : length new ≤ 4294967295
-  pub reads : ReadsElements new (length new) (elements_places old (elements ts)) (elements ts)
+-- a key, if there is one
+abbrev pub KeyPut : List ℕ → List ℕ → Option (List ℕ) → List ℕ → List ℕ → Type 0
+KeyPut old before None new left = (new ≡ old) × (left ≡ before)
+KeyPut old before (Some k) new left = ChildPut old before (leaf (text k)) new left
 
--- with them the heap would be too long, or memory was refused
-pub record ChildrenNotPut (old : List ℕ) (ts : List Tree) (new : List ℕ) (e : AddError) : Type 0 where
-  pub prefix : IsPrefix old new
-  pub why : WhyUnwritten (elements_heap old (elements ts)) e
-
--- All children that were left are written, or those before one that is a list.
-abbrev pub PutsTo : {R : Type 0} → (R → Tree) → List ℕ → List ℕ → List Tree → List ℕ → List ℕ → List Tree → Option R → Type 0
-PutsTo tree old before was new left after None = ChildrenPut old before was new left
-PutsTo tree old before was new left after (Some list) = (ts : List Tree) × (was ≡ ts ++ tree list ∷ after) × ChildrenPut old before ts new left
+abbrev pub KeyNotPut : List ℕ → Option (List ℕ) → List ℕ → AddError → Type 0
+KeyNotPut old None new e = ⊥
+KeyNotPut old (Some k) new e = PutNot old (leaf (text k)) new e

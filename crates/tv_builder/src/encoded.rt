@@ -112,6 +112,7 @@ pub fn put_encoded<'a>(
 // Writes the array that stands behind its code.
 #[inline(never)]
 #[cycle(encoded)]
+#[tactic(auto, using(crate::proofs::Giving::prefix_then))]
 fn put_encoded_array<'a>(
     bytes: &'a [u8],
     version: WriteVersion,
@@ -148,6 +149,7 @@ fn put_encoded_array<'a>(
 // Writes the object that stands behind its code.
 #[inline(never)]
 #[cycle(encoded)]
+#[tactic(auto, using(crate::proofs::Giving::prefix_then))]
 fn put_encoded_object<'a>(
     bytes: &'a [u8],
     version: WriteVersion,

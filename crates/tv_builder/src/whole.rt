@@ -5,6 +5,7 @@ ghost use Rattle.tv_base.specs.Sink.{IsPrefix};
 ghost use Rattle.tv_heap.specs.LeafBytes.{leaf_bytes};
 ghost use Rattle.tv_value.specs.Lent.{leaf_of, nested_tree};
 ghost use Rattle.tv_format.specs.Tree.{leaf as leaf_tree, array, object, elements, entries};
+ghost use Rattle.tv_builder.specs.Nested.{ChildPut};
 ghost use Rattle.tv_builder.specs.Whole.{Put, PutNot, Puts, PutWithin, PutNotWithin};
 ghost use Rattle.tv_builder.specs.Whole.{ListPut, ListPutNot, PutWith};
 ghost use Rattle.tv_value.specs.LeafParts.{content_of};
@@ -12,7 +13,7 @@ ghost use Rattle.tv_value.specs.LeafParts.{content_of};
 use crate::add_error::AddError;
 use crate::fits::{has_room, has_ten_times, has_tree_room, has_value_room};
 use crate::list_kind::ListKind;
-use crate::nested::{Rest, put_nested};
+use crate::nested::put_nested;
 use std::alloc::Global;
 use std::convert::AsStr;
 use tv_format::leaf_type::LeafType;
@@ -47,6 +48,24 @@ pub(crate) fn put_leaf(
     }
     let place = write_leaf(heap, value)?;
     Ok(place)
+}
+
+// Writes a value without children, and its place behind others. After an error the old heap is still a prefix of the new.
+#[inline(always)]
+pub(crate) fn put_single(
+    heap: &mut Vec<u8>,
+    places: &mut Vec<u8>,
+    value: &ReferenceValueLeaf<'_>,
+) -> Result<(), AddError>
+    requires { length heap.old.items ≤ 4294967295 }
+    ensures ok { OnOk result (ChildPut heap.old.items places.old.items (leaf_tree (leaf_of value.now))
+        heap.new.items places.new.items) }
+    ensures err { IfErr result
+        (λ e. PutNot heap.old.items (leaf_tree (leaf_of value.now)) heap.new.items e) }
+{
+    let place = put_leaf(heap, value)?;
+    push_place(places, place)?;
+    Ok(())
 }
 
 // Writes the value of this type that holds this, and returns its place, where the reason of a refusal isn't asked for. After `None` the old heap
@@ -137,7 +156,7 @@ fn put_array<N: Nested>(
         Puts heap.old.items places.old.items t heap.new.items places.new.items result }
 {
     if levels == 0 {
-        return put_nested(alloc, heap, places, Rest::<N>::Array(items));
+        return put_nested(alloc, heap, places, NestedValue::<N>::Array(items));
     }
     let first = places.len();
     for item in items {
@@ -162,12 +181,11 @@ fn put_object<N: Nested>(
         Puts heap.old.items places.old.items t heap.new.items places.new.items result }
 {
     if levels == 0 {
-        return put_nested(alloc, heap, places, Rest::<N>::Object(members));
+        return put_nested(alloc, heap, places, NestedValue::<N>::Object(members));
     }
     let first = places.len();
     for (key, item) in members {
-        let name = put_leaf(heap, &ReferenceValueLeaf::Str(key.as_str()))?;
-        push_place(places, name)?;
+        put_single(heap, places, &ReferenceValueLeaf::Str(key.as_str()))?;
         let place = put_tree(alloc, heap, places, item.as_nested(), levels - 1)?;
         push_place(places, place)?;
     }

@@ -1,4 +1,4 @@
-use Rattle.std.proofs.Common.{◌≡◌, ◌+◌, ◌*◌, ◌++◌, List, ℕ}
+use Rattle.std.proofs.Common.{◌+◌, ◌*◌}
 use Rattle.tv_format.specs.WriteVersion.{written_version}
 use Rattle.tv_builder.proofs.Encoding.{ItemsPut, MembersPut}
 use Rattle.tv_builder.proofs.encoded.+encoded.Given as goal
@@ -16,10 +16,8 @@ decreases-put_encoded_object l = 2 * l.levels
 -- the children's places stand behind those of others
 abbrev pub invariant-put_encoded_array-loop-i : goal.invariant-put_encoded_array-loop-i
 invariant-put_encoded_array-loop-i l =
-    (list : List ℕ) × (l.places.items ≡ l.fn.places.items ++ list)
-    × ItemsPut (written_version l.version) l.announced l._i l.bytes l.rest l.fn.heap.items l.heap.items list
+    ItemsPut (written_version l.version) l.announced l._i l.bytes l.rest l.fn.heap.items l.fn.places.items l.heap.items l.places.items
 
 abbrev pub invariant-put_encoded_object-loop-i : goal.invariant-put_encoded_object-loop-i
 invariant-put_encoded_object-loop-i l =
-    (list : List ℕ) × (l.places.items ≡ l.fn.places.items ++ list)
-    × MembersPut (written_version l.version) l.announced l._i l.bytes l.rest l.fn.heap.items l.heap.items list
+    MembersPut (written_version l.version) l.announced l._i l.bytes l.rest l.fn.heap.items l.fn.places.items l.heap.items l.places.items

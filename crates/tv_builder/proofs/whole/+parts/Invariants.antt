@@ -1,8 +1,10 @@
-use Rattle.std.proofs.Common.{◌≡◌, ◌++◌, List, ℕ}
+use Rattle.std.proofs.Common.{◌≤◌}
 use Rattle.tv_value.specs.Lent.{nested_tree}
 use Rattle.tv_format.specs.Size.{size, elements_size, entries_size}
-use Rattle.tv_format.specs.Tree.{elements, entries}
-use Rattle.tv_builder.proofs.Putting.{ArrayPut, ObjectPut}
+use Rattle.tv_format.specs.Tree.{array, object, elements, entries}
+use Rattle.tv_builder.specs.Nested.{flat_entries}
+use Rattle.tv_builder.specs.declared.list_kind.ListKind.TheVariants.{Array, Object}
+use Rattle.tv_builder.proofs.Putting.{ListOpen}
 use Rattle.tv_builder.proofs.whole.+parts.Given as goal
 
 -- each child is smaller
@@ -15,13 +17,15 @@ decreases-put_array g l = elements_size (elements (g.N.Nested.array_rest l.items
 abbrev pub decreases-put_object : goal.decreases-put_object
 decreases-put_object g l = entries_size (entries (g.N.Nested.object_rest l.members))
 
--- the children's places stand behind those of others
+-- the list is written up to the children that are left
 abbrev pub invariant-put_array-loop-item : goal.invariant-put_array-loop-item
 invariant-put_array-loop-item g l =
-    (list : List ℕ) × (l.places.items ≡ l.fn.places.items ++ list)
-    × ArrayPut l.fn.heap.items l.heap.items list (g.N.Nested.array_rest l.item-iterator) (g.N.Nested.array_rest l.fn.items)
+    let all = g.N.Nested.array_rest l.fn.items in
+    let left = g.N.Nested.array_rest l.item-iterator in
+    ListOpen Array l.fn.heap.items l.fn.places.items (array (elements all)) l.heap.items l.places.items left × (elements_size (elements left) ≤ elements_size (elements all))
 
 abbrev pub invariant-put_object-loop-key : goal.invariant-put_object-loop-key
 invariant-put_object-loop-key g l =
-    (list : List ℕ) × (l.places.items ≡ l.fn.places.items ++ list)
-    × ObjectPut l.fn.heap.items l.heap.items list (g.N.Nested.object_rest l.key-iterator) (g.N.Nested.object_rest l.fn.members)
+    let all = g.N.Nested.object_rest l.fn.members in
+    let left = g.N.Nested.object_rest l.key-iterator in
+    ListOpen Object l.fn.heap.items l.fn.places.items (object (entries all)) l.heap.items l.places.items (flat_entries left) × (entries_size (entries left) ≤ entries_size (entries all))
