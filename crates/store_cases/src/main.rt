@@ -12,33 +12,24 @@ mod stored;
 mod typed;
 
 use anyhow::{Result, anyhow};
+use case_words::suite::{Suite, answer_rows};
 use std::alloc::Global;
-use std::io::Read;
 
-fn main(rt: HostRuntime) -> Result<()> {
-    let alloc = rt.alloc();
-    let mut input = String::new(alloc);
-    rt.reader().read_to_string(&mut input)?;
-    for line in input.as_str().lines() {
-        if line.is_empty() || line.starts_with('#') {
-            println!(rt; "{line}")?;
-        } else {
-            let answer = answer(alloc, line)?;
-            println!(rt; "{answer}")?;
+struct StoreCases;
+
+impl Suite for StoreCases {
+    fn answer(alloc: Global, topic: &str, call: &[&str]) -> Result<String> {
+        match topic {
+            "read" => reads::answer(alloc, call),
+            "steps" => steps::answer(alloc, call),
+            "stored" => stored::answer(alloc, call),
+            "typed" => typed::answer(alloc, call),
+            "lines" => lines::answer(alloc, call),
+            _ => Err(anyhow!("an unknown topic: {topic}")),
         }
     }
-    Ok(())
 }
 
-// What the call of a line returns. The first word of a line names what it is about.
-fn answer(alloc: Global, line: &str) -> Result<String> {
-    let words: Vec<&str> = line.split('\t').collect(alloc)?;
-    match words.as_slice() {
-        ["read", call @ ..] => reads::answer(alloc, call),
-        ["steps", call @ ..] => steps::answer(alloc, call),
-        ["stored", call @ ..] => stored::answer(alloc, call),
-        ["typed", call @ ..] => typed::answer(alloc, call),
-        ["lines", call @ ..] => lines::answer(alloc, call),
-        _ => Err(anyhow!("an unknown line: {line}")),
-    }
+fn main(rt: HostRuntime) -> Result<()> {
+    answer_rows::<StoreCases>(&rt)
 }

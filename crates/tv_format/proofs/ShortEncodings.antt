@@ -17,15 +17,6 @@ use Rattle.tv_base.specs.Number.{Signed}
 use Rattle.tv_base.specs.Parts.{Then, Behind, Sized, Text, Each, short_sized}
 use Rattle.tv_base.proofs.Shortest.{four_bytes_encode, eight_bytes_encode, sixteen_bytes_encode}
 
-unfolding four_bytes
-four_bytes_encode n h = low_bytes_encode 4 n h
-
-unfolding eight_bytes
-eight_bytes_encode n h = low_bytes_encode 8 n h
-
-unfolding sixteen_bytes
-sixteen_bytes_encode n h = low_bytes_encode 16 n h
-
 -- parts that are encoded make a whole that is
 then : {P Q : List ℕ → Type 0} (prefix rest : List ℕ) → P prefix → Q rest → Then P Q (prefix ++ rest)
 then prefix rest p q = record { prefix = prefix; rest = rest; joined = refl; first = p; second = q }
