@@ -73,7 +73,8 @@ fn child_above<K: AsStr + Drop>(key: Option<K>, base: u32) -> Option<u32>
     let Some(key) = key else {
         return base.checked_add(6);
     };
-    base.checked_add(u32::try_from(key.as_str().len()).ok()?)?.checked_add(17)
+    base.checked_add(u32::try_from(key.as_str().len()).ok()?)?
+        .checked_add(17)
 }
 
 // The room of the children that are left of a list above what there is, where the sum fits. The open lists stand on a stack in memory.

@@ -66,7 +66,10 @@ fn same_nested<M: Nested, N: Nested>(one: NestedValue<'_, M>, other: NestedValue
             same_children(Children::<M>::Array(items), Children::<N>::Array(others))
         }
         (NestedValue::Object(members), NestedValue::Object(others)) => {
-            same_children(Children::<M>::Object(members), Children::<N>::Object(others))
+            same_children(
+                Children::<M>::Object(members),
+                Children::<N>::Object(others),
+            )
         }
         _ => false,
     }
