@@ -37,7 +37,7 @@ runs_keep (a ∷ rest) old new run =
       places = prefix_of_prefix (places_of old) (places_of run.0) (places_of new) one.added_places others.added_places one.places others.places;
     }
 
--- ---- pairs that are all accepted_pairs
+-- ---- pairs that are all accepted
 
 pub unchanged_same : (d : CompactDoc) → IsUnchanged d d
 unchanged_same d = record { document = refl; heap = refl; pairs = refl; places = refl }

@@ -88,7 +88,7 @@ each_read d i = by_pair (slice_get d.values.pairs.items i) refl
         let past = none_within d.values.pairs.items i e in
         subst (ReadsAt d i) (sym (no_place d.values.pairs.items i past)) (none_at d.values i past)
 
--- ---- the accepted_pairs pairs are some of those that were asked for
+-- ---- the accepted pairs are some of those that were asked for
 
 pair_room : (answer : Result (Unit {0}) AddError) (field : ℕ) (t : Tree) (d : Document) → document_room (pair_of answer field t ++ d) ≤ room t + document_room d
 pair_room (Ok x) field t d = omega (arith, document_room-cons (field, t) d)
@@ -143,10 +143,6 @@ above n m not = omega (arith, not)
 
 pub full_answers_none : (e : DeserializeError) → e ≡ errors.HeapFull → SaysNothing e → ⊥
 full_answers_none e is h = subst SaysNothing is h
-
-    cancel : (c : List ℕ) → c ++ x ≡ c ++ y → x ≡ y
-    cancel [] e = e
-    cancel (n ∷ c) e = cancel c (tail_is e)
 
 pub err_is : {T E : Type 0} (r : Result T E) (x y : E) → r ≡ Err x → r ≡ Err y → x ≡ y
 err_is r x y e f = cc

@@ -20,7 +20,7 @@ asked addition = (addition.field, addition.tree)
 abbrev pub IsCalled : List (Field × OwnedValue) → CompactDoc → CompactDoc → Type 0
 IsCalled values old new = (additions : List Addition) × (map asked additions ≡ map pair_of_value values) × Runs additions old new
 
--- the values were added to an empty document, which then has the pairs that were accepted_pairs
+-- the values were added to an empty document, which then has the pairs that were accepted
 pub record IsKept (values : List (Field × OwnedValue)) (new : CompactDoc) : Type 0 where
   pub additions : List Addition
   pub called : map asked additions ≡ map pair_of_value values
