@@ -58,7 +58,7 @@ pub record MovesState (old new : Building) (after : State → State) : Type 0 wh
   pub grows : IsPrefix old.heap.items new.heap.items
   pub next : (base : List ℕ) (s : State) → ShowsBehind base old s → ShowsBehind base new (after s)
 
--- ShowsBehind this heap there is no room for a state: its bytes and those that it announces end above 4294967295, and so does the room that it may
+-- Behind this heap there is no room for a state: its bytes and those that it announces end above 4294967295, and so does the room that it may
 -- take.
 pub record Over (base : List ℕ) (s : State) : Type 0 where
   pub bytes : 4294967295 < full_length base s
