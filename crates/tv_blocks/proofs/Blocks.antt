@@ -45,9 +45,6 @@ joined_more block before rest bytes now e f = e ∙ ap (λ (l : List ℕ). befor
 
 -- ---- migrating
 
-pub migrated_none : (from to : Version) (block content : List ℕ) → content ≡ [] → MigratedSoFar from to block block content
-migrated_none from to block content none = record { before = []; joined = refl; documents = []; encoded = refl; written = none }
-
 pub migrated_more : {from to : Version} {block rest now content more : List ℕ} → MigratedSoFar from to block rest content
     → (text : List ℕ) × (more ≡ content ++ text) × Transcribes from to rest now text → MigratedSoFar from to block now more
 migrated_more {from} {to} {block} {rest} {now} {content} {more} m more_is = let t = more_is.2 in record {
@@ -56,13 +53,6 @@ migrated_more {from} {to} {block} {rest} {now} {content} {more} m more_is = let 
   documents = m.documents ++ t.document ∷ [];
   encoded = each-snoc (EncodesDocument Legacy from) m.before t.read.prefix m.documents t.document m.encoded t.read.encoded;
   written = more_is.1 ∙ ap (λ (l : List ℕ). content ++ l) t.written ∙ ap (λ (l : List ℕ). l ++ short_document to t.document) m.written ∙ sym (flat-snoc (short_document to) m.documents t.document);
-}
-
-pub migrated_all : {from to : Version} {block rest content : List ℕ} → MigratedSoFar from to block rest content → rest ≡ [] → IsMigrated from to block content
-migrated_all {from} {to} {block} {rest} {content} m none = record {
-  documents = m.documents;
-  encoded = subst (λ (l : List ℕ). EncodesBlock from l m.documents) (sym (m.joined ∙ ap (λ (l : List ℕ). m.before ++ l) none ∙ append-nil m.before)) m.encoded;
-  written = m.written;
 }
 
 -- ---- printing
@@ -86,13 +76,6 @@ printed_more {entries} {v} {block} {rest} {now} {content} {more} {d} m b line = 
   encoded = each-snoc (EncodesDocument Legacy v) m.before b.prefix m.documents d m.encoded b.encoded;
   printed = subst (ArePrintedLines entries (m.documents ++ d ∷ [])) (sym line.2) (printed-snoc entries m.documents content (line.0 ++ 10 ∷ []) d m.printed (next_line line.1 no_lines));
 }
-
-pub printed_all : {entries : List Entry} {v : Version} {block rest content : List ℕ} → PrintedSoFar entries v block rest content → rest ≡ [] → IsPrintedBlock entries v block content
-printed_all {entries} {v} {block} {rest} {content} m none = (
-  m.documents,
-  subst (λ (l : List ℕ). EncodesBlock v l m.documents) (sym (m.joined ∙ ap (λ (l : List ℕ). m.before ++ l) none ∙ append-nil m.before)) m.encoded,
-  m.printed,
-)
 
 -- ---- refusals
 

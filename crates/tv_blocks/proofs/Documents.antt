@@ -20,15 +20,6 @@ use Rattle.tv_store.specs.Documents.{BeginsWithDocument, HasNoRoom, IsReadingErr
 
 -- ---- reading
 
-pub reads_first : (v : Version) (bytes rest : List ℕ) (d : Document) (taken : ℕ) → BeginsWithDocument v bytes rest d → taken ≡ length bytes - length rest → ReadsFirst v bytes d taken
-reads_first v bytes rest d taken b is =
-    let sum = ap length b.joined ∙ length-append b.prefix rest in
-    let at : taken ≡ length b.prefix = omega (arith, sum, is) in
-    record {
-      within = omega (arith, sum, is);
-      encoded = subst (λ (l : List ℕ). EncodesDocument Legacy v l d) (sym (ap (λ n. take n bytes) at ∙ ap (λ (l : List ℕ). take (length b.prefix) l) b.joined ∙ take-append_seam b.prefix rest)) b.encoded;
-    }
-
 pub unread_first : (v : Version) (bytes : List ℕ) (e : DeserializeError) → ((r : Refusal) → IsRefusal e r → NoDocument v bytes r) → (e ≡ errors.HeapFull → HasNoRoom v bytes) → IsReadingError e
     → IsUnread v bytes (document_refusal 0 e)
 unread_first v bytes (errors.CorruptedValue c) refused full may = (refused (corrupted c) is_corrupted, refl)
@@ -54,18 +45,3 @@ one_more {schema} {document} {left} {rest} field value m cut within = record {
   joined = m.joined ∙ ap (λ (d : Document). m.before ++ d) cut ∙ sym (append_assoc m.before ((field, value) ∷ []) rest);
   belongs = belongs-snoc schema m.before field value m.belongs within;
 }
-
-pub foreign : {schema : List Entry} {document left rest : Document} (field : ℕ) (value : Tree) → BelongsSoFar schema document left → left ≡ (field, value) ∷ rest → length schema ≤ field
-    → IsForeign schema document field
-foreign {schema} {document} {left} {rest} field value m cut outside = record {
-  before = m.before;
-  behind = rest;
-  value = value;
-  joined = m.joined ∙ ap (λ (d : Document). m.before ++ d) cut;
-  belongs = m.belongs;
-  outside = outside;
-}
-
-pub all_belong : {schema : List Entry} {document left : Document} → BelongsSoFar schema document left → left ≡ [] → Belongs schema document
-all_belong {schema} {document} {left} m none =
-    subst (Belongs schema) (sym (m.joined ∙ ap (λ (d : Document). m.before ++ d) none ∙ append-nil m.before)) m.belongs

@@ -62,15 +62,6 @@ pub imported_all : {schema : List Entry} {input rest block : List ℕ} {answers 
 imported_all {schema} {input} {rest} {block} {answers} m none =
     (m.lines, subst (Lines input) (append-nil m.lines) (m.cut [] (subst (λ (l : List ℕ). Lines l []) (sym none) no_lines)), m.outcomes)
 
--- what is left behind a line is shorter
-no_length : (l : List ℕ) → l ≢ [] → 0 < length l
-no_length [] some = absurd (some refl)
-no_length (b ∷ bs) some = omega arith
-
-pub line_shortens : (rest line now : List ℕ) → rest ≢ [] → FirstLine rest line now → length now < length rest
-line_shortens rest line now some (ended whole is) = let sum = ap length is ∙ length-append line (10 ∷ now) in omega (arith, sum)
-line_shortens rest line now some (unended whole is none) = let left = no_length rest some in let no_more = ap length none in omega (arith, left, no_more)
-
 pub not_empty : (l : List ℕ) → false ≡ (length l == 0) → l ≢ []
 not_empty [] test = absurd cc
 not_empty (b ∷ bs) test = λ none. cc

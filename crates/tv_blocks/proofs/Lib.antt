@@ -1,7 +1,6 @@
 pub mod Filling
 pub mod Suffixes
 pub mod Blocks
-pub mod BySchemas
 pub mod LineDocuments
 pub mod Documents
 pub mod Importing

@@ -24,10 +24,6 @@ one_value number field old new whole tree left next cut so_far added =
     ap (λ (l : List ℕ). l ++ value_records number field next) added ∙ append_assoc old (term_record number field (tree_value tree)) (value_records number field next)
     ∙ ap (λ (trees : List Tree). old ++ value_records number field trees) (sym cut) ∙ so_far
 
-pub all_values : (number field : ℕ) (now whole : List ℕ) (left : List Tree) → left ≡ [] → now ++ value_records number field left ≡ whole → now ≡ whole
-all_values number field now whole left none so_far =
-    sym (append-nil now) ∙ ap (λ (trees : List Tree). now ++ value_records number field trees) (sym none) ∙ so_far
-
 records-snoc : (first field : ℕ) (documents : List Document) (d : Document) → records_from first field (documents ++ d ∷ []) ≡ records_from first field documents ++ document_records (first + length documents) field d
 records-snoc first field [] d =
     let at : first ≡ first + 0 = omega arith in
@@ -36,9 +32,6 @@ records-snoc first field (e ∷ es) d =
     let at : suc first + length es ≡ first + length (e ∷ es) = omega arith in
     ap (λ (l : List ℕ). document_records first field e ++ l) (records-snoc (suc first) field es d ∙ ap (λ (n : ℕ). records_from (suc first) field es ++ document_records n field d) at)
     ∙ sym (append_assoc (document_records first field e) (records_from (suc first) field es) (document_records (first + length (e ∷ es)) field d))
-
-pub terms_none : (v : Version) (field : ℕ) (block content : List ℕ) → content ≡ [] → TermsSoFar v field block block content 0
-terms_none v field block content none = record { before = []; joined = refl; documents = []; counted = refl; encoded = refl; listed = none }
 
 pub terms_more : {v : Version} {field : ℕ} {block rest now content more : List ℕ} {number : ℕ} (d : Document) → TermsSoFar v field block rest content number
     → BeginsWithDocument v rest now d → more ≡ content ++ document_records number field d → TermsSoFar v field block now more (number + 1)
@@ -51,13 +44,6 @@ terms_more {v} {field} {block} {rest} {now} {content} {more} {number} d m b adde
   listed = let at : number ≡ 0 + length m.documents = omega (arith, m.counted) in added ∙ ap (λ (l : List ℕ). l ++ document_records number field d) m.listed
       ∙ ap (λ (n : ℕ). records_from 0 field m.documents ++ document_records n field d) at ∙ sym (records-snoc 0 field m.documents d);
 }
-
-pub terms_all : {v : Version} {field : ℕ} {block rest content : List ℕ} {number : ℕ} → TermsSoFar v field block rest content number → rest ≡ [] → IsTermList v field block content
-terms_all {v} {field} {block} {rest} {content} m none = (
-  m.documents,
-  subst (λ (l : List ℕ). EncodesBlock v l m.documents) (sym (m.joined ∙ ap (λ (l : List ℕ). m.before ++ l) none ∙ append-nil m.before)) m.encoded,
-  m.listed,
-)
 
 -- a record is appended piece by piece
 pub record_added : {E : Type 0} (result : Result (Unit {0}) E) (document : ℕ) (old one two three head size bytes serialized : List ℕ) → one ≡ old ++ head → two ≡ one ++ size → three ≡ (if is_ok result then two ++ bytes else two)

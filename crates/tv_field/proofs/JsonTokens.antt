@@ -27,10 +27,6 @@ pub record TokensSoFar (all rest : Items) (old new : List ℕ) : Type 0 where
   pub valid : AllByRecursion IsToken done
   pub grown : new ≡ old ++ flat_map short_token done
 
-same_option : (o : Option (List Token)) → o ≡ option_map (λ ts. [] ++ ts) o
-same_option None = refl
-same_option (Some ts) = refl
-
 one_more_at : (done : List Token) (t : Token) (o : Option (List Token)) → option_map (λ ts. done ++ ts) (option_map (λ ts. t ∷ ts) o) ≡ option_map (λ ts. (done ++ t ∷ []) ++ ts) o
 one_more_at done t None = refl
 one_more_at done t (Some ts) = ap Some (sym (append_assoc done (t ∷ []) ts))

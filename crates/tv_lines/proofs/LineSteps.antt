@@ -20,10 +20,6 @@ not_empty : (prefix rest : List ℕ) (b : ℕ) → prefix ++ b ∷ rest ≢ []
 not_empty [] rest b = λ e. cc
 not_empty (x ∷ prefix) rest b = λ e. cc
 
-no_length : (line : List ℕ) → length line ≡ 0 → line ≡ []
-no_length [] e = refl
-no_length (b ∷ bs) e = absurd (omega (arith, e))
-
 -- the first line, whether there is one or not
 pub first_of : (input line rest : List ℕ) (more : Bool) → TakesLine input line rest more → FirstLine input line rest
 first_of input line rest true takes = takes.1

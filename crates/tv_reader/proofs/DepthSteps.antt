@@ -76,11 +76,6 @@ err_of e d is = let same : e ≡ d = cc in ap (λ (z : DeserializeError). Err z)
 err_is : {X : Type 0} (e d : DeserializeError) → IsErrOf {T = X} (Err e) d → e ≡ d
 err_is e d is = cc
 
--- what was read, in other words
-pub deepens_as : {S X Y : Type 0} {is_known : S → Type 0} {left : S → List ℕ} {old new : S} {x : X} {W : List ℕ → X → Type 0} {P : List ℕ → Type 0} (y : Y) (Joined : List ℕ → Y → Type 0) (Deeper : List ℕ → Type 0)
-    → ((a : List ℕ) → W a x → Joined a y) → Deepens is_known left old new (Ok x) W P → Deepens is_known left old new (Ok y) Joined Deeper
-deepens_as {left = left} {old = old} {new = new} y Joined Deeper map h = record { within = λ t. begins_as (left old) (left new) map (h.within t); deep = λ t is. absurd (not_err y errors.TooDeep is) }
-
 -- of one part
 pub deepens_found : {S X : Type 0} {is_known : S → Type 0} {left : S → List ℕ} {old new : S} (x : X) (W : List ℕ → X → Type 0) (P : List ℕ → Type 0) → (is_known old → Begins (λ b. W b x) (left old) (left new)) → Deepens is_known left old new (Ok x) W P
 deepens_found x W P found = record { within = found; deep = λ t is. absurd (not_err x errors.TooDeep is) }
@@ -93,11 +88,6 @@ deepens_fails {left = left} {old = old} {new = new} {e = e} Joined Deeper map h 
 -- another refusal
 pub deepens_not : {S X : Type 0} (is_known : S → Type 0) (left : S → List ℕ) (old new : S) (e : DeserializeError) (W : List ℕ → X → Type 0) (P : List ℕ → Type 0) → e ≢ errors.TooDeep → Deepens is_known left old new (Err e) W P
 deepens_not is_known left old new e W P other = record { within = λ t. tt; deep = λ t is. absurd (other (err_is e errors.TooDeep is)) }
-
-pub read_calm : (e : ReadError) → read_error e ≢ errors.TooDeep
-read_calm (reads_errors.Corrupted c) = λ same. cc
-read_calm (reads_errors.Io kind) = λ same. cc
-read_calm reads_errors.Memory = λ same. cc
 
 -- ---- values
 
@@ -311,13 +301,3 @@ object_deepens_fails {is_known = is_known} {left = left} {old = old} {new = new}
     p.found p.stays_known (deepens_fails (λ b y. ⊥) (AmongMembers v below count) (λ a w. w) h))
 
 -- ---- a list that is one too many
-
-pub array_too_deep : {S : Type 0} (is_known : S → Type 0) (left : S → List ℕ) (p : S) (v : Version) (levels : ℕ) → levels ≡ 0 → Deepens is_known left p p (Err errors.TooDeep) (BehindWithin v types.Array levels) (OpensBehind v types.Array levels)
-array_too_deep is_known left p v levels is =
-    subst (λ n. Deepens {X = OwnedValue} is_known left p p (Err errors.TooDeep) (BehindWithin v types.Array n) (OpensBehind v types.Array n)) (sym is)
-    (record { within = λ t. tt; deep = λ t same. record { prefix = []; joined = refl; encoded = inl refl } })
-
-pub object_too_deep : {S : Type 0} (is_known : S → Type 0) (left : S → List ℕ) (p : S) (v : Version) (levels : ℕ) → levels ≡ 0 → Deepens is_known left p p (Err errors.TooDeep) (BehindWithin v types.Object levels) (OpensBehind v types.Object levels)
-object_too_deep is_known left p v levels is =
-    subst (λ n. Deepens {X = OwnedValue} is_known left p p (Err errors.TooDeep) (BehindWithin v types.Object n) (OpensBehind v types.Object n)) (sym is)
-    (record { within = λ t. tt; deep = λ t same. record { prefix = []; joined = refl; encoded = inr refl } })

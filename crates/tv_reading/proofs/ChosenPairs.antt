@@ -54,10 +54,6 @@ field_found bytes prefix rest n small is after l worth =
     let fixed : Fixed 4 (take 4 bytes) n = subst (Fixed 4 (take 4 bytes)) (sym (worth ∙ ap (from_le_bytes w32) is)) (fixed_4 (take 4 bytes) (length-take-le 4 bytes l) (small_take 4 bytes small)) in
     (rest, begins_cut (λ b. Fixed 4 b n) 4 bytes (take 4 bytes) rest refl after fixed)
 
--- the same of bytes that begin with these
-pub field_lent : (lent left : List ℕ) (n : ℕ) → IsPrefix lent left → BeginsAsPair lent n → BeginsAsPair left n
-field_lent lent left n p b = (b.0 ++ p.0, record { prefix = b.1.prefix; joined = p.1 ∙ ap (λ (z : List ℕ). z ++ p.0) b.1.joined ∙ append_assoc b.1.prefix b.0 p.0; encoded = b.1.encoded })
-
 pub chosen-one : (fields : List Field) (pair : ℕ × Tree) → is_among fields pair.0 ≡ true → chosen fields (pair ∷ []) ≡ pair ∷ []
 chosen-one fields pair among = cond-true (is_among fields pair.0) (pair ∷ []) [] among
 

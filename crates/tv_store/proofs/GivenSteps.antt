@@ -77,8 +77,3 @@ document_counts errors.HeapFull old new h = absurd h
 document_counts (errors.UnsupportedVersion m n) old new h = h
 document_counts errors.AlreadyFailed old new h = h
 document_counts errors.TooDeep old new h = h
-
--- an addition reads nothing
-addition_counted : (error : AddError) (old new : Failures) → new ≡ old → CountsStop (document_stop (add_error error)) old new
-addition_counted adds.HeapFull old new same = same
-addition_counted adds.Memory old new same = same

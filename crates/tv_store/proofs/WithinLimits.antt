@@ -47,15 +47,6 @@ use Rattle.tv_store.specs.declared.limits.LimitedReadError.{LimitedReadError}
 use Rattle.tv_store.specs.declared.limits.LimitedReadError.TheVariants as limited
 use Rattle.tv_store.specs.declared.direct_decoder.Step.{Step}
 
-not_done_at : (a f : Option ℕ) (d : Document) (s : State) (n : ℕ) → parts_at a d f s ≡ [] → ¬ AllFinished a n
-not_done_at None f d s n e done = done
-not_done_at (Some m) None d s n e done = absurd (cc)
-not_done_at (Some m) (Some f) d s n e done = absurd (cc)
-
--- before the number has come
-pub not_done : (r : Reading) → parts_read r ≡ [] → ¬ IsDone r
-not_done r e = not_done_at r.announced r.field (built r.builder) (state_of r.builder) r.finished e
-
 module _ {S : Type 0} {is_known : S → Type 0} {left : S → List ℕ} {failures : S → Failures} where
   pub begins : (v : Version) (r : Reading) (source : S) (i : ℕ) → FindsIf StoreMayStop is_known left failures source i source i (Ok r) (Goes v r) Nothing
   begins v r source i = none_buffered (Goes v r) r (λ bytes p. subst (λ z. Encoded Legacy v z (parts_read r)) (sym (append-nil bytes)) p)
@@ -282,18 +273,6 @@ stepped_as v w m n q r x y b same_version same_seen same_before same_after h =
     subst (λ z. Stepped w n r z b) same_after (subst (λ z. Stepped w n z x b) same_before (subst (λ z. Stepped w z q x b) same_seen (subst (λ z. Stepped z m q x b) same_version h)))
 
 -- ---- which errors come, and how large the heap is
-
-past_set : (most : Option ℕ) (n : ℕ) → IsPast most n → IsSome most
-past_set None n h = absurd h
-past_set (Some m) n h = search rules
-
-pub set_by_check : (limits : ReadLimits) (heap lists : ℕ) (l : ReadLimit) → Checks limits heap lists (Some l) → IsLimitedError limits (limited.Limit l)
-set_by_check limits heap lists limit.Depth h = past_set limits.depth lists h
-set_by_check limits heap lists limit.HeapBytes h = past_set limits.heap_bytes heap h.1
-set_by_check limits heap lists limit.Bytes h = absurd h
-
-pub kept_small : (most : Option ℕ) (kept : ℕ) (whole heap : List ℕ) → heap ≡ take kept whole → ¬ IsPast most (length whole) → ¬ IsPast most (length heap)
-kept_small most kept whole heap is within past = within (past_more most (length heap) (length whole) (omega (arith, ap length is, length-take kept whole)) past)
 
 -- ---- from what comes to what is promised
 

@@ -15,11 +15,6 @@ pub have-no-zero : (texts : List (Bor (List ℕ))) → ((k : ℕ) → k < length
 have-no-zero [] h = tt
 have-no-zero (text ∷ texts) h = (h 0 (omega arith), have-no-zero texts (λ k inside. h (suc k) (omega arith)))
 
-pub has-no-zero-at : (texts : List (Bor (List ℕ))) (k : ℕ) → HaveNoZero texts → k < length texts → HasNoZero (get_or texts k nothing).now
-has-no-zero-at [] k h inside = absurd (omega arith)
-has-no-zero-at (text ∷ texts) zero h inside = h.0
-has-no-zero-at (text ∷ texts) (suc k) h inside = has-no-zero-at texts k h.1 (omega arith)
-
 -- the first segment and so many others
 abbrev pub joined : List ℕ → List (Bor (List ℕ)) → ℕ → List ℕ
 joined first others n = join_with_byte 1 (first ∷ map (λ (segment : Bor (List ℕ)). segment.now) (take n others))
