@@ -44,10 +44,10 @@ abbrev pub WritesBefore : {S T : Type 0} (sink : Ghosts S) (old new : S) (result
 WritesBefore sink old new result left text = WritesBeforeBy sink.is_known sink.held sink.failures old new result left text
 
 -- a value without children
-abbrev pub HoldsNoList : Encoded → Type 0
-HoldsNoList (held.Array n items) = ⊥
-HoldsNoList (held.Object n members) = ⊥
-HoldsNoList _ = Unit {0}
+abbrev pub IsSingle : Encoded → Type 0
+IsSingle (held.Array n items) = ⊥
+IsSingle (held.Object n members) = ⊥
+IsSingle _ = Unit {0}
 
 -- how deep the children nest that a value holds
 abbrev pub HeldNestsWithin : ℕ → Encoded → Type 0
