@@ -1,81 +1,65 @@
 -- Open lists, written part by part.
-use Rattle.std.proofs.Common.{◌≡◌, ◌≤◌, ◌<◌, ℕ, suc, ◌+◌, length, get_or, take, set, List, [], ◌∷◌, ◌++◌, append_assoc, append-nil, sym, ap, ◌∙◌, arith}
-use Rattle.std.proofs.lemmas.List.{take_all}
-use Rattle.std.proofs.Math.ListN.{length-set}
-use Rattle.std.proofs.Math.Seq.{take-suc, take-suc-set}
+use Rattle.std.proofs.Common.{◌≡◌, ◌<◌, ℕ, Option, length, map, List, [], ◌∷◌, ◌++◌, append_assoc, append-nil, length-append, refl, sym, ap, ◌∙◌, arith}
+use Rattle.json.specs.Token as token
 use Rattle.json.specs.Token.{Token}
-use Rattle.tv_format.specs.Size.{size}
-use Rattle.tv_format.specs.Tree.{Tree}
-use Rattle.tv_json.specs.JsonOf.{json_of}
-use Rattle.tv_json.specs.Open.{Left, open_left, value_left, Writes}
-use Rattle.tv_json.specs.Rising.{data_tokens}
+use Rattle.tv_format.specs.Tree.{Tree, elements}
+use Rattle.tv_json.specs.JsonOf.{json_of, elements_json}
+use Rattle.tv_json.specs.Open.{key_tokens, children_tokens, open_left, Writes}
+use Rattle.tv_json.specs.Rising.{data_tokens, rest_of_array, rest_of_object, listed_json}
+use Rattle.tv_value.specs.Children.{Child, without_key, with_key}
 
-open_tokens-push : {R : Type 0} (left : R → Left) (rs : List R) (r : R) → (open_left left (rs ++ r ∷ [])).tokens ≡ (left r).tokens ++ (open_left left rs).tokens
-open_tokens-push left [] r = sym (append-nil (left r).tokens)
-open_tokens-push left (q ∷ rs) r = ap (λ z. z ++ (left q).tokens) (open_tokens-push left rs r) ∙ append_assoc (left r).tokens (open_left left rs).tokens (left q).tokens
+-- ---- the children of a list
 
-open_size-push : {R : Type 0} (left : R → Left) (rs : List R) (r : R) → (open_left left (rs ++ r ∷ [])).size ≡ suc ((left r).size + (open_left left rs).size)
-open_size-push left [] r = omega arith
-open_size-push left (q ∷ rs) r = let more = open_size-push left rs r in omega (arith, more)
+pub array_tokens : (ts : List Tree) → children_tokens token.end_array (map without_key ts) ≡ rest_of_array (elements_json (elements ts))
+array_tokens [] = refl
+array_tokens (t ∷ ts) = ap (λ z. data_tokens (json_of t) ++ z) (array_tokens ts)
 
--- a list is opened
-pub list_opened : {R : Type 0} (left : R → Left) (old now bracket : List Token) (t : Tree) (lists more : List R) (list : R) → now ≡ old ++ bracket → more ≡ lists ++ list ∷ []
-    → bracket ++ (left list).tokens ≡ data_tokens (json_of t) → suc (left list).size ≤ size t → Writes old now (value_left t (open_left left lists)) (open_left left more)
-list_opened left old now bracket t lists more list begins pushes whole small =
-    let above = (open_left left lists).tokens in
-    let sizes = ap (λ rs. (open_left left rs).size) pushes in
-    let sum = open_size-push left lists list in
-    record {
-      tokens = (λ i. begins i ++ (ap (λ rs. (open_left left rs).tokens) pushes ∙ open_tokens-push left lists list) i) ∙ append_assoc old bracket ((left list).tokens ++ above)
-          ∙ ap (λ z. old ++ z) (sym (append_assoc bracket (left list).tokens above) ∙ ap (λ z. z ++ above) whole);
-      size = omega (arith, sizes, sum, small);
-    }
+pub object_tokens : (es : List (List ℕ × Tree)) → children_tokens token.end_object (map with_key es) ≡ rest_of_object (listed_json es)
+object_tokens [] = refl
+object_tokens (e ∷ es) = ap (λ z. token.key e.0 ∷ (data_tokens (json_of e.1) ++ z)) (object_tokens es)
 
--- the innermost list, which is the last
-pub last_was : {R : Type 0} (lists : List R) (n : ℕ) (was : R) → suc n ≡ length lists → was ≡ get_or lists n was → lists ≡ take n lists ++ was ∷ []
-last_was lists n was last is =
-    let within : n < length lists = omega arith in
-    sym (take_all (suc n) lists (omega arith)) ∙ take-suc lists n was within ∙ ap (λ r. take n lists ++ r ∷ []) (sym is)
+-- ---- steps
 
-pub last_now : {R : Type 0} (lists : List R) (n : ℕ) (now : R) → suc n ≡ length lists → set lists n now ≡ take n lists ++ now ∷ []
-last_now lists n now last =
-    let within : n < length lists = omega arith in
-    let same : length (set lists n now) ≡ length lists = length-set lists n now in
-    sym (take_all (suc n) (set lists n now) (omega arith)) ∙ take-suc-set lists n now within
+module _ {R : Type 0} (left : R → List Token) where
+  last_pushed : (lists : List R) (list : R) → open_left left (lists ++ list ∷ []) ≡ left list ++ open_left left lists
+  last_pushed [] list = sym (append-nil (left list))
+  last_pushed (l ∷ ls) list = ap (λ z. z ++ left l) (last_pushed ls list) ∙ append_assoc (left list) (open_left left ls) (left l)
 
--- a list in the innermost is opened
-pub child_opened : {R : Type 0} (left : R → Left) (before now later whole : List Token) (t : Tree) (was is : R) (outer lists kept more : List R)
-    → lists ≡ outer ++ was ∷ [] → kept ≡ outer ++ is ∷ [] → now ++ (value_left t (left is)).tokens ≡ before ++ (left was).tokens → Writes now later (value_left t (open_left left kept)) (open_left left more)
-    → before ++ (open_left left lists).tokens ≡ whole → later ++ (open_left left more).tokens ≡ whole
-child_opened left before now later whole t was is outer lists kept more first second found opens so_far =
-    let above = (open_left left outer).tokens in
-    let child = data_tokens (json_of t) in
-    opens.tokens ∙ ap (λ z. now ++ (child ++ z)) (ap (λ rs. (open_left left rs).tokens) second ∙ open_tokens-push left outer is)
-    ∙ ap (λ z. now ++ z) (sym (append_assoc child (left is).tokens above)) ∙ sym (append_assoc now (child ++ (left is).tokens) above)
-    ∙ ap (λ z. z ++ above) found ∙ append_assoc before (left was).tokens above
-    ∙ ap (λ z. before ++ z) (sym (ap (λ rs. (open_left left rs).tokens) first ∙ open_tokens-push left outer was)) ∙ so_far
+  pub list_opened : (old new value : List Token) (bracket : Token) (lists more : List R) (list : R) → new ≡ old ++ bracket ∷ [] → more ≡ lists ++ list ∷ []
+      → bracket ∷ left list ≡ value → Writes old new (value ++ open_left left lists) (open_left left more)
+  list_opened old new value bracket lists more list begins pushes whole =
+      let above = open_left left lists in
+      record {
+        tokens = (λ i. begins i ++ (ap (open_left left) pushes ∙ last_pushed lists list) i) ∙ append_assoc old (bracket ∷ []) (left list ++ above) ∙ ap (λ z. old ++ (z ++ above)) whole;
+        more = let sizes = ap length begins in let sum = length-append old (bracket ∷ []) in omega (arith, sizes, sum);
+      }
 
-pub opened-smaller : {R : Type 0} (left : R → Left) (now later : List Token) (t : Tree) (was is : R) (outer lists kept more : List R)
-    → lists ≡ outer ++ was ∷ [] → kept ≡ outer ++ is ∷ [] → (value_left t (left is)).size < (left was).size → Writes now later (value_left t (open_left left kept)) (open_left left more)
-    → (open_left left more).size < (open_left left lists).size
-opened-smaller left now later t was is outer lists kept more first second found opens =
-    let sizes-was = ap (λ rs. (open_left left rs).size) first in
-    let sizes-is = ap (λ rs. (open_left left rs).size) second in
-    let sum-was = open_size-push left outer was in
-    let sum-is = open_size-push left outer is in
-    let o = opens.size in
-    omega (arith, sizes-was, sizes-is, sum-was, sum-is, o, found)
+  -- a child was taken, and begun
+  pub child_begun : (old mid new after : List Token) (key : Option (List ℕ)) (t : Tree) (end : Token) (was rest : List Child) (lists kept : List R) (list : R)
+      → was ≡ (key, t) ∷ rest → mid ≡ old ++ key_tokens key → left list ≡ children_tokens end rest → kept ≡ lists ++ list ∷ []
+      → Writes mid new (data_tokens (json_of t) ++ open_left left kept) after → Writes old new (children_tokens end was ++ open_left left lists) after
+  child_begun old mid new after key t end was rest lists kept list cut named is pushes begun =
+      let above = open_left left lists in
+      let child = data_tokens (json_of t) in
+      let behind = children_tokens end rest in
+      let open_now = ap (open_left left) pushes ∙ last_pushed lists list ∙ ap (λ z. z ++ above) is in
+      record {
+        tokens = begun.tokens ∙ (λ i. named i ++ (child ++ open_now i)) ∙ append_assoc old (key_tokens key) (child ++ (behind ++ above))
+            ∙ ap (λ z. old ++ (key_tokens key ++ z)) (sym (append_assoc child behind above)) ∙ ap (λ z. old ++ z) (sym (append_assoc (key_tokens key) (child ++ behind) above))
+            ∙ ap (λ cs. old ++ (children_tokens end cs ++ above)) (sym cut);
+        more = let sizes = ap length named in let sum = length-append old (key_tokens key) in let more = begun.more in omega (arith, sizes, sum, more);
+      }
 
--- the innermost list is closed
-pub list_closed : {R : Type 0} (left : R → Left) (before now whole : List Token) (was : R) (outer lists : List R) → lists ≡ outer ++ was ∷ [] → now ≡ before ++ (left was).tokens
-    → before ++ (open_left left lists).tokens ≡ whole → now ++ (open_left left outer).tokens ≡ whole
-list_closed left before now whole was outer lists first written so_far =
-    let above = (open_left left outer).tokens in
-    ap (λ z. z ++ above) written ∙ append_assoc before (left was).tokens above
-    ∙ ap (λ z. before ++ z) (sym (ap (λ rs. (open_left left rs).tokens) first ∙ open_tokens-push left outer was)) ∙ so_far
+  -- the innermost list was written on
+  pub next_written : (old new whole : List Token) (lists outer now : List R) (list : R) → lists ≡ outer ++ list ∷ []
+      → Writes old new (left list ++ open_left left outer) (open_left left now) → old ++ open_left left lists ≡ whole → new ++ open_left left now ≡ whole
+  next_written old new whole lists outer now list pops writes so_far = writes.tokens ∙ ap (λ z. old ++ z) (sym (ap (open_left left) pops ∙ last_pushed outer list)) ∙ so_far
 
-pub closed-smaller : {R : Type 0} (left : R → Left) (was : R) (outer lists : List R) → lists ≡ outer ++ was ∷ [] → (open_left left outer).size < (open_left left lists).size
-closed-smaller left was outer lists first =
-    let sizes = ap (λ rs. (open_left left rs).size) first in
-    let sum = open_size-push left outer was in
-    omega (arith, sizes, sum)
+  pub next_smaller : (old new : List Token) (lists outer now : List R) (list : R) → lists ≡ outer ++ list ∷ []
+      → Writes old new (left list ++ open_left left outer) (open_left left now) → length (open_left left now) < length (open_left left lists)
+  next_smaller old new lists outer now list pops writes =
+      let sizes = ap length (next_written old new (old ++ open_left left lists) lists outer now list pops writes refl) in
+      let sum-new = length-append new (open_left left now) in
+      let sum-old = length-append old (open_left left lists) in
+      let more = writes.more in
+      omega (arith, sizes, sum-new, sum-old, more)

@@ -1,5 +1,5 @@
 -- The tokens of an array or an object, part by part.
-use Rattle.std.proofs.Common.{◌≡◌, ℕ, List, [], ◌∷◌, ◌++◌, String, Global, string_bytes, append_assoc, sym, ap, ◌∙◌}
+use Rattle.std.proofs.Common.{◌≡◌, ℕ, List, [], ◌∷◌, ◌++◌, append_assoc, sym, ap, ◌∙◌}
 use Rattle.json.specs.Token as token
 use Rattle.json.specs.Token.{Token}
 use Rattle.serde_json.specs.Data as json
@@ -7,7 +7,7 @@ use Rattle.serde_json.specs.Data.{Data, Members, put}
 use Rattle.tv_format.specs.Tree.{Tree, array, elements, entries}
 use Rattle.tv_json.specs.JsonOf.{json_of, elements_json, entries_json}
 use Rattle.tv_json.specs.Named.{list_json, named_json}
-use Rattle.tv_json.specs.Rising.{data_tokens, rest_of_array, rest_of_object, listed_json, pairs_json}
+use Rattle.tv_json.specs.Rising.{data_tokens, rest_of_array, rest_of_object, listed_json}
 
 -- ---- arrays
 
@@ -31,17 +31,10 @@ member_tokens : (before named now : List Token) (k : List ℕ) (item rest : List
 member_tokens before named now k item rest keyed written = ap (λ z. z ++ rest) written ∙ append_assoc named item rest ∙ ap (λ z. z ++ (item ++ rest)) keyed ∙ append_assoc before (token.key k ∷ []) (item ++ rest)
 
 pub member_written : (before named now : List Token) (k : List ℕ) (t : Tree) (all rest : List (List ℕ × Tree)) (whole : List Token) → named ≡ before ++ token.key k ∷ []
-    → now ≡ named ++ data_tokens (json_of t) → all ≡ (k, t) ∷ rest → before ++ rest_of_object (listed_json (entries all)) ≡ whole → now ++ rest_of_object (listed_json (entries rest)) ≡ whole
+    → now ≡ named ++ data_tokens (json_of t) → all ≡ (k, t) ∷ rest → before ++ rest_of_object (listed_json all) ≡ whole → now ++ rest_of_object (listed_json rest) ≡ whole
 member_written before named now k t all rest whole keyed written first so_far =
-    member_tokens before named now k (data_tokens (json_of t)) (rest_of_object (listed_json (entries rest))) keyed written
-    ∙ ap (λ es. before ++ rest_of_object (listed_json (entries es))) (sym first) ∙ so_far
-
-pub pair_written : {N : Type 0} (tree : N → Tree) (before named now : List Token) (name : String Global) (v : N) (all rest : List (String Global × N)) (whole : List Token)
-    → named ≡ before ++ token.key (string_bytes name) ∷ [] → now ≡ named ++ data_tokens (json_of (tree v)) → all ≡ (name, v) ∷ rest
-    → before ++ rest_of_object (pairs_json tree all) ≡ whole → now ++ rest_of_object (pairs_json tree rest) ≡ whole
-pair_written tree before named now name v all rest whole keyed written first so_far =
-    member_tokens before named now (string_bytes name) (data_tokens (json_of (tree v))) (rest_of_object (pairs_json tree rest)) keyed written
-    ∙ ap (λ ps. before ++ rest_of_object (pairs_json tree ps)) (sym first) ∙ so_far
+    member_tokens before named now k (data_tokens (json_of t)) (rest_of_object (listed_json rest)) keyed written
+    ∙ ap (λ es. before ++ rest_of_object (listed_json es)) (sym first) ∙ so_far
 
 pub list_written : (before now : List Token) (k : List ℕ) (ts : List Tree) (all rest : List (List ℕ × List Tree)) (whole : List Token) → now ≡ before ++ token.key k ∷ data_tokens (list_json ts)
     → all ≡ (k, ts) ∷ rest → before ++ rest_of_object (named_json all) ≡ whole → now ++ rest_of_object (named_json rest) ≡ whole

@@ -1,5 +1,5 @@
 -- Entries whose keys rise in byte order, and the tokens that are written for values.
-use Rattle.std.specs.Prelude.{◌≡◌, ℕ, List, [], ◌∷◌, String, string_bytes, decimal}
+use Rattle.std.specs.Prelude.{◌≡◌, ℕ, List, [], ◌∷◌, map, String, string_bytes, decimal}
 use lib.Chars.{codes}
 use Rattle.std.specs.Cmp.Lexicographic.{slice_cmp}
 use Rattle.std.specs.Ordering.{nat_cmp}
@@ -12,6 +12,7 @@ use Rattle.serde_json.specs.Data.{Data, Items, Members}
 use Rattle.serde_json.specs.Written.{outline, items_outline, members_outline}
 use Rattle.tv_format.specs.Tree.{Token, Tree, leaf, array, object, Entries, no_entries, entry}
 use Rattle.tv_json.specs.JsonOf.{json_of}
+use Rattle.tv_value.specs.Lent.{nested_entry}
 
 -- the first text comes before the second
 abbrev pub Below : List ℕ → List ℕ → Type 0
@@ -34,15 +35,14 @@ entries_of (leaf l) = no_entries
 entries_of (array ts) = no_entries
 entries_of (object es) = es
 
--- the members as the entries stand
-abbrev pub listed_json : Entries → Members
-listed_json no_entries = json.no_members
-listed_json (entry k t es) = json.member k (json_of t) (listed_json es)
+-- the members of keys and trees, as they stand
+abbrev pub listed_json : List (List ℕ × Tree) → Members
+listed_json [] = json.no_members
+listed_json (e ∷ es) = json.member e.0 (json_of e.1) (listed_json es)
 
--- the members of a map's pairs
-abbrev pub pairs_json : {N : Type 0} → (N → Tree) → List (String Global × N) → Members
-pairs_json tree [] = json.no_members
-pairs_json tree (p ∷ ps) = json.member (string_bytes p.0) (json_of (tree p.1)) (pairs_json tree ps)
+-- the keys and trees of a map's pairs
+abbrev pub pair_entries : {N : Type 0} → (N → Tree) → List (String Global × N) → List (List ℕ × Tree)
+pair_entries tree pairs = map (nested_entry string_bytes tree) pairs
 
 -- the tokens of JSON values, of lists and of objects with their closing brackets
 abbrev pub data_tokens : Data → List json_token.Token

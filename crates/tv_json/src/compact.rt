@@ -72,7 +72,7 @@ fn write_members<N: Nested>(
     ensures ok { OnOk result
         (json.new.out.tokens
         ≡ json.old.out.tokens
-        ++ data_tokens (Data.object (listed_json (entries (N.object_rest members))))) }
+        ++ data_tokens (Data.object (listed_json (N.object_rest members)))) }
     ensures before { json.new.out.before ≡ json.old.out.before }
 {
     json.out.begin_object()?;

@@ -1,11 +1,9 @@
 //! The order in which the members of an object are written.
 
-ghost use Rattle.std.specs.Prelude.{◌≡◌, ◌≤◌, ◌↔◌, IsTrue, IfOk};
+ghost use Rattle.std.specs.Prelude.{◌≡◌, ◌↔◌, IsTrue, IfOk};
 ghost use Rattle.serde_json.specs.Data.{no_members};
 ghost use Rattle.tv_json.specs.JsonOf.{entries_json};
-ghost use Rattle.tv_json.specs.Open.{pairs_size};
-ghost use Rattle.tv_json.specs.Rising.{Below, KeysRise, entries_of, pairs_json};
-ghost use Rattle.tv_format.specs.Size.{entries_size};
+ghost use Rattle.tv_json.specs.Rising.{Below, KeysRise, entries_of, listed_json, pair_entries};
 ghost use Rattle.tv_format.specs.Tree.{entries};
 ghost use Rattle.tv_value.specs.Lent.{nested_tree};
 
@@ -59,11 +57,9 @@ pub(crate) fn by_key<N: Nested>(
     alloc: Global,
     members: N::ObjectIter,
 ) -> Result<BTreeMap<String, N>, AllocError>
-    ensures members { IfOk result
-        (λ found. pairs_json N.tree found.entries
+    ensures { IfOk result
+        (λ found. listed_json (pair_entries N.tree found.entries)
         ≡ entries_json (entries (N.object_rest members)) no_members) }
-    ensures size { IfOk result
-        (λ found. pairs_size N.tree found.entries ≤ entries_size (entries (N.object_rest members))) }
 {
     let mut found = BTreeMap::new(alloc);
     for (key, value) in members {

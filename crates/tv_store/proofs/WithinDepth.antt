@@ -1,9 +1,11 @@
 -- Lists that are open nest within a limit where what is left of them does.
-use Rattle.std.proofs.Common.{length-append, ◌≡◌, ℕ, zero, suc, ◌-◌, ◌<◌, ◌≤◌, List, [], ◌∷◌, ◌++◌, length, Some, None, sym, subst, arith}
+use Rattle.std.proofs.Common.{◌≡◌, ℕ, zero, suc, ◌-◌, ◌+◌, ◌<◌, ◌≤◌, List, [], ◌∷◌, ◌++◌, length, append_assoc, append-nil, sym, ◌∙◌, ap, subst, arith}
 use Rattle.std.specs.Prelude.{◌↔◌}
-use Rattle.tv_format.specs.Tree.{Tree, leaf, array, object, Leaf, Elements, no_elements, element, Entries, no_entries, entry, elements, entries}
-use Rattle.tv_store.specs.Depth.{RestNestsWithin, ListNestsWithin, MeetsList, OpenNestWithin}
-use Rattle.tv_store.specs.declared.depth.Rest.TheVariants as rest
+use Rattle.std.specs.List.{sum_by}
+use Rattle.std.proofs.lemmas.List.Sums.{sum_by_push}
+use Rattle.tv_format.specs.Tree.{Tree, leaf, array, object, Leaf, Elements, no_elements, element, Entries, no_entries, entry}
+use Rattle.tv_value.proofs.ListChildren.{list_size, list_nests, no_list_within_0}
+use Rattle.tv_value.specs.Children.{Child, IsListOf, children_size, ChildrenNestWithin}
 use Rattle.tv_value.specs.Nesting.{NestsWithin, ElementsNestWithin, EntriesNestWithin}
 
 -- ---- what nests within so many lists nests within more
@@ -26,106 +28,71 @@ mutual
   entries_more m n no_entries le h = tt
   entries_more m n (entry k t es) le h = (nests_more m n t le h.0, entries_more m n es le h.1)
 
--- ---- up to a list
-
-leaf_nests : (n : ℕ) (t : Tree) (l : Leaf) → t ≡ leaf l → NestsWithin n t
-leaf_nests n t l e = subst (NestsWithin n) (sym e) tt
-
-pub array_nests : {A O : Type 0} (N K : Type 0) (items : A → List Tree) (members : O → List (List ℕ × Tree)) (it : A) (n : ℕ)
-    → NestsWithin n (array (elements (items it))) ↔ ListNestsWithin (RestNestsWithin {N = N} {K = K} items members) n (rest.Array it)
-array_nests N K items members it zero = (λ h. h, λ h. h)
-array_nests N K items members it (suc n) = (λ h. h, λ h. h)
-
-pub object_nests : {A O : Type 0} (N K : Type 0) (items : A → List Tree) (members : O → List (List ℕ × Tree)) (it : O) (n : ℕ)
-    → NestsWithin n (object (entries (members it))) ↔ ListNestsWithin (RestNestsWithin {N = N} {K = K} items members) n (rest.Object it)
-object_nests N K items members it zero = (λ h. h, λ h. h)
-object_nests N K items members it (suc n) = (λ h. h, λ h. h)
-
-pub met_as : {R : Type 0} {Within : ℕ → R → Type 0} {t u : Tree} {list : R} → t ≡ u → ((n : ℕ) → NestsWithin n u ↔ ListNestsWithin Within n list) → (n : ℕ) → NestsWithin n t ↔ ListNestsWithin Within n list
-met_as {Within = Within} {list = list} e h = λ n. subst (λ z. NestsWithin n z ↔ ListNestsWithin Within n list) (sym e) (h n)
-
--- what is left decides for all
-abbrev pub Decide : (ℕ → Type 0) → (ℕ → Type 0) → Type 0
-Decide all left = (n : ℕ) → all n ↔ left n
-
-pub item_passed : (all : ℕ → Type 0) (old more : List Tree) (t : Tree) (l : Leaf) → old ≡ t ∷ more → t ≡ leaf l
-    → Decide all (λ n. ElementsNestWithin n (elements old)) → Decide all (λ n. ElementsNestWithin n (elements more))
-item_passed all old more t l cut is same = λ n.
-    let now = subst (λ z. all n ↔ ElementsNestWithin n (elements z)) cut (same n) in
-    (λ h. (now.0 h).1, λ h. now.1 (leaf_nests n t l is, h))
-
-pub item_met : {R : Type 0} (Within : ℕ → R → Type 0) (all : ℕ → Type 0) (old more : List Tree) (t : Tree) (list : R) → old ≡ t ∷ more → ((n : ℕ) → NestsWithin n t ↔ ListNestsWithin Within n list)
-    → Decide all (λ n. ElementsNestWithin n (elements old)) → MeetsList Within all (λ n. ElementsNestWithin n (elements more)) (Some list)
-item_met Within all old more t list cut is same = λ n.
-    let now = subst (λ z. all n ↔ ElementsNestWithin n (elements z)) cut (same n) in
-    (λ h. (let both = now.0 h in ((is n).0 both.0, both.1)), λ h. now.1 ((is n).1 h.0, h.1))
-
-pub items_passed : {R : Type 0} (Within : ℕ → R → Type 0) (all New : ℕ → Type 0) (old : List Tree) → old ≡ [] → Decide all (λ n. ElementsNestWithin n (elements old)) → MeetsList Within all New None
-items_passed Within all New old none same = λ n. (subst (λ z. all n ↔ ElementsNestWithin n (elements z)) none (same n)).1 tt
-
-pub member_passed : (all : ℕ → Type 0) (old more : List (List ℕ × Tree)) (e : List ℕ × Tree) (l : Leaf) → old ≡ e ∷ more → e.1 ≡ leaf l
-    → Decide all (λ n. EntriesNestWithin n (entries old)) → Decide all (λ n. EntriesNestWithin n (entries more))
-member_passed all old more e l cut is same = λ n.
-    let now = subst (λ z. all n ↔ EntriesNestWithin n (entries z)) cut (same n) in
-    (λ h. (now.0 h).1, λ h. now.1 (leaf_nests n e.1 l is, h))
-
-pub member_met : {R : Type 0} (Within : ℕ → R → Type 0) (all : ℕ → Type 0) (old more : List (List ℕ × Tree)) (e : List ℕ × Tree) (list : R) → old ≡ e ∷ more → ((n : ℕ) → NestsWithin n e.1 ↔ ListNestsWithin Within n list)
-    → Decide all (λ n. EntriesNestWithin n (entries old)) → MeetsList Within all (λ n. EntriesNestWithin n (entries more)) (Some list)
-member_met Within all old more e list cut is same = λ n.
-    let now = subst (λ z. all n ↔ EntriesNestWithin n (entries z)) cut (same n) in
-    (λ h. (let both = now.0 h in ((is n).0 both.0, both.1)), λ h. now.1 ((is n).1 h.0, h.1))
-
-pub members_passed : {R : Type 0} (Within : ℕ → R → Type 0) (all New : ℕ → Type 0) (old : List (List ℕ × Tree)) → old ≡ [] → Decide all (λ n. EntriesNestWithin n (entries old)) → MeetsList Within all New None
-members_passed Within all New old none same = λ n. (subst (λ z. all n ↔ EntriesNestWithin n (entries z)) none (same n)).1 tt
-
 -- ---- open lists
 
-module _ {R : Type 0} (Within : ℕ → R → Type 0) where
-  pub open_pushed : (n : ℕ) (rs : List R) (x : R) → OpenNestWithin Within n (rs ++ x ∷ []) ↔ (OpenNestWithin Within n rs × Within (n - length rs) x)
-  open_pushed n [] x =
-      let e : n ≡ n - 0 = omega arith in
-      (λ h. (tt, subst (λ k. Within k x) e h.0), λ h. (subst (λ k. Within k x) (sym e) h.1, tt))
-  open_pushed n (r ∷ rs) x =
-      let more = open_pushed (n - 1) rs x in
-      let e : n - 1 - length rs ≡ n - suc (length rs) = omega arith in
-      (λ h. (let both = more.0 h.1 in ((h.0, both.0), subst (λ k. Within k x) e both.1)), λ h. (h.0.0, more.1 (h.0.1, subst (λ k. Within k x) (sym e) h.1)))
+module _ {R : Type 0} (left : R → List Child) where
+  -- What is left of open lists nests within so many, the outermost first: each stands in the one before it.
+  abbrev pub OpenNestWithin : ℕ → List R → Type 0
+  OpenNestWithin n [] = Unit {0}
+  OpenNestWithin n (list ∷ inner) = ChildrenNestWithin n (left list) × OpenNestWithin (n - 1) inner
 
-  -- so far: the whole nests so where the open lists do
+  split : (n m : ℕ) (around inner : List R) → m ≡ n - length around → OpenNestWithin n (around ++ inner) ↔ (OpenNestWithin n around × OpenNestWithin m inner)
+  split n m [] inner e =
+      let same : m ≡ n = omega (arith, e) in
+      (λ h. (tt, subst (λ k. OpenNestWithin k inner) (sym same) h), λ h. subst (λ k. OpenNestWithin k inner) same h.1)
+  split n m (r ∷ rs) inner e =
+      let more = split (n - 1) m rs inner (omega (arith, e)) in
+      (λ h. (let both = more.0 h.1 in ((h.0, both.0), both.1)), λ h. (h.0.0, more.1 (h.0.1, h.1)))
+
+  -- so far: the whole nests so where the open lists do, of which the innermost stands apart
   abbrev pub SoFar : Type 0 → ℕ → List R → R → Type 0
-  SoFar whole n around list = whole ↔ (OpenNestWithin Within n around × Within (n - length around) list)
+  SoFar whole n around list = whole ↔ OpenNestWithin n (around ++ list ∷ [])
 
-  pub begun : (whole : Type 0) (n : ℕ) (around : List R) (list : R) → around ≡ [] → whole ≡ Within n list → SoFar whole n around list
-  begun whole n around list none is =
-      let e : n ≡ n - 0 = omega arith in
-      subst (λ z. SoFar whole n z list) (sym none) (λ h. (tt, subst (λ k. Within k list) e (subst (λ z. z) is h)), λ h. subst (λ z. z) (sym is) (subst (λ k. Within k list) (sym e) h.1))
+  -- other innermost lists nest alike
+  exchanged : (whole : Type 0) (n m : ℕ) (around old new : List R) → m ≡ n - length around → OpenNestWithin m old ↔ OpenNestWithin m new
+      → whole ↔ OpenNestWithin n (around ++ old) → whole ↔ OpenNestWithin n (around ++ new)
+  exchanged whole n m around old new e alike so_far =
+      let was = split n m around old e in
+      let is = split n m around new e in
+      (λ h. (let both = was.0 (so_far.0 h) in is.1 (both.0, alike.0 both.1)), λ h. (let both = is.0 h in so_far.1 (was.1 (both.0, alike.1 both.1))))
 
-  -- a list was met in the innermost
-  pub opened : (whole : Type 0) (n : ℕ) (around more : List R) (old new inner : R) → ((m : ℕ) → Within m old ↔ (ListNestsWithin Within m inner × Within m new)) → length around < n → more ≡ around ++ new ∷ []
-      → SoFar whole n around old → SoFar whole n more inner
-  opened whole n around more old new inner meets less is so_far =
-      let left = n - length around - 1 in
-      let e : n - length around ≡ suc left = omega arith in
-      let counted : length (around ++ new ∷ []) ≡ suc (length around) = omega (arith, length-append around (new ∷ [])) in
-      let f : left ≡ n - length (around ++ new ∷ []) = omega (arith, counted) in
-      let met = subst (λ m. Within m old ↔ (ListNestsWithin Within m inner × Within m new)) e (meets (n - length around)) in
-      let pushed = open_pushed n around new in
-      subst (λ z. SoFar whole n z inner) (sym is) (
-        λ h. (let both = so_far.0 h in let parts = met.0 (subst (λ k. Within k old) e both.1) in (pushed.1 (both.0, subst (λ k. Within k new) (sym e) parts.1), subst (λ k. Within k inner) f parts.0)),
-        λ h. (let both = pushed.0 h.0 in so_far.1 (both.0, subst (λ k. Within k old) (sym e) (met.1 (subst (λ k. Within k inner) (sym f) h.1, subst (λ k. Within k new) e both.1)))),
+  pub leaf_passed : (whole : Type 0) (n : ℕ) (around : List R) (old new : R) (child : Child) (l : Leaf) → left old ≡ child ∷ left new → child.1 ≡ leaf l
+      → SoFar whole n around old → SoFar whole n around new
+  leaf_passed whole n around old new child l cut is =
+      let m = n - length around in
+      exchanged whole n m around (old ∷ []) (new ∷ []) (omega arith)
+      (λ h. ((subst (ChildrenNestWithin m) cut h.0).1, tt), λ h. (subst (ChildrenNestWithin m) (sym cut) (subst (NestsWithin m) (sym is) tt, h.0), tt))
+
+  pub list_opened : (whole : Type 0) (n : ℕ) (around more : List R) (old new inner : R) (child : Child) → left old ≡ child ∷ left new → IsListOf (left inner) child.1 → length around < n
+      → more ≡ around ++ new ∷ [] → SoFar whole n around old → SoFar whole n more inner
+  list_opened whole n around more old new inner child cut is less pushed so_far =
+      let m = n - length around in
+      let same = list_nests m (m - 1) (left inner) child.1 is (omega (arith, less)) in
+      subst (λ z. whole ↔ OpenNestWithin n z) (sym (append_assoc around (new ∷ []) (inner ∷ [])) ∙ ap (λ z. z ++ inner ∷ []) (sym pushed))
+      (exchanged whole n m around (old ∷ []) (new ∷ inner ∷ []) (omega arith) (
+        λ h. (let parts = subst (ChildrenNestWithin m) cut h.0 in (parts.1, (subst (λ z. z) same parts.0, tt))),
+        λ h. (subst (ChildrenNestWithin m) (sym cut) (subst (λ z. z) (sym same) h.1.0, h.0), tt),
       )
+      so_far)
+
+  pub opened_smaller : (around more : List R) (old new inner : R) (child : Child) → left old ≡ child ∷ left new → IsListOf (left inner) child.1 → more ≡ around ++ new ∷ []
+      → children_size (left inner) + sum_by (λ o. suc (children_size (left o))) more < children_size (left old) + sum_by (λ o. suc (children_size (left o))) around
+  opened_smaller around more old new inner child cut is pushed =
+      let sizes = ap children_size cut in
+      let whole = list_size (left inner) child.1 is in
+      let sums = ap (sum_by (λ (o : R). suc (children_size (left o)))) pushed in
+      let sum = sum_by_push (λ (o : R). suc (children_size (left o))) around new in
+      omega (arith, sizes, whole, sums, sum)
 
   -- the innermost is passed
-  pub closed : (whole : Type 0) (n : ℕ) (around less : List R) (old outer : R) → ((m : ℕ) → Within m old) → around ≡ less ++ outer ∷ [] → SoFar whole n around old → SoFar whole n less outer
-  closed whole n around less old outer passed is so_far =
-      let now = subst (λ z. SoFar whole n z old) is so_far in
-      let pushed = open_pushed n less outer in
-      (λ h. pushed.0 (now.0 h).0, λ h. now.1 (pushed.1 h, passed _))
-
-  pub all_closed : (whole : Type 0) (n : ℕ) (around : List R) (old : R) → ((m : ℕ) → Within m old) → around ≡ [] → SoFar whole n around old → whole
-  all_closed whole n around old passed none so_far = (subst (λ z. SoFar whole n z old) none so_far).1 (tt, passed _)
+  pub list_passed : (whole : Type 0) (n : ℕ) (around : List R) (old : R) → left old ≡ [] → SoFar whole n around old → whole ↔ OpenNestWithin n around
+  list_passed whole n around old none so_far =
+      let m = n - length around in
+      subst (λ z. whole ↔ OpenNestWithin n z) (append-nil around)
+      (exchanged whole n m around (old ∷ []) [] (omega arith) (λ h. tt, λ h. (subst (ChildrenNestWithin m) (sym none) tt, tt)) so_far)
 
   -- a list was met where no more may be open
-  pub too_many : (whole : Type 0) (n : ℕ) (around : List R) (old new inner : R) → ((m : ℕ) → Within m old ↔ (ListNestsWithin Within m inner × Within m new)) → length around ≡ n → SoFar whole n around old → ¬ whole
-  too_many whole n around old new inner meets all so_far = λ h.
-      let e : n - length around ≡ 0 = omega (arith, all) in
-      ((meets 0).0 (subst (λ k. Within k old) e (so_far.0 h).1)).0
+  pub too_many : (whole : Type 0) (n : ℕ) (around : List R) (old new inner : R) (child : Child) → left old ≡ child ∷ left new → IsListOf (left inner) child.1 → length around ≡ n
+      → SoFar whole n around old → ¬ whole
+  too_many whole n around old new inner child cut is all so_far = λ h.
+      no_list_within_0 (left inner) child.1 is (subst (ChildrenNestWithin 0) cut ((split n 0 around (old ∷ []) (omega (arith, all))).0 (so_far.0 h)).1.0).0

@@ -9,6 +9,5 @@ pub mod PairsGiven
 pub mod RoundTrip
 pub mod Migrate
 pub mod Nested
-pub mod Depth
 pub mod Limits
 pub use Rattle.tv_writer.specs.Serialized
