@@ -25,7 +25,7 @@ use Rattle.tv_builder.specs.StateHeap.{lists_heap}
 use Rattle.tv_builder.specs.Kinds.{bytes_type}
 use Rattle.tv_builder.specs.Moves.{InState, CanGive, GivesPlace, GivesNot, Does, last_bytes}
 use Rattle.tv_builder.specs.Parts.{IsContentOf}
-use Rattle.tv_builder.specs.Shows.{Placed, Shows, HoldsSomeState, frames_of, awaited_at}
+use Rattle.tv_builder.specs.Shows.{Placed, ShowsState, HoldsSomeState, frames_of, awaited_at}
 use Rattle.tv_builder.specs.State.{OpenList, State, complete, in_lists, in_bytes, with_value, with_content, and_end, AreLists, OthersAwait, HeadNext}
 use Rattle.tv_builder.specs.TreeBytes.{tree_heap, tree_place}
 use Rattle.tv_builder.proofs.Calls.{Written, does_give}
@@ -86,13 +86,13 @@ record InBytes (b : Building) (o : OpenBytes) (s : State) : Type 0 where
   lists : List OpenList
   so_far : List ℕ
   is : s ≡ in_bytes lists o.kind o.announced so_far
-  shows : Shows b (in_bytes lists o.kind o.announced so_far)
+  shows : ShowsState b (in_bytes lists o.kind o.announced so_far)
   before : List ℕ
   joined : b.heap.items ≡ before ++ (vnum o.announced ++ so_far)
   place : length before ≡ o.address
   counted : length so_far + o.missing ≡ o.announced
 
-bytes_state : (b : Building) (o : OpenBytes) (s : State) → b.open ≡ Some o → Shows b s → InBytes b o s
+bytes_state : (b : Building) (o : OpenBytes) (s : State) → b.open ≡ Some o → ShowsState b s → InBytes b o s
 bytes_state b o (complete t) e h = absurd (let g : Some o ≡ None = sym e ∙ h.at.closed in cc)
 bytes_state b o (in_lists ls) e h = absurd (let g : Some o ≡ None = sym e ∙ h.at.closed in cc)
 bytes_state b o (in_bytes ls kind n bs) e h =
@@ -105,7 +105,7 @@ bytes_state b o (in_bytes ls kind n bs) e h =
       lists = ls;
       so_far = bs;
       is = λ i. in_bytes ls (k i) (m i) bs;
-      shows = subst (Shows b) (λ i. in_bytes ls (k i) (m i) bs) h;
+      shows = subst (ShowsState b) (λ i. in_bytes ls (k i) (m i) bs) h;
       before = stand.before;
       joined = stand.joined ∙ ap (λ z. stand.before ++ (vnum z ++ bs)) m;
       place = stand.place ∙ ap (λ (z : OpenBytes). z.address) same_piece;
@@ -137,7 +137,7 @@ has_content b o e none is s h = let i = bytes_state b o s e h in subst HasConten
 pub none_open : (b : Building) → HoldsSomeState b → b.open ≡ None → ¬ InState b HasAllBytes
 none_open b h e = never b HasAllBytes h not
   where
-    not : (s : State) → Shows b s → HasAllBytes s → ⊥
+    not : (s : State) → ShowsState b s → HasAllBytes s → ⊥
     not (in_bytes ls kind n bs) h k = absurd (let f : Some h.at.piece ≡ None = sym h.at.is ∙ e in cc)
     not (complete t) h k = k
     not (in_lists ls) h k = k

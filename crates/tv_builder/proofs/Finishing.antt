@@ -17,7 +17,7 @@ use Rattle.tv_heap.specs.declared.place.Place.{Place}
 use Rattle.tv_builder.specs.Given.{Given, pending_in}
 use Rattle.tv_builder.specs.Image.{held, image_of, ShowsBehind}
 use Rattle.tv_builder.specs.OneState.{StandsBehind, same_behind}
-use Rattle.tv_builder.specs.Shows.{Shows}
+use Rattle.tv_builder.specs.Shows.{ShowsState}
 use Rattle.tv_builder.specs.TreeBytes.{tree_place}
 use Rattle.tv_builder.specs.State.{State, complete, in_lists, in_bytes, written}
 use Rattle.tv_builder.specs.declared.pair_builder.PairBuilder.{PairBuilder}
@@ -32,13 +32,13 @@ both : {A : Type 0} (x : Option A) (a : A) → x ≡ Some a → x ≡ None → �
 both x a e f = absurd (let g : Some a ≡ None = sym e ∙ f in cc)
 
 -- where a tree is complete, it is all of the state
-tree_state : (b : Building) (s : State) → ∥ Shows b s ∥₁ → (p : Place) → b.complete ≡ Some p → IsComplete s
+tree_state : (b : Building) (s : State) → ∥ ShowsState b s ∥₁ → (p : Place) → b.complete ≡ Some p → IsComplete s
 tree_state b (complete t) h p e = (t, refl)
 tree_state b (in_lists ls) h p e = absurd (∥∥₁_elim h ⊥_prop (λ s. both b.complete p e s.at.none))
 tree_state b (in_bytes ls kind n bs) h p e = absurd (∥∥₁_elim h ⊥_prop (λ s. both b.complete p e s.at.none))
 
-no_tree : (b : Building) (s : State) → ∥ Shows b s ∥₁ → b.complete ≡ None → IsComplete s → ⊥
-no_tree b s h e c = ∥∥₁_elim (subst (λ z. ∥ Shows b z ∥₁) c.1 h) ⊥_prop (λ x. both b.complete x.at.at x.at.is e)
+no_tree : (b : Building) (s : State) → ∥ ShowsState b s ∥₁ → b.complete ≡ None → IsComplete s → ⊥
+no_tree b s h e c = ∥∥₁_elim (subst (λ z. ∥ ShowsState b z ∥₁) c.1 h) ⊥_prop (λ x. both b.complete x.at.at x.at.is e)
 
 some_of : (x : Option Place) → ¬ (x ≡ None) → (p : Place) × (x ≡ Some p)
 some_of None n = absurd (n refl)
@@ -50,7 +50,7 @@ some_of (Some p) n = (p, refl)
 pub record Whole (old : PairBuilder) (at : Place) : Type 0 where
   pub tree : Tree
   pub is : state_of old ≡ complete tree
-  pub shows : ∥ Shows old.building (complete tree) ∥₁
+  pub shows : ∥ ShowsState old.building (complete tree) ∥₁
   pub place : at ≡ tree_place (kept_heap old) tree
 
 whole : (old : PairBuilder) (at : Place) → old.building.complete ≡ Some at → Whole old at
@@ -60,14 +60,14 @@ whole old at e =
     record {
       tree = t.0;
       is = t.1;
-      shows = subst (λ z. ∥ Shows old.building z ∥₁) t.1 shown;
+      shows = subst (λ z. ∥ ShowsState old.building z ∥₁) t.1 shown;
       place = ∥∥₁_elim old.state.1 (Coded-set the_row.coded at (tree_place (kept_heap old) t.0)) (λ p.
           let drawn : held old.building ≡ image_of (kept_heap old) (complete t.0) = p.image ∙ ap (λ z. image_of (kept_heap old) z) t.1 in
           let both_are : Some at ≡ Some (tree_place (kept_heap old) t.0) = sym e ∙ ap (λ (g : Given). g.complete) drawn in
           cc);
     }
 
-reads_at : (b : Building) (t : Tree) (at : Place) → b.complete ≡ Some at → Shows b (complete t) → ReadsTree b.heap.items (type_code at.value_type) at.address t
+reads_at : (b : Building) (t : Tree) (at : Place) → b.complete ≡ Some at → ShowsState b (complete t) → ReadsTree b.heap.items (type_code at.value_type) at.address t
 reads_at b t at e s =
     let f : Some s.at.at ≡ Some at = sym s.at.is ∙ e in
     let same_at : s.at.at ≡ at = cc in

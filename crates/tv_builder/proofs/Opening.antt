@@ -24,7 +24,7 @@ use Rattle.tv_builder.specs.Kinds.{total}
 use Rattle.tv_builder.specs.Moves.{InState, Over, Does}
 use Rattle.tv_builder.specs.Builder.{TakesBytes}
 use Rattle.tv_builder.specs.Fits.{ListFits, HeadFits}
-use Rattle.tv_builder.specs.Shows.{ShowsList, ShowsLists, Shows, HoldsSomeState, frames_of, awaited_by}
+use Rattle.tv_builder.specs.Shows.{ShowsList, ShowsLists, ShowsState, HoldsSomeState, frames_of, awaited_by}
 use Rattle.tv_builder.specs.State.{OpenList, State, complete, in_lists, in_bytes, next_in, and_value, and_list, and_head, and_bytes, head_awaits, list_tree, AreChildren}
 use Rattle.tv_builder.specs.Whole.{Put, PutNot, WhyUnwritten, ListPut, ListPutNot}
 use Rattle.tv_builder.proofs.Calls.{lists_as, lists_next, head_begins, head_next, Takes, value_taken}
@@ -188,13 +188,13 @@ takes_chunk b o n e small (in_bytes ls kind m bs) h =
     omega (arith, small, h.at.stand.counted, ap (λ (z : OpenBytes). z.missing) same)
 
 -- what holds of no state that is held doesn't hold of the one that is
-pub never : (b : Building) (P : State → Type 0) → HoldsSomeState b → ((s : State) → Shows b s → P s → ⊥) → ¬ InState b P
+pub never : (b : Building) (P : State → Type 0) → HoldsSomeState b → ((s : State) → ShowsState b s → P s → ⊥) → ¬ InState b P
 never b P h not = λ all. ∥∥₁_elim h.1 ⊥_prop (λ s. not h.0 s (all h.0 s))
 
 pub no_chunk : (b : Building) (n : ℕ) → HoldsSomeState b → b.open ≡ None → ¬ InState b (λ s. TakesBytes s n)
 no_chunk b n h e = never b (λ s. TakesBytes s n) h not
   where
-    not : (s : State) → Shows b s → TakesBytes s n → ⊥
+    not : (s : State) → ShowsState b s → TakesBytes s n → ⊥
     not (in_bytes ls kind m bs) h t = absurd (let f : Some h.at.piece ≡ None = sym h.at.is ∙ e in cc)
     not (complete t) h k = k
     not (in_lists ls) h k = k
@@ -202,7 +202,7 @@ no_chunk b n h e = never b (λ s. TakesBytes s n) h not
 pub few_left : (b : Building) (o : OpenBytes) (n : ℕ) → HoldsSomeState b → b.open ≡ Some o → o.missing < n → ¬ InState b (λ s. TakesBytes s n)
 few_left b o n h e few = never b (λ s. TakesBytes s n) h not
   where
-    not : (s : State) → Shows b s → TakesBytes s n → ⊥
+    not : (s : State) → ShowsState b s → TakesBytes s n → ⊥
     not (in_bytes ls kind m bs) h t =
         let f : Some h.at.piece ≡ Some o = sym h.at.is ∙ e in
         let same : h.at.piece ≡ o = cc in

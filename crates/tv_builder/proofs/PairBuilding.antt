@@ -26,7 +26,7 @@ use Rattle.tv_builder.specs.Holds.{Holds}
 use Rattle.tv_builder.specs.Image.{ShowsBehind}
 use Rattle.tv_builder.specs.Moves.{InState, MovesState, Over, Does}
 use Rattle.tv_builder.specs.OneState.{StandsBehind, stands_of, same_behind, same_state}
-use Rattle.tv_builder.specs.Shows.{ShowsLists, Shows, HoldsSomeState, frames_of, awaited_by}
+use Rattle.tv_builder.specs.Shows.{ShowsLists, ShowsState, HoldsSomeState, frames_of, awaited_by}
 use Rattle.tv_builder.specs.State.{State, complete, in_lists, in_bytes, written, and_end, awaited, state_room}
 use Rattle.tv_builder.specs.StateHeap.{state_heap, full_length, missing}
 use Rattle.tv_builder.specs.Weight.{state_weight}
@@ -67,7 +67,7 @@ behind_as base other b e h = (h.0, subst (λ z. ∥ ShowsBehind z b h.0 ∥₁) 
 pub heap_behind : (base : List ℕ) (b : Building) (h : StandsBehind base b) → b.heap.items ≡ state_heap base h.0
 heap_behind base b h = ∥∥₁_elim h.1 (Coded-set coded_text _ _) (λ p. ap (λ (g : Given). g.heap) p.image ∙ image_heap base h.0)
 
-full_fits : (b : Building) (s : State) → Shows b s → length b.heap.items + missing s ≤ 4294967295
+full_fits : (b : Building) (s : State) → ShowsState b s → length b.heap.items + missing s ≤ 4294967295
 full_fits b (complete t) h = omega (arith, h.fits)
 full_fits b (in_lists ls) h = omega (arith, h.fits)
 full_fits b (in_bytes ls kind n bs) h =

@@ -16,7 +16,7 @@ use Rattle.tv_heap.specs.Room.{content_room, token_room, room, elements_room, en
 use Rattle.tv_heap.specs.Weight.{tree_weight, elements_weight, entries_weight, document_weight}
 use Rattle.tv_heap.proofs.Writes.{vnum_five, length_eight, length_sixteen, address_small}
 use Rattle.tv_builder.specs.Given.{place_bytes}
-use Rattle.tv_builder.specs.State.{OpenList, State, complete, in_lists, in_bytes, IsState, children_room, lists_room, state_room, trees_weight, lists_written, written}
+use Rattle.tv_builder.specs.State.{OpenList, State, complete, in_lists, in_bytes, IsState, finished_room, lists_room, state_room, trees_weight, lists_written, written}
 use Rattle.tv_builder.specs.StateHeap.{lists_heap, state_heap, full_length}
 use Rattle.tv_builder.specs.TreeBytes.{tree_heap, tree_place, elements_heap, elements_places, entries_heap, entries_places}
 
@@ -135,7 +135,7 @@ mutual
   entries_fit no_entries h = omega arith
   entries_fit (entry k t es) h = omega (arith, sized_fits k, tree_fits t, entries_fit es)
 
-trees_fit : (ts : List Tree) → children_room ts < 4294967296 → trees_weight ts ≤ children_room ts
+trees_fit : (ts : List Tree) → finished_room ts < 4294967296 → trees_weight ts ≤ finished_room ts
 trees_fit [] h = omega arith
 trees_fit (t ∷ ts) h = omega (arith, tree_fits t, trees_fit ts)
 

@@ -5,7 +5,7 @@ use Rattle.tv_format.specs.Tree.{elements}
 use Rattle.tv_builder.specs.declared.building.Building.{Building}
 use Rattle.tv_builder.specs.declared.frame.Frame.{Frame}
 use Rattle.tv_builder.specs.Given.{Given}
-use Rattle.tv_builder.specs.Shows.{Shows, frames_of}
+use Rattle.tv_builder.specs.Shows.{ShowsState, frames_of}
 use Rattle.tv_builder.specs.State.{OpenList, State, complete, in_lists, in_bytes}
 use Rattle.tv_builder.specs.StateHeap.{lists_heap}
 use Rattle.tv_builder.specs.TreeBytes.{tree_heap, tree_place, elements_places}
@@ -33,5 +33,5 @@ image_of base (in_bytes ls kind n bs) = record { heap = lists_heap base ls ++ (v
 
 -- the state stands there, and all that a building holds is that state behind this heap
 pub record ShowsBehind (base : List ℕ) (b : Building) (s : State) : Type 0 where
-  pub shows : Shows b s
+  pub shows : ShowsState b s
   pub image : held b ≡ image_of base s

@@ -8,7 +8,7 @@ use Rattle.tv_heap.specs.declared.place.Place.{Place}
 use Rattle.tv_builder.specs.Given.{Given, given, pending_in, AreCut}
 use Rattle.tv_builder.specs.StateHeap.{full_length}
 use Rattle.tv_builder.specs.Image.{ShowsBehind}
-use Rattle.tv_builder.specs.Shows.{Shows, frames_of}
+use Rattle.tv_builder.specs.Shows.{ShowsState, frames_of}
 use Rattle.tv_builder.specs.State.{State, state_room}
 
 -- ---- a finished value is handed to the lists
@@ -51,7 +51,7 @@ FitsRoom (Some n) len b = IsTrue b ↔ (len + n ≤ 4294967295)
 
 -- this holds of the state that is held
 abbrev pub InState : Building → (State → Type 0) → Type 0
-InState b P = (s : State) → Shows b s → P s
+InState b P = (s : State) → ShowsState b s → P s
 
 -- The state that was held becomes another.
 pub record MovesState (old new : Building) (after : State → State) : Type 0 where

@@ -74,7 +74,7 @@ abbrev pub frames_of : Building → List Frame
 frames_of b = reverse b.frames.items
 
 -- all of the state stands there
-pub record Shows (b : Building) (s : State) : Type 0 where
+pub record ShowsState (b : Building) (s : State) : Type 0 where
   pub fits : length b.heap.items ≤ 4294967295
   pub counted : b.pending ≡ pending_in (frames_of b)
   pub is : IsState s
@@ -82,7 +82,7 @@ pub record Shows (b : Building) (s : State) : Type 0 where
 
 -- the state that a builder holds
 abbrev pub HoldsSomeState : Building → Type 0
-HoldsSomeState b = (s : State) × ∥ Shows b s ∥₁
+HoldsSomeState b = (s : State) × ∥ ShowsState b s ∥₁
 
 -- ---- what comes next, as the code has it
 

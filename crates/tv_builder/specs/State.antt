@@ -210,13 +210,13 @@ parts_of (in_lists ls) = lists_parts ls
 parts_of (in_bytes ls kind n bs) = lists_parts ls ++ (bytes_head kind n ∷ some_bytes bs ∷ [])
 
 -- 6 bytes and its room for each finished child, 5 for each open list
-abbrev pub children_room : List Tree → ℕ
-children_room [] = 0
-children_room (t ∷ ts) = 6 + room t + children_room ts
+abbrev pub finished_room : List Tree → ℕ
+finished_room [] = 0
+finished_room (t ∷ ts) = 6 + room t + finished_room ts
 
 abbrev pub lists_room : List OpenList → ℕ
 lists_room [] = 0
-lists_room (l ∷ ls) = 5 + children_room l.children + lists_room ls
+lists_room (l ∷ ls) = 5 + finished_room l.children + lists_room ls
 
 -- open bytes count with the length that is announced
 abbrev pub state_room : State → ℕ

@@ -6,7 +6,7 @@ ghost use Rattle.tv_format.specs.Tree.{Tree, Document};
 ghost use Rattle.tv_format.specs.Version.{Version};
 ghost use Rattle.tv_builder.specs.Builder.{state_of};
 ghost use Rattle.tv_builder.specs.Called.{parts_called};
-ghost use Rattle.tv_builder.specs.Shows.{Shows};
+ghost use Rattle.tv_builder.specs.Shows.{ShowsState};
 ghost use Rattle.tv_builder.specs.declared.pair_builder.PairBuilder.{PairBuilder};
 ghost use Rattle.tv_builder.specs.Behind.{document_parts, open_parts};
 ghost use Rattle.tv_builder.specs.Prefix.{Encoded};
@@ -77,5 +77,5 @@ pub fn parts_make_values()
 /// All of a builder's state stands in its heap: each finished child and the complete tree reads at its place, and open bytes so far, behind
 /// their length's shortest encoding, are the heap's last.
 pub fn states_stand_in_the_heap()
-    ensures { (b : PairBuilder) → ∥ Shows b.building (state_of b) ∥₁ }
+    ensures { (b : PairBuilder) → ∥ ShowsState b.building (state_of b) ∥₁ }
 {}

@@ -59,7 +59,7 @@ abbrev pub LeafStands : List ℕ → ℕ → Leaf → Type 0
 LeafStands heap at l = ContentStands heap at (content l)
 
 -- the type byte and the address of a child, and then the others; a child that has bytes lies below its parent
-pub record Child (parent : ℕ) (R : ℕ → ℕ → Type 0) (Q : List ℕ → Type 0) (whole : List ℕ) : Type 0 where
+pub record ListedChild (parent : ℕ) (R : ℕ → ℕ → Type 0) (Q : List ℕ → Type 0) (whole : List ℕ) : Type 0 where
   pub code : ℕ
   pub at : ℕ
   pub rest : List ℕ
@@ -84,11 +84,11 @@ abbrev mutual
 
   pub ReadsElements : List ℕ → ℕ → List ℕ → Elements → Type 0
   ReadsElements heap parent whole no_elements = whole ≡ []
-  ReadsElements heap parent whole (element t ts) = Child parent (λ code at. ReadsTree heap code at t) (λ b. ReadsElements heap parent b ts) whole
+  ReadsElements heap parent whole (element t ts) = ListedChild parent (λ code at. ReadsTree heap code at t) (λ b. ReadsElements heap parent b ts) whole
 
   -- of an entry, the key and then the value
   pub ReadsEntries : List ℕ → ℕ → List ℕ → Entries → Type 0
   ReadsEntries heap parent whole no_entries = whole ≡ []
   ReadsEntries heap parent whole (entry k t es) =
-      Child parent (λ code at. (code ≡ 1) × Stands heap at (λ w. ShortText k w))
-      (λ b. Child parent (λ code at. ReadsTree heap code at t) (λ c. ReadsEntries heap parent c es) b) whole
+      ListedChild parent (λ code at. (code ≡ 1) × Stands heap at (λ w. ShortText k w))
+      (λ b. ListedChild parent (λ code at. ReadsTree heap code at t) (λ c. ReadsEntries heap parent c es) b) whole

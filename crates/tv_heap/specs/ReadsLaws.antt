@@ -14,7 +14,7 @@ use Rattle.tv_format.specs.Tree.{Token, Leaf, tokenized, Tree, leaf, array, obje
 use Rattle.tv_format.specs.Encoding.{Tokenized}
 use Rattle.tv_format.proofs.Leaves.{agree_tokenized}
 use Rattle.tv_format.proofs.ShortEncodings.{tokenized_of}
-use Rattle.tv_heap.specs.Reads.{Stands, ShortSized, ShortText, ShortTokenized, leaf_type_byte, flag, ContentStands, LeafStands, Child, ReadsTree, ReadsElements, ReadsEntries}
+use Rattle.tv_heap.specs.Reads.{Stands, ShortSized, ShortText, ShortTokenized, leaf_type_byte, flag, ContentStands, LeafStands, ListedChild, ReadsTree, ReadsElements, ReadsEntries}
 
 -- two cuts of one list at one place
 one_place : (b c x y : List ℕ) → length b ≡ length c → b ++ x ≡ c ++ y → x ≡ y
@@ -103,7 +103,7 @@ mutual
   one_entries heap a b whole (entry k t es) (entry l u fs) p q =
       let same = one_child p.code q.code p.at q.at p.rest q.rest whole p.fits q.fits p.joined q.joined in
       let key : k ≡ l = stands_agree (agree_short_text k l) (subst (λ m. Stands heap m (λ w. ShortText k w)) same.1 p.reads.1) q.reads.1 in
-      let pp = subst (λ r. Child a (λ code at. ReadsTree heap code at t) (λ c. ReadsEntries heap a c es) r) same.2 p.others in
+      let pp = subst (λ r. ListedChild a (λ code at. ReadsTree heap code at t) (λ c. ReadsEntries heap a c es) r) same.2 p.others in
       let qq = q.others in
       let next = one_child pp.code qq.code pp.at qq.at pp.rest qq.rest q.rest pp.fits qq.fits pp.joined qq.joined in
       let value = one_tree heap qq.code qq.at t u (subst (λ c. ReadsTree heap c qq.at t) next.0 (subst (λ m. ReadsTree heap pp.code m t) next.1 pp.reads)) qq.reads in

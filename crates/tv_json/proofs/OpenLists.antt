@@ -4,7 +4,7 @@ use Rattle.json.specs.Token as token
 use Rattle.json.specs.Token.{Token}
 use Rattle.tv_format.specs.Tree.{Tree, elements}
 use Rattle.tv_json.specs.JsonOf.{json_of, elements_json}
-use Rattle.tv_json.specs.Open.{key_tokens, children_tokens, open_left, Writes}
+use Rattle.tv_json.specs.Open.{key_tokens, children_tokens, open_left, LeavesToWrite}
 use Rattle.tv_json.specs.Rising.{data_tokens, rest_of_array, rest_of_object, listed_json}
 use Rattle.tv_value.specs.Children.{Child, without_key, with_key}
 
@@ -26,7 +26,7 @@ module _ {R : Type 0} (left : R → List Token) where
   last_pushed (l ∷ ls) list = ap (λ z. z ++ left l) (last_pushed ls list) ∙ append_assoc (left list) (open_left left ls) (left l)
 
   pub list_opened : (old new value : List Token) (bracket : Token) (lists more : List R) (list : R) → new ≡ old ++ bracket ∷ [] → more ≡ lists ++ list ∷ []
-      → bracket ∷ left list ≡ value → Writes old new (value ++ open_left left lists) (open_left left more)
+      → bracket ∷ left list ≡ value → LeavesToWrite old new (value ++ open_left left lists) (open_left left more)
   list_opened old new value bracket lists more list begins pushes whole =
       let above = open_left left lists in
       record {
@@ -37,7 +37,7 @@ module _ {R : Type 0} (left : R → List Token) where
   -- a child was taken, and begun
   pub child_begun : (old mid new after : List Token) (key : Option (List ℕ)) (t : Tree) (end : Token) (was rest : List Child) (lists kept : List R) (list : R)
       → was ≡ (key, t) ∷ rest → mid ≡ old ++ key_tokens key → left list ≡ children_tokens end rest → kept ≡ lists ++ list ∷ []
-      → Writes mid new (data_tokens (json_of t) ++ open_left left kept) after → Writes old new (children_tokens end was ++ open_left left lists) after
+      → LeavesToWrite mid new (data_tokens (json_of t) ++ open_left left kept) after → LeavesToWrite old new (children_tokens end was ++ open_left left lists) after
   child_begun old mid new after key t end was rest lists kept list cut named is pushes begun =
       let above = open_left left lists in
       let child = data_tokens (json_of t) in
@@ -52,11 +52,11 @@ module _ {R : Type 0} (left : R → List Token) where
 
   -- the innermost list was written on
   pub next_written : (old new whole : List Token) (lists outer now : List R) (list : R) → lists ≡ outer ++ list ∷ []
-      → Writes old new (left list ++ open_left left outer) (open_left left now) → old ++ open_left left lists ≡ whole → new ++ open_left left now ≡ whole
+      → LeavesToWrite old new (left list ++ open_left left outer) (open_left left now) → old ++ open_left left lists ≡ whole → new ++ open_left left now ≡ whole
   next_written old new whole lists outer now list pops writes so_far = writes.tokens ∙ ap (λ z. old ++ z) (sym (ap (open_left left) pops ∙ last_pushed outer list)) ∙ so_far
 
   pub next_smaller : (old new : List Token) (lists outer now : List R) (list : R) → lists ≡ outer ++ list ∷ []
-      → Writes old new (left list ++ open_left left outer) (open_left left now) → length (open_left left now) < length (open_left left lists)
+      → LeavesToWrite old new (left list ++ open_left left outer) (open_left left now) → length (open_left left now) < length (open_left left lists)
   next_smaller old new lists outer now list pops writes =
       let sizes = ap length (next_written old new (old ++ open_left left lists) lists outer now list pops writes refl) in
       let sum-new = length-append new (open_left left now) in

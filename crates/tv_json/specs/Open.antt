@@ -36,11 +36,11 @@ open_left left [] = []
 open_left left (list ∷ lists) = open_left left lists ++ left list
 
 -- Of what was left to write, a first part was written, which isn't empty.
-pub record Writes (old new was left : List Token) : Type 0 where
+pub record LeavesToWrite (old new was left : List Token) : Type 0 where
   pub tokens : new ++ left ≡ old ++ was
   pub more : length old < length new
 
 -- There is no child, or the first was taken, and its key was written.
-abbrev pub Takes : {N : Type 0} → (N → Tree) → List Token → List Token → List Child → List Child → Option N → Type 0
-Takes tree old new was left None = (was ≡ []) × (new ≡ old)
-Takes tree old new was left (Some child) = (key : Option (List ℕ)) × (was ≡ (key, tree child) ∷ left) × (new ≡ old ++ key_tokens key)
+abbrev pub TakesNext : {N : Type 0} → (N → Tree) → List Token → List Token → List Child → List Child → Option N → Type 0
+TakesNext tree old new was left None = (was ≡ []) × (new ≡ old)
+TakesNext tree old new was left (Some child) = (key : Option (List ℕ)) × (was ≡ (key, tree child) ∷ left) × (new ≡ old ++ key_tokens key)

@@ -4,7 +4,7 @@ ghost use Rattle.std.specs.Prelude.{◌≡◌, ◌∷◌, ◌++◌, OnOk, IfOk};
 ghost use Rattle.json.specs.Token as Token;
 ghost use Rattle.tv_json.specs.JsonOf.{json_of};
 ghost use Rattle.tv_json.specs.Open.{rest_left, children_tokens, list_left, open_left};
-ghost use Rattle.tv_json.specs.Open.{Writes, Takes};
+ghost use Rattle.tv_json.specs.Open.{LeavesToWrite, TakesNext};
 ghost use Rattle.tv_json.specs.Rising.{data_tokens};
 ghost use Rattle.tv_format.specs.Tree.{object, entries};
 
@@ -57,7 +57,7 @@ fn begin<N: Nested>(
     lists: &mut Vec<OpenList<N>>,
     value: &N,
 ) -> Result<(), AllocError>
-    ensures ok { OnOk result (Writes json.old.out.tokens json.new.out.tokens
+    ensures ok { OnOk result (LeavesToWrite json.old.out.tokens json.new.out.tokens
         (data_tokens (json_of (N.tree value.now))
         ++ open_left (list_left N.tree N.array_rest N.object_rest) lists.old.items)
         (open_left (list_left N.tree N.array_rest N.object_rest) lists.new.items)) }
@@ -87,7 +87,7 @@ fn begin<N: Nested>(
 
 // Takes the next child of a list, and writes its key if it has one.
 fn next_child<N: Nested>(json: &mut JsonWriter, rest: &mut Rest<N>) -> Result<Option<N>, AllocError>
-    ensures ok { IfOk result (Takes N.tree json.old.out.tokens json.new.out.tokens
+    ensures ok { IfOk result (TakesNext N.tree json.old.out.tokens json.new.out.tokens
         (rest_left N.tree N.array_rest N.object_rest rest.old)
         (rest_left N.tree N.array_rest N.object_rest rest.new)) }
     ensures before { json.new.out.before ≡ json.old.out.before }
@@ -119,7 +119,7 @@ fn write_next<N: Nested>(
     lists: &mut Vec<OpenList<N>>,
     list: OpenList<N>,
 ) -> Result<(), AllocError>
-    ensures ok { OnOk result (Writes json.old.out.tokens json.new.out.tokens
+    ensures ok { OnOk result (LeavesToWrite json.old.out.tokens json.new.out.tokens
         (list_left N.tree N.array_rest N.object_rest list
         ++ open_left (list_left N.tree N.array_rest N.object_rest) lists.old.items)
         (open_left (list_left N.tree N.array_rest N.object_rest) lists.new.items)) }

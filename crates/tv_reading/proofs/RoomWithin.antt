@@ -26,7 +26,7 @@ use Rattle.tv_builder.specs.Behind.{pairs_parts, open_parts}
 use Rattle.tv_builder.specs.Prefix.{KeyHead, EncodesPart}
 use Rattle.tv_builder.specs.Kinds.{total}
 use Rattle.tv_builder.specs.Parts.{Part, field, value, bytes_head, some_bytes}
-use Rattle.tv_builder.specs.State.{OpenList, State, complete, in_lists, in_bytes, key_text, IsKeyLeaf, StartsWithKey, AreChildren, AreLists, IsValueNext, IsKeyNext, AllAwait, OthersAwait, HeadNext, IsState, key_parts, list_head, children_parts, list_parts, lists_parts, parts_of, children_room, lists_room, state_room}
+use Rattle.tv_builder.specs.State.{OpenList, State, complete, in_lists, in_bytes, key_text, IsKeyLeaf, StartsWithKey, AreChildren, AreLists, IsValueNext, IsKeyNext, AllAwait, OthersAwait, HeadNext, IsState, key_parts, list_head, children_parts, list_parts, lists_parts, parts_of, finished_room, lists_room, state_room}
 use Rattle.tv_builder.proofs.Grammar.{each_split}
 use Rattle.tv_reader.specs.Heads.{HasLength}
 use Rattle.tv_reader.proofs.Depths.{same_rest}
@@ -73,7 +73,7 @@ module _ (L : List ℕ → Entries → Type 0) (v : Version) (one_l : OneReading
     starts : Starts q next
     room_is : before + (6 + room next) ≤ within
 
-  next_element : (ts : List Tree) (us : Elements) (c q d y : List ℕ) → Each R c (map value ts) → EncodesElements L v d us → length ts < element_count us → c ++ q ≡ d ++ y → NextIn q (children_room ts) (elements_room us)
+  next_element : (ts : List Tree) (us : Elements) (c q d y : List ℕ) → Each R c (map value ts) → EncodesElements L v d us → length ts < element_count us → c ++ q ≡ d ++ y → NextIn q (finished_room ts) (elements_room us)
   next_element [] no_elements c q d y p s less e = absurd (omega (arith, less))
   next_element [] (element u us) c q d y p s less e = record {
     next = u;
@@ -90,7 +90,7 @@ module _ (L : List ℕ → Entries → Type 0) (v : Version) (one_l : OneReading
   -- ---- the next value behind a key
 
   next_behind_key : (ts : List Tree) (es : Entries) (c q d y : List ℕ) → StartsWithKey ts → length ts % 2 ≡ 1 → Each R c (key_parts ts) → EncodesEntries L v d es → length ts < 2 * entry_count es → c ++ q ≡ d ++ y
-      → NextIn q (children_room ts) (entries_room es)
+      → NextIn q (finished_room ts) (entries_room es)
   next_behind_key [] es c q d y are odd p s less e = absurd (omega (arith, odd))
   next_behind_key (k ∷ ts) no_entries c q d y are odd p s less e = absurd (omega (arith, less))
   next_behind_key (k ∷ []) (entry l u es) c q d y are odd p s less e =
@@ -125,7 +125,7 @@ module _ (L : List ℕ → Entries → Type 0) (v : Version) (one_l : OneReading
     room_is : before + (11 + length next) ≤ within
 
   next_key : (ts : List Tree) (es : Entries) (c q d y : List ℕ) → StartsWithKey ts → length ts % 2 ≡ 0 → Each R c (key_parts ts) → EncodesEntries L v d es → length ts < 2 * entry_count es → c ++ q ≡ d ++ y
-      → NextKey q (children_room ts) (entries_room es)
+      → NextKey q (finished_room ts) (entries_room es)
   next_key [] no_entries c q d y are even p s less e = absurd (omega (arith, less))
   next_key [] (entry l u es) c q d y are even p s less e = record {
     next = l;
@@ -196,7 +196,7 @@ module _ (L : List ℕ → Entries → Type 0) (v : Version) (one_l : OneReading
   ]
 
   in_list : (kind : ListKind) (n : ℕ) (ts : List Tree) (whole q b y : List ℕ) (t : Tree) → length ts < total kind n → AreChildren kind ts → IsValueNext kind (length ts) → Each R whole (list_head kind n ∷ children_parts kind ts) → whole ++ q ≡ b ++ y → Encodes L v b t
-      → NextIn q (5 + children_room ts) (room t)
+      → NextIn q (5 + finished_room ts) (room t)
   in_list Array n ts whole q b y t lacks are next p e s =
       let i = is_array n whole p.prefix p.rest q b y t p.joined p.first e s in
       let k = next_element ts i.us p.rest q i.d i.y p.second i.encoded (omega (arith, lacks, i.counted)) i.joined in
@@ -207,7 +207,7 @@ module _ (L : List ℕ → Entries → Type 0) (v : Version) (one_l : OneReading
       record { next = k.next; starts = k.starts; room_is = omega (arith, k.room_is, ap room i.is) }
 
   in_list_key : (kind : ListKind) (n : ℕ) (ts : List Tree) (whole q b y : List ℕ) (t : Tree) → length ts < total kind n → AreChildren kind ts → IsKeyNext kind (length ts) → Each R whole (list_head kind n ∷ children_parts kind ts) → whole ++ q ≡ b ++ y → Encodes L v b t
-      → NextKey q (5 + children_room ts) (room t)
+      → NextKey q (5 + finished_room ts) (room t)
   in_list_key Array n ts whole q b y t lacks are next p e s = absurd next
   in_list_key Object n ts whole q b y t lacks are next p e s =
       let i = is_object n whole p.prefix p.rest q b y t p.joined p.first e s in

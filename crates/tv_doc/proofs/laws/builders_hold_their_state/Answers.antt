@@ -5,7 +5,7 @@ use Rattle.tv_heap.specs.Reads.{ReadsTree}
 use Rattle.tv_heap.specs.TypeCode.{type_code}
 use Rattle.tv_builder.specs.Given.{Given}
 use Rattle.tv_builder.specs.Image.{held, image_of}
-use Rattle.tv_builder.specs.Shows.{Shows}
+use Rattle.tv_builder.specs.Shows.{ShowsState}
 use Rattle.tv_builder.specs.State.{complete}
 use Rattle.tv_builder.specs.TreeBytes.{tree_place}
 use Rattle.tv_builder.proofs.PairBuilding.{heap_behind, heap_within, kept_room}
@@ -17,7 +17,7 @@ returns c = λ b. record {
   bytes = heap_behind (kept_heap b) b.builder.building b.builder.state;
   reads = λ t e. ∥∥₁_map b.builder.state.1 (λ p.
       let base = kept_heap b in
-      let shown : Shows b.builder.building (complete t) = subst (Shows b.builder.building) e p.shows in
+      let shown : ShowsState b.builder.building (complete t) = subst (ShowsState b.builder.building) e p.shows in
       let drawn : held b.builder.building ≡ image_of base (complete t) = p.image ∙ ap (λ s. image_of base s) e in
       let whole : Some shown.at.at ≡ Some (tree_place base t) = sym shown.at.is ∙ ap (λ (g : Given). g.complete) drawn in
       let same : shown.at.at ≡ tree_place base t = cc in
