@@ -9,7 +9,16 @@ use Rattle.tv_heap.specs.declared.encoded.Encoded.{Encoded}
 use Rattle.tv_heap.specs.declared.encoded.Encoded.TheVariants as held
 use Rattle.tv_heap.specs.Encoded.{IsTokenized, SaysTokenized}
 use Rattle.tv_store.specs.Stored.{tree_written}
-use Rattle.tv_writer.proofs.WriterSteps.{elements_parts, entries_parts}
+
+-- the first child, and the others
+pub elements_parts : (v : Version) {all others : List Tree} {first : Tree} → all ≡ first ∷ others → short_elements v (elements all) ≡ short v first ++ short_elements v (elements others)
+elements_parts v cut = ap (λ ts. short_elements v (elements ts)) cut
+
+-- whose key is read in another way
+pub entries_parts : (v : Version) {all others : List (List ℕ × Tree)} {first : List ℕ × Tree} {key : List ℕ} → all ≡ first ∷ others → key ≡ first.0
+    → short_entries v (entries all) ≡ short_key v key ++ (short v first.1 ++ short_entries v (entries others))
+entries_parts v {others = others} {first = first} cut same =
+    ap (λ es. short_entries v (entries es)) cut ∙ ap (λ k. short_key v k ++ (short v first.1 ++ short_entries v (entries others))) (sym same)
 
 -- ---- how many bytes are left to write
 

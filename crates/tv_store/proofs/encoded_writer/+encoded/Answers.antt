@@ -6,11 +6,10 @@ use Rattle.tv_heap.specs.Value.{tree_of}
 use Rattle.tv_format.specs.Short.{short_elements, short_entries}
 use Rattle.tv_format.specs.Tree.{elements, entries}
 use Rattle.tv_format.specs.WriteVersion.{written_version}
-use Rattle.tv_writer.proofs.WriterSteps.{entries_parts}
 use Rattle.tv_value.specs.Nesting.{ElementsNestWithin, EntriesNestWithin}
 use Rattle.tv_store.proofs.Nesting.{held_within}
 use Rattle.tv_store.proofs.Stores.{writes_for}
-use Rattle.tv_store.proofs.WriterSteps.{others_fewer, entries_fewer, elements_next}
+use Rattle.tv_store.proofs.WriterSteps.{others_fewer, entries_fewer, elements_next, entries_parts}
 use Rattle.tv_store.proofs.encoded_writer.+encoded.Goals as goal
 
 pub write_encoded-returns-in_err-write_coded_count-in-Array-clause-writes : goal.write_encoded-returns-in_err-write_coded_count-in-Array-clause-writes
