@@ -1,12 +1,9 @@
 -- The terms of a JSON value by the bytes of its keys are those by its keys; and what a step of the walk does.
-use Rattle.std.proofs.Common.{◌≡◌, ℕ, zero, suc, ◌+◌, ◌<◌, ◌≤◌, Bool, true, false, List, [], ◌∷◌, ◌++◌, length, take, drop, map, reverse, Some, None, Ok, Err, if◌then◌else◌, refl, sym, ap, subst, ◌∙◌, arith, append_assoc, append-nil, length-append}
-use Rattle.std.specs.List.{flat_map, join_with_byte}
+use Rattle.std.proofs.Common.{◌≡◌, ℕ, Bool, List, [], ◌∷◌, ◌++◌, drop, map, Some, Err, if◌then◌else◌, refl, sym, ap, ◌∙◌, append-nil}
 use Rattle.std.proofs.lemmas.Grind.{flat_map-append}
-use Rattle.std.proofs.lemmas.List.{reverse-append}
-use Rattle.std.proofs.Math.Seq.{take-append_seam, take-length}
 use Rattle.tv_base.specs.JsonPath.{expanded, joined}
 use Rattle.tv_format.specs.Tree.{Tree, leaf, array, object, Elements, no_elements, element, Entries, no_entries, entry, element_list, entry_list}
-use Rattle.tv_indexing.specs.DocumentTerms.{AreAppended, Terms, followed_by, has_zero, json_leaf_terms, json_terms, json_elements_terms, json_entries_terms}
+use Rattle.tv_indexing.specs.DocumentTerms.{Terms, followed_by, has_zero, json_leaf_terms, json_terms, json_elements_terms, json_entries_terms}
 use Rattle.tv_indexing.specs.JsonWalk.{separated, separated_keys, terms_at, elements_at, entries_at, child_terms, children_terms}
 use Rattle.tv_indexing.specs.declared.term_values_error.TermValuesError.TheVariants.{NulInPath}
 use Rattle.tv_value.specs.Children.{Child, IsListOf, with_key, without_key}

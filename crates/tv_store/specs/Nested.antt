@@ -1,5 +1,5 @@
 -- Values as they stand in a heap, and what is left to be written of lists that are open.
-use Rattle.std.specs.Prelude.{ℕ, List, [], ◌∷◌, ◌++◌, Option, Some, None}
+use Rattle.std.specs.Prelude.{ℕ, List, [], ◌∷◌, Option, Some, None}
 use Rattle.std.specs.Borrow.{Bor}
 use Rattle.tv_base.specs.Number.{vnum}
 use Rattle.tv_format.specs.Short.{short_elements, short_entries, short_key}
