@@ -10,7 +10,7 @@ use Rattle.tv_format.specs.Version.{Version}
 use Rattle.tv_heap.specs.Encoded.{encoded_bytes}
 use Rattle.tv_heap.specs.declared.encoded.Encoded.{Encoded}
 use Rattle.tv_heap.specs.declared.encoded.Encoded.TheVariants as held
-use Rattle.tv_store.specs.Nested.{DocumentList, bytes_left, child_key, head_bytes, inner_list, IsSingle}
+use Rattle.tv_store.specs.Nested.{DocumentList, bytes_left, child_key, head_bytes, inner_list, HoldsNoList}
 use Rattle.tv_value.specs.Children.{Child, children_left, with_key, without_key}
 use Rattle.tv_value.specs.declared.children.Children.TheVariants as lists
 use Rattle.tv_writer.specs.Error.{write_stop}
@@ -71,7 +71,7 @@ head_some v (held.Tokenized content) = omega arith
 head_some v (held.Array n items) = omega arith
 head_some v (held.Object n members) = omega arith
 
-pub single_head : (v : Version) (e : Encoded) → IsSingle e → (head_bytes v e ≡ encoded_bytes v e) × (inner_list e ≡ None)
+pub single_head : (v : Version) (e : Encoded) → HoldsNoList e → (head_bytes v e ≡ encoded_bytes v e) × (inner_list e ≡ None)
 single_head v (held.Array n items) is = absurd is
 single_head v (held.Object n members) is = absurd is
 single_head v _ is = (refl, refl)

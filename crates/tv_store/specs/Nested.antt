@@ -42,10 +42,10 @@ inner_list (held.Object n members) = Some (lists.Object members)
 inner_list _ = None
 
 -- a value without children
-abbrev pub IsSingle : Encoded → Type 0
-IsSingle (held.Array n items) = ⊥
-IsSingle (held.Object n members) = ⊥
-IsSingle _ = Unit {0}
+abbrev pub HoldsNoList : Encoded → Type 0
+HoldsNoList (held.Array n items) = ⊥
+HoldsNoList (held.Object n members) = ⊥
+HoldsNoList _ = Unit {0}
 
 -- how deep the children nest that a value holds
 abbrev pub HeldNestsWithin : ℕ → Encoded → Type 0

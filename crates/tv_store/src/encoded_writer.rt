@@ -11,7 +11,7 @@ ghost use Rattle.tv_format.specs.Version.{Version};
 ghost use Rattle.tv_format.specs.WriteVersion.{written_version};
 ghost use Rattle.tv_heap.specs.Encoded.{encoded_bytes, HasFewEntries};
 ghost use Rattle.tv_store.specs.Nested.{bytes_left, child_key, head_bytes, inner_list};
-ghost use Rattle.tv_store.specs.Nested.{HeldNestsWithin, IsSingle};
+ghost use Rattle.tv_store.specs.Nested.{HeldNestsWithin, HoldsNoList};
 ghost use Rattle.tv_writer.specs.Error as store;
 ghost use Rattle.tv_writer.specs.Error.{IsIo, IsIoOrMemory};
 ghost use Rattle.tv_value.specs.Nesting.{NestsWithin};
@@ -54,7 +54,7 @@ fn write_encoded_tokens<K: ByteSink>(sink: &mut K, content: &[u8]) -> Result<(),
 // A value without children.
 #[inline(always)]
 fn write_single<K: ByteSink>(sink: &mut K, encoded: Encoded<'_>) -> Result<(), io::ErrorKind>
-    requires { IsSingle encoded }
+    requires { HoldsNoList encoded }
     ensures { (v : Version) → Writes K.ByteSink sink.old sink.new result
         (encoded_bytes v encoded.entry) }
 {
@@ -122,7 +122,7 @@ fn write_nested<K: ByteSink>(
     version: WriteVersion,
     first: Children<CompactDocValue<'_>>,
 ) -> Result<(), SerializeError>
-    ensures writes { store.Writes K.ByteSink sink.old sink.new result
+    ensures writes { store.WritesStore K.ByteSink sink.old sink.new result
         (Ok (bytes_left (written_version version) first.entry)) }
     ensures errors { IfErr result IsIoOrMemory }
 {
@@ -162,10 +162,10 @@ pub(crate) fn write_encoded<K: ByteSink>(
     levels: u32,
 ) -> Result<(), SerializeError>
     requires { HasFewEntries encoded }
-    ensures writes { store.Writes K.ByteSink sink.old sink.new result
+    ensures writes { store.WritesStore K.ByteSink sink.old sink.new result
         (Ok (encoded_bytes (written_version version) encoded.entry)) }
     ensures errors { IfErr result IsIoOrMemory }
-    ensures lean { HeldNestsWithin levels encoded.entry → IfErr result IsIo }
+    ensures only_io { HeldNestsWithin levels encoded.entry → IfErr result IsIo }
 {
     match encoded {
         Encoded::Array(count, items) => {
@@ -193,10 +193,10 @@ fn write_encoded_items<K: ByteSink>(
     items: CompactDocArrayIter<'_>,
     levels: u32,
 ) -> Result<(), SerializeError>
-    ensures writes { store.Writes K.ByteSink sink.old sink.new result
+    ensures writes { store.WritesStore K.ByteSink sink.old sink.new result
         (Ok (short_elements (written_version version) (elements items.entry.held.0))) }
     ensures errors { IfErr result IsIoOrMemory }
-    ensures lean { NestsWithin levels (array (elements items.entry.held.0)) → IfErr result IsIo }
+    ensures only_io { NestsWithin levels (array (elements items.entry.held.0)) → IfErr result IsIo }
 {
     if levels == 0 {
         return write_nested(sink, alloc, version, Children::Array(items));
@@ -217,10 +217,10 @@ fn write_encoded_members<K: ByteSink>(
     members: CompactDocObjectIter<'_>,
     levels: u32,
 ) -> Result<(), SerializeError>
-    ensures writes { store.Writes K.ByteSink sink.old sink.new result
+    ensures writes { store.WritesStore K.ByteSink sink.old sink.new result
         (Ok (short_entries (written_version version) (entries members.entry.held.0))) }
     ensures errors { IfErr result IsIoOrMemory }
-    ensures lean { NestsWithin levels (object (entries members.entry.held.0)) → IfErr result IsIo }
+    ensures only_io { NestsWithin levels (object (entries members.entry.held.0)) → IfErr result IsIo }
 {
     if levels == 0 {
         return write_nested(sink, alloc, version, Children::Object(members));
