@@ -10,13 +10,13 @@ use Rattle.tantivy_schema.specs.ExcludingLists.{object_excludes}
 use Rattle.tantivy_schema.specs.LegacyObjects.{MembersRefused}
 use Rattle.tantivy_schema.specs.Lists.{MapOf, ObjectRefused}
 use Rattle.tantivy_schema.specs.Tree.{Tree, unsigned}
-use Rattle.tantivy_schema.specs.Values.{IsLeafOf, LeafRefused, RefusalsExclude}
+use Rattle.tantivy_schema.specs.Values.{IsLeaf, LeafRefused, RefusalsExclude}
 use Rattle.tantivy_schema.specs.Version.{Version}
 use Rattle.std.proofs.Common.{refl}
 
 -- a number
 abbrev pub IsNumber : Tree → ℕ → Type 0
-IsNumber = IsLeafOf (λ n. unsigned n)
+IsNumber = IsLeaf (λ n. unsigned n)
 
 -- each coordinate is the last number with its key
 pub record IsPoint (t : Tree) (point : Point) : Type 0 where

@@ -3,7 +3,7 @@
 ghost use Rattle.tantivy_schema.specs.CodeTypes.ValueType.TheVariants as types;
 ghost use Rattle.tantivy_schema.specs.Excluding.{leaf_excludes};
 ghost use Rattle.tantivy_schema.specs.Tree.{unsigned};
-ghost use Rattle.tantivy_schema.specs.Values.{IsLeafOf, LeafRefused};
+ghost use Rattle.tantivy_schema.specs.Values.{IsLeaf, LeafRefused};
 ghost use Rattle.std.specs.Prelude.{refl};
 
 use std::alloc::Global;
@@ -17,7 +17,7 @@ use tantivy_schema::schema::document::{
 pub struct Score(pub u64);
 
 impl ValueDeserialize for Score {
-    ghost is = { IsLeafOf (λ score. unsigned score.0) };
+    ghost is = { IsLeaf (λ score. unsigned score.0) };
 
     ghost refused = { LeafRefused types.U64 };
 

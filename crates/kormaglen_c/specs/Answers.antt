@@ -1,7 +1,7 @@
 -- What the calls answer, by the numbers that tell it.
 use Rattle.std.specs.Prelude.{◌≡◌, ℕ, ◌==◌, if◌then◌else◌, List, Option, Some, None, Result, Ok, Err}
-use Rattle.tv_blocks.specs.Buffer.{FillsBuffer}
-use Rattle.tv_blocks.specs.Status.{call_answer, import_answer, wrong_version}
+use Rattle.tv_blocks.specs.Buffer.{Fills}
+use Rattle.tv_blocks.specs.Status.{answer_of, import_answer, wrong_version}
 use Rattle.tv_blocks.specs.declared.block_error.BlockError.{BlockError}
 use Rattle.tv_blocks.specs.declared.field_path.FoundField.{FoundField}
 use Rattle.tv_blocks.specs.declared.import.Imported.{Imported}
@@ -11,7 +11,7 @@ use Rattle.tv_format.specs.declared.version.WriteVersion.TheVariants as versions
 
 -- the answer tells what a call did that writes into a buffer
 abbrev pub AnswersFill : (List ℕ → Type 0) → (BlockError → Type 0) → List ℕ → List ℕ → Answer → Type 0
-AnswersFill P R old new answer = (told : Result ℕ BlockError) × FillsBuffer P R old new told × (answer ≡ call_answer told)
+AnswersFill P R old new answer = (told : Result ℕ BlockError) × Fills P R old new told × (answer ≡ answer_of told)
 
 -- what is found where nothing is
 abbrev pub nothing_found : FoundField
@@ -23,12 +23,12 @@ FoundOr P R found (Ok size) = P found × (size ≡ 0)
 FoundOr P R found (Err e) = R e × (found ≡ nothing_found)
 
 abbrev pub AnswersFound : (FoundField → Type 0) → (BlockError → Type 0) → FoundField → Answer → Type 0
-AnswersFound P R found answer = (told : Result ℕ BlockError) × FoundOr P R found told × (answer ≡ call_answer told)
+AnswersFound P R found answer = (told : Result ℕ BlockError) × FoundOr P R found told × (answer ≡ answer_of told)
 
 -- what was found stands there, or nothing, and the answer tells which
 abbrev pub TellsField : Result FoundField BlockError → FoundField → Answer → Type 0
-TellsField (Ok field) found answer = (found ≡ field) × (answer ≡ call_answer (Ok 0))
-TellsField (Err e) found answer = (found ≡ nothing_found) × (answer ≡ call_answer (Err e))
+TellsField (Ok field) found answer = (found ≡ field) × (answer ≡ answer_of (Ok 0))
+TellsField (Err e) found answer = (found ≡ nothing_found) × (answer ≡ answer_of (Err e))
 
 -- the answer tells what a call returned that imports lines
 abbrev pub AnswersImport : (Result Imported BlockError → Type 0) → Answer → Type 0

@@ -3,14 +3,14 @@
 ghost use Rattle.kormaglen_c.specs.Answers.{AnswersFill, IsWrongVersion, write_numbered};
 ghost use Rattle.kormaglen_c.specs.Documents.{AnswersParsed, AnswersRead, HoldsNone};
 ghost use Rattle.kormaglen_c.specs.Documents.{ParsesOr, ReadsOr};
-ghost use Rattle.kormaglen_c.specs.Handles.{IsClosedHandle, closed_answer};
+ghost use Rattle.kormaglen_c.specs.Handles.{IsClosed, closed};
 ghost use Rattle.std.specs.Prelude.{◌≡◌, MatchOption, None};
-ghost use Rattle.tv_blocks.specs.Documents.{IsForeignRefusal, IsPrintedBy, IsStoredDocument};
+ghost use Rattle.tv_blocks.specs.Documents.{IsForeignRefusal, IsPrintedBy, IsWritten};
 ghost use Rattle.tv_blocks.specs.Status.{wrong_version};
 ghost use Rattle.tv_doc.specs.Document.{document_of};
 ghost use Rattle.tv_format.specs.WriteVersion.{written_version};
 ghost use Rattle.tv_handles.specs.Held.{entries_of};
-ghost use Rattle.tv_reader.specs.Version.{version_of_number, version_of};
+ghost use Rattle.tv_reader.specs.Version.{numbered, version_of};
 
 use crate::handles::closed;
 use crate::write_version;
@@ -61,7 +61,7 @@ pub extern "C" fn raw_document_read(
     bytes: &[u8],
     handle: &mut DocumentHandle,
 ) -> Answer
-    ensures { MatchOption (version_of_number version) (HoldsNone wrong_version handle.new.document result)
+    ensures { MatchOption (numbered version) (HoldsNone wrong_version handle.new.document result)
         (λ v. AnswersRead (version_of v) bytes.now handle.new.document result) }
 {
     match DocStoreVersion::from_u32(version) {
@@ -101,7 +101,7 @@ pub extern "C" fn raw_document_parse(
 ) -> Answer
     ensures schema { entries_of schema.new ≡ entries_of schema.old }
     ensures answer { MatchOption (entries_of schema.old)
-        (HoldsNone closed_answer handle.new.document result)
+        (HoldsNone closed handle.new.document result)
         (λ entries. AnswersParsed entries line.now handle.new.document result) }
 {
     match schema.take(alloc) {
@@ -124,7 +124,7 @@ pub extern "C" fn raw_document_parse(
 // Writes the text of JSON of the handle's document by a schema.
 fn print(alloc: Global, schema: &Schema, handle: &mut DocumentHandle, text: &mut [u8]) -> Answer
     ensures handle { handle.new.document ≡ handle.old.document }
-    ensures answer { MatchOption handle.old.document (IsClosedHandle text.old text.new result)
+    ensures answer { MatchOption handle.old.document (IsClosed text.old text.new result)
         (λ document. AnswersFill (IsPrintedBy schema.now (document_of document)) (λ error. ⊥)
         text.old text.new result) }
 {
@@ -150,8 +150,8 @@ pub extern "C" fn raw_document_to_json(
 ) -> Answer
     ensures handle { handle.new.document ≡ handle.old.document }
     ensures schema { entries_of schema.new ≡ entries_of schema.old }
-    ensures answer { MatchOption (entries_of schema.old) (IsClosedHandle text.old text.new result)
-        (λ entries. MatchOption handle.old.document (IsClosedHandle text.old text.new result)
+    ensures answer { MatchOption (entries_of schema.old) (IsClosed text.old text.new result)
+        (λ entries. MatchOption handle.old.document (IsClosed text.old text.new result)
         (λ document. AnswersFill (IsPrintedBy entries (document_of document)) (λ error. ⊥)
         text.old text.new result)) }
 {
@@ -175,7 +175,7 @@ fn write_numbered_version(
 ) -> Answer
     ensures { MatchOption (write_numbered version) (IsWrongVersion bytes.old bytes.new result)
         (λ w. AnswersFill
-        (IsStoredDocument schema.now (written_version w) (document_of document.now))
+        (IsWritten schema.now (written_version w) (document_of document.now))
         (IsForeignRefusal schema.now (document_of document.now)) bytes.old bytes.new result) }
 {
     match write_version(version) {
@@ -195,10 +195,10 @@ fn write(
     bytes: &mut [u8],
 ) -> Answer
     ensures handle { handle.new.document ≡ handle.old.document }
-    ensures answer { MatchOption handle.old.document (IsClosedHandle bytes.old bytes.new result)
+    ensures answer { MatchOption handle.old.document (IsClosed bytes.old bytes.new result)
         (λ document. MatchOption (write_numbered version)
         (IsWrongVersion bytes.old bytes.new result)
-        (λ w. AnswersFill (IsStoredDocument schema.now (written_version w) (document_of document))
+        (λ w. AnswersFill (IsWritten schema.now (written_version w) (document_of document))
         (IsForeignRefusal schema.now (document_of document)) bytes.old bytes.new result)) }
 {
     match handle.take(alloc) {
@@ -224,11 +224,11 @@ pub extern "C" fn raw_document_write(
 ) -> Answer
     ensures handle { handle.new.document ≡ handle.old.document }
     ensures schema { entries_of schema.new ≡ entries_of schema.old }
-    ensures answer { MatchOption (entries_of schema.old) (IsClosedHandle bytes.old bytes.new result)
-        (λ entries. MatchOption handle.old.document (IsClosedHandle bytes.old bytes.new result)
+    ensures answer { MatchOption (entries_of schema.old) (IsClosed bytes.old bytes.new result)
+        (λ entries. MatchOption handle.old.document (IsClosed bytes.old bytes.new result)
         (λ document. MatchOption (write_numbered version)
         (IsWrongVersion bytes.old bytes.new result)
-        (λ w. AnswersFill (IsStoredDocument entries (written_version w) (document_of document))
+        (λ w. AnswersFill (IsWritten entries (written_version w) (document_of document))
         (IsForeignRefusal entries (document_of document)) bytes.old bytes.new result))) }
 {
     match schema.take(alloc) {

@@ -2,16 +2,16 @@
 
 ghost use Rattle.kormaglen_c.specs.Answers.{AnswersFill, AnswersFound, AnswersImport};
 ghost use Rattle.kormaglen_c.specs.Answers.{IsWrongVersion};
-ghost use Rattle.kormaglen_c.specs.Handles.{AnswersOpened, OpensOr, closed_answer};
-ghost use Rattle.kormaglen_c.specs.Handles.{IsClosedHandle, IsClosedFound, IsClosedImport};
+ghost use Rattle.kormaglen_c.specs.Handles.{AnswersOpened, OpensOr, closed};
+ghost use Rattle.kormaglen_c.specs.Handles.{IsClosed, IsClosedFound, IsClosedImport};
 ghost use Rattle.std.specs.Prelude.{◌≡◌, MatchOption, None};
 ghost use Rattle.tv_blocks.specs.Blocks.{IsPrintedBlock};
-ghost use Rattle.tv_blocks.specs.Fields.{FindsAmong};
+ghost use Rattle.tv_blocks.specs.Fields.{FindsBy};
 ghost use Rattle.tv_blocks.specs.Imports.{ImportsBy};
 ghost use Rattle.tv_blocks.specs.Refusals.{IsBlockRefusal, IsUnfound};
 ghost use Rattle.tv_blocks.specs.Schemas.{IsSchemaText};
 ghost use Rattle.tv_handles.specs.Held.{entries_of};
-ghost use Rattle.tv_reader.specs.Version.{version_of_number, version_of};
+ghost use Rattle.tv_reader.specs.Version.{numbered, version_of};
 
 use crate::{NOTHING_FOUND, found_answer};
 use std::alloc::Global;
@@ -24,7 +24,7 @@ use tv_store::DocStoreVersion;
 
 // The answer where a handle holds nothing.
 pub(crate) fn closed() -> Answer
-    ensures { result ≡ closed_answer }
+    ensures { result ≡ closed }
 {
     Answer {
         status: 15,
@@ -76,7 +76,7 @@ pub extern "C" fn raw_schema_to_json(
     text: &mut [u8],
 ) -> Answer
     ensures handle { entries_of handle.new ≡ entries_of handle.old }
-    ensures answer { MatchOption (entries_of handle.old) (IsClosedHandle text.old text.new result)
+    ensures answer { MatchOption (entries_of handle.old) (IsClosed text.old text.new result)
         (λ entries. AnswersFill (IsSchemaText entries) (λ error. ⊥) text.old text.new result) }
 {
     match handle.take(alloc) {
@@ -91,7 +91,7 @@ pub extern "C" fn raw_schema_to_json(
 
 // Finds the field that a path names by a schema, and puts it into `found`.
 fn find(schema: &Schema, path: &[u8], found: &mut FoundField) -> Answer
-    ensures { AnswersFound (FindsAmong schema.now path.now) (IsUnfound schema.now path.now) found.new
+    ensures { AnswersFound (FindsBy schema.now path.now) (IsUnfound schema.now path.now) found.new
         result }
 {
     found_answer(tv_blocks::find_field_by(schema, path), found)
@@ -107,7 +107,7 @@ pub extern "C" fn raw_schema_find_field(
 ) -> Answer
     ensures handle { entries_of handle.new ≡ entries_of handle.old }
     ensures answer { MatchOption (entries_of handle.old) (IsClosedFound found.new result)
-        (λ entries. AnswersFound (FindsAmong entries path.now) (IsUnfound entries path.now) found.new
+        (λ entries. AnswersFound (FindsBy entries path.now) (IsUnfound entries path.now) found.new
         result) }
 {
     match handle.take(alloc) {
@@ -153,7 +153,7 @@ pub extern "C" fn raw_schema_import_lines(
 
 // Writes the documents of a block as lines of JSON by a schema.
 fn export(alloc: Global, schema: &Schema, version: u32, block: &[u8], lines: &mut [u8]) -> Answer
-    ensures { MatchOption (version_of_number version) (IsWrongVersion lines.old lines.new result)
+    ensures { MatchOption (numbered version) (IsWrongVersion lines.old lines.new result)
         (λ v. AnswersFill (IsPrintedBlock schema.now (version_of v) block.now)
         (IsBlockRefusal (version_of v) block.now) lines.old lines.new result) }
 {
@@ -175,8 +175,8 @@ pub extern "C" fn raw_schema_export_block(
     lines: &mut [u8],
 ) -> Answer
     ensures handle { entries_of handle.new ≡ entries_of handle.old }
-    ensures answer { MatchOption (entries_of handle.old) (IsClosedHandle lines.old lines.new result)
-        (λ entries. MatchOption (version_of_number version) (IsWrongVersion lines.old lines.new result)
+    ensures answer { MatchOption (entries_of handle.old) (IsClosed lines.old lines.new result)
+        (λ entries. MatchOption (numbered version) (IsWrongVersion lines.old lines.new result)
         (λ v. AnswersFill (IsPrintedBlock entries (version_of v) block.now)
         (IsBlockRefusal (version_of v) block.now) lines.old lines.new result)) }
 {

@@ -6,7 +6,7 @@
 ghost use Rattle.std.specs.Prelude.{◌≡◌, Some, IsUtf8, MatchOption};
 ghost use Rattle.tv_base.specs.Facet.{parse, printed};
 ghost use Rattle.tv_blocks.specs.Blocks.{IsExported, IsMigrated};
-ghost use Rattle.tv_blocks.specs.Fields.{FindsInText, IsPathAnswer};
+ghost use Rattle.tv_blocks.specs.Fields.{Finds, IsPathAnswer};
 ghost use Rattle.tv_blocks.specs.Imports.{ImportsInto};
 ghost use Rattle.tv_blocks.specs.Refusals.{IsBlockRefusal, IsExportRefusal};
 ghost use Rattle.tv_blocks.specs.Refusals.{IsFacetRefusal, IsTextRefusal};
@@ -14,7 +14,7 @@ ghost use Rattle.tv_blocks.specs.Terms.{IsEnd, IsEndRefusal, IsTermList, IsTextT
 ghost use Rattle.kormaglen_c.specs.Answers.{AnswersFill, AnswersFound, AnswersImport};
 ghost use Rattle.kormaglen_c.specs.Answers.{IsWrongVersion, TellsField, write_numbered};
 ghost use Rattle.tv_format.specs.WriteVersion.{written_version};
-ghost use Rattle.tv_reader.specs.Version.{version_of_number, version_of};
+ghost use Rattle.tv_reader.specs.Version.{numbered, version_of};
 
 pub mod documents;
 pub mod handles;
@@ -70,7 +70,7 @@ pub extern "C" fn raw_find_field(
     path: &[u8],
     found: &mut FoundField,
 ) -> Answer
-    ensures { AnswersFound (FindsInText schema.now path.now) (IsPathAnswer schema.now path.now) found.new
+    ensures { AnswersFound (Finds schema.now path.now) (IsPathAnswer schema.now path.now) found.new
         result }
 {
     found_answer(tv_blocks::find_field(alloc, schema, path), found)
@@ -100,7 +100,7 @@ pub extern "C" fn raw_export_block(
     block: &[u8],
     lines: &mut [u8],
 ) -> Answer
-    ensures { MatchOption (version_of_number version) (IsWrongVersion lines.old lines.new result)
+    ensures { MatchOption (numbered version) (IsWrongVersion lines.old lines.new result)
         (λ v. AnswersFill (IsExported schema.now (version_of v) block.now)
         (IsExportRefusal schema.now (version_of v) block.now) lines.old lines.new result) }
 {
@@ -132,7 +132,7 @@ pub extern "C" fn raw_migrate_block(
     to: u32,
     migrated: &mut [u8],
 ) -> Answer
-    ensures { MatchOption (version_of_number from) (IsWrongVersion migrated.old migrated.new result)
+    ensures { MatchOption (numbered from) (IsWrongVersion migrated.old migrated.new result)
         (λ v. MatchOption (write_numbered to) (IsWrongVersion migrated.old migrated.new result)
         (λ w. AnswersFill (IsMigrated (version_of v) (written_version w) block.now)
         (IsBlockRefusal (version_of v) block.now) migrated.old migrated.new result)) }
@@ -154,7 +154,7 @@ pub extern "C" fn raw_terms_of_block(
     block: &[u8],
     terms: &mut [u8],
 ) -> Answer
-    ensures { MatchOption (version_of_number version) (IsWrongVersion terms.old terms.new result)
+    ensures { MatchOption (numbered version) (IsWrongVersion terms.old terms.new result)
         (λ v. AnswersFill (IsTermList (version_of v) field block.now)
         (IsBlockRefusal (version_of v) block.now) terms.old terms.new result) }
 {

@@ -36,7 +36,7 @@ pub fn steps_take_few_bytes<S: ByteSource>(
         (λ b _. Stepped (version_of decoder.old.version) decoder.new.legacy_seen
         decoder.old.reading decoder.new.reading b)
         (NoPrefix (version_of decoder.old.version) decoder.old.reading) }
-    ensures at_most { S.is_known source.old →
+    ensures few { S.is_known source.old →
         IsFew decoder.old.reading (S.left source.old) decoder.old.count decoder.new.count }
 {
     match decoder.step(source) {

@@ -4,7 +4,7 @@ ghost use Rattle.std.specs.Prelude.{◌≡◌, ◌≤◌, ◌++◌, IfOk, IfErr,
 ghost use Rattle.tantivy_schema.specs.CodeTypes.DeserializeError.{DeserializeError};
 ghost use Rattle.tantivy_schema.specs.CodeTypes.DeserializeError.TheVariants.{HeapFull};
 ghost use Rattle.tantivy_schema.specs.Document.{document_of};
-ghost use Rattle.tantivy_schema.specs.Documents.{ReturnsDocument, BeginsWithDocument, NoDocument, HasNoRoom};
+ghost use Rattle.tantivy_schema.specs.Documents.{Answers, BeginsWith, NoDocument, HasNoRoom};
 ghost use Rattle.tantivy_schema.specs.Documents.{IsReadingError};
 ghost use Rattle.tantivy_schema.specs.InputError.{Refusal};
 ghost use Rattle.tantivy_schema.specs.Legacy.{Legacy};
@@ -30,7 +30,7 @@ pub fn returned_documents_are_encoded<S: ByteSource>(
     version: DocStoreVersion,
 ) -> Result<TantivyDocument, DeserializeError>
     ensures { S.is_known source.old → IfOk result
-        (λ d. BeginsWithDocument (version_of version) (S.left source.old) (S.left source.new)
+        (λ d. BeginsWith (version_of version) (S.left source.old) (S.left source.new)
         (document_of d)) }
 {
     let format = match version {
@@ -53,7 +53,7 @@ pub fn encoded_documents_are_returned<S: ByteSource>(
 ) -> Result<TantivyDocument, DeserializeError>
     ensures { Known S.ByteSource source.old → (d : Document) (prefix rest : List ℕ) →
         S.left source.old ≡ prefix ++ rest → EncodesDocument Legacy (version_of version) prefix d →
-        document_room d ≤ 4294967295 → ReturnsDocument result d rest (S.left source.new) }
+        document_room d ≤ 4294967295 → Answers result d rest (S.left source.new) }
 {
     let read = read_document(alloc, source, version);
     let _ = source.buffered();

@@ -8,7 +8,7 @@ ghost use Rattle.tv_doc.specs.Belongs.{Belongs};
 ghost use Rattle.tv_doc.specs.Document.{document_of};
 ghost use Rattle.tv_heap.specs.Room.{document_room};
 ghost use Rattle.tv_reader.specs.Error.{store_stop};
-ghost use Rattle.tv_store.specs.Documents.{ReturnsDocument};
+ghost use Rattle.tv_store.specs.Documents.{Answers};
 ghost use Rattle.tv_store.specs.Stored.{stored};
 ghost use Rattle.tv_writer.specs.declared.error.SerializeError.TheVariants.{Io, Memory};
 ghost use Rattle.tv_format.specs.Short.{short_document};
@@ -114,7 +114,7 @@ pub fn stored_pairs_are_read_back<S: ByteSource>(
         → document_room (document_of document.now) ≤ 4294967295 → (rest : List ℕ)
         → S.left source.old
         ≡ short_document V2 (stored schema.now (document_of document.now)) ++ rest
-        → ReturnsDocument result (stored schema.now (document_of document.now)) rest (S.left source.new) }
+        → Answers result (stored schema.now (document_of document.now)) rest (S.left source.new) }
     ensures failures { Counts store_stop result (S.failures source.old) (S.failures source.new) }
 {
     let _ = schema;

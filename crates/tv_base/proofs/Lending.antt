@@ -3,7 +3,7 @@ use Rattle.std.proofs.Common.{◌≡◌, ℕ, ◌+◌, ◌-◌, ◌%◌, ◌<◌
 use Rattle.std.proofs.lemmas.Bool.{le-ltb}
 use Rattle.std.proofs.lemmas.List.{append_cancel_right, drop_more, take-append-drop}
 use lib.Seq.{take-append-le}
-use Rattle.tv_base.specs.Lend.{Passes, TakesContent, PassesNumber}
+use Rattle.tv_base.specs.Lend.{Passes, Fills, PassesNumber}
 use Rattle.tv_base.specs.Number.{VNum}
 use Rattle.tv_base.specs.Reading.{bytes_at, u8_at, vint_at, groups_at}
 use Rattle.tv_base.specs.Sink.{IsPrefix}
@@ -19,16 +19,16 @@ prefix_lent : (old new lent : List ℕ) (n : ℕ) → IsPrefix lent old → n �
 prefix_lent old new lent n lend within p =
     sym (take_at p.0 new n p.2) ∙ ap (take n) (sym p.1 ∙ lend.1) ∙ take-append-le n lent lend.0 within
 
-pub filled : (old new lent buf : List ℕ) (n : ℕ) (taken : Bool) → IsPrefix lent old → n ≤ length lent → buf ≡ take n lent → Passes old new n taken → TakesContent old new buf taken
+pub filled : (old new lent buf : List ℕ) (n : ℕ) (taken : Bool) → IsPrefix lent old → n ≤ length lent → buf ≡ take n lent → Passes old new n taken → Fills old new buf taken
 filled old new lent buf n true lend within is p = p.1 ∙ ap (λ (l : List ℕ). l ++ new) (prefix_lent old new lent n lend within p ∙ sym is)
 filled old new lent buf n false lend within is p = p
 
 -- a buffer that is full is what reading gives
-pub full : (old new buf : List ℕ) (n : ℕ) (taken : List ℕ) → n ≡ length buf → TakesContent old new buf true → old ≡ taken ++ new → (behind : List ℕ) → bytes_at n (taken ++ behind) ≡ Ok (buf, behind)
+pub full : (old new buf : List ℕ) (n : ℕ) (taken : List ℕ) → n ≡ length buf → Fills old new buf true → old ≡ taken ++ new → (behind : List ℕ) → bytes_at n (taken ++ behind) ≡ Ok (buf, behind)
 full old new buf n taken len e joined behind =
     ap (λ (l : List ℕ). bytes_at n (l ++ behind)) (append_cancel_right taken buf new (sym joined ∙ e)) ∙ (bytes_agree n).complete buf buf behind (sym len, refl)
 
-pub full_taken : {old new : List ℕ} (buf : List ℕ) {n i k : ℕ} → n ≡ length buf → k ≡ i + n → TakesContent old new buf true → Taken old new i k
+pub full_taken : {old new : List ℕ} (buf : List ℕ) {n i k : ℕ} → n ≡ length buf → k ≡ i + n → Fills old new buf true → Taken old new i k
 full_taken buf len counted e = record { prefix = buf; joined = e; counted = omega (arith, len, counted) }
 
 -- ---- a buffered number

@@ -4,7 +4,7 @@ use Rattle.std.proofs.lemmas.List.{append-nil}
 use Rattle.tv_base.specs.Source.{Failures}
 use Rattle.tv_base.specs.Stop.{Stop}
 use Rattle.tv_base.specs.Stop.Stop.{InputError, Uncounted, Failed, Short, Never}
-use Rattle.tv_base.specs.Sink.{AppendsPrefix, Halts, WritesBy}
+use Rattle.tv_base.specs.Sink.{Begins, Halts, WritesBy}
 use Rattle.tv_base.proofs.TakeSteps.{CountsStop-from}
 
 -- In the midst of writing: the sink holds what comes before the rest.
@@ -23,10 +23,10 @@ joined old mid new prefix more a b = b ∙ ap (λ (l : List ℕ). l ++ more) a �
 
 -- ---- beginnings
 
-begins_behind : (old mid new prefix text : List ℕ) → mid ≡ old ++ prefix → AppendsPrefix mid new text → AppendsPrefix old new (prefix ++ text)
+begins_behind : (old mid new prefix text : List ℕ) → mid ≡ old ++ prefix → Begins mid new text → Begins old new (prefix ++ text)
 begins_behind old mid new prefix text a some = (prefix ++ some.0, (some.1.0, ap (λ (l : List ℕ). prefix ++ l) some.1.1 ∙ sym (append_assoc prefix some.0 some.1.0)), joined old mid new prefix some.0 a some.2)
 
-begins_before : (old new text after : List ℕ) → AppendsPrefix old new text → AppendsPrefix old new (text ++ after)
+begins_before : (old new text after : List ℕ) → Begins old new text → Begins old new (text ++ after)
 begins_before old new text after some = (some.0, (some.1.0 ++ after, ap (λ (l : List ℕ). l ++ after) some.1.1 ∙ append_assoc some.0 some.1.0 after), some.2)
 
 halts_behind : {R : Type 0} (s : Stop R) (old mid new prefix text : List ℕ) → mid ≡ old ++ prefix → Halts s mid new (Ok text) → Halts s old new (Ok (prefix ++ text))

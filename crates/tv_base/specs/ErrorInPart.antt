@@ -7,8 +7,8 @@ use Rattle.tv_base.specs.Number.{VNum}
 use Rattle.tv_base.specs.Parts.{Then, Sized}
 
 -- which bytes are malformed, and why
-abbrev pub ErrorGrammar : Type 0 → Type 1
-ErrorGrammar C = List ℕ → C → Type 0
+abbrev pub Errors : Type 0 → Type 1
+Errors C = List ℕ → C → Type 0
 
 -- a first part is malformed, or it is encoded, and what follows is malformed
 abbrev pub InThen : {C A : Type 0} → (List ℕ → C → Type 0) → (List ℕ → A → Type 0) → (A → List ℕ → C → Type 0) → List ℕ → C → Type 0

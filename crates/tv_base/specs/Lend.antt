@@ -8,9 +8,9 @@ Passes old new n true = (prefix : List ℕ) × (old ≡ prefix ++ new) × (lengt
 Passes old new n false = new ≡ old
 
 -- Whether the content was taken off the start. If not, all are left.
-abbrev pub TakesContent : List ℕ → List ℕ → List ℕ → Bool → Type 0
-TakesContent old new content true = old ≡ content ++ new
-TakesContent old new content false = new ≡ old
+abbrev pub Fills : List ℕ → List ℕ → List ℕ → Bool → Type 0
+Fills old new content true = old ≡ content ++ new
+Fills old new content false = new ≡ old
 
 -- A number and the length of its encoding, which was taken off the start. If there is none, all are left.
 abbrev pub PassesNumber : List ℕ → List ℕ → Option (ℕ × ℕ) → Type 0

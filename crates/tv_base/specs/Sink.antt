@@ -14,8 +14,8 @@ abbrev pub IsPrefix : List ℕ → List ℕ → Type 0
 IsPrefix prefix xs = (rest : List ℕ) × (xs ≡ prefix ++ rest)
 
 -- a beginning of the text is appended
-abbrev pub AppendsPrefix : List ℕ → List ℕ → List ℕ → Type 0
-AppendsPrefix old new text = (prefix : List ℕ) × IsPrefix prefix text × (new ≡ old ++ prefix)
+abbrev pub Begins : List ℕ → List ℕ → List ℕ → Type 0
+Begins old new text = (prefix : List ℕ) × IsPrefix prefix text × (new ≡ old ++ prefix)
 
 -- What is to be written: a text, or a text and then a refusal. This is all of it that can be.
 abbrev pub text_of : {R : Type 0} → Result (List ℕ) (R × List ℕ) → List ℕ
@@ -27,8 +27,8 @@ abbrev pub Halts : {R : Type 0} → Stop R → List ℕ → List ℕ → Result 
 Halts (InputError r) old new (Ok text) = ⊥
 Halts (InputError r) old new (Err refusal) = (refusal.0 ≡ r) × (new ≡ old ++ refusal.1)
 Halts (Uncounted end) old new writing = ⊥
-Halts (Failed kind) old new writing = AppendsPrefix old new (text_of writing)
-Halts Short old new writing = AppendsPrefix old new (text_of writing)
+Halts (Failed kind) old new writing = Begins old new (text_of writing)
+Halts Short old new writing = Begins old new (text_of writing)
 Halts Never old new writing = ⊥
 
 abbrev pub Appends : {T E R : Type 0} → (E → Stop R) → Result T E → List ℕ → List ℕ → Result (List ℕ) (R × List ℕ) → Type 0

@@ -1,7 +1,7 @@
 //! Taking what a source has buffered, without a read.
 
 ghost use Rattle.std.specs.Prelude.{◌≡◌, ◌≤◌, drop, length, Ok, IfSome};
-ghost use Rattle.tv_base.specs.Lend.{TakesContent, PassesNumber};
+ghost use Rattle.tv_base.specs.Lend.{Fills, PassesNumber};
 ghost use Rattle.tv_base.specs.Reading.{vint_at};
 
 use crate::source::ByteSource;
@@ -11,7 +11,7 @@ use crate::source::ByteSource;
 #[inline]
 pub(crate) fn fill<S: ByteSource>(source: &mut S, buf: &mut [u8]) -> bool
     ensures bytes { S.is_known source.old
-        → TakesContent (S.left source.old) (S.left source.new) buf.new result }
+        → Fills (S.left source.old) (S.left source.new) buf.new result }
     ensures is_known { S.is_known source.old → S.is_known source.new }
     ensures failures { S.failures source.new ≡ S.failures source.old }
     ensures length { length buf.new ≡ length buf.old }
@@ -32,7 +32,7 @@ pub(crate) fn pass_number<S: ByteSource>(source: &mut S) -> Option<(u64, usize)>
         → PassesNumber (S.left source.old) (S.left source.new) result }
     ensures is_known { S.is_known source.old → S.is_known source.new }
     ensures failures { S.failures source.new ≡ S.failures source.old }
-    ensures at_most { IfSome result (λ x. x.1 ≤ 9) }
+    ensures few { IfSome result (λ x. x.1 ≤ 9) }
 {
     let (number, len) = number_at(source.buffered())?;
     if source.pass(len) {
@@ -47,7 +47,7 @@ pub(crate) fn pass_number<S: ByteSource>(source: &mut S) -> Option<(u64, usize)>
 fn number_at(bytes: &[u8]) -> Option<(u64, usize)>
     ensures found { IfSome result (λ x. vint_at bytes.now ≡ Ok (x.0, drop x.1 bytes.now)) }
     ensures within { IfSome result (λ x. x.1 ≤ length bytes.now) }
-    ensures at_most { IfSome result (λ x. x.1 ≤ 9) }
+    ensures few { IfSome result (λ x. x.1 ≤ 9) }
 {
     let first = *bytes.first()?;
     if first >= 128 {
@@ -63,7 +63,7 @@ const GROUPS: usize = 9;
 fn long_number_at(bytes: &[u8]) -> Option<(u64, usize)>
     ensures found { IfSome result (λ x. vint_at bytes.now ≡ Ok (x.0, drop x.1 bytes.now)) }
     ensures within { IfSome result (λ x. x.1 ≤ length bytes.now) }
-    ensures at_most { IfSome result (λ x. x.1 ≤ 9) }
+    ensures few { IfSome result (λ x. x.1 ≤ 9) }
 {
     let mut value = 0u64;
     let mut weight = 1u64;

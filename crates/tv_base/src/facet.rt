@@ -15,7 +15,7 @@ ghost use Rattle.std.specs.Cmp.Lexicographic.{slice_cmp, nat_list_eq_equiv, nat_
 ghost use Rattle.std.specs.Cmp.Lexicographic.{texts_ties, texts_po};
 ghost use Rattle.tv_base.specs.Facet.{parse, path, printed, debug_printed, IsParseError, IsEncoded};
 ghost use Rattle.tv_base.specs.Facet.{Descends};
-ghost use Rattle.tv_base.specs.Sink.{AppendsPrefix};
+ghost use Rattle.tv_base.specs.Sink.{Begins};
 
 use crate::facet_parse_error::FacetParseError;
 use crate::text_rules::{Rule, printed_text, push_printed, rewrite};
@@ -152,7 +152,7 @@ impl Facet {
         ensures ok { OnOk result
             (string_bytes text.new ≡ string_bytes text.old ++ printed encoded.now) }
         ensures err { OnErr result
-            (AppendsPrefix (string_bytes text.old) (string_bytes text.new) (printed encoded.now)) }
+            (Begins (string_bytes text.old) (string_bytes text.new) (printed encoded.now)) }
     {
         push_printed(encoded, text)
     }

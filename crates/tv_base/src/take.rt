@@ -34,7 +34,7 @@ pub fn take<S: ByteSource>(source: &mut S, count: &mut u64, buf: &mut [u8]) -> R
     ensures causes { (cause : Cause) → IsErrOf result (Corrupted cause)
         → (cause ≡ UnexpectedEnd) ⊎ (cause ≡ TooLong) }
     ensures counted { OnOk result (count.new ≡ count.old + length buf.old) }
-    ensures at_most { count.new ≤ count.old + length buf.old }
+    ensures few { count.new ≤ count.old + length buf.old }
 {
     let len = buf.len() as u64;
     if u64::MAX - *count < len {
@@ -58,7 +58,7 @@ fn take_by_reads<S: ByteSource>(
     ensures causes { (cause : Cause) → IsErrOf result (Corrupted cause)
         → (cause ≡ UnexpectedEnd) ⊎ (cause ≡ TooLong) }
     ensures counted { OnOk result (count.new ≡ count.old + length buf.old) }
-    ensures at_most { count.new ≤ count.old + length buf.old }
+    ensures few { count.new ≤ count.old + length buf.old }
 {
     let mut filled = 0;
     while filled < buf.len() {
@@ -109,7 +109,7 @@ pub fn take_u32<S: ByteSource>(source: &mut S, count: &mut u64) -> Result<u32, R
     ensures takes { TakesLean S.ByteSource source.old count.old source.new count.new
         (λ x. x) result u32_at }
     ensures counted { OnOk result (count.new ≡ count.old + 4) }
-    ensures at_most { count.new ≤ count.old + 4 }
+    ensures few { count.new ≤ count.old + 4 }
 {
     let mut bytes = [0; 4];
     take(source, count, &mut bytes)?;
@@ -122,7 +122,7 @@ pub fn take_u64<S: ByteSource>(source: &mut S, count: &mut u64) -> Result<u64, R
     ensures takes { TakesLean S.ByteSource source.old count.old source.new count.new
         (λ x. x) result u64_at }
     ensures counted { OnOk result (count.new ≡ count.old + 8) }
-    ensures at_most { count.new ≤ count.old + 8 }
+    ensures few { count.new ≤ count.old + 8 }
 {
     let mut bytes = [0; 8];
     take(source, count, &mut bytes)?;
@@ -135,7 +135,7 @@ pub fn take_u128<S: ByteSource>(source: &mut S, count: &mut u64) -> Result<u128,
     ensures takes { TakesLean S.ByteSource source.old count.old source.new count.new
         (λ x. x) result u128_at }
     ensures counted { OnOk result (count.new ≡ count.old + 16) }
-    ensures at_most { count.new ≤ count.old + 16 }
+    ensures few { count.new ≤ count.old + 16 }
 {
     let mut bytes = [0; 16];
     take(source, count, &mut bytes)?;
@@ -148,7 +148,7 @@ pub fn take_i64<S: ByteSource>(source: &mut S, count: &mut u64) -> Result<i64, R
     ensures takes { TakesLean S.ByteSource source.old count.old source.new count.new
         (λ x. x) result i64_at }
     ensures counted { OnOk result (count.new ≡ count.old + 8) }
-    ensures at_most { count.new ≤ count.old + 8 }
+    ensures few { count.new ≤ count.old + 8 }
 {
     let number = take_u64(source, count)?;
     Ok(number.cast_signed())
@@ -162,7 +162,7 @@ pub fn take_bool<S: ByteSource>(source: &mut S, count: &mut u64) -> Result<bool,
     ensures takes { TakesLean S.ByteSource source.old count.old source.new count.new
         (λ x. x) result truth_at }
     ensures counted { OnOk result (count.new ≡ count.old + 1) }
-    ensures at_most { count.new ≤ count.old + 1 }
+    ensures few { count.new ≤ count.old + 1 }
     ensures other { IsErrOf result (Corrupted BadBool) → count.new ≡ count.old + 1 }
 {
     match take_u8(source, count)? {
@@ -182,7 +182,7 @@ const LONGEST_NUMBER: u64 = 10;
 pub fn take_vint<S: ByteSource>(source: &mut S, count: &mut u64) -> Result<u64, ReadError>
     ensures takes { TakesLean S.ByteSource source.old count.old source.new count.new
         (λ x. x) result vint_at }
-    ensures at_most { count.new ≤ count.old + 10 }
+    ensures few { count.new ≤ count.old + 10 }
     ensures ten { IsErrOf result (Corrupted BadNumber) → count.new ≡ count.old + 10 }
 {
     if u64::MAX - *count < LONGEST_NUMBER {
@@ -204,7 +204,7 @@ const MORE_GROUPS: u32 = 9;
 fn take_groups<S: ByteSource>(source: &mut S, count: &mut u64) -> Result<u64, ReadError>
     ensures takes { TakesLean S.ByteSource source.old count.old source.new count.new
         (λ x. x) result vint_at }
-    ensures at_most { count.new ≤ count.old + 10 }
+    ensures few { count.new ≤ count.old + 10 }
     ensures ten { IsErrOf result (Corrupted BadNumber) → count.new ≡ count.old + 10 }
 {
     let mut value = 0u64;
@@ -239,7 +239,7 @@ pub fn take_pieces<S: ByteSource>(
     ensures takes { TakesBy S.ByteSource source.old count.old source.new count.new
         (λ _. bytes.new.items) result (more_at bytes.old.items len) }
     ensures longer { OnOk result (length bytes.new.items ≡ length bytes.old.items + len) }
-    ensures at_most { count.new ≤ count.old + len }
+    ensures few { count.new ≤ count.old + len }
 {
     let mut missing = len;
     while missing > 0 {

@@ -5,7 +5,7 @@ ghost use Rattle.std.specs.String.{string_bytes};
 ghost use Rattle.tv_base.specs.Escapes.{rewritten};
 ghost use Rattle.tv_base.specs.Facet.{printed, printed_or_slash};
 ghost use Rattle.tv_base.specs.Rewriting.{stands_for};
-ghost use Rattle.tv_base.specs.Sink.{AppendsPrefix};
+ghost use Rattle.tv_base.specs.Sink.{Begins};
 
 use std::alloc::AllocError;
 
@@ -72,7 +72,7 @@ pub(crate) fn printed_text(byte: u8) -> Option<&'static str>
 pub(crate) fn push_printed(encoded: &str, out: &mut String) -> Result<(), AllocError>
     ensures ok { OnOk result (string_bytes out.new ≡ string_bytes out.old ++ printed encoded.now) }
     ensures err { OnErr result
-        (AppendsPrefix (string_bytes out.old) (string_bytes out.new) (printed encoded.now)) }
+        (Begins (string_bytes out.old) (string_bytes out.new) (printed encoded.now)) }
 {
     let bytes = encoded.as_bytes();
     out.push_str("/")?;

@@ -2,7 +2,7 @@
 use Rattle.std.proofs.Common.{◌≡◌, ℕ, ◌-◌, ◌^◌, ◌<◌, List, [], ◌∷◌, ◌++◌, length, refl, sym, ap, subst, ◌∙◌, arith, append_assoc, append-nil, length-append}
 use Rattle.std.specs.List.{flat_map}
 use Rattle.tv_base.specs.Parts.{Each}
-use Rattle.tv_blocks.specs.Blocks.{AppendsLine, IsMigrated, ArePrintedLines, IsPrintedBlock, IsRefusedBlock, MigratedSoFar, PrintedSoFar}
+use Rattle.tv_blocks.specs.Blocks.{AppendsLine, IsMigrated, IsPrinted, IsPrintedBlock, IsRefusedBlock, MigratedSoFar, PrintedSoFar}
 use Rattle.tv_blocks.specs.Blocks.IsPrinted.{no_lines, next_line}
 use Rattle.tv_blocks.specs.Refusals.{EncodesBlock, document_refusal, migration_refusal}
 use Rattle.tv_field.specs.Entry.{Entry}
@@ -14,11 +14,11 @@ use Rattle.tv_format.specs.Version.{Version}
 use Rattle.tv_legacy.specs.Legacy.{Legacy}
 use Rattle.tv_reader.specs.Error.{IsRefusal}
 use Rattle.tv_reader.specs.Error.IsRefusal.{is_corrupted, is_no_text}
-use Rattle.tv_reader.specs.ValueType.{value_type_code}
+use Rattle.tv_reader.specs.ValueType.{type_code}
 use Rattle.tv_reader.specs.declared.error.DeserializeError.{DeserializeError}
 use Rattle.tv_reader.specs.declared.error.DeserializeError.TheVariants as errors
 use Rattle.tv_reader.specs.declared.value_type.ValueType.{ValueType}
-use Rattle.tv_store.specs.Documents.{BeginsWithDocument, NoDocument, HasNoRoom, IsReadingError}
+use Rattle.tv_store.specs.Documents.{BeginsWith, NoDocument, HasNoRoom, IsReadingError}
 use Rattle.tv_store.proofs.Migrations.{Transcribes}
 use Rattle.tv_store.specs.declared.migration.MigrateError.{MigrateError}
 use Rattle.tv_store.specs.declared.migration.MigrateError.TheVariants.{Read, Write}
@@ -67,24 +67,24 @@ migrated_all {from} {to} {block} {rest} {content} m none = record {
 
 -- ---- printing
 
-printed-snoc : (entries : List Entry) (documents : List Document) (content json : List ℕ) (d : Document) → ArePrintedLines entries documents content → ArePrintedLines entries (d ∷ []) json
-    → ArePrintedLines entries (documents ++ d ∷ []) (content ++ json)
+printed-snoc : (entries : List Entry) (documents : List Document) (content json : List ℕ) (d : Document) → IsPrinted entries documents content → IsPrinted entries (d ∷ []) json
+    → IsPrinted entries (documents ++ d ∷ []) (content ++ json)
 printed-snoc entries [] [] json d no_lines one = one
 printed-snoc entries [] (_ ∷ _) json d p one = elim p [ ]
 printed-snoc entries (e ∷ es) content json d (next_line {json = text} {rest = rest} is more) one =
-    subst (ArePrintedLines entries ((e ∷ es) ++ d ∷ [])) (sym (append_assoc text (10 ∷ rest) json)) (next_line is (printed-snoc entries es rest json d more one))
+    subst (IsPrinted entries ((e ∷ es) ++ d ∷ [])) (sym (append_assoc text (10 ∷ rest) json)) (next_line is (printed-snoc entries es rest json d more one))
 
 pub printed_none : (entries : List Entry) (v : Version) (block content : List ℕ) → content ≡ [] → PrintedSoFar entries v block block content
-printed_none entries v block content none = record { before = []; joined = refl; documents = []; encoded = refl; printed = subst (ArePrintedLines entries []) (sym none) no_lines }
+printed_none entries v block content none = record { before = []; joined = refl; documents = []; encoded = refl; printed = subst (IsPrinted entries []) (sym none) no_lines }
 
 pub printed_more : {entries : List Entry} {v : Version} {block rest now content more : List ℕ} {d : Document} → PrintedSoFar entries v block rest content
-    → BeginsWithDocument v rest now d → AppendsLine entries d content more → PrintedSoFar entries v block now more
+    → BeginsWith v rest now d → AppendsLine entries d content more → PrintedSoFar entries v block now more
 printed_more {entries} {v} {block} {rest} {now} {content} {more} {d} m b line = record {
   before = m.before ++ b.prefix;
   joined = joined_more block m.before rest b.prefix now m.joined b.joined;
   documents = m.documents ++ d ∷ [];
   encoded = each-snoc (EncodesDocument Legacy v) m.before b.prefix m.documents d m.encoded b.encoded;
-  printed = subst (ArePrintedLines entries (m.documents ++ d ∷ [])) (sym line.2) (printed-snoc entries m.documents content (line.0 ++ 10 ∷ []) d m.printed (next_line line.1 no_lines));
+  printed = subst (IsPrinted entries (m.documents ++ d ∷ [])) (sym line.2) (printed-snoc entries m.documents content (line.0 ++ 10 ∷ []) d m.printed (next_line line.1 no_lines));
 }
 
 pub printed_all : {entries : List Entry} {v : Version} {block rest content : List ℕ} → PrintedSoFar entries v block rest content → rest ≡ [] → IsPrintedBlock entries v block content
@@ -108,8 +108,8 @@ breaks v block before behind documents start (errors.CorruptedValue c) joined at
 breaks v block before behind documents start errors.HeapFull joined at encoded refused full may =
     record { before = before; behind = behind; joined = joined; measured = at; documents = documents; encoded = encoded; refused = full refl }
 breaks v block before behind documents start (errors.TypeMismatch other actual) joined at encoded refused full may =
-    let is : IsRefusal (errors.TypeMismatch other actual) (no_text_key (value_type_code actual)) = subst (λ (t : ValueType). IsRefusal (errors.TypeMismatch t actual) (no_text_key (value_type_code actual))) (sym may) is_no_text in
-    record { before = before; behind = behind; joined = joined; measured = at; documents = documents; encoded = encoded; refused = (value_type_code actual, refused (no_text_key (value_type_code actual)) is) }
+    let is : IsRefusal (errors.TypeMismatch other actual) (no_text_key (type_code actual)) = subst (λ (t : ValueType). IsRefusal (errors.TypeMismatch t actual) (no_text_key (type_code actual))) (sym may) is_no_text in
+    record { before = before; behind = behind; joined = joined; measured = at; documents = documents; encoded = encoded; refused = (type_code actual, refused (no_text_key (type_code actual)) is) }
 breaks v block before behind documents start e joined at encoded refused full may = tt
 
 -- the same of migrating it

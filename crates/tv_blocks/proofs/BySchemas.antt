@@ -2,8 +2,8 @@
 use Rattle.std.proofs.Common.{ℕ, List, Result, Ok, Err}
 use Rattle.std.specs.Prelude.{IfErr, IfOk}
 use Rattle.tv_blocks.specs.Blocks.{IsExported, IsPrintedBlock}
-use Rattle.tv_blocks.specs.Buffer.{FillsBuffer}
-use Rattle.tv_blocks.specs.Fields.{FindsInText, FindsAmong, IsPathAnswer}
+use Rattle.tv_blocks.specs.Buffer.{Fills}
+use Rattle.tv_blocks.specs.Fields.{Finds, FindsBy, IsPathAnswer}
 use Rattle.tv_blocks.specs.Imports.{ImportsBy, ImportsInto}
 use Rattle.tv_blocks.specs.Refusals.{IsBlockRefusal, IsExportRefusal, IsUnfound}
 use Rattle.tv_blocks.specs.declared.block_error.BlockError.{BlockError}
@@ -16,7 +16,7 @@ use Rattle.tv_format.specs.Version.{Version}
 use Rattle.tv_lines.specs.Answers.{ReadsSchema}
 
 module _ (schema : List ℕ) (entries : List Entry) (reads : ReadsSchema schema entries) where
-  pub found_by : (path : List ℕ) (result : Result FoundField BlockError) → IfOk result (FindsAmong entries path) → IfOk result (FindsInText schema path)
+  pub found_by : (path : List ℕ) (result : Result FoundField BlockError) → IfOk result (FindsBy entries path) → IfOk result (Finds schema path)
   found_by path (Ok found) h = (entries, reads, h)
   found_by path (Err e) h = h
 
@@ -40,8 +40,8 @@ module _ (schema : List ℕ) (entries : List Entry) (reads : ReadsSchema schema 
   exported : (v : Version) (block content : List ℕ) → IsPrintedBlock entries v block content → IsExported schema v block content
   exported v block content h = record { entries = entries; reads = reads; documents = h.0; encoded = h.1; printed = h.2 }
 
-  pub exports_by : (v : Version) (block old new : List ℕ) (result : Result ℕ BlockError) → FillsBuffer (IsPrintedBlock entries v block) (IsBlockRefusal v block) old new result
-      → FillsBuffer (IsExported schema v block) (IsExportRefusal schema v block) old new result
+  pub exports_by : (v : Version) (block old new : List ℕ) (result : Result ℕ BlockError) → Fills (IsPrintedBlock entries v block) (IsBlockRefusal v block) old new result
+      → Fills (IsExported schema v block) (IsExportRefusal schema v block) old new result
   exports_by v block old new (Ok size) w = record { content = w.content; is = exported v block w.content w.is; measured = w.measured; fits = w.fits; put = w.put }
   exports_by v block old new (Err (errors.TooSmall size lines)) h =
       (record { content = h.0.content; is = exported v block h.0.content h.0.is; measured = h.0.measured; larger = h.0.larger }, h.1, h.2)

@@ -12,15 +12,15 @@ use Rattle.tv_format.specs.Version.{Version}
 use Rattle.tv_legacy.specs.Legacy.{Legacy}
 use Rattle.tv_reader.specs.Error.{IsRefusal}
 use Rattle.tv_reader.specs.Error.IsRefusal.{is_corrupted, is_no_text}
-use Rattle.tv_reader.specs.ValueType.{value_type_code}
+use Rattle.tv_reader.specs.ValueType.{type_code}
 use Rattle.tv_reader.specs.declared.error.DeserializeError.{DeserializeError}
 use Rattle.tv_reader.specs.declared.error.DeserializeError.TheVariants as errors
 use Rattle.tv_reader.specs.declared.value_type.ValueType.{ValueType}
-use Rattle.tv_store.specs.Documents.{BeginsWithDocument, HasNoRoom, IsReadingError, NoDocument}
+use Rattle.tv_store.specs.Documents.{BeginsWith, HasNoRoom, IsReadingError, NoDocument}
 
 -- ---- reading
 
-pub reads_first : (v : Version) (bytes rest : List ℕ) (d : Document) (taken : ℕ) → BeginsWithDocument v bytes rest d → taken ≡ length bytes - length rest → ReadsFirst v bytes d taken
+pub reads_first : (v : Version) (bytes rest : List ℕ) (d : Document) (taken : ℕ) → BeginsWith v bytes rest d → taken ≡ length bytes - length rest → ReadsFirst v bytes d taken
 reads_first v bytes rest d taken b is =
     let sum = ap length b.joined ∙ length-append b.prefix rest in
     let at : taken ≡ length b.prefix = omega (arith, sum, is) in
@@ -34,8 +34,8 @@ pub unread_first : (v : Version) (bytes : List ℕ) (e : DeserializeError) → (
 unread_first v bytes (errors.CorruptedValue c) refused full may = (refused (corrupted c) is_corrupted, refl)
 unread_first v bytes errors.HeapFull refused full may = (full refl, refl)
 unread_first v bytes (errors.TypeMismatch other actual) refused full may =
-    let is : IsRefusal (errors.TypeMismatch other actual) (no_text_key (value_type_code actual)) = subst (λ (t : ValueType). IsRefusal (errors.TypeMismatch t actual) (no_text_key (value_type_code actual))) (sym may) is_no_text in
-    ((value_type_code actual, refused (no_text_key (value_type_code actual)) is), refl)
+    let is : IsRefusal (errors.TypeMismatch other actual) (no_text_key (type_code actual)) = subst (λ (t : ValueType). IsRefusal (errors.TypeMismatch t actual) (no_text_key (type_code actual))) (sym may) is_no_text in
+    ((type_code actual, refused (no_text_key (type_code actual)) is), refl)
 unread_first v bytes e refused full may = tt
 
 -- ---- fields of a schema

@@ -3,7 +3,7 @@ use Rattle.std.proofs.Common.{◌≡◌, ◌≢◌, ◌==◌, ℕ, ◌<◌, arit
 use borrow.Author.Tests.{eqb-true}
 use Rattle.std.specs.Prelude.{IfOk}
 use Rattle.std.specs.declared.alloc.AllocError.{AllocError}
-use Rattle.tv_blocks.specs.Imports.{AppendsImported, ImportedSoFar, ImportsEach, ImportsLine, Outcomes, Stores, line_answer}
+use Rattle.tv_blocks.specs.Imports.{Appends, ImportedSoFar, ImportsEach, Outcome, Outcomes, Stores, answer_of}
 use Rattle.tv_blocks.specs.Imports.Outcome.{refused, written}
 use Rattle.tv_blocks.specs.Imports.Outcomes.{next_outcome, no_outcomes}
 use Rattle.tv_blocks.specs.LineRefusals.{IsLineDocument, RefusesLine}
@@ -24,25 +24,25 @@ use Rattle.tv_store.specs.Stored.{stored}
 
 -- the bytes of its document, and how many these are
 pub stored_appends : (schema : List Entry) (line old new : List ℕ) (pairs : Document) (result : Result LineOutcome AllocError) → IsLineDocument schema line pairs
-    → IfOk result (Stores (short_document V2 (stored schema pairs)) old new) → IfOk result (AppendsImported schema line old new)
+    → IfOk result (Stores (short_document V2 (stored schema pairs)) old new) → IfOk result (Appends schema line old new)
 stored_appends schema line old new pairs (Ok said) is stores =
     (short_document V2 (stored schema pairs), written pairs is refl stores.1, stores.0)
 stored_appends schema line old new pairs (Err failed) is stores = tt
 
 -- nothing
-pub refused_appends : (schema : List Entry) (line old : List ℕ) (why : LineRefusal) → RefusesLine schema line why → AppendsImported schema line old old (outcome.Refused why)
+pub refused_appends : (schema : List Entry) (line old : List ℕ) (why : LineRefusal) → RefusesLine schema line why → Appends schema line old old (outcome.Refused why)
 refused_appends schema line old why refuses = ([], refused why refuses refl refl, sym (append-nil old))
 
 -- ---- line by line
 
-outcomes-snoc : (schema : List Entry) (lines : List (List ℕ)) (line block bytes : List ℕ) (answers : List LineAnswer) (said : LineOutcome) → Outcomes schema lines block answers → ImportsLine schema line bytes said
-    → Outcomes schema (lines ++ line ∷ []) (block ++ bytes) (answers ++ line_answer said ∷ [])
+outcomes-snoc : (schema : List Entry) (lines : List (List ℕ)) (line block bytes : List ℕ) (answers : List LineAnswer) (said : LineOutcome) → Outcomes schema lines block answers → Outcome schema line bytes said
+    → Outcomes schema (lines ++ line ∷ []) (block ++ bytes) (answers ++ answer_of said ∷ [])
 outcomes-snoc schema [] line [] bytes (_ ∷ _) said h one = elim h [ ]
 outcomes-snoc schema [] line (_ ∷ _) bytes answers said h one = elim h [ ]
 outcomes-snoc schema [] line [] bytes [] said no_outcomes one =
-    subst (λ (l : List ℕ). Outcomes schema (line ∷ []) l (line_answer said ∷ [])) (append-nil bytes) (next_outcome one no_outcomes)
+    subst (λ (l : List ℕ). Outcomes schema (line ∷ []) l (answer_of said ∷ [])) (append-nil bytes) (next_outcome one no_outcomes)
 outcomes-snoc schema (first ∷ lines) line block bytes answers said (next_outcome {bytes = some} {block = others} {said = told} {answers = rest} is more) one =
-    subst (λ (l : List ℕ). Outcomes schema ((first ∷ lines) ++ line ∷ []) l ((line_answer told ∷ rest) ++ line_answer said ∷ [])) (sym (append_assoc some others bytes))
+    subst (λ (l : List ℕ). Outcomes schema ((first ∷ lines) ++ line ∷ []) l ((answer_of told ∷ rest) ++ answer_of said ∷ [])) (sym (append_assoc some others bytes))
     (next_outcome is (outcomes-snoc schema lines line others bytes rest said more one))
 
 pub imported_none : (schema : List Entry) (input block : List ℕ) (answers : List LineAnswer) → block ≡ [] → answers ≡ [] → ImportedSoFar schema input input block answers
@@ -50,11 +50,11 @@ imported_none schema input block answers no_block none =
     record { lines = []; cut = λ more lines. lines; outcomes = subst (λ a. Outcomes schema [] block a) (sym none) (subst (λ b. Outcomes schema [] b []) (sym no_block) no_outcomes) }
 
 pub imported_more : {schema : List Entry} {input rest now block more line : List ℕ} {answers others : List LineAnswer} {said : LineOutcome} → ImportedSoFar schema input rest block answers
-    → rest ≢ [] → FirstLine rest line now → AppendsImported schema line block more said → others ≡ answers ++ line_answer said ∷ [] → ImportedSoFar schema input now more others
+    → rest ≢ [] → FirstLine rest line now → Appends schema line block more said → others ≡ answers ++ answer_of said ∷ [] → ImportedSoFar schema input now more others
 imported_more {schema} {input} {rest} {now} {block} {more} {line} {answers} {others} {said} m some first appends answered = record {
   lines = m.lines ++ line ∷ [];
   cut = λ behind lines. subst (Lines input) (sym (append_assoc m.lines (line ∷ []) behind)) (m.cut (line ∷ behind) (next_line some first lines));
-  outcomes = subst (λ a. Outcomes schema (m.lines ++ line ∷ []) more a) (sym answered) (subst (λ b. Outcomes schema (m.lines ++ line ∷ []) b (answers ++ line_answer said ∷ [])) (sym appends.2)
+  outcomes = subst (λ a. Outcomes schema (m.lines ++ line ∷ []) more a) (sym answered) (subst (λ b. Outcomes schema (m.lines ++ line ∷ []) b (answers ++ answer_of said ∷ [])) (sym appends.2)
       (outcomes-snoc schema m.lines line block appends.0 answers said m.outcomes appends.1));
 }
 

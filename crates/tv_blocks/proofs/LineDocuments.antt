@@ -19,7 +19,7 @@ use Rattle.tv_doc.specs.declared.doc_parsing_error.DocParsingError.TheVariants a
 use Rattle.tv_doc.specs.declared.document.CompactDoc.{CompactDoc}
 use Rattle.tv_field.specs.Entry.{Entry}
 use Rattle.tv_field.specs.JsonAnswer.{error_of}
-use Rattle.tv_field.specs.JsonTable.{TableRefusal, Table}
+use Rattle.tv_field.specs.JsonTable.{Refusal, Table}
 use Rattle.tv_field.specs.declared.field_type.FieldType.{FieldType}
 use Rattle.tv_field.specs.declared.value_parsing_error.ValueParsingError.{ValueParsingError}
 use Rattle.tv_field.specs.declared.value_parsing_error.ValueParsingError.TheVariants as values
@@ -71,7 +71,7 @@ named_at schema members before behind at joined =
 -- ---- lines that are refused
 
 -- the error says what the table does
-said_for : (e : ValueParsingError) (why : TableRefusal) → error_of e ≡ Some why → value_refusal e ≡ Some (refused_for why)
+said_for : (e : ValueParsingError) (why : Refusal) → error_of e ≡ Some why → value_refusal e ≡ Some (refused_for why)
 said_for (values.OverflowError expected json) why is = ap (λ w. Some (refused_for w)) (some_is is)
 said_for (values.TypeError expected json) why is = ap (λ w. Some (refused_for w)) (some_is is)
 said_for (values.ParseError cause json) why is = ap (λ w. Some (refused_for w)) (some_is is)

@@ -12,7 +12,7 @@ use Rattle.tv_format.specs.Tree.{Tree, Document}
 use Rattle.tv_format.specs.Version.{Version}
 use Rattle.tv_indexing.specs.LeafTerms.{tree_value}
 use Rattle.tv_legacy.specs.Legacy.{Legacy}
-use Rattle.tv_store.specs.Documents.{BeginsWithDocument}
+use Rattle.tv_store.specs.Documents.{BeginsWith}
 
 -- the records of these values
 abbrev pub value_records : ℕ → ℕ → List Tree → List ℕ
@@ -41,7 +41,7 @@ pub terms_none : (v : Version) (field : ℕ) (block content : List ℕ) → cont
 terms_none v field block content none = record { before = []; joined = refl; documents = []; counted = refl; encoded = refl; listed = none }
 
 pub terms_more : {v : Version} {field : ℕ} {block rest now content more : List ℕ} {number : ℕ} (d : Document) → TermsSoFar v field block rest content number
-    → BeginsWithDocument v rest now d → more ≡ content ++ document_records number field d → TermsSoFar v field block now more (number + 1)
+    → BeginsWith v rest now d → more ≡ content ++ document_records number field d → TermsSoFar v field block now more (number + 1)
 terms_more {v} {field} {block} {rest} {now} {content} {more} {number} d m b added = record {
   before = m.before ++ b.prefix;
   joined = joined_more block m.before rest b.prefix now m.joined b.joined;

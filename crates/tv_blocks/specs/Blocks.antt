@@ -18,10 +18,10 @@ pub record IsMigrated (from to : Version) (block content : List ℕ) : Type 0 wh
   pub written : content ≡ flat_map (short_document to) documents
 
 -- the text of JSON of each document, by the names of the fields, and a line feed behind each
-pub data ArePrintedLines (schema : List Entry) : List Document → List ℕ → Type 0 where
-  no_lines : ArePrintedLines schema [] []
+pub data IsPrinted (schema : List Entry) : List Document → List ℕ → Type 0 where
+  no_lines : IsPrinted schema [] []
   next_line : {document : Document} {documents : List Document} {json rest : List ℕ} → IsJsonText (field_names schema) document json
-      → ArePrintedLines schema documents rest → ArePrintedLines schema (document ∷ documents) (json ++ 10 ∷ rest)
+      → IsPrinted schema documents rest → IsPrinted schema (document ∷ documents) (json ++ 10 ∷ rest)
 
 -- The block encodes documents, and these are their lines by the names of the schema's fields.
 pub record IsExported (schema : List ℕ) (v : Version) (block content : List ℕ) : Type 0 where
@@ -29,13 +29,13 @@ pub record IsExported (schema : List ℕ) (v : Version) (block content : List �
   pub reads : ReadsSchema schema entries
   pub documents : List Document
   pub encoded : EncodesBlock v block documents
-  pub printed : ArePrintedLines entries documents content
+  pub printed : IsPrinted entries documents content
 
 -- ---- for private clauses
 
 -- the block encodes documents, and these are their lines
 abbrev pub IsPrintedBlock : List Entry → Version → List ℕ → List ℕ → Type 0
-IsPrintedBlock entries v block content = (documents : List Document) × EncodesBlock v block documents × ArePrintedLines entries documents content
+IsPrintedBlock entries v block content = (documents : List Document) × EncodesBlock v block documents × IsPrinted entries documents content
 
 -- the document's line is appended
 abbrev pub AppendsLine : List Entry → Document → List ℕ → List ℕ → Type 0
@@ -59,4 +59,4 @@ pub record PrintedSoFar (entries : List Entry) (v : Version) (block rest content
   pub joined : block ≡ before ++ rest
   pub documents : List Document
   pub encoded : EncodesBlock v before documents
-  pub printed : ArePrintedLines entries documents content
+  pub printed : IsPrinted entries documents content

@@ -12,15 +12,15 @@ pub record Written (P : List ℕ → Type 0) (old new : List ℕ) (size : ℕ) :
   pub put : new ≡ content ++ drop size old
 
 -- Such content is to be written, and is longer than the buffer.
-pub record LacksSpace (P : List ℕ → Type 0) (old : List ℕ) (size : ℕ) : Type 0 where
+pub record Lacks (P : List ℕ → Type 0) (old : List ℕ) (size : ℕ) : Type 0 where
   pub content : List ℕ
   pub is : P content
   pub measured : size ≡ length content
   pub larger : length old < size
 
 -- Content of which P holds is written, or its size is told; or nothing is written for a reason of which R holds, or for want of memory.
-abbrev pub FillsBuffer : (List ℕ → Type 0) → (BlockError → Type 0) → List ℕ → List ℕ → Result ℕ BlockError → Type 0
-FillsBuffer P R old new (Ok size) = Written P old new size
-FillsBuffer P R old new (Err (errors.TooSmall size lines)) = LacksSpace P old size × (lines ≡ 0) × (new ≡ old)
-FillsBuffer P R old new (Err errors.Memory) = new ≡ old
-FillsBuffer P R old new (Err e) = R e × (new ≡ old)
+abbrev pub Fills : (List ℕ → Type 0) → (BlockError → Type 0) → List ℕ → List ℕ → Result ℕ BlockError → Type 0
+Fills P R old new (Ok size) = Written P old new size
+Fills P R old new (Err (errors.TooSmall size lines)) = Lacks P old size × (lines ≡ 0) × (new ≡ old)
+Fills P R old new (Err errors.Memory) = new ≡ old
+Fills P R old new (Err e) = R e × (new ≡ old)

@@ -1,6 +1,6 @@
 -- One document: read from the bytes that it begins, printed, and written.
 use Rattle.std.specs.Prelude.{◌≡◌, ℕ, ◌≤◌, List, ◌∷◌, ◌++◌, length, take}
-use Rattle.tv_blocks.specs.Refusals.{RefusesDocument}
+use Rattle.tv_blocks.specs.Refusals.{Refuses}
 use Rattle.tv_blocks.specs.declared.block_error.BlockError.{BlockError}
 use Rattle.tv_blocks.specs.declared.block_error.BlockError.TheVariants as errors
 use Rattle.tv_doc.specs.Belongs.{Belongs}
@@ -20,7 +20,7 @@ pub record ReadsFirst (v : Version) (bytes : List ℕ) (document : Document) (ta
 
 -- the document that begins there is refused, or memory was
 abbrev pub IsUnread : Version → List ℕ → BlockError → Type 0
-IsUnread v bytes (errors.BadDocument start refusal) = RefusesDocument v bytes refusal × (start ≡ 0)
+IsUnread v bytes (errors.BadDocument start refusal) = Refuses v bytes refusal × (start ≡ 0)
 IsUnread v bytes errors.Memory = Unit {0}
 IsUnread v bytes e = ⊥
 
@@ -42,7 +42,7 @@ IsForeignRefusal schema document (errors.ForeignField field) = IsForeign schema 
 IsForeignRefusal schema document e = ⊥
 
 -- The schema has all fields, and these are the stored pairs in their shortest encoding.
-pub record IsStoredDocument (schema : List Entry) (v : Version) (document : Document) (bytes : List ℕ) : Type 0 where
+pub record IsWritten (schema : List Entry) (v : Version) (document : Document) (bytes : List ℕ) : Type 0 where
   pub belongs : Belongs schema document
   pub written : bytes ≡ short_document v (stored schema document)
 

@@ -9,14 +9,14 @@ use Rattle.tv_lines.specs.Answers.{ReadsSchema}
 use Rattle.tv_schema.specs.Path.{find}
 
 -- the path names this field by the entries, and its rest begins there
-pub record FindsAmong (entries : List Entry) (path : List ℕ) (found : FoundField) : Type 0 where
+pub record FindsBy (entries : List Entry) (path : List ℕ) (found : FoundField) : Type 0 where
   pub utf8 : IsUtf8 path
   pub within : found.rest ≤ length path
   pub named : find entries path ≡ Some (found.field, drop found.rest path)
 
 -- it names it by the entries of the schema that the text describes
-abbrev pub FindsInText : List ℕ → List ℕ → FoundField → Type 0
-FindsInText schema path found = (entries : List Entry) × ReadsSchema schema entries × FindsAmong entries path found
+abbrev pub Finds : List ℕ → List ℕ → FoundField → Type 0
+Finds schema path found = (entries : List Entry) × ReadsSchema schema entries × FindsBy entries path found
 
 -- it names none, or memory was refused
 abbrev pub IsPathAnswer : List ℕ → List ℕ → BlockError → Type 0

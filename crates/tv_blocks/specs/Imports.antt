@@ -20,22 +20,22 @@ use Rattle.tv_store.specs.Stored.{stored}
 -- ---- what becomes of a line
 
 -- What a line puts into the block, and what is said of it: how many bytes its stored pairs take, or why there is no document of it.
-pub data ImportsLine (schema : List Entry) (line bytes : List ℕ) (said : LineOutcome) : Type 0 where
+pub data Outcome (schema : List Entry) (line bytes : List ℕ) (said : LineOutcome) : Type 0 where
   written : (pairs : Document) → IsLineDocument schema line pairs → bytes ≡ short_document V2 (stored schema pairs)
-      → said ≡ outcome.Stored (length bytes) → ImportsLine schema line bytes said
-  refused : (why : LineRefusal) → RefusesLine schema line why → bytes ≡ [] → said ≡ outcome.Refused why → ImportsLine schema line bytes said
+      → said ≡ outcome.Stored (length bytes) → Outcome schema line bytes said
+  refused : (why : LineRefusal) → RefusesLine schema line why → bytes ≡ [] → said ≡ outcome.Refused why → Outcome schema line bytes said
 
 -- the numbers that say it
-abbrev pub line_answer : LineOutcome → LineAnswer
-line_answer (outcome.Stored size) = record { status = 0; field = 0; bytes = size }
-line_answer (outcome.Refused why) = record { status = line_number why; field = line_field why; bytes = 0 }
+abbrev pub answer_of : LineOutcome → LineAnswer
+answer_of (outcome.Stored size) = record { status = 0; field = 0; bytes = size }
+answer_of (outcome.Refused why) = record { status = line_number why; field = line_field why; bytes = 0 }
 
 -- what becomes of each line, and what all put into the block
 pub data Outcomes (schema : List Entry) : List (List ℕ) → List ℕ → List LineAnswer → Type 0 where
   no_outcomes : Outcomes schema [] [] []
   next_outcome : {line bytes block : List ℕ} {said : LineOutcome} {lines : List (List ℕ)} {answers : List LineAnswer}
-      → ImportsLine schema line bytes said → Outcomes schema lines block answers
-      → Outcomes schema (line ∷ lines) (bytes ++ block) (line_answer said ∷ answers)
+      → Outcome schema line bytes said → Outcomes schema lines block answers
+      → Outcomes schema (line ∷ lines) (bytes ++ block) (answer_of said ∷ answers)
 
 abbrev pub ImportsEach : List Entry → List ℕ → List ℕ → List LineAnswer → Type 0
 ImportsEach schema input block answers = (lines : List (List ℕ)) × Lines input lines × Outcomes schema lines block answers
@@ -92,8 +92,8 @@ abbrev pub Stores : List ℕ → List ℕ → List ℕ → LineOutcome → Type 
 Stores bytes old new said = (new ≡ old ++ bytes) × (said ≡ outcome.Stored (length bytes))
 
 -- what a line puts into the block is appended to it
-abbrev pub AppendsImported : List Entry → List ℕ → List ℕ → List ℕ → LineOutcome → Type 0
-AppendsImported schema line old new said = (bytes : List ℕ) × ImportsLine schema line bytes said × (new ≡ old ++ bytes)
+abbrev pub Appends : List Entry → List ℕ → List ℕ → List ℕ → LineOutcome → Type 0
+Appends schema line old new said = (bytes : List ℕ) × Outcome schema line bytes said × (new ≡ old ++ bytes)
 
 -- So far these lines, before the rest of the input, have been imported.
 pub record ImportedSoFar (schema : List Entry) (input rest block : List ℕ) (answers : List LineAnswer) : Type 0 where

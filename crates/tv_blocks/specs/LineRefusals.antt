@@ -11,7 +11,7 @@ use Rattle.tv_doc.specs.JsonObject.{FieldJson, object_values, Pairs}
 use Rattle.tv_doc.specs.declared.doc_parsing_error.DocParsingError.{DocParsingError}
 use Rattle.tv_doc.specs.declared.doc_parsing_error.DocParsingError.TheVariants as parsing
 use Rattle.tv_field.specs.Entry.{Entry}
-use Rattle.tv_field.specs.JsonTable.{TableRefusal, overflow, mismatch, bad_text, bad_base64, float_number, Table}
+use Rattle.tv_field.specs.JsonTable.{Refusal, overflow, mismatch, bad_text, bad_base64, float_number, Table}
 use Rattle.tv_field.specs.declared.value_parsing_error.ValueParsingError.{ValueParsingError}
 use Rattle.tv_field.specs.declared.value_parsing_error.ValueParsingError.TheVariants as values
 use Rattle.tv_format.specs.Tree.{Document}
@@ -26,7 +26,7 @@ pub record IsLineDocument (schema : List Entry) (line : List ℕ) (pairs : Docum
   pub made : Pairs (object_values schema members) pairs
 
 -- what is said where the type of a field refuses a value
-abbrev pub refused_for : TableRefusal → ValueRefusal
+abbrev pub refused_for : Refusal → ValueRefusal
 refused_for (overflow expected d) = refusals.Overflow
 refused_for (mismatch expected d) = refusals.WrongType
 refused_for (bad_text cause d) = refusals.BadText
@@ -36,7 +36,7 @@ refused_for float_number = refusals.FloatNumber
 -- The line is no JSON object, or this is why its first value that is refused is so, or its values up to one have no room.
 pub data RefusesLine (schema : List Entry) (line : List ℕ) (said : LineRefusal) : Type 0 where
   no_object : ((members : Members) → ¬ (IsJson line (object members))) → said ≡ lines.InvalidJson → RefusesLine schema line said
-  bad_value : (members : Members) (before behind : List FieldJson) (at : FieldJson) (pairs : Document) (why : TableRefusal) → IsJson line (object members)
+  bad_value : (members : Members) (before behind : List FieldJson) (at : FieldJson) (pairs : Document) (why : Refusal) → IsJson line (object members)
       → object_values schema members ≡ before ++ at ∷ behind → Pairs before pairs → Table at.field_type at.value (Err why)
       → said ≡ lines.BadValue at.field (refused_for why) → RefusesLine schema line said
   no_room : (members : Members) (prefix behind : List FieldJson) (pairs : Document) → IsJson line (object members)

@@ -52,10 +52,10 @@ abbrev pub EncodesBlock : Version → List ℕ → List Document → Type 0
 EncodesBlock v block documents = Each (EncodesDocument Legacy v) block documents
 
 -- the document that begins there is refused for this
-abbrev pub RefusesDocument : Version → List ℕ → DocumentRefusal → Type 0
-RefusesDocument v bytes (documents.Corrupted cause) = NoDocument v bytes (corrupted cause)
-RefusesDocument v bytes documents.KeyIsNoText = (code : ℕ) × NoDocument v bytes (no_text_key code)
-RefusesDocument v bytes documents.HeapFull = HasNoRoom v bytes
+abbrev pub Refuses : Version → List ℕ → DocumentRefusal → Type 0
+Refuses v bytes (documents.Corrupted cause) = NoDocument v bytes (corrupted cause)
+Refuses v bytes documents.KeyIsNoText = (code : ℕ) × NoDocument v bytes (no_text_key code)
+Refuses v bytes documents.HeapFull = HasNoRoom v bytes
 
 -- So many bytes encode documents, and the document that begins behind them is refused.
 pub record Breaks (v : Version) (block : List ℕ) (start : ℕ) (refusal : DocumentRefusal) : Type 0 where
@@ -65,7 +65,7 @@ pub record Breaks (v : Version) (block : List ℕ) (start : ℕ) (refusal : Docu
   pub measured : start ≡ length before
   pub documents : List Document
   pub encoded : EncodesBlock v before documents
-  pub refused : RefusesDocument v behind refusal
+  pub refused : Refuses v behind refusal
 
 abbrev pub IsBlockRefusal : Version → List ℕ → BlockError → Type 0
 IsBlockRefusal v block (errors.BadDocument start refusal) = Breaks v block start refusal

@@ -90,9 +90,9 @@ error_answer (errors.BadDocument start refusal) = nothing_written 8 (refusal_num
 error_answer (errors.BadLine why) = nothing_written 11 (line_number why) (line_field why)
 error_answer (errors.ForeignField field) = nothing_written 12 0 field
 
-abbrev pub call_answer : Result ℕ BlockError → Answer
-call_answer (Ok bytes) = record { status = 0; detail = 0; place = 0; bytes = bytes; lines = 0 }
-call_answer (Err e) = error_answer e
+abbrev pub answer_of : Result ℕ BlockError → Answer
+answer_of (Ok bytes) = record { status = 0; detail = 0; place = 0; bytes = bytes; lines = 0 }
+answer_of (Err e) = error_answer e
 
 abbrev pub import_answer : Result Imported BlockError → Answer
 import_answer (Ok count) = record { status = 0; detail = 0; place = 0; bytes = count.bytes; lines = count.lines }

@@ -1,9 +1,9 @@
 //! One document: read, printed, and written.
 
 ghost use Rattle.std.specs.Prelude.{◌≡◌, [], IfErr, IfOk, MatchOption, OnErr};
-ghost use Rattle.tv_blocks.specs.Buffer.{FillsBuffer};
+ghost use Rattle.tv_blocks.specs.Buffer.{Fills};
 ghost use Rattle.tv_blocks.specs.Documents.{IsForeign, IsForeignRefusal, IsPrintedBy};
-ghost use Rattle.tv_blocks.specs.Documents.{IsUnread, IsStoredDocument, ReadsFirst};
+ghost use Rattle.tv_blocks.specs.Documents.{IsUnread, IsWritten, ReadsFirst};
 ghost use Rattle.tv_doc.specs.Belongs.{Belongs};
 ghost use Rattle.tv_doc.specs.Document.{document_of};
 ghost use Rattle.tv_format.specs.WriteVersion.{written_version};
@@ -51,7 +51,7 @@ pub fn print_document(
     document: &CompactDoc,
     text: &mut [u8],
 ) -> Result<u64, BlockError>
-    ensures { FillsBuffer (IsPrintedBy schema.now (document_of document.now)) (λ error. ⊥) text.old
+    ensures { Fills (IsPrintedBy schema.now (document_of document.now)) (λ error. ⊥) text.old
         text.new result }
 {
     let json = document.to_json(alloc, schema)?;
@@ -81,7 +81,7 @@ pub fn write_document(
     document: &CompactDoc,
     bytes: &mut [u8],
 ) -> Result<u64, BlockError>
-    ensures { FillsBuffer (IsStoredDocument schema.now (written_version version) (document_of document.now))
+    ensures { Fills (IsWritten schema.now (written_version version) (document_of document.now))
         (IsForeignRefusal schema.now (document_of document.now)) bytes.old bytes.new result }
 {
     if let Some(field) = foreign_field(schema, document) {

@@ -2,7 +2,7 @@
 
 ghost use Rattle.std.specs.Prelude.{◌≡◌, [], IfErr, OnOk};
 ghost use Rattle.tv_blocks.specs.Blocks.{AppendsLine, IsExported, IsPrintedBlock, IsRefusedBlock};
-ghost use Rattle.tv_blocks.specs.Buffer.{FillsBuffer};
+ghost use Rattle.tv_blocks.specs.Buffer.{Fills};
 ghost use Rattle.tv_blocks.specs.Refusals.{IsBlockRefusal, IsExportRefusal};
 ghost use Rattle.tv_doc.specs.Document.{document_of};
 ghost use Rattle.tv_reader.specs.Version.{version_of};
@@ -69,7 +69,7 @@ pub fn export_block_by(
     block: &[u8],
     lines: &mut [u8],
 ) -> Result<u64, BlockError>
-    ensures { FillsBuffer (IsPrintedBlock schema.now (version_of version) block.now)
+    ensures { Fills (IsPrintedBlock schema.now (version_of version) block.now)
         (IsBlockRefusal (version_of version) block.now) lines.old lines.new result }
 {
     let mut text = Vec::new(alloc);
@@ -88,7 +88,7 @@ pub fn export_block(
     block: &[u8],
     lines: &mut [u8],
 ) -> Result<u64, BlockError>
-    ensures { FillsBuffer (IsExported schema.now (version_of version) block.now)
+    ensures { Fills (IsExported schema.now (version_of version) block.now)
         (IsExportRefusal schema.now (version_of version) block.now) lines.old lines.new result }
 {
     let schema = read_schema(alloc, schema)?;

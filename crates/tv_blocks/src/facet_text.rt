@@ -2,7 +2,7 @@
 
 ghost use Rattle.std.specs.Prelude.{◌≡◌, Some, IsUtf8};
 ghost use Rattle.tv_base.specs.Facet.{parse, printed};
-ghost use Rattle.tv_blocks.specs.Buffer.{FillsBuffer};
+ghost use Rattle.tv_blocks.specs.Buffer.{Fills};
 ghost use Rattle.tv_blocks.specs.Refusals.{IsFacetRefusal, IsTextRefusal};
 
 use crate::block_error::BlockError;
@@ -14,7 +14,7 @@ use tv_base::Facet;
 ///
 /// Errors: `NotUtf8`, `NotFacet` where the text doesn't begin with `/`, `TooSmall`, `Memory`. The buffer then stays as it is.
 pub fn facet_of_text(alloc: Global, text: &[u8], encoded: &mut [u8]) -> Result<u64, BlockError>
-    ensures { FillsBuffer (λ content. IsUtf8 text.now × (parse text.now ≡ Some content))
+    ensures { Fills (λ content. IsUtf8 text.now × (parse text.now ≡ Some content))
         (IsFacetRefusal text.now) encoded.old encoded.new result }
 {
     let Ok(text) = str::from_utf8(text) else {
@@ -31,7 +31,7 @@ pub fn facet_of_text(alloc: Global, text: &[u8], encoded: &mut [u8]) -> Result<u
 ///
 /// Errors: `NotUtf8`, `TooSmall`, `Memory`. The buffer then stays as it is.
 pub fn text_of_facet(alloc: Global, encoded: &[u8], text: &mut [u8]) -> Result<u64, BlockError>
-    ensures { FillsBuffer (λ content. IsUtf8 encoded.now × (content ≡ printed encoded.now))
+    ensures { Fills (λ content. IsUtf8 encoded.now × (content ≡ printed encoded.now))
         (IsTextRefusal encoded.now) text.old text.new result }
 {
     let Ok(encoded) = str::from_utf8(encoded) else {

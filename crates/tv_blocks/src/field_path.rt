@@ -1,7 +1,7 @@
 //! Paths that name fields.
 
 ghost use Rattle.std.specs.Prelude.{◌≡◌, IfErr, IfOk};
-ghost use Rattle.tv_blocks.specs.Fields.{FindsInText, FindsAmong, IsPathAnswer};
+ghost use Rattle.tv_blocks.specs.Fields.{Finds, FindsBy, IsPathAnswer};
 ghost use Rattle.tv_blocks.specs.Refusals.{IsUnfound};
 
 use crate::block_error::BlockError;
@@ -23,7 +23,7 @@ pub struct FoundField {
 ///
 /// Errors: `NotUtf8` where the path isn't UTF-8, else `NoField` where it names no field.
 pub fn find_field_by(schema: &Schema, path: &[u8]) -> Result<FoundField, BlockError>
-    ensures found { IfOk result (FindsAmong schema.now path.now) }
+    ensures found { IfOk result (FindsBy schema.now path.now) }
     ensures refused { IfErr result (IsUnfound schema.now path.now) }
 {
     let Ok(text) = str::from_utf8(path) else {
@@ -43,7 +43,7 @@ pub fn find_field_by(schema: &Schema, path: &[u8]) -> Result<FoundField, BlockEr
 /// Errors: `InvalidJson`, `BadSchemaKey`, `BadSchemaEntry` and `BadSchema` where the schema is refused, else `NotUtf8` where the path isn't
 /// UTF-8, `NoField` where it names no field, `Memory`.
 pub fn find_field(alloc: Global, schema: &[u8], path: &[u8]) -> Result<FoundField, BlockError>
-    ensures found { IfOk result (FindsInText schema.now path.now) }
+    ensures found { IfOk result (Finds schema.now path.now) }
     ensures refused { IfErr result (IsPathAnswer schema.now path.now) }
 {
     let schema = read_schema(alloc, schema)?;

@@ -1,8 +1,8 @@
 //! Lines of JSON as a block of stored documents.
 
 ghost use Rattle.std.specs.Prelude.{◌≡◌, [], IfOk, OnOk};
-ghost use Rattle.tv_blocks.specs.Imports.{AppendsImported, ImportsBy, ImportsEach, ImportsInto};
-ghost use Rattle.tv_blocks.specs.Imports.{PutsBoth, Stores, line_answer};
+ghost use Rattle.tv_blocks.specs.Imports.{Appends, ImportsBy, ImportsEach, ImportsInto};
+ghost use Rattle.tv_blocks.specs.Imports.{PutsBoth, Stores, answer_of};
 ghost use Rattle.tv_doc.specs.Belongs.{Belongs};
 ghost use Rattle.tv_doc.specs.Document.{document_of};
 ghost use Rattle.tv_format.specs.Short.{short_document};
@@ -56,7 +56,7 @@ pub struct Imported {
 impl LineOutcome {
     /// The answer for this outcome.
     pub fn answer(self) -> LineAnswer
-        ensures { result ≡ line_answer self }
+        ensures { result ≡ answer_of self }
     {
         match self {
             LineOutcome::Stored(bytes) => LineAnswer {
@@ -82,7 +82,7 @@ fn import_line(
     buffers: &mut ParseBuffers,
     block: &mut VecSink,
 ) -> Result<LineOutcome, AllocError>
-    ensures { IfOk result (AppendsImported schema.now line.now block.old.bytes.items block.new.bytes.items) }
+    ensures { IfOk result (Appends schema.now line.now block.old.bytes.items block.new.bytes.items) }
 {
     match parse_line(alloc, schema, line, document, buffers) {
         Ok(()) => store_document(schema, document, block),

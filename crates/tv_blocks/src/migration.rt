@@ -2,7 +2,7 @@
 
 ghost use Rattle.std.specs.Prelude.{◌≡◌, [], IfErr, OnOk};
 ghost use Rattle.tv_blocks.specs.Blocks.{IsMigrated, IsRefusedBlock};
-ghost use Rattle.tv_blocks.specs.Buffer.{FillsBuffer};
+ghost use Rattle.tv_blocks.specs.Buffer.{Fills};
 ghost use Rattle.tv_blocks.specs.Refusals.{IsBlockRefusal, migration_refusal};
 ghost use Rattle.tv_format.specs.WriteVersion.{written_version};
 ghost use Rattle.tv_reader.specs.Version.{version_of};
@@ -58,7 +58,7 @@ pub fn migrate_block(
     to: WriteVersion,
     migrated: &mut [u8],
 ) -> Result<u64, BlockError>
-    ensures { FillsBuffer (IsMigrated (version_of from) (written_version to) block.now)
+    ensures { Fills (IsMigrated (version_of from) (written_version to) block.now)
         (IsBlockRefusal (version_of from) block.now) migrated.old migrated.new result }
 {
     let mut sink = VecSink::new(alloc);

@@ -1,7 +1,7 @@
 //! Schemas out of bytes, and into them.
 
 ghost use Rattle.std.specs.Prelude.{◌≡◌, IfErr, IfOk};
-ghost use Rattle.tv_blocks.specs.Buffer.{FillsBuffer};
+ghost use Rattle.tv_blocks.specs.Buffer.{Fills};
 ghost use Rattle.tv_blocks.specs.Schemas.{IsRefusedSchema, IsSchemaText, schema_refusal};
 ghost use Rattle.tv_lines.specs.Answers.{ReadsSchema};
 
@@ -55,7 +55,7 @@ pub fn read_schema(alloc: Global, text: &[u8]) -> Result<Schema, BlockError>
 /// Errors: `TooSmall`, `Memory`. The buffer then stays as it is.
 #[tactic(auto, using(tv_schema::proofs::SchemaJsonFloats::schema_has_no_float))]
 pub fn print_schema(alloc: Global, schema: &Schema, text: &mut [u8]) -> Result<u64, BlockError>
-    ensures { FillsBuffer (IsSchemaText schema.now) (λ error. ⊥) text.old text.new result }
+    ensures { Fills (IsSchemaText schema.now) (λ error. ⊥) text.old text.new result }
 {
     let json = schema.to_json_value(alloc)?.to_string(alloc)?;
     put_whole(json.as_bytes(), text)

@@ -1,7 +1,7 @@
 //! Answers as numbers, for callers in other languages.
 
 ghost use Rattle.std.specs.Prelude.{◌≡◌};
-ghost use Rattle.tv_blocks.specs.Status.{call_answer, cause_number, error_answer, import_answer};
+ghost use Rattle.tv_blocks.specs.Status.{answer_of, cause_number, error_answer, import_answer};
 ghost use Rattle.tv_blocks.specs.Status.{key_number, nothing_written, placed, refusal_number};
 ghost use Rattle.tv_blocks.specs.Status.{schema_answer, wrong_version};
 
@@ -180,7 +180,7 @@ pub fn error_answer(error: BlockError) -> Answer
 
 /// The answer for what a call returned that writes bytes.
 pub fn written_answer(written: Result<u64, BlockError>) -> Answer
-    ensures { result ≡ call_answer written }
+    ensures { result ≡ answer_of written }
 {
     match written {
         Ok(bytes) => Answer {

@@ -2,7 +2,7 @@
 
 ghost use Rattle.std.specs.Prelude.{◌≡◌, ◌++◌, [], IfErr, OnOk};
 ghost use Rattle.tv_blocks.specs.Blocks.{IsRefusedBlock};
-ghost use Rattle.tv_blocks.specs.Buffer.{FillsBuffer};
+ghost use Rattle.tv_blocks.specs.Buffer.{Fills};
 ghost use Rattle.tv_blocks.specs.Refusals.{IsBlockRefusal, IsTextRefusal};
 ghost use Rattle.tv_blocks.specs.Terms.{document_records, record_of, term_record};
 ghost use Rattle.tv_blocks.specs.Terms.{IsEnd, IsEndRefusal, IsTermList, IsTextTerm};
@@ -110,7 +110,7 @@ pub fn terms_of_block(
     block: &[u8],
     terms: &mut [u8],
 ) -> Result<u64, BlockError>
-    ensures { FillsBuffer (IsTermList (version_of version) field block.now)
+    ensures { Fills (IsTermList (version_of version) field block.now)
         (IsBlockRefusal (version_of version) block.now) terms.old terms.new result }
 {
     let mut found = Vec::new(alloc);
@@ -134,7 +134,7 @@ pub fn term_of_text(
     text: &[u8],
     term: &mut [u8],
 ) -> Result<u64, BlockError>
-    ensures { FillsBuffer (IsTextTerm field text.now) (IsTextRefusal text.now) term.old term.new result }
+    ensures { Fills (IsTextTerm field text.now) (IsTextRefusal text.now) term.old term.new result }
 {
     let Ok(text) = str::from_utf8(text) else {
         return Err(BlockError::NotUtf8);
@@ -148,7 +148,7 @@ pub fn term_of_text(
 ///
 /// Errors: `NoEnd` where no byte string is above all that begin with the prefix, `TooSmall`, `Memory`. The buffer then stays as it is.
 pub fn end_of_prefix(alloc: Global, prefix: &[u8], end: &mut [u8]) -> Result<u64, BlockError>
-    ensures { FillsBuffer (IsEnd prefix.now) (IsEndRefusal prefix.now) end.old end.new result }
+    ensures { Fills (IsEnd prefix.now) (IsEndRefusal prefix.now) end.old end.new result }
 {
     match successor(alloc, prefix)? {
         Some(bytes) => put_whole(bytes.as_slice(), end),

@@ -9,10 +9,10 @@ use Rattle.tv_borrowed.specs.declared.begun.Begun.{Begun}
 use Rattle.tv_borrowed.specs.declared.begun.Begun.TheVariants.{Leaf, Array, Object}
 
 -- the first of these tokens is a value, however deep values may nest, or the bracket of an array or of an object; the others are left
-abbrev pub BeginsJson : Begun → List Token → List Token → Type 0
-BeginsJson (Leaf json) old new = (depth : ℕ) → converted of_json (value depth old) ≡ Some (data_of json, new)
-BeginsJson Array old new = old ≡ Token.begin_array ∷ new
-BeginsJson Object old new = old ≡ Token.begin_object ∷ new
+abbrev pub Begins : Begun → List Token → List Token → Type 0
+Begins (Leaf json) old new = (depth : ℕ) → converted of_json (value depth old) ≡ Some (data_of json, new)
+Begins Array old new = old ≡ Token.begin_array ∷ new
+Begins Object old new = old ≡ Token.begin_object ∷ new
 
 -- whether it is a float
 abbrev pub begun_floats : Begun → Bool

@@ -1,7 +1,7 @@
 //! The first token of a value.
 
 ghost use Rattle.std.specs.Prelude.{◌<◌, length, IfSome, OnSome};
-ghost use Rattle.tv_borrowed.specs.Begun.{BeginsJson, begun_floats};
+ghost use Rattle.tv_borrowed.specs.Begun.{Begins, begun_floats};
 ghost use Rattle.tv_borrowed.specs.Notes.{Notes};
 
 use crate::borrowed::BorrowedJson;
@@ -23,7 +23,7 @@ pub(crate) enum Begun<'a> {
 // It isn't inlined, so that a level of a nested value takes little stack.
 #[inline(never)]
 pub(crate) fn begin<'a>(reader: &mut Reader<'a>, met_float: &mut bool) -> Option<Begun<'a>>
-    ensures begins { IfSome result (λ begun. BeginsJson begun reader.old reader.new) }
+    ensures begins { IfSome result (λ begun. Begins begun reader.old reader.new) }
     ensures shorter { OnSome result (length reader.new < length reader.old) }
     ensures floats { IfSome result
         (λ begun. Notes met_float.old met_float.new (begun_floats begun)) }

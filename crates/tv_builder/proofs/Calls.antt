@@ -14,9 +14,9 @@ use Rattle.tv_builder.specs.declared.bytes_kind.BytesKind.TheVariants as kinds
 use Rattle.tv_builder.specs.declared.frame.Frame.{Frame}
 use Rattle.tv_heap.specs.declared.place.Place.{Place}
 use Rattle.tv_builder.specs.Given.{Given, given}
-use Rattle.tv_builder.specs.Image.{held, image_of, ShowsBehind}
+use Rattle.tv_builder.specs.Image.{held, image_of, Behind}
 use Rattle.tv_builder.specs.StateHeap.{full_length}
-use Rattle.tv_builder.specs.Moves.{given_to, GivesPlace, GivesNot, Over, Does}
+use Rattle.tv_builder.specs.Moves.{given_to, Gives, GivesNot, Over, Does}
 use Rattle.tv_builder.specs.TreeBytes.{tree_heap, tree_place}
 use Rattle.tv_builder.specs.Whole.{Put, PutNot, WhyUnwritten, as_refused}
 use Rattle.tv_builder.specs.Shows.{Placed, ShowsLists, ShowsAt, frames_of, awaited_by}
@@ -52,10 +52,10 @@ head_begins kinds.Key = tt
 pub record NextIn (base : List ℕ) (b : Building) (s : State) (next : Awaits) : Type 0 where
   pub lists : List OpenList
   pub is : s ≡ in_lists lists
-  pub behind : ShowsBehind base b (in_lists lists)
+  pub behind : Behind base b (in_lists lists)
   pub awaited : next_in lists ≡ next
 
-pub lists_next : (base : List ℕ) (b : Building) (s : State) (next : Awaits) → awaited_by b ≡ next → Begins next → ShowsBehind base b s → NextIn base b s next
+pub lists_next : (base : List ℕ) (b : Building) (s : State) (next : Awaits) → awaited_by b ≡ next → Begins next → Behind base b s → NextIn base b s next
 lists_next base b (complete t) next e begins h = absurd (subst Begins (sym (sym (awaited_same _ _ _ _ _ (complete t) h.shows.at) ∙ e)) begins)
 lists_next base b (in_lists ls) next e begins h = record { lists = ls; is = refl; behind = h; awaited = sym (awaited_same _ _ _ _ _ (in_lists ls) h.shows.at) ∙ e }
 lists_next base b (in_bytes ls kind n bs) next e begins h = absurd (subst Begins (sym (sym (awaited_same _ _ _ _ _ (in_bytes ls kind n bs) h.shows.at) ∙ e)) begins)
@@ -70,17 +70,17 @@ head_next kinds.Key (l ∷ ls) e h = next_key l.kind (length l.children) e
 -- the tree comes to these lists, and makes this state of them
 pub record Takes (base : List ℕ) (b : Building) (after : State) (t : Tree) : Type 0 where
   pub lists : List OpenList
-  pub behind : ShowsBehind base b (in_lists lists)
+  pub behind : Behind base b (in_lists lists)
   pub comes : Comes lists t
   pub is : after ≡ with_value lists t
 
-pub value_taken : (b : Building) (t : Tree) → awaited_by b ≡ awaits.Value → (base : List ℕ) (s : State) → ShowsBehind base b s → Takes base b (and_value s t) t
+pub value_taken : (b : Building) (t : Tree) → awaited_by b ≡ awaits.Value → (base : List ℕ) (s : State) → Behind base b s → Takes base b (and_value s t) t
 value_taken b t e base s h =
     let n = lists_next base b s awaits.Value e tt h in
     let is = n.behind.shows.is in
     record { lists = n.lists; behind = n.behind; comes = comes n.lists t is.0 (all_await n.lists n.awaited is.1); is = ap (λ z. and_value z t) n.is }
 
-pub key_taken : (b : Building) (k : List ℕ) → awaited_by b ≡ awaits.Key → (base : List ℕ) (s : State) → ShowsBehind base b s → Takes base b (and_key s k) (leaf (text k))
+pub key_taken : (b : Building) (k : List ℕ) → awaited_by b ≡ awaits.Key → (base : List ℕ) (s : State) → Behind base b s → Takes base b (and_key s k) (leaf (text k))
 key_taken b k e base s h =
     let n = lists_next base b s awaits.Key e tt h in
     let is = n.behind.shows.is in
@@ -101,17 +101,17 @@ pub record Written (base : List ℕ) (mid : Building) (p : Place) (after : State
   pub closed : mid.open ≡ None
   pub image : given_to mid p ≡ image_of base (with_value lists tree)
 
-handed : (base : List ℕ) (mid new : Building) (p : Place) (after : State) → Written base mid p after → GivesPlace mid p new → ShowsBehind base new after
+handed : (base : List ℕ) (mid new : Building) (p : Place) (after : State) → Written base mid p after → Gives mid p new → Behind base new after
 handed base mid new p after w g =
     let t = w.tree in
     let shown = given_shows (frames_of mid) w.lists mid.heap.items mid.places.items p t w.are w.comes w.shown w.placed (omega (arith, g.fits, ap length g.heap)) in
     let closed : new.open ≡ None = g.same_bytes ∙ w.closed in
     let at = subst (λ z. ShowsAt (given_to mid p).heap (given_to mid p).frames (given_to mid p).places (given_to mid p).complete z (with_value w.lists t)) (sym closed) shown in
-    let body : ShowsBehind base new (with_value w.lists t) = record {
+    let body : Behind base new (with_value w.lists t) = record {
       shows = record { fits = g.fits; counted = g.counted; is = value_is w.lists t w.are w.comes; at = shown_as (with_value w.lists t) new (given_to mid p) (gives_held mid new p g) at };
       image = gives_held mid new p g ∙ w.image;
     } in
-    subst (ShowsBehind base new) (sym w.is) body
+    subst (Behind base new) (sym w.is) body
 
 -- a heap that is too long is so for the state
 pub over_image : (base : List ℕ) (ls : List OpenList) (t : Tree) (after : State) (g : Given) → g ≡ image_of base (with_value ls t) → after ≡ with_value ls t → AreLists ls → Comes ls t → 4294967295 < length g.heap → Over base after
@@ -120,11 +120,11 @@ over_image base ls t after g image is are next over =
     let bytes : 4294967295 < full_length base s = omega (arith, over, ap (λ (z : Given). length z.heap) image, ap length (image_heap base s)) in
     subst (Over base) (sym is) (record { bytes = bytes; room = state_over base s (value_is ls t are next) bytes })
 
-given_grows : (mid new : Building) (p : Place) → GivesPlace mid p new → IsPrefix mid.heap.items new.heap.items
+given_grows : (mid new : Building) (p : Place) → Gives mid p new → IsPrefix mid.heap.items new.heap.items
 given_grows mid new p g = let f = given_prefix (frames_of mid) mid.heap.items mid.places.items p in (f.0, g.heap ∙ f.1)
 
 pub does_give : (old mid new : Building) (p : Place) (here well fits : Type 0) (after : State → State) (r : Result (Unit {0}) BuildError) → here → well → fits → IsPrefix old.heap.items mid.heap.items
-    → ((base : List ℕ) (s : State) → ShowsBehind base old s → Written base mid p (after s)) → OnOk r (GivesPlace mid p new) → IfErr r (λ e. GivesNot mid p new e) → Does old new here well fits after r
+    → ((base : List ℕ) (s : State) → Behind base old s → Written base mid p (after s)) → OnOk r (Gives mid p new) → IfErr r (λ e. GivesNot mid p new e) → Does old new here well fits after r
 does_give old mid new p here well fits after (Ok x) is ends holds prefix written ok err =
     (is, ends, record { grows = prefix_then old.heap.items mid.heap.items new.heap.items prefix (given_grows mid new p ok); next = λ base s h. handed base mid new p (after s) (written base s h) ok })
 does_give old mid new p here well fits after (Err HeapFull) is ends holds prefix written ok err = (
@@ -146,8 +146,8 @@ refused_as old new here well fits after (Err x) e is d = subst (λ z. Does old n
 -- ---- a whole value, or a key
 
 pub does_value : (old mid new : Building) (p : Place) (t : Tree) (here fits : Type 0) (after : State → State) (r : Result (Unit {0}) BuildError) → here → fits
-    → ((base : List ℕ) (s : State) → ShowsBehind base old s → Takes base old (after s) t) → Put old.heap.items t mid.heap.items p → frames_of mid ≡ frames_of old → mid.places.items ≡ old.places.items → mid.open ≡ old.open
-    → OnOk r (GivesPlace mid p new) → IfErr r (λ e. GivesNot mid p new e) → Does old new here (Unit {0}) fits after r
+    → ((base : List ℕ) (s : State) → Behind base old s → Takes base old (after s) t) → Put old.heap.items t mid.heap.items p → frames_of mid ≡ frames_of old → mid.places.items ≡ old.places.items → mid.open ≡ old.open
+    → OnOk r (Gives mid p new) → IfErr r (λ e. GivesNot mid p new e) → Does old new here (Unit {0}) fits after r
 does_value old mid new p t here fits after r is holds takes w frames places open_is ok err =
     let f = put_grows old.heap.items t mid.heap.items p w in
     does_give old mid new p here (Unit {0}) fits after r is tt holds f
@@ -169,7 +169,7 @@ does_value old mid new p t here fits after r is holds takes w frames places open
     ok err
 
 -- it isn't written
-pub value_not : (old new : Building) (t : Tree) (here fits : Type 0) (after : State → State) (e : AddError) → here → (e ≡ adds.Memory → fits) → ((base : List ℕ) (s : State) → ShowsBehind base old s → Takes base old (after s) t)
+pub value_not : (old new : Building) (t : Tree) (here fits : Type 0) (after : State → State) (e : AddError) → here → (e ≡ adds.Memory → fits) → ((base : List ℕ) (s : State) → Behind base old s → Takes base old (after s) t)
     → PutNot old.heap.items t new.heap.items e → Does old new here (Unit {0}) fits after (Err (as_refused e))
 value_not old new t here fits after e is holds takes w = answer e holds w.why
   where

@@ -9,7 +9,7 @@ use Rattle.tv_builder.specs.declared.bytes_kind.BytesKind.{BytesKind}
 use Rattle.tv_builder.specs.declared.bytes_kind.BytesKind.TheVariants as kinds
 use Rattle.tv_builder.specs.declared.list_kind.ListKind.{ListKind}
 use Rattle.tv_builder.specs.declared.list_kind.ListKind.TheVariants.{Array, Object}
-use Rattle.tv_builder.specs.Parts.{value, key, bytes_head, some_bytes, bytes_part, IsContentOf, Rule, full_bytes, more_bytes, no_bytes, Trades, same}
+use Rattle.tv_builder.specs.Parts.{value, key, bytes_head, some_bytes, bytes_part, IsContent, Rule, full_bytes, more_bytes, no_bytes, Trades, same}
 use Rattle.tv_builder.specs.State.{OpenList, State, complete, in_lists, in_bytes, awaited, with_value, with_key, with_list, with_content, and_value, and_list, and_key, AreLists, OthersAwait, HeadNext, IsState, list_tree, list_head, list_parts, lists_parts, parts_of}
 use Rattle.tv_builder.proofs.Children.{child_key, full_list}
 use Rattle.tv_builder.proofs.Giving.{value_trades}
@@ -72,5 +72,5 @@ content_trades ls kinds.Facet content is others next = value_trades ls _ is next
 content_trades ls kinds.Bytes content is others next = value_trades ls _ is next
 content_trades ls kinds.Key content is others next = key_trades ls content is next
 
-pub ends_trade : (ls : List OpenList) (kind : BytesKind) (bs : List ℕ) → IsState (in_bytes ls kind (length bs) bs) → IsContentOf kind bs → Trades (lists_parts ls ++ (bytes_head kind (length bs) ∷ some_bytes bs ∷ [])) (parts_of (with_content ls kind bs))
+pub ends_trade : (ls : List OpenList) (kind : BytesKind) (bs : List ℕ) → IsState (in_bytes ls kind (length bs) bs) → IsContent kind bs → Trades (lists_parts ls ++ (bytes_head kind (length bs) ∷ some_bytes bs ∷ [])) (parts_of (with_content ls kind bs))
 ends_trade ls kind bs is content = trades_then (trades_last (lists_parts ls) _ _ (full_bytes kind bs content)) (content_trades ls kind bs is.0 is.1 is.2)

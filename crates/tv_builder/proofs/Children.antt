@@ -4,7 +4,7 @@ use Rattle.std.proofs.lemmas.List.{map-append}
 use Rattle.tv_base.specs.Number.{vnum}
 use Rattle.tv_base.specs.Parts.{short_sized}
 use Rattle.tv_format.specs.Tree.{Tree, leaf, text, array, object, elements, entries}
-use Rattle.tv_heap.specs.Reads.{Stands, ShortText, ReadsTree, ReadsElements, ReadsEntries}
+use Rattle.tv_heap.specs.Reads.{Stands, ShortText, Reads, ReadsElements, ReadsEntries}
 use Rattle.tv_heap.specs.TypeCode.{type_code}
 use Rattle.tv_heap.proofs.Grown.{grown_elements, grown_entries}
 use Rattle.tv_heap.proofs.Writes.{at_end, longer, sized_some}
@@ -13,25 +13,25 @@ use Rattle.tv_builder.specs.declared.list_kind.ListKind.TheVariants.{Array, Obje
 use Rattle.tv_builder.specs.Kinds.{list_type, total}
 use Rattle.tv_builder.specs.Parts.{value, key, array_head, object_head, entry_parts, Rule, full_array, full_object}
 use Rattle.tv_builder.specs.Shows.{Placed}
-use Rattle.tv_builder.specs.State.{key_text, pairs_of, list_tree, IsKeyLeaf, StartsWithKey, StartsWithValue, AreChildren, IsValueNext, IsKeyNext, key_parts, value_parts, list_head, children_parts}
+use Rattle.tv_builder.specs.State.{text_of, pairs_of, list_tree, IsKey, AreEntries, AreValues, AreChildren, IsValueNext, IsKeyNext, key_parts, value_parts, list_head, children_parts}
 
 -- ---- parts
 
 mutual
-  entries_value : (ts : List Tree) (t : Tree) → length ts % 2 ≡ 1 → StartsWithKey ts → StartsWithKey (ts ++ t ∷ []) × (key_parts (ts ++ t ∷ []) ≡ key_parts ts ++ value t ∷ [])
+  entries_value : (ts : List Tree) (t : Tree) → length ts % 2 ≡ 1 → AreEntries ts → AreEntries (ts ++ t ∷ []) × (key_parts (ts ++ t ∷ []) ≡ key_parts ts ++ value t ∷ [])
   entries_value [] t odd h = absurd (omega (arith, odd))
-  entries_value (k ∷ ts) t odd h = let r = values_value ts t (omega (arith, odd)) h.1 in ((h.0, r.0), ap (λ z. key (key_text k) ∷ z) r.1)
+  entries_value (k ∷ ts) t odd h = let r = values_value ts t (omega (arith, odd)) h.1 in ((h.0, r.0), ap (λ z. key (text_of k) ∷ z) r.1)
 
-  values_value : (ts : List Tree) (t : Tree) → length ts % 2 ≡ 0 → StartsWithValue ts → StartsWithValue (ts ++ t ∷ []) × (value_parts (ts ++ t ∷ []) ≡ value_parts ts ++ value t ∷ [])
+  values_value : (ts : List Tree) (t : Tree) → length ts % 2 ≡ 0 → AreValues ts → AreValues (ts ++ t ∷ []) × (value_parts (ts ++ t ∷ []) ≡ value_parts ts ++ value t ∷ [])
   values_value [] t even h = (tt, refl)
   values_value (u ∷ ts) t even h = let r = entries_value ts t (omega (arith, even)) h in (r.0, ap (λ z. value u ∷ z) r.1)
 
 mutual
-  entries_key : (ts : List Tree) (k : Tree) → length ts % 2 ≡ 0 → IsKeyLeaf k → StartsWithKey ts → StartsWithKey (ts ++ k ∷ []) × (key_parts (ts ++ k ∷ []) ≡ key_parts ts ++ key (key_text k) ∷ [])
+  entries_key : (ts : List Tree) (k : Tree) → length ts % 2 ≡ 0 → IsKey k → AreEntries ts → AreEntries (ts ++ k ∷ []) × (key_parts (ts ++ k ∷ []) ≡ key_parts ts ++ key (text_of k) ∷ [])
   entries_key [] k even is h = ((is, tt), refl)
-  entries_key (l ∷ ts) k even is h = let r = values_key ts k (omega (arith, even)) is h.1 in ((h.0, r.0), ap (λ z. key (key_text l) ∷ z) r.1)
+  entries_key (l ∷ ts) k even is h = let r = values_key ts k (omega (arith, even)) is h.1 in ((h.0, r.0), ap (λ z. key (text_of l) ∷ z) r.1)
 
-  values_key : (ts : List Tree) (k : Tree) → length ts % 2 ≡ 1 → IsKeyLeaf k → StartsWithValue ts → StartsWithValue (ts ++ k ∷ []) × (value_parts (ts ++ k ∷ []) ≡ value_parts ts ++ key (key_text k) ∷ [])
+  values_key : (ts : List Tree) (k : Tree) → length ts % 2 ≡ 1 → IsKey k → AreValues ts → AreValues (ts ++ k ∷ []) × (value_parts (ts ++ k ∷ []) ≡ value_parts ts ++ key (text_of k) ∷ [])
   values_key [] k odd is h = absurd (omega (arith, odd))
   values_key (u ∷ ts) k odd is h = let r = entries_key ts k (omega (arith, odd)) is h in (r.0, ap (λ z. value u ∷ z) r.1)
 
@@ -42,8 +42,8 @@ child_value Array ts t next h = (tt, map-append value ts (t ∷ []))
 child_value Object ts t next h = entries_value ts t next h
 
 -- one key more
-pub child_key : (kind : ListKind) (ts : List Tree) (k : Tree) → IsKeyNext kind (length ts) → IsKeyLeaf k → AreChildren kind ts
-    → AreChildren kind (ts ++ k ∷ []) × (children_parts kind (ts ++ k ∷ []) ≡ children_parts kind ts ++ key (key_text k) ∷ [])
+pub child_key : (kind : ListKind) (ts : List Tree) (k : Tree) → IsKeyNext kind (length ts) → IsKey k → AreChildren kind ts
+    → AreChildren kind (ts ++ k ∷ []) × (children_parts kind (ts ++ k ∷ []) ≡ children_parts kind ts ++ key (text_of k) ∷ [])
 child_key Array ts k next is h = absurd next
 child_key Object ts k next is h = entries_key ts k next is h
 
@@ -55,7 +55,7 @@ key_lacks Object n m next h = (omega (arith, next, h), omega (arith, next))
 pairs_parts : (ts : List Tree) → length ts % 2 ≡ 0 → key_parts ts ≡ entry_parts (pairs_of ts)
 pairs_parts [] even = refl
 pairs_parts (k ∷ []) even = absurd (omega (arith, even))
-pairs_parts (k ∷ t ∷ ts) even = ap (λ z. key (key_text k) ∷ value t ∷ z) (pairs_parts ts (omega (arith, even)))
+pairs_parts (k ∷ t ∷ ts) even = ap (λ z. key (text_of k) ∷ value t ∷ z) (pairs_parts ts (omega (arith, even)))
 
 pairs_half : (ts : List Tree) → length ts % 2 ≡ 0 → 2 * length (pairs_of ts) ≡ length ts
 pairs_half [] even = refl
@@ -73,12 +73,12 @@ full_list Object n ts e =
 
 -- ---- bytes
 
-key_reads : (heap : List ℕ) (code at : ℕ) (k : Tree) → IsKeyLeaf k → ReadsTree heap code at k → (code ≡ 1) × Stands heap at (λ w. ShortText (key_text k) w)
+key_reads : (heap : List ℕ) (code at : ℕ) (k : Tree) → IsKey k → Reads heap code at k → (code ≡ 1) × Stands heap at (λ w. ShortText (text_of k) w)
 key_reads heap code at (leaf (text content)) h r = r
 key_reads heap code at _ h r = absurd h
 
 -- the children of an object, read as values, are its entries
-entries_read : (heap : List ℕ) (parent : ℕ) (own : List ℕ) (ts : List Tree) → length ts % 2 ≡ 0 → StartsWithKey ts → ReadsElements heap parent own (elements ts) → ReadsEntries heap parent own (entries (pairs_of ts))
+entries_read : (heap : List ℕ) (parent : ℕ) (own : List ℕ) (ts : List Tree) → length ts % 2 ≡ 0 → AreEntries ts → ReadsElements heap parent own (elements ts) → ReadsEntries heap parent own (entries (pairs_of ts))
 entries_read heap parent own [] even are h = h
 entries_read heap parent own (k ∷ []) even are h = absurd (omega (arith, even))
 entries_read heap parent own (k ∷ t ∷ ts) even are h = record {
@@ -108,7 +108,7 @@ elements_bytes heap parent own (t ∷ ts) h =
     omega (arith, elements_bytes heap parent h.rest ts h.others, ap length h.joined, length-append (vnum h.at) h.rest)
 
 list_reads : (kind : ListKind) (n : ℕ) (heap new own : List ℕ) (ts : List Tree) → length ts ≡ total kind n → AreChildren kind ts → ReadsElements heap (length heap) own (elements ts)
-    → new ≡ heap ++ short_sized own → length own < 2 ^ 32 → ReadsTree new (type_code (list_type kind)) (length heap) (list_tree kind ts)
+    → new ≡ heap ++ short_sized own → length own < 2 ^ 32 → Reads new (type_code (list_type kind)) (length heap) (list_tree kind ts)
 list_reads Array n heap new own ts full are h e small = (
   refl,
   record {

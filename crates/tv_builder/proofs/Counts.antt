@@ -10,11 +10,11 @@ use Rattle.tv_builder.specs.declared.building.OpenBytes.{OpenBytes}
 use Rattle.tv_builder.specs.declared.frame.Frame.{Frame}
 use Rattle.tv_heap.specs.declared.place.Place.{Place}
 use Rattle.tv_builder.specs.Given.{pending_in}
-use Rattle.tv_builder.specs.Shows.{ShowsLists, ShowsAt, HoldsSomeState, frames_of, awaited_by}
+use Rattle.tv_builder.specs.Shows.{ShowsLists, ShowsAt, Stands, frames_of, awaited_by}
 use Rattle.tv_builder.specs.State.{OpenList, State, complete, in_lists, in_bytes, awaited, lists_of, children_of}
 use Rattle.tv_builder.proofs.Sound.{awaited_same}
 
-pub awaited_is : (b : Building) (h : HoldsSomeState b) → awaited_by b ≡ awaited h.0
+pub awaited_is : (b : Building) (h : Stands b) → awaited_by b ≡ awaited h.0
 awaited_is b h = ∥∥₁_elim h.1 (Coded-set the_row.coded _ _) (λ s. awaited_same b.heap.items (frames_of b) b.places.items b.complete b.open h.0 s.at)
 
 -- ---- counts
@@ -30,8 +30,8 @@ at_counted heap fs places whole bytes (complete t) h = (ap length h.frames, ap p
 at_counted heap fs places whole bytes (in_lists ls) h = lists_counted heap fs places ls h.lists
 at_counted heap fs places whole bytes (in_bytes ls kind n bs) h = lists_counted heap fs places ls h.lists
 
-pub pending_is : (b : Building) (h : HoldsSomeState b) → b.pending ≡ children_of (lists_of h.0)
+pub pending_is : (b : Building) (h : Stands b) → b.pending ≡ children_of (lists_of h.0)
 pending_is b h = ∥∥₁_elim h.1 (ℕ_set _ _) (λ s. s.counted ∙ (at_counted b.heap.items (frames_of b) b.places.items b.complete b.open h.0 s.at).1)
 
-pub frames_are : (b : Building) (h : HoldsSomeState b) → length b.frames.items ≡ length (lists_of h.0)
+pub frames_are : (b : Building) (h : Stands b) → length b.frames.items ≡ length (lists_of h.0)
 frames_are b h = ∥∥₁_elim h.1 (ℕ_set _ _) (λ s. sym (length-reverse b.frames.items) ∙ (at_counted b.heap.items (frames_of b) b.places.items b.complete b.open h.0 s.at).0)

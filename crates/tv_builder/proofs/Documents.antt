@@ -19,7 +19,7 @@ use Rattle.tv_heap.specs.Weight.{tree_weight, document_weight}
 use Rattle.tv_heap.specs.TypeCode.{type_code}
 use Rattle.tv_base.specs.Parts.{short_sized}
 use Rattle.tv_base.specs.Sink.{IsPrefix}
-use Rattle.tv_heap.specs.Reads.{ReadsTree}
+use Rattle.tv_heap.specs.Reads.{Reads}
 use Rattle.tv_heap.specs.declared.place.Place.{Place}
 use Rattle.tv_heap.proofs.Grown.{grown}
 use Rattle.tv_builder.specs.TreeBytes.{leaf_place, tree_heap, tree_place, elements_heap, entries_heap}
@@ -82,7 +82,7 @@ tree_behind heap (leaf l) some other = leaf_behind (length heap) l some other
 tree_behind heap (array ts) some other = elements_longer heap ts
 tree_behind heap (object es) some other = entries_longer heap es
 
-placed_reads : (old new : List ℕ) (at : Place) (t : Tree) → Put old t new at → ReadsTree new (type_code at.value_type) at.address t
+placed_reads : (old new : List ℕ) (at : Place) (t : Tree) → Put old t new at → Reads new (type_code at.value_type) at.address t
 placed_reads old new at t w = let placed = w.placed in placed.reads
 
 -- it grew by the tree's room at most

@@ -20,7 +20,7 @@ use Rattle.tv_builder.specs.declared.heap_pairs.HeapPairs.{HeapPairs}
 use Rattle.tv_builder.specs.declared.heap_pair.HeapPair.{HeapPair}
 use Rattle.tv_builder.specs.HeldPairs.{document_of, heap_of, Added, IsUnchanged}
 use Rattle.tv_builder.specs.Keeping.{PairKept}
-use Rattle.tv_builder.specs.EncodedPairs.{IsStart, AddsEncodedPair, AddsEncoded, StoodIn}
+use Rattle.tv_builder.specs.EncodedPairs.{IsStart, AddsPair, AddsEncoded, StoodIn}
 use Rattle.tv_builder.specs.Holds.{pair_at}
 use Rattle.tv_builder.proofs.Documents.{unchanged, restored, document_length}
 use Rattle.tv_builder.proofs.Kept.{Written, Fields, same_fields, kept_added}
@@ -44,7 +44,7 @@ begins_pair v whole prefix value rest field t f s =
     begins_then whole value rest number s
 
 pub pair_added : (v : Version) (old new : HeapPairs) (whole prefix value rest mid : List ℕ) (len small : ℕ) (at : Place) (s : EncodedPut v value rest (heap_of old) mid at)
-    → FieldFound whole prefix value small → Written old mid len small s.tree at → PairKept mid (heap_of new) old.pairs.items new.pairs.items small at → AddsEncodedPair v old new whole rest
+    → FieldFound whole prefix value small → Written old mid len small s.tree at → PairKept mid (heap_of new) old.pairs.items new.pairs.items small at → AddsPair v old new whole rest
 pair_added v old new whole prefix value rest mid len small at s f w k =
     let more = kept_added old new mid len small s.tree at w k in
     record {
@@ -91,7 +91,7 @@ pairs_then : (heap : List ℕ) (d : Document) (pair : ℕ × Tree) → document_
 pairs_then heap [] pair = refl
 pairs_then heap (x ∷ d) pair = ap (λ ps. pair_at x.0 (tree_place heap x.1) ∷ ps) (pairs_then (tree_heap heap x.1) d pair)
 
-pub one_more : (v : Version) (old mid new : HeapPairs) (whole rest after : List ℕ) (n : ℕ) → AddsEncoded v old mid whole rest n → AddsEncodedPair v mid new rest after → AddsEncoded v old new whole after (n + 1)
+pub one_more : (v : Version) (old mid new : HeapPairs) (whole rest after : List ℕ) (n : ℕ) → AddsEncoded v old mid whole rest n → AddsPair v mid new rest after → AddsEncoded v old new whole after (n + 1)
 one_more v old mid new whole rest after n a p = record {
   pairs = a.pairs ++ p.pair ∷ [];
   counted = omega (arith, a.counted, length-append a.pairs (p.pair ∷ []));

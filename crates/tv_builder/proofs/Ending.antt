@@ -6,7 +6,7 @@ use Rattle.std.proofs.Math.Seq.{drop-append_seam}
 use Rattle.tv_base.specs.Number.{vnum}
 use Rattle.tv_base.specs.Parts.{short_sized}
 use Rattle.tv_format.specs.Tree.{Tree, leaf, text, facet, bytes}
-use Rattle.tv_heap.specs.Reads.{Stands as StandsAt, ShortSized, ShortText, ReadsTree}
+use Rattle.tv_heap.specs.Reads.{Stands as StandsAt, ShortSized, ShortText, Reads}
 use Rattle.tv_heap.specs.TypeCode.{type_code}
 use Rattle.tv_heap.specs.declared.value_type.ValueType.{ValueType}
 use Rattle.tv_format.specs.declared.leaf_type.LeafType.TheVariants as leaves
@@ -20,12 +20,12 @@ use Rattle.tv_builder.specs.declared.bytes_kind.BytesKind.TheVariants as kinds
 use Rattle.tv_heap.specs.declared.place.Place.{Place}
 use Rattle.tv_builder.specs.Builder.{HasAllBytes, HasContent}
 use Rattle.tv_builder.specs.Given.{Given, given}
-use Rattle.tv_builder.specs.Image.{held, image_of, ShowsBehind}
+use Rattle.tv_builder.specs.Image.{held, image_of, Behind}
 use Rattle.tv_builder.specs.StateHeap.{lists_heap}
 use Rattle.tv_builder.specs.Kinds.{bytes_type}
-use Rattle.tv_builder.specs.Moves.{InState, CanGive, GivesPlace, GivesNot, Does, last_bytes}
-use Rattle.tv_builder.specs.Parts.{IsContentOf}
-use Rattle.tv_builder.specs.Shows.{Placed, Shows, HoldsSomeState, frames_of, awaited_at}
+use Rattle.tv_builder.specs.Moves.{InState, CanGive, Gives, GivesNot, Does, last_bytes}
+use Rattle.tv_builder.specs.Parts.{IsContent}
+use Rattle.tv_builder.specs.Shows.{Placed, Shows, Stands, frames_of, awaited_at}
 use Rattle.tv_builder.specs.State.{OpenList, State, complete, in_lists, in_bytes, with_value, with_content, and_end, AreLists, OthersAwait, HeadNext}
 use Rattle.tv_builder.specs.TreeBytes.{tree_heap, tree_place}
 use Rattle.tv_builder.proofs.Calls.{Written, does_give}
@@ -36,14 +36,14 @@ use Rattle.tv_builder.proofs.Sound.{fits_of, GoesOn, can_give}
 
 -- ---- texts and bytes at the end of a heap
 
-sized_placed : (old new content : List ℕ) (p : Place) (t : Tree) → new ≡ old ++ short_sized content → length new ≤ 4294967295 → (length content < 2 ^ 32 → ReadsTree new (type_code p.value_type) p.address t) → p.address ≡ length old → Placed new p t
+sized_placed : (old new content : List ℕ) (p : Place) (t : Tree) → new ≡ old ++ short_sized content → length new ≤ 4294967295 → (length content < 2 ^ 32 → Reads new (type_code p.value_type) p.address t) → p.address ≡ length old → Placed new p t
 sized_placed old new content p t e fits reads at =
     let long = longer old new _ e in
     let whole = length-append (vnum (length content)) content in
     let small : length content < 2 ^ 32 = omega (arith, long, whole, fits) in
     record { reads = reads small; below = λ x y. omega (arith, at, long, sized_some content small); fits = omega (arith, at, long, fits) }
 
-text_stands : (old new content : List ℕ) (at : ℕ) → new ≡ old ++ short_sized content → IsContentOf kinds.Str content → at ≡ length old → length content < 2 ^ 32 → StandsAt new at (λ w. ShortText content w)
+text_stands : (old new content : List ℕ) (at : ℕ) → new ≡ old ++ short_sized content → IsContent kinds.Str content → at ≡ length old → length content < 2 ^ 32 → StandsAt new at (λ w. ShortText content w)
 text_stands old new content at e is same small =
     subst (λ z. StandsAt new z (λ w. ShortText content w)) (sym same) (at_end old new _ _ e (record { sized = record { is = refl; fits = small }; utf8 = is }))
 
@@ -65,7 +65,7 @@ content_written kinds.Facet old content at e = record { heap = refl; place = λ 
 content_written kinds.Bytes old content at e = record { heap = refl; place = λ i. record { value_type = types.Leaf leaves.Bytes; address = e i } }
 content_written kinds.Key old content at e = record { heap = refl; place = λ i. record { value_type = types.Leaf leaves.Str; address = e i } }
 
-content_placed : (kind : BytesKind) (old new content : List ℕ) (at : ℕ) → new ≡ old ++ short_sized content → length new ≤ 4294967295 → IsContentOf kind content → at ≡ length old
+content_placed : (kind : BytesKind) (old new content : List ℕ) (at : ℕ) → new ≡ old ++ short_sized content → length new ≤ 4294967295 → IsContent kind content → at ≡ length old
     → Placed new (record { value_type = bytes_type kind; address = at }) (content_tree kind content)
 content_placed kinds.Str old new content at e fits is same = sized_placed old new content _ _ e fits (λ small. (refl, text_stands old new content at e is same small)) same
 content_placed kinds.Facet old new content at e fits is same = sized_placed old new content _ _ e fits (λ small. (refl, text_stands old new content at e is same small)) same
@@ -113,7 +113,7 @@ bytes_state b o (in_bytes ls kind n bs) e h =
     }
 
 -- so the announced bytes are within the heap, once all have come
-pub announced_small : (b : Building) (o : OpenBytes) → HoldsSomeState b → b.open ≡ Some o → o.missing ≡ 0 → o.announced ≤ length b.heap.items
+pub announced_small : (b : Building) (o : OpenBytes) → Stands b → b.open ≡ Some o → o.missing ≡ 0 → o.announced ≤ length b.heap.items
 announced_small b o h e none = ∥∥₁_elim h.1 le_prop (λ s.
     let i = bytes_state b o h.0 e s in
     omega (arith, ap length i.joined, length-append i.before (vnum o.announced ++ i.so_far), length-append (vnum o.announced) i.so_far, i.counted, none))
@@ -131,10 +131,10 @@ last_are b o s i none =
 pub has_all : (b : Building) (o : OpenBytes) → b.open ≡ Some o → o.missing ≡ 0 → InState b HasAllBytes
 has_all b o e none s h = let i = bytes_state b o s e h in subst HasAllBytes (sym i.is) (omega (arith, i.counted, none))
 
-pub has_content : (b : Building) (o : OpenBytes) → b.open ≡ Some o → o.missing ≡ 0 → IsContentOf o.kind (last_bytes o.announced b.heap.items) → InState b HasContent
-has_content b o e none is s h = let i = bytes_state b o s e h in subst HasContent (sym i.is) (subst (IsContentOf o.kind) (last_are b o s i none) is)
+pub has_content : (b : Building) (o : OpenBytes) → b.open ≡ Some o → o.missing ≡ 0 → IsContent o.kind (last_bytes o.announced b.heap.items) → InState b HasContent
+has_content b o e none is s h = let i = bytes_state b o s e h in subst HasContent (sym i.is) (subst (IsContent o.kind) (last_are b o s i none) is)
 
-pub none_open : (b : Building) → HoldsSomeState b → b.open ≡ None → ¬ InState b HasAllBytes
+pub none_open : (b : Building) → Stands b → b.open ≡ None → ¬ InState b HasAllBytes
 none_open b h e = never b HasAllBytes h not
   where
     not : (s : State) → Shows b s → HasAllBytes s → ⊥
@@ -142,11 +142,11 @@ none_open b h e = never b HasAllBytes h not
     not (complete t) h k = k
     not (in_lists ls) h k = k
 
-pub some_missing : (b : Building) (o : OpenBytes) → HoldsSomeState b → b.open ≡ Some o → 0 < o.missing → ¬ InState b HasAllBytes
+pub some_missing : (b : Building) (o : OpenBytes) → Stands b → b.open ≡ Some o → 0 < o.missing → ¬ InState b HasAllBytes
 some_missing b o h e some = never b HasAllBytes h (λ s x all. let i = bytes_state b o s e x in let k : length i.so_far ≡ o.announced = subst HasAllBytes i.is all in absurd (omega (arith, k, i.counted, some)))
 
-pub no_content : (b : Building) (o : OpenBytes) → HoldsSomeState b → b.open ≡ Some o → o.missing ≡ 0 → ¬ IsContentOf o.kind (last_bytes o.announced b.heap.items) → ¬ InState b HasContent
-no_content b o h e none not = never b HasContent h (λ s x is. let i = bytes_state b o s e x in not (subst (IsContentOf o.kind) (sym (last_are b o s i none)) (subst HasContent i.is is)))
+pub no_content : (b : Building) (o : OpenBytes) → Stands b → b.open ≡ Some o → o.missing ≡ 0 → ¬ IsContent o.kind (last_bytes o.announced b.heap.items) → ¬ InState b HasContent
+no_content b o h e none not = never b HasContent h (λ s x is. let i = bytes_state b o s e x in not (subst (IsContent o.kind) (sym (last_are b o s i none)) (subst HasContent i.is is)))
 
 -- ---- the value or the key is handed over
 
@@ -154,7 +154,7 @@ no_content b o h e none not = never b HasContent h (λ s x is. let i = bytes_sta
 abbrev let_go : Building → Building
 let_go b = record b { «open» = None }
 
-content_stands : (old : Building) (o : OpenBytes) → old.open ≡ Some o → o.missing ≡ 0 → IsContentOf o.kind (last_bytes o.announced old.heap.items) → (base : List ℕ) (s : State) → ShowsBehind base old s
+content_stands : (old : Building) (o : OpenBytes) → old.open ≡ Some o → o.missing ≡ 0 → IsContent o.kind (last_bytes o.announced old.heap.items) → (base : List ℕ) (s : State) → Behind base old s
     → Written base (let_go old) (record { value_type = bytes_type o.kind; address = o.address }) (and_end s)
 content_stands old o e none is base s b =
     let i = bytes_state old o s e b.shows in
@@ -174,19 +174,19 @@ content_stands old o e none is base s b =
       are = i.shows.is.0;
       comes = next.0;
       shown = i.shows.at.lists;
-      placed = content_placed o.kind i.before old.heap.items i.so_far o.address (i.joined ∙ ap (λ z. i.before ++ z) own) i.shows.fits (subst (IsContentOf o.kind) (last_are old o s i none) is) (sym i.place);
+      placed = content_placed o.kind i.before old.heap.items i.so_far o.address (i.joined ∙ ap (λ z. i.before ++ z) own) i.shows.fits (subst (IsContent o.kind) (last_are old o s i none) is) (sym i.place);
       closed = refl;
       image = (λ j. given ((heap ∙ ap (λ z. lists_heap base ls ++ z) own ∙ content.heap) j) (shown j).places (shown j).frames (content.place j)) ∙ given_image base ls t i.shows.is.0 next.0;
     }
 
-pub does_end : (old new : Building) (o : OpenBytes) (t : ValueType) (r : Result (Unit {0}) BuildError) → old.open ≡ Some o → o.missing ≡ 0 → IsContentOf o.kind (last_bytes o.announced old.heap.items) → t ≡ bytes_type o.kind
-    → OnOk r (GivesPlace (let_go old) (record { value_type = t; address = o.address }) new) → IfErr r (λ x. GivesNot (let_go old) (record { value_type = t; address = o.address }) new x)
+pub does_end : (old new : Building) (o : OpenBytes) (t : ValueType) (r : Result (Unit {0}) BuildError) → old.open ≡ Some o → o.missing ≡ 0 → IsContent o.kind (last_bytes o.announced old.heap.items) → t ≡ bytes_type o.kind
+    → OnOk r (Gives (let_go old) (record { value_type = t; address = o.address }) new) → IfErr r (λ x. GivesNot (let_go old) (record { value_type = t; address = o.address }) new x)
     → Does old new (InState old HasAllBytes) (InState old HasContent) (Unit {0}) and_end r
 does_end old new o t r e none is same ok err =
     does_give old (let_go old) new (record { value_type = bytes_type o.kind; address = o.address }) (InState old HasAllBytes) (InState old HasContent) (Unit {0}) and_end r (has_all old o e none) (has_content old o e none is) tt
     (prefix_same old.heap.items old.heap.items refl) (content_stands old o e none is)
-    (subst (λ z. OnOk r (GivesPlace (let_go old) (record { value_type = z; address = o.address }) new)) same ok)
+    (subst (λ z. OnOk r (Gives (let_go old) (record { value_type = z; address = o.address }) new)) same ok)
     (subst (λ z. IfErr r (λ x. GivesNot (let_go old) (record { value_type = z; address = o.address }) new x)) same err)
 
-pub let_go_gives : (old : Building) (o : OpenBytes) → HoldsSomeState old → old.open ≡ Some o → CanGive (let_go old)
+pub let_go_gives : (old : Building) (o : OpenBytes) → Stands old → old.open ≡ Some o → CanGive (let_go old)
 let_go_gives old o h e = can_give old (let_go old) h (subst (λ z. GoesOn (awaited_at z old.complete (frames_of old))) (sym e) tt) (fits_of old h) refl refl refl refl

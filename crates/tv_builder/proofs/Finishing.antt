@@ -6,7 +6,7 @@ use Rattle.std.proofs.Math.Logic.{∥∥₁_elim, ∥∥₁_map, ∥∥₁_prop}
 use mathlib.Core.HLevel.{⊥_prop}
 use Rattle.std.specs.Coded.{Coded-set}
 use Rattle.tv_format.specs.Tree.{Tree}
-use Rattle.tv_heap.specs.Reads.{ReadsTree}
+use Rattle.tv_heap.specs.Reads.{Reads}
 use Rattle.tv_heap.specs.Weight.{tree_weight, document_weight}
 use Rattle.tv_heap.specs.TypeCode.{type_code}
 use Rattle.tv_builder.specs.declared.build_error.BuildError.{BuildError}
@@ -15,7 +15,7 @@ use Rattle.tv_builder.specs.declared.building.Building.{Building}
 use Rattle.tv_heap.specs.contracts.place.Place.{the_row}
 use Rattle.tv_heap.specs.declared.place.Place.{Place}
 use Rattle.tv_builder.specs.Given.{Given, pending_in}
-use Rattle.tv_builder.specs.Image.{held, image_of, ShowsBehind}
+use Rattle.tv_builder.specs.Image.{held, image_of, Behind}
 use Rattle.tv_builder.specs.OneState.{StandsBehind, same_behind}
 use Rattle.tv_builder.specs.Shows.{Shows}
 use Rattle.tv_builder.specs.TreeBytes.{tree_place}
@@ -67,11 +67,11 @@ whole old at e =
           cc);
     }
 
-reads_at : (b : Building) (t : Tree) (at : Place) → b.complete ≡ Some at → Shows b (complete t) → ReadsTree b.heap.items (type_code at.value_type) at.address t
+reads_at : (b : Building) (t : Tree) (at : Place) → b.complete ≡ Some at → Shows b (complete t) → Reads b.heap.items (type_code at.value_type) at.address t
 reads_at b t at e s =
     let f : Some s.at.at ≡ Some at = sym s.at.is ∙ e in
     let same_at : s.at.at ≡ at = cc in
-    subst (λ (p : Place). ReadsTree b.heap.items (type_code p.value_type) p.address t) same_at s.at.placed.reads
+    subst (λ (p : Place). Reads b.heap.items (type_code p.value_type) p.address t) same_at s.at.placed.reads
 
 abbrev with_pair : (old : PairBuilder) (mid : Building) (ps : List HeapPair) (kept f : ℕ) (k : Kept old.building mid old.pairs.items ps kept f) → Holds (heap_so_far old) ps
 with_pair old mid ps kept f k =
@@ -94,7 +94,7 @@ abbrev after_pair : (old : PairBuilder) (mid new : Building) (ps : List HeapPair
 after_pair old mid new ps kept f k e =
     let w = whole old k.at k.is in (
       in_lists [],
-      ∥∥₁_map w.shows (λ s. subst (λ (z : Building). ShowsBehind (take kept z.heap.items) z (in_lists [])) (sym (e ∙ k.rest))
+      ∥∥₁_map w.shows (λ s. subst (λ (z : Building). Behind (take kept z.heap.items) z (in_lists [])) (sym (e ∙ k.rest))
           (none_shows kept (record old.building { complete = None }) (omega (arith, k.kept_is)) (omega (arith, s.fits)) s.at.places_none (s.counted ∙ ap pending_in s.at.frames) s.at.frames refl s.at.closed)),
     )
 

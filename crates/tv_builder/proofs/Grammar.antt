@@ -10,9 +10,9 @@ use Rattle.tv_builder.specs.declared.bytes_kind.BytesKind.{BytesKind}
 use Rattle.tv_builder.specs.declared.bytes_kind.BytesKind.TheVariants as kinds
 use Rattle.tv_builder.specs.declared.list_kind.ListKind.{ListKind}
 use Rattle.tv_builder.specs.declared.list_kind.ListKind.TheVariants as lists
-use Rattle.tv_builder.specs.State.{OpenList, State, complete, in_lists, in_bytes, lists_of, children_of, list_parts, lists_parts, parts_of, list_head, children_parts, key_parts, value_parts, key_text}
+use Rattle.tv_builder.specs.State.{OpenList, State, complete, in_lists, in_bytes, lists_of, children_of, list_parts, lists_parts, parts_of, list_head, children_parts, key_parts, value_parts, text_of}
 use Rattle.tv_builder.specs.Prefix.{KeyHead, BytesHead, EncodesPart, Encoded}
-use Rattle.tv_builder.specs.Parts.{Part, pair, value, bytes_head, some_bytes, entry_parts, bytes_part, IsContentOf, Rule, full_array, full_object, full_bytes, more_bytes, no_bytes, full_pair, Trades, same, by_rule}
+use Rattle.tv_builder.specs.Parts.{Part, pair, value, bytes_head, some_bytes, entry_parts, bytes_part, IsContent, Rule, full_array, full_object, full_bytes, more_bytes, no_bytes, full_pair, Trades, same, by_rule}
 
 pub each_append : {A : Type 0} (R : List ℕ → A → Type 0) (xs ys : List A) (a b : List ℕ) → Each R a xs → Each R b ys → Each R (a ++ b) (xs ++ ys)
 each_append R [] ys a b p q = subst (λ z. Each R (z ++ b) ys) (sym p) q
@@ -70,7 +70,7 @@ module _ (Legacy : List ℕ → Entries → Type 0) (v : Version) where
   key_from V2 a b content e h u = record { body = h.body ++ b; joined = ap (λ z. z ++ b) h.joined; encoded = text_from h.body b content e h.encoded u }
   key_from V3 a b content e h u = text_from a b content e h u
 
-  bytes_from : (kind : BytesKind) (a b content : List ℕ) → b ≡ content → BytesHead v kind a (length content) → IsContentOf kind content → EncodesPart Legacy v (a ++ b) (bytes_part kind content)
+  bytes_from : (kind : BytesKind) (a b content : List ℕ) → b ≡ content → BytesHead v kind a (length content) → IsContent kind content → EncodesPart Legacy v (a ++ b) (bytes_part kind content)
   bytes_from kinds.Str a b content e h u = record { body = h.body ++ b; joined = ap (λ z. z ++ b) h.joined; encoded = text_from h.body b content e h.encoded u }
   bytes_from kinds.Facet a b content e h u = record { body = h.body ++ b; joined = ap (λ z. z ++ b) h.joined; encoded = text_from h.body b content e h.encoded u }
   bytes_from kinds.Bytes a b content e h u = record { body = h.body ++ b; joined = ap (λ z. z ++ b) h.joined; encoded = record { size = h.body; joined = ap (λ z. h.body ++ z) e; number = h.encoded } }
@@ -137,7 +137,7 @@ module _ (Legacy : List ℕ → Entries → Type 0) (v : Version) where
   mutual
     keys_take : (ts : List Tree) (b : List ℕ) → Encoded Legacy v b (key_parts ts) → length ts ≤ length b
     keys_take [] b h = omega arith
-    keys_take (t ∷ ts) b h = omega (arith, key_takes v h.prefix (key_text t) h.first, values_take ts h.rest h.second, then_length h)
+    keys_take (t ∷ ts) b h = omega (arith, key_takes v h.prefix (text_of t) h.first, values_take ts h.rest h.second, then_length h)
 
     values_take : (ts : List Tree) (b : List ℕ) → Encoded Legacy v b (value_parts ts) → length ts ≤ length b
     values_take [] b h = omega arith

@@ -13,8 +13,8 @@ use Rattle.tv_builder.specs.Given.{Given, given, place_bytes, one_more}
 use Rattle.tv_builder.specs.Image.{lists_places, list_frame, lists_frames, held, image_of}
 use Rattle.tv_builder.specs.StateHeap.{lists_heap, state_heap}
 use Rattle.tv_builder.specs.Kinds.{list_type, total}
-use Rattle.tv_builder.specs.Moves.{given_to, GivesPlace}
-use Rattle.tv_builder.specs.State.{OpenList, State, complete, in_lists, in_bytes, with_child, with_value, list_tree, pairs_of, StartsWithKey, AreChildren, AreLists}
+use Rattle.tv_builder.specs.Moves.{given_to, Gives}
+use Rattle.tv_builder.specs.State.{OpenList, State, complete, in_lists, in_bytes, with_child, with_value, list_tree, pairs_of, AreEntries, AreChildren, AreLists}
 use Rattle.tv_builder.specs.TreeBytes.{tree_heap, tree_place, elements_heap, elements_places, entries_heap, entries_places}
 use Rattle.tv_builder.proofs.Giving.{Comes, comes, below, not_below, tested, given_waits, given_closes, value_waits, value_closes}
 
@@ -54,7 +54,7 @@ child_image base l ls t =
 -- ---- a list that has all its children
 
 -- keys are written as texts
-entries_same : (m : ℕ) (heap : List ℕ) (ts : List Tree) → length ts ≡ 2 * m → StartsWithKey ts
+entries_same : (m : ℕ) (heap : List ℕ) (ts : List Tree) → length ts ≡ 2 * m → AreEntries ts
     → (entries_heap heap (entries (pairs_of ts)) ≡ elements_heap heap (elements ts)) × (entries_places heap (entries (pairs_of ts)) ≡ elements_places heap (elements ts))
 entries_same m heap [] e are = (refl, refl)
 entries_same m heap (k ∷ []) e are = absurd (omega (arith, e))
@@ -101,7 +101,7 @@ given_image base (l ∷ ls) t are next = elim (tested (suc (length l.children)) 
 ]
 
 -- handed over
-pub gives_held : (mid new : Building) (p : Place) → GivesPlace mid p new → held new ≡ given_to mid p
+pub gives_held : (mid new : Building) (p : Place) → Gives mid p new → held new ≡ given_to mid p
 gives_held mid new p g = λ i. record { heap = g.heap i; places = g.places i; frames = g.frames i; complete = g.complete i }
 
 -- a value that was written behind these lists

@@ -14,7 +14,7 @@ use Rattle.tv_value.specs.declared.leaf.ReferenceValueLeaf.{ReferenceValueLeaf}
 use Rattle.tv_builder.specs.declared.add_error.AddError.{AddError}
 use Rattle.tv_builder.specs.declared.heap_pair.HeapPair.{HeapPair}
 use Rattle.tv_builder.specs.declared.heap_pairs.HeapPairs.{HeapPairs}
-use Rattle.tv_builder.specs.HeldPairs.{heap_of, Added, Adds, RefusesAddition, IsUnchanged}
+use Rattle.tv_builder.specs.HeldPairs.{heap_of, Added, Adds, Refuses, IsUnchanged}
 use Rattle.tv_builder.specs.Keeping.{KeepsPair, PairKept, PairCut}
 use Rattle.tv_builder.specs.Holds.{Holds}
 use Rattle.tv_builder.specs.Moves.{FitsRoom}
@@ -88,4 +88,4 @@ kept_unchanged old new mid len field t at e w k = cut_unchanged old new mid len 
 pub kept_adds : (old new : HeapPairs) (mid : List ℕ) (len field : ℕ) (t : Tree) (at : Place) (result : Result (Unit {0}) AddError) → length (heap_of old) + room t ≤ 4294967295 → Written old mid len field t at
     → KeepsPair mid (heap_of new) old.pairs.items new.pairs.items len field at result → Adds old new field t result
 kept_adds old new mid len field t at (Ok x) free w k = (free, kept_added old new mid len field t at w k)
-kept_adds old new mid len field t at (Err e) free w k = (subst (RefusesAddition old t) (sym k.memory) free, kept_unchanged old new mid len field t at e w k)
+kept_adds old new mid len field t at (Err e) free w k = (subst (Refuses old t) (sym k.memory) free, kept_unchanged old new mid len field t at e w k)

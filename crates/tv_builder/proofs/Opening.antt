@@ -18,13 +18,13 @@ use Rattle.tv_builder.specs.declared.list_kind.ListKind.{ListKind}
 use Rattle.tv_builder.specs.declared.list_kind.ListKind.TheVariants.{Array, Object}
 use Rattle.tv_heap.specs.declared.place.Place.{Place}
 use Rattle.tv_builder.specs.Given.{Given, pending_in}
-use Rattle.tv_builder.specs.Image.{lists_places, list_frame, ShowsBehind}
+use Rattle.tv_builder.specs.Image.{lists_places, list_frame, Behind}
 use Rattle.tv_builder.specs.StateHeap.{lists_heap, full_length}
 use Rattle.tv_builder.specs.Kinds.{total}
 use Rattle.tv_builder.specs.Moves.{InState, Over, Does}
 use Rattle.tv_builder.specs.Builder.{TakesBytes}
 use Rattle.tv_builder.specs.Fits.{ListFits, HeadFits}
-use Rattle.tv_builder.specs.Shows.{Placed, ShowsList, ShowsLists, Shows, HoldsSomeState, frames_of, awaited_by}
+use Rattle.tv_builder.specs.Shows.{Placed, ShowsList, ShowsLists, Shows, Stands, frames_of, awaited_by}
 use Rattle.tv_builder.specs.State.{OpenList, State, complete, in_lists, in_bytes, next_in, and_value, and_list, and_head, and_bytes, head_awaits, list_tree, AreChildren}
 use Rattle.tv_builder.specs.TreeBytes.{tree_heap}
 use Rattle.tv_builder.specs.Whole.{Put, PutNot, WhyUnwritten, ListPut, ListPutNot}
@@ -51,7 +51,7 @@ and_empty kind (in_lists ls) = refl
 and_empty kind (in_bytes ls k n bs) = refl
 
 -- it comes as a value
-pub empty_taken : (b : Building) (kind : ListKind) (n : ℕ) → n ≡ 0 → awaited_by b ≡ awaits.Value → (base : List ℕ) (s : State) → ShowsBehind base b s → Takes base b (and_list s kind n) (list_tree kind [])
+pub empty_taken : (b : Building) (kind : ListKind) (n : ℕ) → n ≡ 0 → awaited_by b ≡ awaits.Value → (base : List ℕ) (s : State) → Behind base b s → Takes base b (and_list s kind n) (list_tree kind [])
 empty_taken b kind n none await base s h = subst (λ z. Takes base b z (list_tree kind [])) (sym (ap (λ m. and_list s kind m) none ∙ and_empty kind s)) (value_taken b (list_tree kind []) await base s h)
 
 -- it is written as a value
@@ -77,7 +77,7 @@ pub opens_list : (old new : Building) (kind : ListKind) (n : ℕ) (f : Frame) �
     → new.places.items ≡ old.places.items → new.pending ≡ old.pending → new.frames.items ≡ old.frames.items ++ f ∷ [] → new.complete ≡ old.complete → new.open ≡ old.open
     → Does old new (awaited_by old ≡ awaits.Value) (Unit {0}) (ListFits old.heap.items n) (λ s. and_list s kind n) (Ok tt)
 opens_list old new kind n f some is await heap places pending frames whole closed =
-    (await, tt, record { grows = prefix_same old.heap.items new.heap.items heap; next = λ base s h. let i = lists_next base old s awaits.Value await tt h in subst (λ z. ShowsBehind base new (and_list z kind n)) (sym i.is) (opened base i.lists i.behind i.awaited) })
+    (await, tt, record { grows = prefix_same old.heap.items new.heap.items heap; next = λ base s h. let i = lists_next base old s awaits.Value await tt h in subst (λ z. Behind base new (and_list z kind n)) (sym i.is) (opened base i.lists i.behind i.awaited) })
   where
     now : frames_of new ≡ f ∷ frames_of old
     now = ap reverse frames ∙ reverse-append old.frames.items (f ∷ [])
@@ -85,7 +85,7 @@ opens_list old new kind n f some is await heap places pending frames whole close
     list : OpenList
     list = record { kind = kind; announced = n; children = [] }
 
-    opened : (base : List ℕ) (ls : List OpenList) → ShowsBehind base old (in_lists ls) → next_in ls ≡ awaits.Value → ShowsBehind base new (and_list (in_lists ls) kind n)
+    opened : (base : List ℕ) (ls : List OpenList) → Behind base old (in_lists ls) → next_in ls ≡ awaits.Value → Behind base new (and_list (in_lists ls) kind n)
     opened base ls b next =
         let h = b.shows in
         let shown = b.image in
@@ -101,7 +101,7 @@ opens_list old new kind n f some is await heap places pending frames whole close
         let lists : ShowsLists old.heap.items (f ∷ frames_of old) old.places.items (list ∷ ls) = (shows, subst (λ z. ShowsLists old.heap.items (frames_of old) z ls) (sym (take_all f.first old.places.items (omega (arith, first)))) h.at.lists) in
         let places_are : new.places.items ≡ lists_places base ls = places ∙ ap (λ (z : Given). z.places) shown in
         let frame_is : f ≡ list_frame base list ls = is ∙ ap (λ m. record { kind = kind; announced = n; finished = 0; first = m }) (ap length (sym places ∙ places_are)) in
-        let body : ShowsBehind base new (in_lists (list ∷ ls)) = record {
+        let body : Behind base new (in_lists (list ∷ ls)) = record {
           shows = record {
             fits = omega (arith, ap length heap, h.fits);
             counted = let e = ap (λ (z : Frame). z.finished) is in let k : new.pending ≡ pending_in (f ∷ frames_of old) = omega (arith, pending, h.counted, e) in k ∙ ap pending_in (sym now);
@@ -119,7 +119,7 @@ opens_list old new kind n f some is await heap places pending frames whole close
             complete = (whole ∙ ap (λ (z : Given). z.complete) shown) i;
           };
         } in
-        subst (ShowsBehind base new) (sym (cond-false (nat_eq n 0) _ _ (ne_eqb n 0 (λ e. omega (arith, e, some))))) body
+        subst (Behind base new) (sym (cond-false (nat_eq n 0) _ _ (ne_eqb n 0 (λ e. omega (arith, e, some))))) body
 
 -- ---- bytes
 
@@ -143,9 +143,9 @@ pub begins_bytes : (old new : Building) (kind : BytesKind) (n : ℕ) (o : OpenBy
     → o ≡ record { kind = kind; address = length old.heap.items; announced = n; missing = n } → new.heap.items ≡ old.heap.items ++ vnum n → new.places.items ≡ old.places.items → new.pending ≡ old.pending → new.frames.items ≡ old.frames.items
     → new.complete ≡ old.complete → new.open ≡ Some o → Does old new (awaited_by old ≡ head_awaits kind) (Unit {0}) (HeadFits old.heap.items n) (λ s. and_head s kind n) (Ok tt)
 begins_bytes old new kind n o await room_is is heap places pending frames whole open_is =
-    (await, tt, record { grows = (vnum n, heap); next = λ base s h. let i = lists_next base old s (head_awaits kind) await (head_begins kind) h in subst (λ z. ShowsBehind base new (and_head z kind n)) (sym i.is) (opened base i.lists i.behind i.awaited) })
+    (await, tt, record { grows = (vnum n, heap); next = λ base s h. let i = lists_next base old s (head_awaits kind) await (head_begins kind) h in subst (λ z. Behind base new (and_head z kind n)) (sym i.is) (opened base i.lists i.behind i.awaited) })
   where
-    opened : (base : List ℕ) (ls : List OpenList) → ShowsBehind base old (in_lists ls) → next_in ls ≡ head_awaits kind → ShowsBehind base new (in_bytes ls kind n [])
+    opened : (base : List ℕ) (ls : List OpenList) → Behind base old (in_lists ls) → next_in ls ≡ head_awaits kind → Behind base new (in_bytes ls kind n [])
     opened base ls b next =
         let h = b.shows in
         let shown = b.image in
@@ -190,10 +190,10 @@ takes_chunk b o n e small (in_bytes ls kind m bs) h =
     omega (arith, small, h.at.stand.counted, ap (λ (z : OpenBytes). z.missing) same)
 
 -- what holds of no state that is held doesn't hold of the one that is
-pub never : (b : Building) (P : State → Type 0) → HoldsSomeState b → ((s : State) → Shows b s → P s → ⊥) → ¬ InState b P
+pub never : (b : Building) (P : State → Type 0) → Stands b → ((s : State) → Shows b s → P s → ⊥) → ¬ InState b P
 never b P h not = λ all. ∥∥₁_elim h.1 ⊥_prop (λ s. not h.0 s (all h.0 s))
 
-pub no_chunk : (b : Building) (n : ℕ) → HoldsSomeState b → b.open ≡ None → ¬ InState b (λ s. TakesBytes s n)
+pub no_chunk : (b : Building) (n : ℕ) → Stands b → b.open ≡ None → ¬ InState b (λ s. TakesBytes s n)
 no_chunk b n h e = never b (λ s. TakesBytes s n) h not
   where
     not : (s : State) → Shows b s → TakesBytes s n → ⊥
@@ -201,7 +201,7 @@ no_chunk b n h e = never b (λ s. TakesBytes s n) h not
     not (complete t) h k = k
     not (in_lists ls) h k = k
 
-pub few_left : (b : Building) (o : OpenBytes) (n : ℕ) → HoldsSomeState b → b.open ≡ Some o → o.missing < n → ¬ InState b (λ s. TakesBytes s n)
+pub few_left : (b : Building) (o : OpenBytes) (n : ℕ) → Stands b → b.open ≡ Some o → o.missing < n → ¬ InState b (λ s. TakesBytes s n)
 few_left b o n h e few = never b (λ s. TakesBytes s n) h not
   where
     not : (s : State) → Shows b s → TakesBytes s n → ⊥
@@ -219,7 +219,7 @@ pub chunk_comes : (old new : Building) (o : OpenBytes) (more : List ℕ) (m : �
 chunk_comes old new o more m was small left heap places pending frames whole open_is =
     (takes_chunk old o (length more) was small, tt, record { grows = (more, heap); next = next })
   where
-    next : (base : List ℕ) (s : State) → ShowsBehind base old s → ShowsBehind base new (and_bytes s more)
+    next : (base : List ℕ) (s : State) → Behind base old s → Behind base new (and_bytes s more)
     next base (complete u) b = absurd (let h = b.shows in let e : Some o ≡ None = sym was ∙ h.at.closed in cc)
     next base (in_lists ls) b = absurd (let h = b.shows in let e : Some o ≡ None = sym was ∙ h.at.closed in cc)
     next base (in_bytes ls kind n bs) b =

@@ -24,7 +24,7 @@ use Rattle.tv_builder.specs.declared.list_kind.ListKind.TheVariants as lists
 use Rattle.tv_builder.specs.Behind.{pairs_parts, document_parts, open_parts}
 use Rattle.tv_builder.specs.Prefix.{KeyHead, BytesHead, EncodesPart, Encoded}
 use Rattle.tv_builder.specs.Parts.{value, field}
-use Rattle.tv_builder.specs.State.{OpenList, State, complete, in_lists, in_bytes, key_parts, value_parts, children_parts, list_parts, lists_parts, parts_of, key_text, lists_of, children_of}
+use Rattle.tv_builder.specs.State.{OpenList, State, complete, in_lists, in_bytes, key_parts, value_parts, children_parts, list_parts, lists_parts, parts_of, text_of, lists_of, children_of}
 use Rattle.tv_builder.specs.Weight.{keys_weight, values_weight, children_weight, lists_weight, state_weight}
 use Rattle.tv_builder.proofs.Grammar.{then_length, each_split, head_takes, frames_paid}
 use Rattle.tv_builder.proofs.Within.{token_parts}
@@ -136,7 +136,7 @@ module _ (v : Version) where
   mutual
     keys_paid : (ts : List Tree) (b : List ℕ) → Encoded NoLegacy v b (key_parts ts) → keys_weight ts ≤ 7 * length b
     keys_paid [] b h = omega arith
-    keys_paid (t ∷ ts) b h = omega (arith, key_paid v (key_text t) h.prefix h.first, values_paid ts h.rest h.second, then_length h)
+    keys_paid (t ∷ ts) b h = omega (arith, key_paid v (text_of t) h.prefix h.first, values_paid ts h.rest h.second, then_length h)
 
     values_paid : (ts : List Tree) (b : List ℕ) → Encoded NoLegacy v b (value_parts ts) → values_weight ts ≤ 7 * length b
     values_paid [] b h = omega arith

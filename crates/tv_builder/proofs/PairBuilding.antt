@@ -23,10 +23,10 @@ use Rattle.tv_builder.specs.Finish.{HoldsPrefix, Empty, Settled}
 use Rattle.tv_builder.specs.Given.{Given, pending_in}
 use Rattle.tv_builder.specs.HeldPairs.{document_of}
 use Rattle.tv_builder.specs.Holds.{Holds}
-use Rattle.tv_builder.specs.Image.{ShowsBehind}
-use Rattle.tv_builder.specs.Moves.{InState, MovesState, Over, Does}
+use Rattle.tv_builder.specs.Image.{Behind}
+use Rattle.tv_builder.specs.Moves.{InState, Moves, Over, Does}
 use Rattle.tv_builder.specs.OneState.{StandsBehind, stands_of, same_behind, same_state}
-use Rattle.tv_builder.specs.Shows.{ShowsLists, Shows, HoldsSomeState, frames_of, awaited_by}
+use Rattle.tv_builder.specs.Shows.{ShowsLists, Shows, Stands, frames_of, awaited_by}
 use Rattle.tv_builder.specs.State.{State, complete, in_lists, in_bytes, written, and_end, awaited, state_room}
 use Rattle.tv_builder.specs.StateHeap.{state_heap, full_length, missing}
 use Rattle.tv_builder.specs.Weight.{state_weight}
@@ -40,12 +40,12 @@ use Rattle.tv_builder.proofs.Within.{state_within, weight_room}
 
 -- ---- the state
 
-abbrev pub stands : (b : PairBuilder) → HoldsSomeState b.building
+abbrev pub stands : (b : PairBuilder) → Stands b.building
 stands b = stands_of (kept_heap b) b.building b.state
 
 -- a building that holds nothing behind what is kept
 pub none_shows : (kept : ℕ) (b : Building) → length b.heap.items ≤ kept → length b.heap.items ≤ 4294967295 → b.places.items ≡ [] → b.pending ≡ 0 → frames_of b ≡ [] → b.complete ≡ None → b.open ≡ None
-    → ShowsBehind (take kept b.heap.items) b (in_lists [])
+    → Behind (take kept b.heap.items) b (in_lists [])
 none_shows kept b within fits places pending frames none closed = record {
   shows = record {
     fits = fits;
@@ -61,7 +61,7 @@ none_behind kept heap b within fits e = (in_lists [], ∣ none_shows kept b with
 
 -- the same heap before it, said otherwise
 abbrev pub behind_as : (base other : List ℕ) (b : Building) → other ≡ base → StandsBehind base b → StandsBehind other b
-behind_as base other b e h = (h.0, subst (λ z. ∥ ShowsBehind z b h.0 ∥₁) (sym e) h.1)
+behind_as base other b e h = (h.0, subst (λ z. ∥ Behind z b h.0 ∥₁) (sym e) h.1)
 
 -- all that stands behind it are the bytes of the state
 pub heap_behind : (base : List ℕ) (b : Building) (h : StandsBehind base b) → b.heap.items ≡ state_heap base h.0
@@ -84,7 +84,7 @@ Answer = Result (Unit {0}) BuildError
 
 -- it goes on, or what stood in the heap still stands before it
 pub record Left (old mid : Building) (after : State → State) (r : Answer) : Type 0 where
-  pub moves : OnOk r (MovesState old mid after)
+  pub moves : OnOk r (Moves old mid after)
   pub prefix : OnErr r (IsPrefix old.heap.items mid.heap.items)
 
 pub does_left : (old mid : Building) (here well fits : Type 0) (after : State → State) (r : Answer) → Does old mid here well fits after r → Left old mid after r
@@ -126,8 +126,8 @@ cleared_stands mid new kept h c =
     let cut : length new.heap.items ≤ kept = omega (arith, ap length c.heap_is, length-take kept mid.heap.items) in
     none_behind kept (take kept mid.heap.items) new cut (omega (arith, cut, h)) c
 
-abbrev pub moved_stands : (base : List ℕ) (old mid new : Building) (after : State → State) → StandsBehind base old → MovesState old mid after → new ≡ mid → StandsBehind base new
-moved_stands base old mid new after h m e = (after h.0, ∥∥₁_map h.1 (λ b. subst (λ z. ShowsBehind base z (after h.0)) (sym e) (m.next base h.0 b)))
+abbrev pub moved_stands : (base : List ℕ) (old mid new : Building) (after : State → State) → StandsBehind base old → Moves old mid after → new ≡ mid → StandsBehind base new
+moved_stands base old mid new after h m e = (after h.0, ∥∥₁_map h.1 (λ b. subst (λ z. Behind base z (after h.0)) (sym e) (m.next base h.0 b)))
 
 state_left : (old : PairBuilder) (mid new : Building) (failed_new : Bool) (after : State → State) (r : Answer) → Left old.building mid after r → Settled mid new old.kept old.failed failed_new r → StandsBehind (take old.kept new.heap.items) new
 state_left old mid new failed_new after (Ok x) l s =
@@ -206,7 +206,7 @@ fails_now old new mid after e c =
     }
 
 -- the heap before the state is within the room of the finished pairs
-overfull : (old : PairBuilder) (after : State → State) → ((base : List ℕ) (s : State) → ShowsBehind base old.building s → Over base (after s)) → Overfull old (after (state_of old))
+overfull : (old : PairBuilder) (after : State → State) → ((base : List ℕ) (s : State) → Behind base old.building s → Over base (after s)) → Overfull old (after (state_of old))
 overfull old after full =
     let bytes : 4294967296 ≤ full_length (kept_heap old) (after (state_of old)) = ∥∥₁_elim old.state.1 le_prop (λ b. omega (arith, (full (kept_heap old) (state_of old) b).bytes)) in
     let room : 4294967296 ≤ length (kept_heap old) + state_room (after (state_of old)) = ∥∥₁_elim old.state.1 le_prop (λ b. omega (arith, (full (kept_heap old) (state_of old) b).room)) in

@@ -20,7 +20,7 @@ use Rattle.tv_heap.specs.declared.place.Place.{Place}
 use Rattle.tv_builder.specs.Given.{place_bytes}
 pub use Rattle.tv_builder.specs.Nested.{flat}
 use Rattle.tv_builder.specs.Shows.{Placed}
-use Rattle.tv_builder.specs.State.{pairs_of, list_tree, StartsWithKey}
+use Rattle.tv_builder.specs.State.{pairs_of, list_tree, AreEntries}
 use Rattle.tv_builder.specs.TreeBytes.{leaf_place, tree_heap, tree_place, elements_heap, elements_places, entries_heap, entries_places}
 use Rattle.tv_builder.specs.Whole.{Put, PutNot, Puts, WhyUnwritten, ListPut, ListPutNot}
 use Rattle.tv_builder.proofs.Children.{list_placed}
@@ -171,7 +171,7 @@ pub flat_length : (es : List (List ℕ × Tree)) → length (flat es) ≡ 2 * le
 flat_length [] = refl
 flat_length (e ∷ es) = omega (arith, flat_length es)
 
-flat_are : (es : List (List ℕ × Tree)) → StartsWithKey (flat es)
+flat_are : (es : List (List ℕ × Tree)) → AreEntries (flat es)
 flat_are [] = tt
 flat_are (e ∷ es) = (tt, flat_are es)
 

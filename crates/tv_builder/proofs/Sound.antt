@@ -18,7 +18,7 @@ use Rattle.tv_heap.specs.declared.place.Place.{Place}
 use Rattle.tv_builder.specs.Given.{AreCut, pending_in}
 use Rattle.tv_builder.specs.Kinds.{total}
 use Rattle.tv_builder.specs.Moves.{CanGive}
-use Rattle.tv_builder.specs.Shows.{ShowsLists, ShowsAt, HoldsSomeState, frames_of, next_frame, awaited_at, awaited_by}
+use Rattle.tv_builder.specs.Shows.{ShowsLists, ShowsAt, Stands, frames_of, next_frame, awaited_at, awaited_by}
 use Rattle.tv_builder.specs.State.{OpenList, State, complete, in_lists, in_bytes, next_at, next_in, awaited, AreLists, AllAwait, OthersAwait, IsState, IsValueNext, IsKeyNext}
 use Rattle.tv_builder.proofs.Children.{elements_bytes}
 
@@ -40,13 +40,13 @@ cut_prop : (fs : List Frame) (places : List ℕ) → IsProp (AreCut fs places)
 cut_prop [] places x y = refl
 cut_prop (f ∷ fs) places x y = λ i. (le_prop x.0 y.0 i, le_prop x.1 y.1 i, le_prop x.2 y.2 i, cut_prop fs (take f.first places) x.3 y.3 i)
 
-pub cut_of : (b : Building) → HoldsSomeState b → AreCut (frames_of b) b.places.items
+pub cut_of : (b : Building) → Stands b → AreCut (frames_of b) b.places.items
 cut_of b h = ∥∥₁_elim h.1 (cut_prop (frames_of b) b.places.items) (λ s. at_cut b.heap.items (frames_of b) b.places.items b.complete b.open h.0 s.is s.at)
 
-pub fits_of : (b : Building) → HoldsSomeState b → length b.heap.items ≤ 4294967295
+pub fits_of : (b : Building) → Stands b → length b.heap.items ≤ 4294967295
 fits_of b h = ∥∥₁_elim h.1 le_prop (λ s. s.fits)
 
-pub counted_of : (b : Building) → HoldsSomeState b → b.pending ≡ pending_in (frames_of b)
+pub counted_of : (b : Building) → Stands b → b.pending ≡ pending_in (frames_of b)
 counted_of b h = ∥∥₁_elim h.1 (ℕ_set _ _) (λ s. s.counted)
 
 -- a place for each that is pending
@@ -104,7 +104,7 @@ on_value b e = subst GoesOn (sym e) tt
 pub on_key : (b : Building) → awaited_by b ≡ awaits.Key → GoesOn (awaited_by b)
 on_key b e = subst GoesOn (sym e) tt
 
-none_whole : (b : Building) → HoldsSomeState b → GoesOn (awaited_by b) → b.complete ≡ None
+none_whole : (b : Building) → Stands b → GoesOn (awaited_by b) → b.complete ≡ None
 none_whole b h on = none_of b.complete (∥∥₁_map h.1 (λ s. none_at h.0 s.at))
   where
     none_at : (s : State) → ShowsAt b.heap.items (frames_of b) b.places.items b.complete b.open s → b.complete ≡ None
@@ -116,7 +116,7 @@ none_whole b h on = none_of b.complete (∥∥₁_map h.1 (λ s. none_at h.0 s.a
     none_of None h = refl
     none_of (Some p) h = absurd (∥∥₁_elim h ⊥_prop (λ e. absurd (cc)))
 
-pub can_give : (b mid : Building) → HoldsSomeState b → GoesOn (awaited_by b) → length mid.heap.items ≤ 4294967295 → mid.pending ≡ b.pending → frames_of mid ≡ frames_of b → mid.places.items ≡ b.places.items → mid.complete ≡ b.complete → CanGive mid
+pub can_give : (b mid : Building) → Stands b → GoesOn (awaited_by b) → length mid.heap.items ≤ 4294967295 → mid.pending ≡ b.pending → frames_of mid ≡ frames_of b → mid.places.items ≡ b.places.items → mid.complete ≡ b.complete → CanGive mid
 can_give b mid h on fits pending frames places whole = record {
   fits = fits;
   counted = pending ∙ counted_of b h ∙ ap pending_in (sym frames);

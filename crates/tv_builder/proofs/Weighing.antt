@@ -8,20 +8,20 @@ use Rattle.tv_heap.specs.Weight.{tree_weight, elements_weight}
 use Rattle.tv_builder.specs.declared.building.Building.{Building}
 use Rattle.tv_builder.specs.declared.list_kind.ListKind.{ListKind}
 use Rattle.tv_builder.specs.declared.list_kind.ListKind.TheVariants.{Array, Object}
-use Rattle.tv_builder.specs.Shows.{HoldsSomeState}
-use Rattle.tv_builder.specs.State.{OpenList, State, complete, in_lists, in_bytes, key_text, IsKeyLeaf, StartsWithKey, StartsWithValue, AreChildren, AreLists, IsState, trees_weight, lists_written, written}
+use Rattle.tv_builder.specs.Shows.{Stands}
+use Rattle.tv_builder.specs.State.{OpenList, State, complete, in_lists, in_bytes, text_of, IsKey, AreEntries, AreValues, AreChildren, AreLists, IsState, trees_weight, lists_written, written}
 use Rattle.tv_builder.specs.Weight.{keys_weight, values_weight, children_weight, lists_weight, state_weight}
 
-key_weighs : (k : Tree) → IsKeyLeaf k → tree_weight k ≡ length (short_sized (key_text k))
+key_weighs : (k : Tree) → IsKey k → tree_weight k ≡ length (short_sized (text_of k))
 key_weighs (leaf (text content)) h = refl
 key_weighs _ h = absurd h
 
 mutual
-  keys_weigh : (ts : List Tree) → StartsWithKey ts → keys_weight ts ≡ 6 * length ts + trees_weight ts
+  keys_weigh : (ts : List Tree) → AreEntries ts → keys_weight ts ≡ 6 * length ts + trees_weight ts
   keys_weigh [] h = refl
   keys_weigh (k ∷ ts) h = omega (arith, key_weighs k h.0, values_weigh ts h.1)
 
-  values_weigh : (ts : List Tree) → StartsWithValue ts → values_weight ts ≡ 6 * length ts + trees_weight ts
+  values_weigh : (ts : List Tree) → AreValues ts → values_weight ts ≡ 6 * length ts + trees_weight ts
   values_weigh [] h = refl
   values_weigh (t ∷ ts) h = omega (arith, keys_weigh ts h)
 
@@ -42,5 +42,5 @@ state_weighs (complete t) h = omega arith
 state_weighs (in_lists ls) h = lists_weigh ls h.0
 state_weighs (in_bytes ls kind n bs) h = omega (arith, lists_weigh ls h.0)
 
-pub written_weighs : (b : Building) (h : HoldsSomeState b) → written h.0 ≤ state_weight h.0
+pub written_weighs : (b : Building) (h : Stands b) → written h.0 ≤ state_weight h.0
 written_weighs b h = ∥∥₁_elim h.1 le_prop (λ s. state_weighs h.0 s.is)

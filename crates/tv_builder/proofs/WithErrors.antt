@@ -19,7 +19,7 @@ use Rattle.tv_builder.specs.Behind.{pairs_parts, document_parts, open_parts, Err
 use Rattle.tv_builder.specs.Prefix.{EncodesPart, KeyHead}
 use Rattle.tv_builder.specs.Kinds.{total, IsTextKind}
 use Rattle.tv_builder.specs.Parts.{Part, field, value, bytes_head, some_bytes}
-use Rattle.tv_builder.specs.State.{OpenList, in_lists, in_bytes, key_text, pairs_of, IsValueNext, IsKeyNext, AllAwait, AreLists, OthersAwait, HeadNext, key_parts, list_head, children_parts, list_parts, lists_parts}
+use Rattle.tv_builder.specs.State.{OpenList, in_lists, in_bytes, text_of, pairs_of, IsValueNext, IsKeyNext, AllAwait, AreLists, OthersAwait, HeadNext, key_parts, list_head, children_parts, list_parts, lists_parts}
 use Rattle.tv_builder.proofs.Grammar.{each_split}
 
 -- bytes of two parts, with others behind them
@@ -58,7 +58,7 @@ module _ (Legacy : List ℕ → Entries → Type 0) (L : List ℕ → Cause → 
 
   key_behind : (ts : List Tree) (whole : List ℕ) → length ts % 2 ≡ 1 → Each R whole (key_parts ts) → KeyBehind ts whole
   key_behind [] whole odd p = absurd (omega arith)
-  key_behind (k ∷ []) whole odd p = record { prefix = []; last = p.prefix; key = key_text k; joined = p.joined ∙ ap (λ z. p.prefix ++ z) p.second ∙ append-nil p.prefix; encoded = refl; is_key = p.first }
+  key_behind (k ∷ []) whole odd p = record { prefix = []; last = p.prefix; key = text_of k; joined = p.joined ∙ ap (λ z. p.prefix ++ z) p.second ∙ append-nil p.prefix; encoded = refl; is_key = p.first }
   key_behind (k ∷ t ∷ ts) whole odd p =
       let q = p.second in
       let b = key_behind ts q.rest (omega (arith, odd)) q.second in

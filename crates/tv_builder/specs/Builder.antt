@@ -6,7 +6,7 @@ use Rattle.tv_builder.specs.declared.build_error.BuildError.{BuildError}
 use Rattle.tv_builder.specs.declared.build_error.BuildError.TheVariants.{AlreadyFailed, OutOfPlace, NotUtf8, HeapFull, Memory}
 use Rattle.tv_builder.specs.Holds.{pair_at}
 use Rattle.tv_builder.specs.StateHeap.{state_heap, full_length}
-use Rattle.tv_builder.specs.Parts.{IsContentOf}
+use Rattle.tv_builder.specs.Parts.{IsContent}
 use Rattle.tv_builder.specs.State.{State, complete, in_lists, in_bytes, and_end, state_room}
 use Rattle.tv_builder.specs.TreeBytes.{tree_place}
 use Rattle.tv_heap.specs.Room.{document_room}
@@ -44,7 +44,7 @@ HasAllBytes _ = ⊥
 
 -- and a text is one
 abbrev pub HasContent : State → Type 0
-HasContent (in_bytes ls kind n bs) = IsContentOf kind bs
+HasContent (in_bytes ls kind n bs) = IsContent kind bs
 HasContent _ = ⊥
 
 -- A call that goes on to this state. Behind the finished pairs the heap is that of the state, and has room for all announced bytes. `kept`

@@ -31,7 +31,7 @@ pub record AddsEncoded (v : Version) (old new : HeapPairs) (whole rest : List �
   pub none : count ≡ 0 → IsUnchanged old new
 
 -- the same of one pair
-pub record AddsEncodedPair (v : Version) (old new : HeapPairs) (whole rest : List ℕ) : Type 0 where
+pub record AddsPair (v : Version) (old new : HeapPairs) (whole rest : List ℕ) : Type 0 where
   pub pair : ℕ × Tree
   pub encoded : Begins (λ b. EncodesPair NoLegacy v b pair) whole rest
   pub added : Added old new pair.0 pair.1

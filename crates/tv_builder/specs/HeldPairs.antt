@@ -2,7 +2,7 @@
 use Rattle.std.specs.Prelude.{◌≡◌, ◌≢◌, ℕ, ◌+◌, ◌<◌, ◌≤◌, List, [], ◌∷◌, ◌++◌, length, map, slice_get, Option, Some, None, Result, Ok, Err}
 use Rattle.std.specs.Vec.{vec_capacity}
 use Rattle.tv_format.specs.Tree.{Tree, Document}
-use Rattle.tv_heap.specs.Reads.{ReadsTree}
+use Rattle.tv_heap.specs.Reads.{Reads}
 use Rattle.tv_heap.specs.Room.{room}
 use Rattle.tv_heap.specs.TypeCode.{type_code}
 use Rattle.tv_builder.specs.Holds.{pair_at}
@@ -57,9 +57,9 @@ abbrev pub IsFull : HeapPairs → Tree → Type 0
 IsFull d t = 4294967295 < length (heap_of d) + room t
 
 -- when which refusal comes
-abbrev pub RefusesAddition : HeapPairs → Tree → AddError → Type 0
-RefusesAddition d t HeapFull = IsFull d t
-RefusesAddition d t Memory = length (heap_of d) + room t ≤ 4294967295
+abbrev pub Refuses : HeapPairs → Tree → AddError → Type 0
+Refuses d t HeapFull = IsFull d t
+Refuses d t Memory = length (heap_of d) + room t ≤ 4294967295
 
 -- The promise of adding: what an addition of a pair returns, and what it leaves.
 --
@@ -68,9 +68,9 @@ RefusesAddition d t Memory = length (heap_of d) + room t ≤ 4294967295
 -- After an error nothing has changed (`IsUnchanged`).
 abbrev pub Adds : {T : Type 0} → HeapPairs → HeapPairs → ℕ → Tree → Result T AddError → Type 0
 Adds old new field t (Ok x) = (length (heap_of old) + room t ≤ 4294967295) × Added old new field t
-Adds old new field t (Err e) = RefusesAddition old t e × IsUnchanged old new
+Adds old new field t (Err e) = Refuses old t e × IsUnchanged old new
 
 -- the type byte and the address of the pair at a place, whose tree the heap reads there
 abbrev pub ReadsAt : HeapPairs → ℕ → Option (ℕ × ℕ) → Type 0
 ReadsAt d i None = slice_get (document_of d) i ≡ None
-ReadsAt d i (Some p) = (pair : ℕ × Tree) × ((slice_get (document_of d) i ≡ Some pair) × ∥ ReadsTree (heap_of d) p.0 p.1 pair.1 ∥₁)
+ReadsAt d i (Some p) = (pair : ℕ × Tree) × ((slice_get (document_of d) i ≡ Some pair) × ∥ Reads (heap_of d) p.0 p.1 pair.1 ∥₁)

@@ -8,7 +8,7 @@ use Rattle.tv_format.specs.Tree.{Tree, Document}
 use Rattle.tv_format.specs.TreeCode.{coded_document}
 use Rattle.tv_heap.specs.declared.place.Place.{Place}
 use Rattle.tv_heap.specs.TypeCode.{type_code}
-use Rattle.tv_heap.specs.Reads.{ReadsTree}
+use Rattle.tv_heap.specs.Reads.{Reads}
 use Rattle.tv_heap.specs.ReadsLaws.{one_tree}
 use Rattle.tv_builder.specs.declared.heap_pair.HeapPair.{HeapPair}
 
@@ -20,7 +20,7 @@ pair_at field place = record { field = field; place = place }
 pub record ReadsPair (heap : List ℕ) (p : HeapPair) (pair : ℕ × Tree) : Type 0 where
   pub field : p.field ≡ pair.0
   pub fits : pair.0 < 2 ^ 32
-  pub reads : ReadsTree heap (type_code p.place.value_type) p.place.address pair.1
+  pub reads : Reads heap (type_code p.place.value_type) p.place.address pair.1
 
 -- each pair's
 abbrev pub ReadsPairs : List ℕ → List HeapPair → Document → Type 0

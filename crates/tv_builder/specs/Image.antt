@@ -32,6 +32,6 @@ image_of base (in_lists ls) = record { heap = lists_heap base ls; places = lists
 image_of base (in_bytes ls kind n bs) = record { heap = lists_heap base ls ++ (vnum n ++ bs); places = lists_places base ls; frames = lists_frames base ls; complete = None }
 
 -- the state stands there, and all that a building holds is that state behind this heap
-pub record ShowsBehind (base : List ℕ) (b : Building) (s : State) : Type 0 where
+pub record Behind (base : List ℕ) (b : Building) (s : State) : Type 0 where
   pub shows : Shows b s
   pub image : held b ≡ image_of base s

@@ -7,7 +7,7 @@ use Rattle.tv_builder.specs.declared.building.Building.{Building}
 use Rattle.tv_heap.specs.declared.place.Place.{Place}
 use Rattle.tv_builder.specs.Given.{Given, given, pending_in, AreCut}
 use Rattle.tv_builder.specs.StateHeap.{full_length}
-use Rattle.tv_builder.specs.Image.{ShowsBehind}
+use Rattle.tv_builder.specs.Image.{Behind}
 use Rattle.tv_builder.specs.Shows.{Shows, frames_of}
 use Rattle.tv_builder.specs.State.{State, state_room}
 
@@ -23,7 +23,7 @@ pub record CanGive (b : Building) : Type 0 where
   pub cut : AreCut (frames_of b) b.places.items
   pub none : b.complete ≡ None
 
-pub record GivesPlace (old : Building) (p : Place) (new : Building) : Type 0 where
+pub record Gives (old : Building) (p : Place) (new : Building) : Type 0 where
   pub fits : length new.heap.items ≤ 4294967295
   pub heap : new.heap.items ≡ (given_to old p).heap
   pub places : new.places.items ≡ (given_to old p).places
@@ -54,11 +54,11 @@ abbrev pub InState : Building → (State → Type 0) → Type 0
 InState b P = (s : State) → Shows b s → P s
 
 -- The state that was held becomes another.
-pub record MovesState (old new : Building) (after : State → State) : Type 0 where
+pub record Moves (old new : Building) (after : State → State) : Type 0 where
   pub grows : IsPrefix old.heap.items new.heap.items
-  pub next : (base : List ℕ) (s : State) → ShowsBehind base old s → ShowsBehind base new (after s)
+  pub next : (base : List ℕ) (s : State) → Behind base old s → Behind base new (after s)
 
--- ShowsBehind this heap there is no room for a state: its bytes and those that it announces end above 4294967295, and so does the room that it may
+-- Behind this heap there is no room for a state: its bytes and those that it announces end above 4294967295, and so does the room that it may
 -- take.
 pub record Over (base : List ℕ) (s : State) : Type 0 where
   pub bytes : 4294967295 < full_length base s
@@ -67,10 +67,10 @@ pub record Over (base : List ℕ) (s : State) : Type 0 where
 -- A call that belongs `here`, of bytes that end `well`. Memory is refused only where `fits` holds. After a refusal what stood in the heap
 -- still stands before it.
 abbrev pub Does : Building → Building → Type 0 → Type 0 → Type 0 → (State → State) → Result (Unit {0}) BuildError → Type 0
-Does old new here well fits after (Ok x) = here × well × MovesState old new after
+Does old new here well fits after (Ok x) = here × well × Moves old new after
 Does old new here well fits after (Err OutOfPlace) = ¬ here × IsPrefix old.heap.items new.heap.items
 Does old new here well fits after (Err NotUtf8) = here × ¬ well × IsPrefix old.heap.items new.heap.items
-Does old new here well fits after (Err HeapFull) = here × well × IsPrefix old.heap.items new.heap.items × ((base : List ℕ) (s : State) → ShowsBehind base old s → Over base (after s))
+Does old new here well fits after (Err HeapFull) = here × well × IsPrefix old.heap.items new.heap.items × ((base : List ℕ) (s : State) → Behind base old s → Over base (after s))
 Does old new here well fits after (Err Memory) = here × well × IsPrefix old.heap.items new.heap.items × fits
 Does old new here well fits after (Err _) = ⊥
 

@@ -12,7 +12,7 @@ use Rattle.tv_format.specs.Tree.{Tree, elements}
 use Rattle.tv_format.specs.TreeCode.{coded_text, coded_tree}
 use Rattle.tv_heap.specs.Held.{same_list}
 use Rattle.tv_heap.specs.ReadsLaws.{one_tree, one_elements}
-use Rattle.tv_heap.specs.Reads.{ReadsTree}
+use Rattle.tv_heap.specs.Reads.{Reads}
 use Rattle.tv_heap.specs.TypeCode.{type_code}
 use Rattle.tv_builder.specs.contracts.bytes_kind.BytesKind.{the_row as bytes_row}
 use Rattle.tv_builder.specs.contracts.list_kind.ListKind.{the_row as list_row}
@@ -22,8 +22,8 @@ use Rattle.tv_builder.specs.declared.bytes_kind.BytesKind.{BytesKind}
 use Rattle.tv_builder.specs.declared.frame.Frame.{Frame}
 use Rattle.tv_builder.specs.declared.list_kind.ListKind.{ListKind}
 use Rattle.tv_heap.specs.declared.place.Place.{Place}
-use Rattle.tv_builder.specs.Image.{ShowsBehind}
-use Rattle.tv_builder.specs.Shows.{ShowsLists, ShowsAt, HoldsSomeState, frames_of}
+use Rattle.tv_builder.specs.Image.{Behind}
+use Rattle.tv_builder.specs.Shows.{ShowsLists, ShowsAt, Stands, frames_of}
 use Rattle.tv_builder.specs.State.{OpenList, State, complete, in_lists, in_bytes}
 
 -- ---- a code for states
@@ -84,7 +84,7 @@ one_state : (heap : List ℕ) (fs : List Frame) (places : List ℕ) (whole : Opt
 one_state heap fs places whole bytes (complete s) (complete t) h g =
     let e : Some h.at ≡ Some g.at = sym h.is ∙ g.is in
     let same_at : h.at ≡ g.at = cc in
-    ap complete (one_tree heap (type_code h.at.value_type) h.at.address s t h.placed.reads (subst (λ (p : Place). ReadsTree heap (type_code p.value_type) p.address t) (sym same_at) g.placed.reads))
+    ap complete (one_tree heap (type_code h.at.value_type) h.at.address s t h.placed.reads (subst (λ (p : Place). Reads heap (type_code p.value_type) p.address t) (sym same_at) g.placed.reads))
 one_state heap fs places whole bytes (in_lists ls) (in_lists ms) h g = ap in_lists (one_lists heap fs places ls ms h.lists g.lists)
 one_state heap fs places whole bytes (in_bytes ls k n bs) (in_bytes ms j m cs) h g =
     let e : Some h.piece ≡ Some g.piece = sym h.is ∙ g.is in
@@ -105,23 +105,23 @@ one_state heap fs places whole bytes (in_lists ls) (in_bytes ms j m cs) h g = ab
 one_state heap fs places whole bytes (in_bytes ls k n bs) (complete t) h g = absurd (both whole g.at g.is h.none)
 one_state heap fs places whole bytes (in_bytes ls k n bs) (in_lists ms) h g = absurd (both bytes h.piece h.is g.closed)
 
-pub HoldsSomeState-prop : (b : Building) → IsProp (HoldsSomeState b)
-HoldsSomeState-prop b x y =
+pub Stands-prop : (b : Building) → IsProp (Stands b)
+Stands-prop b x y =
     let set = Coded-set coded_state x.0 y.0 in
     Σ_prop_path (λ s. ∥∥₁_prop) (∥∥₁_elim x.1 set (λ p. ∥∥₁_elim y.1 set (λ q. one_state b.heap.items (frames_of b) b.places.items b.complete b.open x.0 y.0 p.at q.at)))
 
 -- the state does not depend on how it was shown
-pub same_state : (b : Building) (x y : HoldsSomeState b) → x.0 ≡ y.0
-same_state b x y = ap (λ p. p.0) (HoldsSomeState-prop b x y)
+pub same_state : (b : Building) (x y : Stands b) → x.0 ≡ y.0
+same_state b x y = ap (λ p. p.0) (Stands-prop b x y)
 
 -- ---- a state behind a heap
 
 -- the state that a builder holds, which is all that stands behind this heap
 abbrev pub StandsBehind : List ℕ → Building → Type 0
-StandsBehind base b = (s : State) × ∥ ShowsBehind base b s ∥₁
+StandsBehind base b = (s : State) × ∥ Behind base b s ∥₁
 
 -- of which the state is one that it holds
-abbrev pub stands_of : (base : List ℕ) (b : Building) → StandsBehind base b → HoldsSomeState b
+abbrev pub stands_of : (base : List ℕ) (b : Building) → StandsBehind base b → Stands b
 stands_of base b h = (h.0, ∥∥₁_map h.1 (λ p. p.shows))
 
 pub same_behind : (base other : List ℕ) (b : Building) (x : StandsBehind base b) (y : StandsBehind other b) → x.0 ≡ y.0

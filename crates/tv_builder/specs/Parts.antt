@@ -29,17 +29,17 @@ bytes_part Bytes content = value (leaf (bytes content))
 bytes_part Key content = key content
 
 -- texts are UTF-8
-abbrev pub IsContentOf : BytesKind → List ℕ → Type 0
-IsContentOf Str content = IsUtf8 content
-IsContentOf Facet content = IsUtf8 content
-IsContentOf Bytes content = Unit {0}
-IsContentOf Key content = IsUtf8 content
+abbrev pub IsContent : BytesKind → List ℕ → Type 0
+IsContent Str content = IsUtf8 content
+IsContent Facet content = IsUtf8 content
+IsContent Bytes content = Unit {0}
+IsContent Key content = IsUtf8 content
 
 -- What is closed is one part. The rules say nothing of bytes that are read.
 pub data Rule : List Part → List Part → Type 0 where
   full_array : (ts : List Tree) → Rule (array_head (length ts) ∷ map value ts) (value (array (elements ts)) ∷ [])
   full_object : (es : List (List ℕ × Tree)) → Rule (object_head (length es) ∷ entry_parts es) (value (object (entries es)) ∷ [])
-  full_bytes : (kind : BytesKind) (content : List ℕ) → IsContentOf kind content → Rule (bytes_head kind (length content) ∷ some_bytes content ∷ []) (bytes_part kind content ∷ [])
+  full_bytes : (kind : BytesKind) (content : List ℕ) → IsContent kind content → Rule (bytes_head kind (length content) ∷ some_bytes content ∷ []) (bytes_part kind content ∷ [])
   more_bytes : (a b : List ℕ) → Rule (some_bytes a ∷ some_bytes b ∷ []) (some_bytes (a ++ b) ∷ [])
   no_bytes : Rule [] (some_bytes [] ∷ [])
   full_pair : (f : ℕ) (t : Tree) → Rule (field f ∷ value t ∷ []) (pair f t ∷ [])

@@ -2,7 +2,7 @@
 use Rattle.std.specs.Prelude.{◌≡◌, ◌≢◌, ℕ, ◌+◌, ◌<◌, ◌≤◌, ◌^◌, List, [], ◌∷◌, ◌++◌, length, reverse, take, drop, Option, Some, None}
 use Rattle.tv_base.specs.Number.{vnum}
 use Rattle.tv_format.specs.Tree.{Tree, elements}
-use Rattle.tv_heap.specs.Reads.{ReadsTree, ReadsElements}
+use Rattle.tv_heap.specs.Reads.{Reads, ReadsElements}
 use Rattle.tv_heap.specs.TypeCode.{type_code}
 use Rattle.tv_builder.specs.declared.awaits.Awaits.{Awaits}
 use Rattle.tv_builder.specs.declared.awaits.Awaits.TheVariants as awaits
@@ -16,7 +16,7 @@ use Rattle.tv_builder.specs.State.{OpenList, State, complete, in_lists, in_bytes
 
 -- A tree stands there. Unless it is null or a truth value, it has bytes below the heap's end.
 pub record Placed (heap : List ℕ) (p : Place) (t : Tree) : Type 0 where
-  pub reads : ReadsTree heap (type_code p.value_type) p.address t
+  pub reads : Reads heap (type_code p.value_type) p.address t
   pub below : type_code p.value_type ≢ 0 → type_code p.value_type ≢ 9 → p.address < length heap
   pub fits : p.address < 2 ^ 32
 
@@ -81,8 +81,8 @@ pub record Shows (b : Building) (s : State) : Type 0 where
   pub at : ShowsAt b.heap.items (frames_of b) b.places.items b.complete b.open s
 
 -- the state that a builder holds
-abbrev pub HoldsSomeState : Building → Type 0
-HoldsSomeState b = (s : State) × ∥ Shows b s ∥₁
+abbrev pub Stands : Building → Type 0
+Stands b = (s : State) × ∥ Shows b s ∥₁
 
 -- ---- what comes next, as the code has it
 

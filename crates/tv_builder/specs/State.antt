@@ -52,15 +52,15 @@ head_awaits kinds.Key = awaits.Key
 
 -- ---- lists
 
-abbrev pub key_text : Tree → List ℕ
-key_text (leaf (text content)) = content
-key_text _ = []
+abbrev pub text_of : Tree → List ℕ
+text_of (leaf (text content)) = content
+text_of _ = []
 
 -- each key with the value behind it
 abbrev pub pairs_of : List Tree → List (List ℕ × Tree)
 pairs_of [] = []
 pairs_of (k ∷ []) = []
-pairs_of (k ∷ t ∷ ts) = (key_text k, t) ∷ pairs_of ts
+pairs_of (k ∷ t ∷ ts) = (text_of k, t) ∷ pairs_of ts
 
 abbrev pub list_tree : ListKind → List Tree → Tree
 list_tree lists.Array ts = array (elements ts)
@@ -121,23 +121,23 @@ and_end s = s
 
 -- ---- which states there are
 
-abbrev pub IsKeyLeaf : Tree → Type 0
-IsKeyLeaf (leaf (text content)) = Unit {0}
-IsKeyLeaf _ = ⊥
+abbrev pub IsKey : Tree → Type 0
+IsKey (leaf (text content)) = Unit {0}
+IsKey _ = ⊥
 
 abbrev mutual
   -- where a key comes next
-  pub StartsWithKey : List Tree → Type 0
-  StartsWithKey [] = Unit {0}
-  StartsWithKey (t ∷ ts) = IsKeyLeaf t × StartsWithValue ts
+  pub AreEntries : List Tree → Type 0
+  AreEntries [] = Unit {0}
+  AreEntries (t ∷ ts) = IsKey t × AreValues ts
 
-  pub StartsWithValue : List Tree → Type 0
-  StartsWithValue [] = Unit {0}
-  StartsWithValue (t ∷ ts) = StartsWithKey ts
+  pub AreValues : List Tree → Type 0
+  AreValues [] = Unit {0}
+  AreValues (t ∷ ts) = AreEntries ts
 
 abbrev pub AreChildren : ListKind → List Tree → Type 0
 AreChildren lists.Array ts = Unit {0}
-AreChildren lists.Object ts = StartsWithKey ts
+AreChildren lists.Object ts = AreEntries ts
 
 -- some child is still awaited
 pub record IsList (l : OpenList) : Type 0 where
@@ -182,7 +182,7 @@ IsState (in_bytes ls kind n bs) = AreLists ls × OthersAwait ls × HeadNext kind
 abbrev mutual
   pub key_parts : List Tree → List Part
   key_parts [] = []
-  key_parts (t ∷ ts) = key (key_text t) ∷ value_parts ts
+  key_parts (t ∷ ts) = key (text_of t) ∷ value_parts ts
 
   pub value_parts : List Tree → List Part
   value_parts [] = []

@@ -6,14 +6,14 @@ use Rattle.tv_format.specs.Tree.{Tree, elements}
 use Rattle.tv_heap.specs.Weight.{elements_weight}
 use Rattle.tv_builder.specs.declared.list_kind.ListKind.{ListKind}
 use Rattle.tv_builder.specs.declared.list_kind.ListKind.TheVariants as lists
-use Rattle.tv_builder.specs.State.{OpenList, State, complete, in_lists, in_bytes, key_text}
+use Rattle.tv_builder.specs.State.{OpenList, State, complete, in_lists, in_bytes, text_of}
 pub use Rattle.tv_heap.specs.Weight.{tree_weight, document_weight}
 
 -- 6 bytes for each finished child and what it weighs, a key as its text
 abbrev mutual
   pub keys_weight : List Tree → ℕ
   keys_weight [] = 0
-  keys_weight (t ∷ ts) = 6 + length (short_sized (key_text t)) + values_weight ts
+  keys_weight (t ∷ ts) = 6 + length (short_sized (text_of t)) + values_weight ts
 
   pub values_weight : List Tree → ℕ
   values_weight [] = 0

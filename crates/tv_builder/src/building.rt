@@ -52,12 +52,12 @@ pub(crate) struct Building {
 
 #[tactic(auto, using(crate::proofs::Sound::fits_of))]
 impl Building {
-    ghost use Rattle.tv_builder.specs.Parts.{IsContentOf};
+    ghost use Rattle.tv_builder.specs.Parts.{IsContent};
     ghost use Rattle.tv_builder.specs.Builder.{HasAllBytes, HasContent, TakesBytes};
     ghost use Rattle.tv_builder.specs.Finish.{Empty};
-    ghost use Rattle.tv_builder.specs.Moves.{CanGive, GivesPlace, GivesNot, Does, InState, last_bytes};
+    ghost use Rattle.tv_builder.specs.Moves.{CanGive, Gives, GivesNot, Does, InState, last_bytes};
     ghost use Rattle.tv_builder.specs.Fits.{LeafFits, ListFits, KeyFits, HeadFits};
-    ghost use Rattle.tv_builder.specs.Shows.{HoldsSomeState, awaited_by};
+    ghost use Rattle.tv_builder.specs.Shows.{Stands, awaited_by};
     ghost use Rattle.tv_builder.specs.State.{and_value, and_list, and_key, and_head, and_bytes};
     ghost use Rattle.tv_builder.specs.State.{and_end, head_awaits};
     ghost use Rattle.tv_builder.specs.declared.awaits.Awaits.TheVariants.{Value as ValueNext};
@@ -109,7 +109,7 @@ impl Building {
 
     // A value without children has come.
     pub(crate) fn leaf(&mut self, value: &ReferenceValueLeaf<'_>) -> Result<(), BuildError>
-        requires { HoldsSomeState self.old }
+        requires { Stands self.old }
         ensures { let l = leaf_of value.now in Does self.old self.new
             (awaited_by self.old ≡ ValueNext) (Unit {0}) (LeafFits self.old.heap.items l)
             (λ s. and_value s (leaf_tree l)) result }
@@ -123,7 +123,7 @@ impl Building {
 
     // A whole value of any kind has come: what the calls for its parts do.
     pub(crate) fn tree<'a, V: Value<'a>>(&mut self, value: &V) -> Result<(), BuildError>
-        requires { HoldsSomeState self.old }
+        requires { Stands self.old }
         ensures { let t = V.tree value.now in Does self.old self.new
             (awaited_by self.old ≡ ValueNext) (Unit {0}) (Unit {0}) (λ s. and_value s t) result }
     {
@@ -138,7 +138,7 @@ impl Building {
 
     // A list has come, of which so many elements or entries are announced. One of none closes at once.
     pub(crate) fn open_list(&mut self, kind: ListKind, announced: u64) -> Result<(), BuildError>
-        requires { HoldsSomeState self.old }
+        requires { Stands self.old }
         ensures { Does self.old self.new (awaited_by self.old ≡ ValueNext) (Unit {0})
             (ListFits self.old.heap.items announced) (λ s. and_list s kind announced) result }
     {
@@ -161,7 +161,7 @@ impl Building {
 
     // A key has come: a text that closes no list.
     pub(crate) fn key(&mut self, content: &str) -> Result<(), BuildError>
-        requires { HoldsSomeState self.old }
+        requires { Stands self.old }
         ensures { Does self.old self.new (awaited_by self.old ≡ KeyNext) (Unit {0})
             (KeyFits self.old.heap.items content.now) (λ s. and_key s content.now) result }
     {
@@ -174,7 +174,7 @@ impl Building {
 
     // The bytes of a value or a key begin, of which so many are announced.
     pub(crate) fn begin_bytes(&mut self, kind: BytesKind, announced: u64) -> Result<(), BuildError>
-        requires { HoldsSomeState self.old }
+        requires { Stands self.old }
         ensures { Does self.old self.new (awaited_by self.old ≡ head_awaits kind) (Unit {0})
             (HeadFits self.old.heap.items announced) (λ s. and_head s kind announced) result }
     {
@@ -209,11 +209,11 @@ impl Building {
 
     // Some of the announced bytes have come.
     pub(crate) fn chunk(&mut self, bytes: &[u8]) -> Result<(), BuildError>
-        requires { HoldsSomeState self.old }
+        requires { Stands self.old }
         ensures does { Does self.old self.new
             (InState self.old (λ s. TakesBytes s (length bytes.now))) (Unit {0}) (Unit {0})
             (λ s. and_bytes s bytes.now) result }
-        ensures no_heap_full { ¬ IsErrOf result BuildError.HeapFull }
+        ensures roomy { ¬ IsErrOf result BuildError.HeapFull }
     {
         let Some(open) = self.open else {
             return Err(BuildError::OutOfPlace);
@@ -233,7 +233,7 @@ impl Building {
 
     // All announced bytes have come.
     pub(crate) fn end_bytes(&mut self) -> Result<(), BuildError>
-        requires { HoldsSomeState self.old }
+        requires { Stands self.old }
         ensures { Does self.old self.new (InState self.old HasAllBytes) (InState self.old HasContent)
             (Unit {0}) and_end result }
     {
@@ -257,7 +257,7 @@ impl Building {
     fn ends_well(&self, ended: OpenBytes) -> bool
         requires { ended.announced ≤ length self.now.heap.items }
         ensures { IsTrue result
-            ↔ IsContentOf ended.kind (last_bytes ended.announced self.now.heap.items) }
+            ↔ IsContent ended.kind (last_bytes ended.announced self.now.heap.items) }
     {
         let start = self.heap.len() - ended.announced as usize;
         let (_, content) = self.heap.as_slice().split_at(start);
@@ -268,7 +268,7 @@ impl Building {
     // children, of which the places are the last.
     fn give(&mut self, place: Place) -> Result<(), BuildError>
         requires { CanGive self.old }
-        ensures ok { OnOk result (GivesPlace self.old place self.new) }
+        ensures ok { OnOk result (Gives self.old place self.new) }
         ensures err { IfErr result (λ e. GivesNot self.old place self.new e) }
     {
         let mut finished = place;

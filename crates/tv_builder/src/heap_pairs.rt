@@ -80,7 +80,7 @@ pub struct HeapPairs {
 }
 
 impl HeapPairs {
-    ghost use Rattle.tv_builder.specs.EncodedPairs.{AddsEncodedPair, AddsEncoded, StoodIn};
+    ghost use Rattle.tv_builder.specs.EncodedPairs.{AddsPair, AddsEncoded, StoodIn};
     ghost use Rattle.tv_builder.specs.HeldPairs.{document_of, heap_of, heap_capacity};
     ghost use Rattle.tv_builder.specs.HeldPairs.{pairs_capacity, Adds, IsUnchanged};
     ghost use Rattle.tv_builder.specs.declared.heap_pairs.HeapPairs.{HeapPairs};
@@ -229,7 +229,7 @@ impl HeapPairs {
         places: &mut Vec<u8>,
     ) -> Option<&'a [u8]>
         ensures added { IfSome result
-            (λ rest. AddsEncodedPair (written_version version) self.old self.new bytes.now rest.now) }
+            (λ rest. AddsPair (written_version version) self.old self.new bytes.now rest.now) }
         ensures none { IfNone result (IsUnchanged self.old self.new) }
     {
         let (prefix, value) = bytes.split_first_chunk::<4>()?;

@@ -10,7 +10,7 @@ ghost use Rattle.tv_builder.specs.Shows.{Shows};
 ghost use Rattle.tv_builder.specs.declared.pair_builder.PairBuilder.{PairBuilder};
 ghost use Rattle.tv_builder.specs.Behind.{document_parts, open_parts};
 ghost use Rattle.tv_builder.specs.Prefix.{Encoded};
-ghost use Rattle.tv_builder.specs.Parts.{Part, Trades, IsContentOf, value, key, bytes_head};
+ghost use Rattle.tv_builder.specs.Parts.{Part, Trades, IsContent, value, key, bytes_head};
 ghost use Rattle.tv_builder.specs.Parts.{some_bytes};
 ghost use Rattle.tv_builder.specs.State.{State, OpenList, IsState, in_lists, in_bytes};
 ghost use Rattle.tv_builder.specs.State.{awaited, and_value, and_list, and_key, and_head};
@@ -48,7 +48,7 @@ pub fn calls_trade()
         → Trades (parts_of (in_bytes ls kind n bs) ++ some_bytes more ∷ [])
         (parts_of (and_bytes (in_bytes ls kind n bs) more)) }
     ensures ends { (ls : List OpenList) (kind : BytesKind) (bs : List ℕ)
-        → IsState (in_bytes ls kind (length bs) bs) → IsContentOf kind bs
+        → IsState (in_bytes ls kind (length bs) bs) → IsContent kind bs
         → Trades (parts_of (in_bytes ls kind (length bs) bs))
         (parts_of (and_end (in_bytes ls kind (length bs) bs))) }
 {}

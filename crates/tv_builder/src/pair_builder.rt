@@ -99,7 +99,7 @@ impl PairBuilder {
         ensures kept { kept_heap result ≡ heap_of finished }
         ensures pairs { pairs_so_far result ≡ finished.pairs.items }
         ensures state { state_of result ≡ in_lists [] }
-        ensures not_failed { result.failed ≡ false }
+        ensures live { result.failed ≡ false }
     {
         let alloc = *finished.heap.allocator();
         let kept = finished.heap.len();
@@ -223,7 +223,7 @@ impl PairBuilder {
         ensures builds { Builds self.old self.new
             (TakesBytes (state_of self.old) (length bytes.now)) (Unit {0})
             (λ s. and_bytes s bytes.now) result }
-        ensures no_heap_full { ¬ IsErrOf result BuildError.HeapFull }
+        ensures roomy { ¬ IsErrOf result BuildError.HeapFull }
     {
         if self.failed {
             return Err(BuildError::AlreadyFailed);

@@ -5,7 +5,7 @@ use Rattle.tv_builder.specs.TreeBytes.{tree_heap, tree_place}
 use Rattle.tv_format.specs.Tree.{Tree, Document}
 use Rattle.tv_builder.specs.declared.add_error.AddError.{AddError}
 use Rattle.tv_doc.specs.declared.document.CompactDoc.{CompactDoc}
-use Rattle.tv_doc.specs.Additions.{Addition, pair_of, accepted_pairs, Runs, Keeps, Accepts, AddsEach, IsEmpty, IsMade}
+use Rattle.tv_doc.specs.Additions.{Addition, pair_of, accepted, Runs, Keeps, Accepts, AddsEach, IsEmpty, IsMade}
 use Rattle.tv_doc.specs.Document.{document_of, heap_of, places_of, Adds, IsUnchanged}
 
 unchanged_keeps : (old new : CompactDoc) → IsUnchanged old new → Keeps [] old new
@@ -25,19 +25,19 @@ one_keeps field t old new (Err e) adds = unchanged_keeps old new adds.1
 prefix_of_prefix : {X : Type 0} (a b c x y : List X) → b ≡ a ++ x → c ≡ b ++ y → c ≡ a ++ (x ++ y)
 prefix_of_prefix a b c x y p q = q ∙ ap (λ z. z ++ y) p ∙ append_assoc a x y
 
-pub runs_keep : (additions : List Addition) (old new : CompactDoc) → Runs additions old new → Keeps (accepted_pairs additions) old new
+pub runs_keep : (additions : List Addition) (old new : CompactDoc) → Runs additions old new → Keeps (accepted additions) old new
 runs_keep [] old new same = unchanged_keeps old new same
 runs_keep (a ∷ rest) old new run =
     let one = one_keeps a.field a.tree old run.0 a.answer run.1 in
     let others = runs_keep rest run.0 new run.2 in
     record {
-      document = prefix_of_prefix (document_of old) (document_of run.0) (document_of new) (pair_of a.answer a.field a.tree) (accepted_pairs rest) one.document others.document;
+      document = prefix_of_prefix (document_of old) (document_of run.0) (document_of new) (pair_of a.answer a.field a.tree) (accepted rest) one.document others.document;
       heap = (one.heap.0 ++ others.heap.0, prefix_of_prefix (heap_of old) (heap_of run.0) (heap_of new) one.heap.0 others.heap.0 one.heap.1 others.heap.1);
       added_places = one.added_places ++ others.added_places;
       places = prefix_of_prefix (places_of old) (places_of run.0) (places_of new) one.added_places others.added_places one.places others.places;
     }
 
--- ---- pairs that are all accepted_pairs
+-- ---- pairs that are all accepted
 
 pub unchanged_same : (d : CompactDoc) → IsUnchanged d d
 unchanged_same d = record { document = refl; heap = refl; pairs = refl; places = refl }

@@ -11,7 +11,7 @@ use Rattle.std.proofs.lemmas.List.{append-nil, map-append}
 use Rattle.std.proofs.lemmas.List.Elements.{Contains-append_left, Contains-push, Contains-push_cases, All-contains, All-from_recursion, filter-append, filter_agree}
 use Rattle.tv_value.specs.declared.field.Field.{Field}
 use Rattle.tv_format.specs.Tree.{Tree}
-use Rattle.tv_doc.specs.Grouped.{IsGrouped, with_number, numbered_all, group_seen}
+use Rattle.tv_doc.specs.Grouped.{IsGrouped, numbered, numbered_all, group_seen}
 use Rattle.tv_doc.specs.FieldValues.{values_of, pair_seen}
 
 -- ---- the values of a field
@@ -190,7 +190,7 @@ rises_from p (q ∷ ps) h = (h 0 1 p (omega arith) (omega arith), rises_from q p
 pub record Stage {V : Type 0} (whole rest : List (Field × V)) (gs : List (ℕ × List V)) (f : ℕ) (ts : List V) : Type 0 where
   pub done : List (Field × V)
   pub joined : whole ≡ done ++ rest
-  pub grouping : Grouping (map with_number done) gs f ts
+  pub grouping : Grouping (map numbered done) gs f ts
   pub rises : RisesFrom f rest
 
 pub stage_start : {V : Type 0} (whole rest : List (Field × V)) (p : Field × V) → whole ≡ p ∷ rest → IsNonDecreasingBy (λ q. q.0.id) whole → Stage whole rest [] p.0.id (p.1 ∷ [])
@@ -210,7 +210,7 @@ stage_same whole rest others gs f ts p cut same s =
     record {
       done = s.done ++ p ∷ [];
       joined = moved whole s.done rest others p s.joined cut;
-      grouping = subst (λ d. Grouping d gs f (ts ++ p.1 ∷ [])) (ap (λ n. map with_number s.done ++ (n, p.1) ∷ []) (sym same) ∙ sym (map-append with_number s.done (p ∷ []))) (grouping_same (map with_number s.done) gs f ts p.1 s.grouping);
+      grouping = subst (λ d. Grouping d gs f (ts ++ p.1 ∷ [])) (ap (λ n. map numbered s.done ++ (n, p.1) ∷ []) (sym same) ∙ sym (map-append numbered s.done (p ∷ []))) (grouping_same (map numbered s.done) gs f ts p.1 s.grouping);
       rises = subst (λ n. RisesFrom n others) same rises.1;
     }
 
@@ -222,17 +222,17 @@ stage_next whole rest others gs f ts p cut other s =
     record {
       done = s.done ++ p ∷ [];
       joined = moved whole s.done rest others p s.joined cut;
-      grouping = subst (λ d. Grouping d (gs ++ (f, ts) ∷ []) p.0.id (p.1 ∷ [])) (sym (map-append with_number s.done (p ∷ []))) (grouping_next (map with_number s.done) gs f p.0.id ts p.1 above s.grouping);
+      grouping = subst (λ d. Grouping d (gs ++ (f, ts) ∷ []) p.0.id (p.1 ∷ [])) (sym (map-append numbered s.done (p ∷ []))) (grouping_next (map numbered s.done) gs f p.0.id ts p.1 above s.grouping);
       rises = rises.1;
     }
 
 pub stage_is : {V : Type 0} {whole rest : List (Field × V)} {gs hs : List (ℕ × List V)} {f : ℕ} {ts us : List V} → gs ≡ hs → ts ≡ us → Stage whole rest gs f ts → Stage whole rest hs f us
 stage_is {whole = whole} {rest = rest} {hs = hs} {f = f} {ts = ts} p q s = subst (λ l. Stage whole rest hs f l) q (subst (λ l. Stage whole rest l f ts) p s)
 
-pub stage_done : {V : Type 0} (whole rest : List (Field × V)) (gs : List (ℕ × List V)) (f : ℕ) (ts : List V) → rest ≡ [] → Stage whole rest gs f ts → IsGrouped (map with_number whole) (gs ++ (f, ts) ∷ [])
+pub stage_done : {V : Type 0} (whole rest : List (Field × V)) (gs : List (ℕ × List V)) (f : ℕ) (ts : List V) → rest ≡ [] → Stage whole rest gs f ts → IsGrouped (map numbered whole) (gs ++ (f, ts) ∷ [])
 stage_done whole rest gs f ts none s =
     let all : whole ≡ s.done = s.joined ∙ ap (λ l. s.done ++ l) none ∙ append-nil s.done in
-    subst (λ l. IsGrouped (map with_number l) (gs ++ (f, ts) ∷ [])) (sym all) (grouping_done (map with_number s.done) gs f ts s.grouping)
+    subst (λ l. IsGrouped (map numbered l) (gs ++ (f, ts) ∷ [])) (sym all) (grouping_done (map numbered s.done) gs f ts s.grouping)
 
 -- ---- the same values in another order of the fields
 
@@ -284,11 +284,11 @@ grouped_seen {A = A} {B = B} see pairs groups is =
           ∙ map_agree (λ g. (g, map see (values_of g pairs))) (group_of (map both pairs)) (λ g. ap (λ l. (g, l)) (sym (values_seen see g pairs))) is.fields;
     }
 
-pub groups_seen : {V : Type 0} {whole : List (ℕ × Tree)} (tree : V → Tree) (pairs : List (Field × V)) (groups : List (Field × Vec V Global)) → map (pair_seen tree) pairs ≡ whole → IsGrouped (map with_number pairs) (map numbered_all groups)
+pub groups_seen : {V : Type 0} {whole : List (ℕ × Tree)} (tree : V → Tree) (pairs : List (Field × V)) (groups : List (Field × Vec V Global)) → map (pair_seen tree) pairs ≡ whole → IsGrouped (map numbered pairs) (map numbered_all groups)
     → IsGrouped whole (map (group_seen tree) groups)
 groups_seen tree pairs groups all is =
-    subst (λ ps. IsGrouped ps (map (group_seen tree) groups)) (map_map with_number (λ p. (p.0, tree p.1)) pairs ∙ all)
-    (subst (IsGrouped (map (λ p. (p.0, tree p.1)) (map with_number pairs))) (map_map numbered_all (λ g. (g.0, map tree g.1)) groups) (grouped_seen tree (map with_number pairs) (map numbered_all groups) is))
+    subst (λ ps. IsGrouped ps (map (group_seen tree) groups)) (map_map numbered (λ p. (p.0, tree p.1)) pairs ∙ all)
+    (subst (IsGrouped (map (λ p. (p.0, tree p.1)) (map numbered pairs))) (map_map numbered_all (λ g. (g.0, map tree g.1)) groups) (grouped_seen tree (map numbered pairs) (map numbered_all groups) is))
 
 pub if_ok : {T E : Type 0} {P Q : T → Type 0} → ((x : T) → P x → Q x) → (r : Result T E) → IfOk r P → IfOk r Q
 if_ok h (Ok x) p = h x p
@@ -307,7 +307,7 @@ first_with {X = X} test (x ∷ xs) = by_test (test x) refl (first_with test xs)
     by_test false e (inl p) = inl p
     by_test false e (inr none) = inr (rw e none)
 
-pub sorted_values : {V : Type 0} (xs ys : List (Field × V)) → IsStableByKey (λ p. p.0.id) nat_cmp xs ys → (g : ℕ) → values_of g (map with_number ys) ≡ values_of g (map with_number xs)
+pub sorted_values : {V : Type 0} (xs ys : List (Field × V)) → IsStableByKey (λ p. p.0.id) nat_cmp xs ys → (g : ℕ) → values_of g (map numbered ys) ≡ values_of g (map numbered xs)
 sorted_values {V = V} xs ys stable g =
     let test : Field × V → Bool = λ p. nat_eq p.0.id g in
     let with_field : (x : Field × V) → test x ≡ true → filter test ys ≡ filter test xs =
@@ -319,4 +319,4 @@ sorted_values {V = V} xs ys stable g =
       | inl p ↦ with_field p.0 p.1
       | inr none ↦ elim (first_with test xs) [ inl p ↦ with_field p.0 p.1 | inr nothing ↦ none ∙ sym nothing ]
     ] in
-    ap (map (λ p. p.1)) (filter_map_first with_number (λ p. nat_eq p.0 g) ys ∙ ap (map with_number) kept ∙ sym (filter_map_first with_number (λ p. nat_eq p.0 g) xs))
+    ap (map (λ p. p.1)) (filter_map_first numbered (λ p. nat_eq p.0 g) ys ∙ ap (map numbered) kept ∙ sym (filter_map_first numbered (λ p. nat_eq p.0 g) xs))

@@ -14,9 +14,9 @@ use Rattle.tv_format.specs.Tree.{Tree, Document}
 use Rattle.tv_doc.specs.AdditionError.{addition_error}
 use Rattle.tv_doc.specs.Additions.{Accepts, IsEmpty}
 use Rattle.tv_doc.specs.AddsRow.{AddsRow}
-use Rattle.tv_doc.specs.Document.{IsUnchanged, RefusesAddition}
+use Rattle.tv_doc.specs.Document.{IsUnchanged, Refuses}
 use Rattle.tv_doc.specs.InPlace.{in_place}
-use Rattle.tv_doc.specs.JsonObject.{FieldJson, Pairs, IsRefused, StopsAt, IsValueError, MakesDocument, Parses, AddsFieldValues, AddsValues, object_values}
+use Rattle.tv_doc.specs.JsonObject.{FieldJson, Pairs, IsRefused, StopsAt, IsValueError, MakesDocument, Parses, AddsPairs, AddsValues, object_values}
 use Rattle.tv_doc.specs.JsonObject.IsShort.{for_pair, for_value, for_error}
 use Rattle.tv_builder.specs.declared.add_error.AddError.{AddError}
 use Rattle.tv_builder.specs.declared.add_error.AddError.TheVariants.{HeapFull, Memory}
@@ -26,7 +26,7 @@ use Rattle.tv_doc.specs.declared.document.CompactDoc.{CompactDoc}
 use Rattle.tv_doc.proofs.Additions.{unchanged_same, each_from, each_append, each_one, from_empty, made_of}
 
 -- an addition that a document refuses
-pub refused_addition : (v : FieldJson) (d : CompactDoc) (t : Tree) (e : AddError) → Table v.field_type v.value (Ok t) → RefusesAddition d t e → IsRefused v d (addition_error e)
+pub refused_addition : (v : FieldJson) (d : CompactDoc) (t : Tree) (e : AddError) → Table v.field_type v.value (Ok t) → Refuses d t e → IsRefused v d (addition_error e)
 refused_addition v d t HeapFull table why = (t, table, why)
 refused_addition v d t Memory table why = for_pair t table why
 
@@ -48,7 +48,7 @@ refused_value v d r error.HeapFull wrong h short = absurd wrong
 refused_value v d r (error.InvalidJson text) wrong h short = absurd wrong
 refused_value v d r error.Memory right h short = short_value v d r h short
 
-none_added : (d : CompactDoc) → AddsFieldValues [] d d
+none_added : (d : CompactDoc) → AddsPairs [] d d
 none_added d = record { pairs = []; by_table = refl; adds = unchanged_same d }
 
 -- a value alone that is refused
@@ -56,11 +56,11 @@ pub stops_at_one : (v : FieldJson) (old : CompactDoc) (e : DocParsingError) → 
 stops_at_one v old e h = record { before = []; at = v; behind = []; joined = refl; mid = old; added = none_added old; refused = h }
 
 -- a value alone whose pair is added
-pub one_added : (v : FieldJson) (old new : CompactDoc) (t : Tree) → Table v.field_type v.value (Ok t) → Accepts old new v.field t → AddsFieldValues (v ∷ []) old new
+pub one_added : (v : FieldJson) (old new : CompactDoc) (t : Tree) → Table v.field_type v.value (Ok t) → Accepts old new v.field t → AddsPairs (v ∷ []) old new
 one_added v old new t table adds =
     record { pairs = (v.field, t) ∷ []; by_table = (t, [], table, refl, refl); adds = each_one v.field t old new adds }
 
-pub one_pair : (v : FieldJson) (old new : CompactDoc) → AddsRow old new v.field v.field_type v.value → AddsFieldValues (v ∷ []) old new
+pub one_pair : (v : FieldJson) (old new : CompactDoc) → AddsRow old new v.field v.field_type v.value → AddsPairs (v ∷ []) old new
 one_pair v old new h = one_added v old new h.0 h.1 h.2
 
 Pairs-append : (vs ws : List FieldJson) (ps qs : Document) → Pairs vs ps → Pairs ws qs → Pairs (vs ++ ws) (ps ++ qs)
@@ -68,7 +68,7 @@ Pairs-append [] ws ps qs none h = subst (λ prefix. Pairs ws (prefix ++ qs)) (sy
 Pairs-append (v ∷ vs) ws ps qs (tree, rest, table, joined, others) h =
     (tree, rest ++ qs, table, ap (λ prefix. prefix ++ qs) joined, Pairs-append vs ws rest qs others h)
 
-both_added : (vs ws : List FieldJson) (a b c : CompactDoc) → AddsFieldValues vs a b → AddsFieldValues ws b c → AddsFieldValues (vs ++ ws) a c
+both_added : (vs ws : List FieldJson) (a b c : CompactDoc) → AddsPairs vs a b → AddsPairs ws b c → AddsPairs (vs ++ ws) a c
 both_added vs ws a b c h k = record {
   pairs = h.pairs ++ k.pairs;
   by_table = Pairs-append vs ws h.pairs k.pairs h.by_table k.by_table;
@@ -77,32 +77,32 @@ both_added vs ws a b c h k = record {
 
 -- the additions that `ok` keeps, to what an unchanged document became
 pub ok_added : {T : Type 0} (vs ws : List FieldJson) (old mid new : CompactDoc) (r : Result T DocParsingError) (o : Option T) → o ≡ result_ok r → IsUnchanged old mid → vs ≡ ws → AddsValues vs mid new r
-    → OnSome o (AddsFieldValues ws old new)
+    → OnSome o (AddsPairs ws old new)
 ok_added vs ws old mid new (Ok x) o e same is h =
-    let added : AddsFieldValues vs old new = record { pairs = h.pairs; by_table = h.by_table; adds = each_from h.pairs old mid new same h.adds } in
-    subst (λ z. OnSome z (AddsFieldValues ws old new)) (sym e) (subst (λ xs. AddsFieldValues xs old new) is added)
-ok_added vs ws old mid new (Err x) o e same is h = subst (λ z. OnSome z (AddsFieldValues ws old new)) (sym e) tt
+    let added : AddsPairs vs old new = record { pairs = h.pairs; by_table = h.by_table; adds = each_from h.pairs old mid new same h.adds } in
+    subst (λ z. OnSome z (AddsPairs ws old new)) (sym e) (subst (λ xs. AddsPairs xs old new) is added)
+ok_added vs ws old mid new (Err x) o e same is h = subst (λ z. OnSome z (AddsPairs ws old new)) (sym e) tt
 
 -- the pairs of these values are added, and then come the rest
 pub record SoFar (all rest : List FieldJson) (old now : CompactDoc) : Type 0 where
   pub done : List FieldJson
   pub joined : all ≡ done ++ rest
-  pub added : AddsFieldValues done old now
+  pub added : AddsPairs done old now
 
 pub none_so_far : (all : List FieldJson) (old : CompactDoc) → SoFar all all old old
 none_so_far all old = record { done = []; joined = refl; added = none_added old }
 
-pub more_so_far : (all rest values others : List FieldJson) (old now next : CompactDoc) → SoFar all rest old now → rest ≡ values ++ others → AddsFieldValues values now next → SoFar all others old next
+pub more_so_far : (all rest values others : List FieldJson) (old now next : CompactDoc) → SoFar all rest old now → rest ≡ values ++ others → AddsPairs values now next → SoFar all others old next
 more_so_far all rest values others old now next s parted h = record {
   done = s.done ++ values;
   joined = s.joined ∙ ap (λ vs. s.done ++ vs) parted ∙ sym (append_assoc s.done values others);
   added = both_added s.done values old now next s.added h;
 }
 
-pub all_so_far : (all rest : List FieldJson) (old now : CompactDoc) → SoFar all rest old now → rest ≡ [] → AddsFieldValues all old now
+pub all_so_far : (all rest : List FieldJson) (old now : CompactDoc) → SoFar all rest old now → rest ≡ [] → AddsPairs all old now
 all_so_far all rest old now s none =
     let whole : s.done ≡ all = sym (s.joined ∙ ap (λ vs. s.done ++ vs) none ∙ append-nil s.done) in
-    subst (λ vs. AddsFieldValues vs old now) whole s.added
+    subst (λ vs. AddsPairs vs old now) whole s.added
 
 pub stops_later : (all rest values others : List FieldJson) (old now : CompactDoc) (e : DocParsingError) → SoFar all rest old now → rest ≡ values ++ others → StopsAt values now e
     → StopsAt all old e
@@ -118,7 +118,7 @@ stops_later all rest values others old now e s parted h = record {
 
 -- ---- whole documents
 
-pub makes_document : (values : List FieldJson) (start made : CompactDoc) → IsEmpty start → AddsFieldValues values start made → MakesDocument values (Ok made)
+pub makes_document : (values : List FieldJson) (start made : CompactDoc) → IsEmpty start → AddsPairs values start made → MakesDocument values (Ok made)
 makes_document values start made none h =
     (subst (λ d. Pairs values d) (sym (from_empty h.pairs start made none h.adds)) h.by_table, made_of h.pairs start made none h.adds)
 

@@ -7,7 +7,7 @@ use Rattle.tv_format.specs.Tree.{Tree, Document}
 use Rattle.tv_builder.specs.declared.heap_pair.HeapPair.{HeapPair}
 use Rattle.tv_heap.specs.Held.{Held}
 use Rattle.tv_builder.specs.Holds.{ReadsPair, ReadsPairs, Holds}
-use Rattle.tv_heap.specs.Reads.{ReadsTree}
+use Rattle.tv_heap.specs.Reads.{Reads}
 use Rattle.tv_heap.specs.TypeCode.{type_code}
 use Rattle.tv_doc.specs.FieldValues.{values_of}
 use Rattle.tv_builder.proofs.Documents.{same_document}
@@ -17,7 +17,7 @@ pub record FirstPair (heap : List ℕ) (p : HeapPair) (ps : List HeapPair) (d : 
   pub others : Document
   pub is : d ≡ pair ∷ others
   pub field : p.field ≡ pair.0
-  pub reads : ∥ ReadsTree heap (type_code p.place.value_type) p.place.address pair.1 ∥₁
+  pub reads : ∥ Reads heap (type_code p.place.value_type) p.place.address pair.1 ∥₁
   pub left : ∥ ReadsPairs heap ps others ∥₁
 
 pub first_pair : (heap : List ℕ) (ps qs : List HeapPair) (p : HeapPair) (d : Document) → ∥ ReadsPairs heap ps d ∥₁ → ps ≡ p ∷ qs → FirstPair heap p qs d

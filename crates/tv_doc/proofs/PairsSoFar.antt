@@ -2,14 +2,14 @@
 use Rattle.std.proofs.Common.{◌≡◌, ℕ, [], ◌∷◌, ◌++◌, Ok, subst, refl, sym, ap, ◌∙◌, append_assoc, append-nil}
 use Rattle.tv_format.specs.Tree.{Tree, Document}
 use Rattle.tv_doc.specs.Additions.{AddsEach, IsEmpty}
-use Rattle.tv_doc.specs.Document.{RefusesAddition}
+use Rattle.tv_doc.specs.Document.{Refuses}
 use Rattle.tv_doc.specs.NamedPairs.{StopsAtPair, MakesPairs}
 use Rattle.tv_builder.specs.declared.add_error.AddError.{AddError}
 use Rattle.tv_doc.specs.declared.document.CompactDoc.{CompactDoc}
 use Rattle.tv_doc.proofs.Additions.{unchanged_same, each_append, from_empty, made_of}
 
 -- a pair alone that is refused
-pub stops_at_pair : (d : CompactDoc) (field : ℕ) (t : Tree) (e : AddError) → RefusesAddition d t e → StopsAtPair ((field, t) ∷ []) d e
+pub stops_at_pair : (d : CompactDoc) (field : ℕ) (t : Tree) (e : AddError) → Refuses d t e → StopsAtPair ((field, t) ∷ []) d e
 stops_at_pair d field t e h = record { before = []; at = (field, t); behind = []; joined = refl; mid = d; added = unchanged_same d; refused = h }
 
 -- some pairs are added, and then come the rest

@@ -6,7 +6,7 @@ use Rattle.std.specs.List.Sorted.{IsNonDecreasingBy}
 use Rattle.std.proofs.lemmas.List.{map-append, take_more, take_all, drop_all, get_or-drop, length-drop}
 use Rattle.tv_value.specs.declared.field.Field.{Field}
 use Rattle.tv_format.specs.Tree.{Tree, Document}
-use Rattle.tv_doc.specs.Grouped.{IsGrouped, with_number}
+use Rattle.tv_doc.specs.Grouped.{IsGrouped, numbered}
 use Rattle.tv_doc.specs.Named.{Named, IsNamed, by_name, put_under}
 use Rattle.tv_doc.specs.FieldValues.{pair_seen, values_of}
 use Rattle.tv_doc.proofs.Grouping.{Stage, stage_start, stage_same, stage_next, stage_done, stage_is, nothing_grouped, grouped_alike, grouped_seen, map_map, values_seen}
@@ -86,8 +86,8 @@ spanned_next tree names pairs field start at named next span p within is other c
       under = put ∙ under_last tree names pairs field start at named span s cutting;
     }
 
-seen_pairs : {V : Type 0} (tree : V → Tree) (pairs : List (Field × V)) → map (λ p. (p.0, tree p.1)) (map with_number pairs) ≡ map (pair_seen tree) pairs
-seen_pairs tree pairs = map_map with_number (λ p. (p.0, tree p.1)) pairs
+seen_pairs : {V : Type 0} (tree : V → Tree) (pairs : List (Field × V)) → map (λ p. (p.0, tree p.1)) (map numbered pairs) ≡ map (pair_seen tree) pairs
+seen_pairs tree pairs = map_map numbered (λ p. (p.0, tree p.1)) pairs
 
 pub spanned_done : {V : Type 0} (tree : V → Tree) (names : List (List ℕ)) (pairs : List (Field × V)) (field start at : ℕ) (named next : Named) (span : List (Field × V))
     → length pairs ≤ at → span ≡ drop start pairs → next ≡ with_last tree names span field named → Spanned tree names pairs field start at named → IsNamed names (map (pair_seen tree) pairs) next
@@ -96,7 +96,7 @@ spanned_done tree names pairs field start at named next span past cutting put s 
     let groups = s.groups ++ (field, ts) ∷ [] in
     let whole = stage_done pairs (drop at pairs) s.groups field ts (drop_all at pairs past) s.stage in (
       map (group_trees tree) groups,
-      subst (λ l. IsGrouped l (map (group_trees tree) groups)) (seen_pairs tree pairs) (grouped_seen tree (map with_number pairs) groups whole),
+      subst (λ l. IsGrouped l (map (group_trees tree) groups)) (seen_pairs tree pairs) (grouped_seen tree (map numbered pairs) groups whole),
       put ∙ under_last tree names pairs field start at named span s (cutting ∙ sym (span-all pairs start at past)),
     )
 
@@ -105,11 +105,11 @@ spanned_none tree names pairs none = subst (λ l. IsNamed names (map (pair_seen 
 
 -- ---- the same under another order of the fields
 
-values_sorted : {V : Type 0} (tree : V → Tree) (sorted pairs : List (Field × V)) (g : ℕ) → values_of g (map with_number sorted) ≡ values_of g (map with_number pairs) → values_of g (map (pair_seen tree) sorted) ≡ values_of g (map (pair_seen tree) pairs)
+values_sorted : {V : Type 0} (tree : V → Tree) (sorted pairs : List (Field × V)) (g : ℕ) → values_of g (map numbered sorted) ≡ values_of g (map numbered pairs) → values_of g (map (pair_seen tree) sorted) ≡ values_of g (map (pair_seen tree) pairs)
 values_sorted tree sorted pairs g same =
-    ap (values_of g) (sym (seen_pairs tree sorted)) ∙ values_seen tree g (map with_number sorted) ∙ ap (map tree) same ∙ sym (values_seen tree g (map with_number pairs)) ∙ ap (values_of g) (seen_pairs tree pairs)
+    ap (values_of g) (sym (seen_pairs tree sorted)) ∙ values_seen tree g (map numbered sorted) ∙ ap (map tree) same ∙ sym (values_seen tree g (map numbered pairs)) ∙ ap (values_of g) (seen_pairs tree pairs)
 
-pub named_sorted : {V : Type 0} (tree : V → Tree) (names : List (List ℕ)) (sorted pairs : List (Field × V)) (whole : Document) (named : Named) → ((g : ℕ) → values_of g (map with_number sorted) ≡ values_of g (map with_number pairs)) → map (pair_seen tree) pairs ≡ whole
+pub named_sorted : {V : Type 0} (tree : V → Tree) (names : List (List ℕ)) (sorted pairs : List (Field × V)) (whole : Document) (named : Named) → ((g : ℕ) → values_of g (map numbered sorted) ≡ values_of g (map numbered pairs)) → map (pair_seen tree) pairs ≡ whole
     → IsNamed names (map (pair_seen tree) sorted) named → IsNamed names whole named
 named_sorted tree names sorted pairs whole named same is n =
     subst (λ l. IsNamed names l named) is (n.0, grouped_alike (map (pair_seen tree) sorted) (map (pair_seen tree) pairs) n.0 (λ g. values_sorted tree sorted pairs g (same g)) n.1, n.2)

@@ -14,7 +14,7 @@ use Rattle.tv_doc.specs.declared.document.CompactDoc.{CompactDoc}
 use Rattle.tv_builder.specs.declared.heap_pair.HeapPair.{HeapPair}
 use Rattle.tv_doc.specs.Document.{document_of}
 use Rattle.tv_builder.specs.Holds.{ReadsPairs}
-use Rattle.tv_heap.specs.Reads.{ShortText, ContentStands, ReadsTree, ReadsElements, ReadsEntries}
+use Rattle.tv_heap.specs.Reads.{ShortText, ContentStands, Reads, ReadsElements, ReadsEntries}
 use Rattle.tv_heap.specs.TypeCode.{type_code}
 use Rattle.tv_builder.proofs.Documents.{document_length}
 
@@ -104,7 +104,7 @@ entries_fewer heap parent whole (entry k t es) p =
     omega (arith, ap length p.joined, ap length q.joined, length-append (vnum p.at) p.rest, length-append (vnum q.at) q.rest, entries_fewer heap parent q.rest es q.others)
 
 mutual
-  pub reads_valid : (heap : List ℕ) (code at : ℕ) (t : Tree) → ReadsTree heap code at t → IsValue t
+  pub reads_valid : (heap : List ℕ) (code at : ℕ) (t : Tree) → Reads heap code at t → IsValue t
   reads_valid heap code at (leaf l) p = content_valid heap at (content l) p.1
   reads_valid heap code at (array ts) p =
       (omega (arith, p.1.stands.stands.fits, elements_fewer heap at p.1.list ts p.1.children), elements_valid heap at p.1.list ts p.1.children)

@@ -1,7 +1,7 @@
 -- Additions to a document, one after the other, refused ones among them.
 --
 -- The words of the public contracts:
--- `AreKept`: where each of these additions is called on what the one before it left, the accepted_pairs pairs are kept, as `Keeps` says. `document`: they
+-- `AreKept`: where each of these additions is called on what the one before it left, the accepted pairs are kept, as `Keeps` says. `document`: they
 -- stand in order behind the pairs that were there. `heap`: what stood in the heap stands there still. `places`: the pairs that were there have the
 -- same places, and the new places come behind them.
 -- `AddsAsBuilt`: the first document is made by one addition, the second by a builder. `added_bytes`: the addition writes the tree behind the heap.
@@ -21,33 +21,33 @@ pub record Addition : Type 0 where
   pub tree : Tree
   pub answer : Result (Unit {0}) AddError
 
--- its pair, where it was accepted_pairs
+-- its pair, where it was accepted
 abbrev pub pair_of : Result (Unit {0}) AddError → ℕ → Tree → Document
 pair_of (Ok x) field tree = (field, tree) ∷ []
 pair_of (Err e) field tree = []
 
--- the pairs of those that were accepted_pairs, in order
-abbrev pub accepted_pairs : List Addition → Document
-accepted_pairs [] = []
-accepted_pairs (a ∷ rest) = pair_of a.answer a.field a.tree ++ accepted_pairs rest
+-- the pairs of those that were accepted, in order
+abbrev pub accepted : List Addition → Document
+accepted [] = []
+accepted (a ∷ rest) = pair_of a.answer a.field a.tree ++ accepted rest
 
 -- each is called on what the one before it left
 abbrev pub Runs : List Addition → CompactDoc → CompactDoc → Type 0
 Runs [] old new = IsUnchanged old new
 Runs (a ∷ rest) old new = (mid : CompactDoc) × Adds old mid a.field a.tree a.answer × Runs rest mid new
 
--- the accepted_pairs pairs stand behind those that were there, and the old heap and the old places are prefixes of the new ones
+-- the accepted pairs stand behind those that were there, and the old heap and the old places are prefixes of the new ones
 pub record Keeps (pairs : Document) (old new : CompactDoc) : Type 0 where
   pub document : document_of new ≡ document_of old ++ pairs
   pub heap : IsPrefix (heap_of old) (heap_of new)
   pub added_places : List (ℕ × ℕ)
   pub places : places_of new ≡ places_of old ++ added_places
 
--- where each addition is called on what the one before it left, the accepted_pairs pairs are kept
+-- where each addition is called on what the one before it left, the accepted pairs are kept
 abbrev pub AreKept : List Addition → CompactDoc → CompactDoc → Type 0
-AreKept additions old new = Runs additions old new → Keeps (accepted_pairs additions) old new
+AreKept additions old new = Runs additions old new → Keeps (accepted additions) old new
 
--- the addition is accepted_pairs
+-- the addition is accepted
 abbrev pub Accepts : CompactDoc → CompactDoc → ℕ → Tree → Type 0
 Accepts old new field t = Adds old new field t (Ok (tt {0}))
 

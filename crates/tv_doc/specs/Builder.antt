@@ -37,7 +37,7 @@ use Rattle.tv_doc.specs.Document.{document_of, heap_of, pairs_of}
 use Rattle.tv_doc.specs.declared.builder.TreeBuilder.{TreeBuilder}
 use Rattle.tv_doc.specs.declared.document.CompactDoc.{CompactDoc}
 use Rattle.tv_format.specs.Tree.{Document, Leaf, Tree, leaf}
-use Rattle.tv_heap.specs.Reads.{ReadsTree}
+use Rattle.tv_heap.specs.Reads.{Reads}
 use Rattle.tv_heap.specs.Room.{document_room}
 use Rattle.tv_heap.specs.TypeCode.{type_code}
 
@@ -128,5 +128,5 @@ pub record BuildsBytes (old new : TreeBuilder) (bs : List ℕ) (r : Result (Unit
 pub record HoldsState (b : TreeBuilder) : Type 0 where
   pub bytes : heap_so_far b ≡ state_heap (kept_heap b) (state_of b)
   pub reads : (t : Tree) → state_of b ≡ complete t
-      → let place = tree_place (kept_heap b) t in ∥ ReadsTree (heap_so_far b) (type_code place.value_type) place.address t ∥₁
+      → let place = tree_place (kept_heap b) t in ∥ Reads (heap_so_far b) (type_code place.value_type) place.address t ∥₁
   pub room : length (heap_so_far b) ≤ document_room (built b) + written (state_of b)

@@ -54,8 +54,8 @@ abbrev pub IsFull : CompactDoc → Tree → Type 0
 IsFull d t = held.IsFull d.values t
 
 -- when which refusal comes
-abbrev pub RefusesAddition : CompactDoc → Tree → AddError → Type 0
-RefusesAddition d t e = held.RefusesAddition d.values t e
+abbrev pub Refuses : CompactDoc → Tree → AddError → Type 0
+Refuses d t e = held.Refuses d.values t e
 
 -- what an addition returns, and what it leaves
 abbrev pub Adds : {T : Type 0} → CompactDoc → CompactDoc → ℕ → Tree → Result T AddError → Type 0

@@ -15,8 +15,8 @@ pub record IsGrouped {A : Type 0} (pairs : List (ℕ × A)) (groups : List (ℕ 
   pub is : groups ≡ map (λ field. (field, values_of field pairs)) fields
 
 -- a field's number beside its value or its values
-abbrev pub with_number : {A : Type 0} → Field × A → ℕ × A
-with_number pair = (pair.0.id, pair.1)
+abbrev pub numbered : {A : Type 0} → Field × A → ℕ × A
+numbered pair = (pair.0.id, pair.1)
 
 abbrev pub numbered_all : {A : Type 0} → Field × Vec A Global → ℕ × List A
 numbered_all group = (group.0.id, group.1.items)

@@ -14,14 +14,14 @@ use Rattle.serde_json.specs.Data.{Data, Items, Members}
 use Rattle.serde_json.specs.Read.{read}
 use Rattle.tv_field.specs.Entry.{Entry}
 use Rattle.tv_field.specs.JsonAnswer.{error_of, refusal_of, TakesMemory}
-use Rattle.tv_field.specs.JsonTable.{TableRefusal, Table}
+use Rattle.tv_field.specs.JsonTable.{Refusal, Table}
 use Rattle.tv_schema.specs.Schema.{field_named}
 use Rattle.tv_field.specs.declared.field_type.FieldType.{FieldType}
 use Rattle.tv_field.specs.declared.json_value.JsonRefusal.{JsonRefusal}
 use Rattle.tv_format.specs.Tree.{Tree, Document}
 use Rattle.tv_doc.specs.Additions.{AddsEach, IsEmpty, IsMade}
 use Rattle.tv_doc.specs.Belongs.{Belongs}
-use Rattle.tv_doc.specs.Document.{document_of, RefusesAddition}
+use Rattle.tv_doc.specs.Document.{document_of, Refuses}
 use Rattle.tv_doc.specs.InPlace.{in_place}
 use Rattle.tv_builder.specs.declared.add_error.AddError.{AddError}
 use Rattle.tv_builder.specs.declared.add_error.AddError.TheVariants as add_error
@@ -69,30 +69,30 @@ Pairs (v ∷ vs) pairs =
 -- Where memory is refused for a value: for its pair, for which the heap has room; for what the field's type makes of it before, see
 -- `TakesMemory`; or for the error of a value that the type refuses, which has a copy of the field's name.
 pub data IsShort (v : FieldJson) (d : CompactDoc) : Type 0 where
-  for_pair : (tree : Tree) → Table v.field_type v.value (Ok tree) → RefusesAddition d tree add_error.Memory → IsShort v d
+  for_pair : (tree : Tree) → Table v.field_type v.value (Ok tree) → Refuses d tree add_error.Memory → IsShort v d
   for_value : TakesMemory v.field_type v.value → IsShort v d
-  for_error : (refusal : TableRefusal) → Table v.field_type v.value (Err refusal) → IsShort v d
+  for_error : (refusal : Refusal) → Table v.field_type v.value (Err refusal) → IsShort v d
 
 -- the tree that the table has for the value is refused by this document
 abbrev pub RefusesRow : FieldJson → CompactDoc → AddError → Type 0
-RefusesRow v d e = (tree : Tree) × Table v.field_type v.value (Ok tree) × RefusesAddition d tree e
+RefusesRow v d e = (tree : Tree) × Table v.field_type v.value (Ok tree) × Refuses d tree e
 
 -- Why a value is refused: by the table, or by the document that holds what was added before.
 abbrev pub IsRefused : FieldJson → CompactDoc → DocParsingError → Type 0
 IsRefused v d (error.ValueError name e) =
-    (refusal : TableRefusal) × (string_bytes name ≡ v.name) × (error_of e ≡ Some refusal) × Table v.field_type v.value (Err refusal)
+    (refusal : Refusal) × (string_bytes name ≡ v.name) × (error_of e ≡ Some refusal) × Table v.field_type v.value (Err refusal)
 IsRefused v d error.HeapFull = RefusesRow v d add_error.HeapFull
 IsRefused v d (error.InvalidJson text) = ⊥
 IsRefused v d error.Memory = IsShort v d
 
 -- the error for a value that the type of the field with this name refuses for this
 abbrev pub IsValueError : List ℕ → Data → JsonRefusal → DocParsingError → Type 0
-IsValueError name d r (error.ValueError copy e) = (refusal : TableRefusal) × (string_bytes copy ≡ name) × (error_of e ≡ Some refusal) × (refusal_of d r ≡ Some refusal)
+IsValueError name d r (error.ValueError copy e) = (refusal : Refusal) × (string_bytes copy ≡ name) × (error_of e ≡ Some refusal) × (refusal_of d r ≡ Some refusal)
 IsValueError name d r error.Memory = Unit {0}
 IsValueError name d r e = ⊥
 
 -- the trees that the table has for these values are added, one after the other
-pub record AddsFieldValues (values : List FieldJson) (old new : CompactDoc) : Type 0 where
+pub record AddsPairs (values : List FieldJson) (old new : CompactDoc) : Type 0 where
   pub pairs : Document
   pub by_table : Pairs values pairs
   pub adds : AddsEach pairs old new
@@ -104,22 +104,22 @@ pub record StopsAt (values : List FieldJson) (old : CompactDoc) (e : DocParsingE
   pub behind : List FieldJson
   pub joined : values ≡ before ++ at ∷ behind
   pub mid : CompactDoc
-  pub added : AddsFieldValues before old mid
+  pub added : AddsPairs before old mid
   pub refused : IsRefused at mid e
 
 -- all are added, or the first refusal is returned
 abbrev pub AddsValues : {T : Type 0} → List FieldJson → CompactDoc → CompactDoc → Result T DocParsingError → Type 0
-AddsValues values old new (Ok x) = AddsFieldValues values old new
+AddsValues values old new (Ok x) = AddsPairs values old new
 AddsValues values old new (Err e) = StopsAt values old e
 
 -- the first refusal of these values by a document that was empty
-abbrev pub RefusesValues : List FieldJson → DocParsingError → Type 0
-RefusesValues values e = (start : CompactDoc) × IsEmpty start × StopsAt values start e
+abbrev pub StopsEarly : List FieldJson → DocParsingError → Type 0
+StopsEarly values e = (start : CompactDoc) × IsEmpty start × StopsAt values start e
 
 -- the document has just the pairs of these values, which were added to an empty one, or the first refusal is returned
 abbrev pub MakesDocument : List FieldJson → Result CompactDoc DocParsingError → Type 0
 MakesDocument values (Ok made) = Pairs values (document_of made) × IsMade made
-MakesDocument values (Err e) = RefusesValues values e
+MakesDocument values (Err e) = StopsEarly values e
 
 -- the error for a text that is no JSON object
 abbrev pub IsInvalidJson : List ℕ → DocParsingError → Type 0
@@ -138,7 +138,7 @@ Parses schema text (Ok made) =
     (members : Members) × (read text ≡ Some (json.object members)) × MakesDocument (object_values schema members) (Ok made)
 Parses schema text (Err (error.InvalidJson start)) = IsNoObject text × (string_bytes start ≡ take_chars 20 text)
 Parses schema text (Err error.Memory) = Unit {0}
-Parses schema text (Err e) = (members : Members) × (read text ≡ Some (json.object members)) × RefusesValues (object_values schema members) e
+Parses schema text (Err e) = (members : Members) × (read text ≡ Some (json.object members)) × StopsEarly (object_values schema members) e
 
 -- ---- the words of the public contracts
 

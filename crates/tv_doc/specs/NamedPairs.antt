@@ -16,7 +16,7 @@ use Rattle.tv_format.specs.Tree.{Tree, Document}
 use Rattle.tv_doc.specs.AdditionError.{addition_error}
 use Rattle.tv_doc.specs.Additions.{AddsEach, IsEmpty, IsMade}
 use Rattle.tv_doc.specs.Belongs.{Belongs}
-use Rattle.tv_doc.specs.Document.{document_of, RefusesAddition}
+use Rattle.tv_doc.specs.Document.{document_of, Refuses}
 use Rattle.tv_doc.specs.FieldValues.{values_of}
 use Rattle.tv_doc.specs.Named.{IsNamed, Named, NamedNestWithin, field_names}
 use Rattle.tv_heap.specs.Room.{document_room}
@@ -46,21 +46,21 @@ pub record StopsAtPair (pairs : Document) (old : CompactDoc) (e : AddError) : Ty
   pub joined : pairs ≡ before ++ at ∷ behind
   pub mid : CompactDoc
   pub added : AddsEach before old mid
-  pub refused : RefusesAddition mid at.1 e
+  pub refused : Refuses mid at.1 e
 
 -- all pairs are added, or the first refusal is returned
-abbrev pub AddsNamedPairs : {T : Type 0} → Document → CompactDoc → CompactDoc → Result T AddError → Type 0
-AddsNamedPairs pairs old new (Ok x) = AddsEach pairs old new
-AddsNamedPairs pairs old new (Err e) = StopsAtPair pairs old e
+abbrev pub AddsPairs : {T : Type 0} → Document → CompactDoc → CompactDoc → Result T AddError → Type 0
+AddsPairs pairs old new (Ok x) = AddsEach pairs old new
+AddsPairs pairs old new (Err e) = StopsAtPair pairs old e
 
 -- the first refusal of these pairs by a document that was empty
-abbrev pub RefusesPairs : Document → AddError → Type 0
-RefusesPairs pairs e = (start : CompactDoc) × IsEmpty start × StopsAtPair pairs start e
+abbrev pub StopsEarly : Document → AddError → Type 0
+StopsEarly pairs e = (start : CompactDoc) × IsEmpty start × StopsAtPair pairs start e
 
 -- the document has just these pairs, which were added to an empty one, or the first refusal is returned
 abbrev pub MakesPairs : Document → Result CompactDoc DocParsingError → Type 0
 MakesPairs pairs (Ok made) = (document_of made ≡ pairs) × IsMade made
-MakesPairs pairs (Err e) = (refused : AddError) × (e ≡ addition_error refused) × RefusesPairs pairs refused
+MakesPairs pairs (Err e) = (refused : AddError) × (e ≡ addition_error refused) × StopsEarly pairs refused
 
 -- what is made of values by name, whose fields are those of the schema
 pub record ConvertsNamed (schema : List Entry) (named : Named) (r : Result CompactDoc DocParsingError) : Type 0 where

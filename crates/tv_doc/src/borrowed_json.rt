@@ -7,7 +7,7 @@ ghost use Rattle.tv_borrowed.specs.BorrowedData.{data_of, members_data};
 ghost use Rattle.tv_doc.specs.AddsRow.{AddsRow};
 ghost use Rattle.tv_doc.specs.Additions.{Accepts};
 ghost use Rattle.tv_doc.specs.Document.{IsUnchanged};
-ghost use Rattle.tv_doc.specs.JsonObject.{AddsFieldValues, Parses, object_values};
+ghost use Rattle.tv_doc.specs.JsonObject.{AddsPairs, Parses, object_values};
 ghost use Rattle.tv_doc.specs.JsonObject.{values_at};
 ghost use Rattle.tv_schema.specs.Schema.{field_named};
 ghost use Rattle.tv_value.specs.Lent.{leaf_of};
@@ -119,7 +119,7 @@ fn add_one(
 ) -> Option<()>
     requires { met_float ≡ false → has_float (data_of json.now) ≡ false }
     ensures { OnSome result
-        (AddsFieldValues
+        (AddsPairs
         (record {
           name = name.now;
           field = field.id;
@@ -152,7 +152,7 @@ fn add_borrowed(
     requires place { place < 2 ^ 63 }
     requires floats { met_float ≡ false → has_float (data_of json.now) ≡ false }
     ensures { OnSome result
-        (AddsFieldValues
+        (AddsPairs
         (values_at schema.now name.now (field_named schema.now name.now) (data_of json.now))
         document.old document.new) }
 {
@@ -185,7 +185,7 @@ fn add_members(
 ) -> Option<()>
     requires { met_float ≡ false → members_have_float (members_data members.now) ≡ false }
     ensures { OnSome result
-        (AddsFieldValues (object_values schema.now (members_data members.now)) document.old document.new) }
+        (AddsPairs (object_values schema.now (members_data members.now)) document.old document.new) }
 {
     for (place, (key, json)) in members.iter().enumerate() {
         add_borrowed(

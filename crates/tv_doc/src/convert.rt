@@ -4,7 +4,7 @@ ghost use Rattle.std.specs.Prelude.{map};
 ghost use Rattle.tv_value.specs.Owned.{owned_tree};
 ghost use Rattle.tv_schema.specs.Schema.{field_named};
 ghost use Rattle.tv_doc.specs.Named.{named_of};
-ghost use Rattle.tv_doc.specs.NamedPairs.{AddsNamedPairs, ConvertsNamed, pairs_of_field};
+ghost use Rattle.tv_doc.specs.NamedPairs.{AddsPairs, ConvertsNamed, pairs_of_field};
 
 use crate::add_error::AddError;
 use crate::doc_parsing_error::DocParsingError;
@@ -22,7 +22,7 @@ fn add_values(
     field: Field,
     values: &[OwnedValue],
 ) -> Result<(), AddError>
-    ensures { AddsNamedPairs (map (λ t. (field.id, t)) (map owned_tree values.now)) document.old
+    ensures { AddsPairs (map (λ t. (field.id, t)) (map owned_tree values.now)) document.old
         document.new result }
 {
     for value in values {
@@ -38,7 +38,7 @@ fn add_named(
     name: &str,
     values: &Vec<OwnedValue>,
 ) -> Result<(), AddError>
-    ensures { AddsNamedPairs
+    ensures { AddsPairs
         (pairs_of_field (field_named schema.now name.now) (map owned_tree values.now.items))
         document.old document.new result }
 {

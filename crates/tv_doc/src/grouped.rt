@@ -2,7 +2,7 @@
 
 ghost use Rattle.std.specs.Prelude.{◌≡◌, ℕ, map, OnOk, IfOk};
 ghost use Rattle.std.specs.List.Sorted.{IsNonDecreasingBy};
-ghost use Rattle.tv_doc.specs.Grouped.{IsGrouped, with_number, numbered_all};
+ghost use Rattle.tv_doc.specs.Grouped.{IsGrouped, numbered, numbered_all};
 ghost use Rattle.tv_doc.specs.FieldValues.{values_of};
 
 use std::alloc::{AllocError, Global};
@@ -10,10 +10,10 @@ use tv_value::field::Field;
 
 // Sorts pairs by their fields. The values of a field stay in order. The only error is that memory was refused.
 pub(crate) fn sort_pairs<V: Drop>(pairs: &mut Vec<(Field, V)>) -> Result<(), AllocError>
-    ensures ascending { OnOk result (IsNonDecreasingBy (λ pair. pair.0.id) pairs.new.items) }
+    ensures rises { OnOk result (IsNonDecreasingBy (λ pair. pair.0.id) pairs.new.items) }
     ensures same { (field : ℕ)
-        → values_of field (map with_number pairs.new.items)
-        ≡ values_of field (map with_number pairs.old.items) }
+        → values_of field (map numbered pairs.new.items)
+        ≡ values_of field (map numbered pairs.old.items) }
 {
     pairs.sort_by_key(|pair| pair.0.field_id())?;
     Ok(())
@@ -26,7 +26,7 @@ fn group_sorted<V: Drop>(
 ) -> Result<Vec<(Field, Vec<V>)>, AllocError>
     requires { IsNonDecreasingBy (λ pair. pair.0.id) pairs.items }
     ensures { IfOk result
-        (λ groups. IsGrouped (map with_number pairs.items) (map numbered_all groups.items)) }
+        (λ groups. IsGrouped (map numbered pairs.items) (map numbered_all groups.items)) }
 {
     let mut groups = Vec::new(alloc);
     let mut sorted = pairs.into_iter();
@@ -54,7 +54,7 @@ pub fn grouped<V: Drop>(
     mut pairs: Vec<(Field, V)>,
 ) -> Result<Vec<(Field, Vec<V>)>, AllocError>
     ensures { IfOk result
-        (λ groups. IsGrouped (map with_number pairs.items) (map numbered_all groups.items)) }
+        (λ groups. IsGrouped (map numbered pairs.items) (map numbered_all groups.items)) }
 {
     sort_pairs(&mut pairs)?;
     group_sorted(alloc, pairs)

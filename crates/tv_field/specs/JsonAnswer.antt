@@ -9,7 +9,7 @@ use Rattle.tv_value.specs.Owned.{owned_tree}
 use Rattle.tv_format.specs.Tree.{Tree, leaf}
 use Rattle.tv_value.specs.declared.leaf.ReferenceValueLeaf.{ReferenceValueLeaf}
 use Rattle.tv_value.specs.declared.owned_value.OwnedValue.{OwnedValue}
-use Rattle.tv_field.specs.JsonTable.{TableRefusal, overflow, mismatch, bad_text, bad_base64, float_number, Outcome}
+use Rattle.tv_field.specs.JsonTable.{Refusal, overflow, mismatch, bad_text, bad_base64, float_number, Outcome}
 use Rattle.tv_field.specs.declared.field_type.FieldType.{FieldType}
 use Rattle.tv_field.specs.declared.field_type.FieldType.TheVariants as types
 use Rattle.tv_field.specs.declared.json_value.JsonRefusal.{JsonRefusal}
@@ -25,16 +25,16 @@ lent_tree (lent.Leaf l) = leaf (leaf_of l)
 lent_tree (lent.Object o) = lent_json_tree o.json.now
 
 -- a text, and of another value none
-abbrev pub string_in : Data → List ℕ
-string_in (json.string s) = s
-string_in d = []
+abbrev pub text_in : Data → List ℕ
+text_in (json.string s) = s
+text_in d = []
 
 -- what a refusal says of the value, where it isn't for want of memory
-abbrev pub refusal_of : Data → JsonRefusal → Option TableRefusal
+abbrev pub refusal_of : Data → JsonRefusal → Option Refusal
 refusal_of d (refusal.Overflow expected) = Some (overflow expected.now d)
 refusal_of d (refusal.Mismatch expected) = Some (mismatch expected.now d)
 refusal_of d (refusal.Parse cause) = Some (bad_text cause d)
-refusal_of d refusal.InvalidBase64 = Some (bad_base64 (string_in d))
+refusal_of d refusal.InvalidBase64 = Some (bad_base64 (text_in d))
 refusal_of d refusal.FloatNumber = Some float_number
 refusal_of d refusal.Memory = None
 
@@ -44,7 +44,7 @@ Lends d P (Ok found) = P (Ok (lent_tree found))
 Lends d P (Err e) = IfSome (refusal_of d e) (λ r. P (Err r))
 
 -- the same of an error that holds the value
-abbrev pub error_of : ValueParsingError → Option TableRefusal
+abbrev pub error_of : ValueParsingError → Option Refusal
 error_of (error.OverflowError expected value) = Some (overflow expected.now (view value))
 error_of (error.TypeError expected value) = Some (mismatch expected.now (view value))
 error_of (error.ParseError cause value) = Some (bad_text cause (view value))
@@ -53,9 +53,9 @@ error_of error.FloatNumber = Some float_number
 error_of error.Memory = None
 
 -- and of a value that is owned
-abbrev pub AnswersOwned : (Outcome → Type 0) → Result OwnedValue ValueParsingError → Type 0
-AnswersOwned P (Ok made) = P (Ok (owned_tree made))
-AnswersOwned P (Err e) = IfSome (error_of e) (λ r. P (Err r))
+abbrev pub Answers : (Outcome → Type 0) → Result OwnedValue ValueParsingError → Type 0
+Answers P (Ok made) = P (Ok (owned_tree made))
+Answers P (Err e) = IfSome (error_of e) (λ r. P (Err r))
 
 -- and of a value without children that is lent
 abbrev pub LendsLeaf : Data → (Outcome → Type 0) → Result ReferenceValueLeaf JsonRefusal → Type 0
@@ -63,17 +63,17 @@ LendsLeaf d P (Ok found) = P (Ok (leaf (leaf_of found)))
 LendsLeaf d P (Err e) = IfSome (refusal_of d e) (λ r. P (Err r))
 
 -- the error says what the refusal says of the value
-abbrev pub RefusesJson : Data → JsonRefusal → ValueParsingError → Type 0
-RefusesJson d r e = error_of e ≡ refusal_of d r
+abbrev pub Refuses : Data → JsonRefusal → ValueParsingError → Type 0
+Refuses d r e = error_of e ≡ refusal_of d r
 
 -- a text; and what a field of texts prints, or reads with its tokens
-abbrev pub IsJsonString : Data → Type 0
-IsJsonString (json.string s) = Unit {0}
-IsJsonString json.null = ⊥
-IsJsonString (json.boolean b) = ⊥
-IsJsonString (json.number n) = ⊥
-IsJsonString (json.array ds) = ⊥
-IsJsonString (json.object ms) = ⊥
+abbrev pub IsText : Data → Type 0
+IsText (json.string s) = Unit {0}
+IsText json.null = ⊥
+IsText (json.boolean b) = ⊥
+IsText (json.number n) = ⊥
+IsText (json.array ds) = ⊥
+IsText (json.object ms) = ⊥
 
 abbrev pub IsNumberOrObject : Data → Type 0
 IsNumberOrObject (json.number n) = Unit {0}
@@ -87,8 +87,8 @@ IsNumberOrObject (json.array ds) = ⊥
 -- of bytes.
 abbrev pub TakesMemory : FieldType → Data → Type 0
 TakesMemory (types.Str options) d = IsNumberOrObject d
-TakesMemory (types.Facet options) d = IsJsonString d
-TakesMemory (types.Bytes options) d = IsJsonString d
+TakesMemory (types.Facet options) d = IsText d
+TakesMemory (types.Bytes options) d = IsText d
 TakesMemory (types.U64 options) d = ⊥
 TakesMemory (types.I64 options) d = ⊥
 TakesMemory (types.Bool options) d = ⊥

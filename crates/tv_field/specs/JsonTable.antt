@@ -27,25 +27,25 @@ use Rattle.tv_field.specs.declared.value_parsing_error.ParseCause.{ParseCause}
 use Rattle.tv_field.specs.declared.value_parsing_error.ParseCause.TheVariants as cause
 
 -- why a value is refused: mostly what is wanted, and the value that stands there
-pub data TableRefusal : Type 0 where
-  overflow : List ℕ → Data → TableRefusal
-  mismatch : List ℕ → Data → TableRefusal
-  bad_text : ParseCause → Data → TableRefusal
-  bad_base64 : List ℕ → TableRefusal
-  float_number : TableRefusal
+pub data Refusal : Type 0 where
+  overflow : List ℕ → Data → Refusal
+  mismatch : List ℕ → Data → Refusal
+  bad_text : ParseCause → Data → Refusal
+  bad_base64 : List ℕ → Refusal
+  float_number : Refusal
 
 abbrev pub Outcome : Type 0
-Outcome = Result Tree TableRefusal
+Outcome = Result Tree Refusal
 
 abbrev pub mismatched : List ℕ → Data → Outcome
 mismatched expected d = Err (mismatch expected d)
 
 -- the leaf where the fact holds, and else the refusal
-abbrev pub Chooses : Type 0 → Leaf → TableRefusal → Outcome → Type 0
+abbrev pub Chooses : Type 0 → Leaf → Refusal → Outcome → Type 0
 Chooses P l r o = (P × (o ≡ Ok (leaf l))) ⊎ (¬ P × (o ≡ Err r))
 
 -- a leaf, if there is one, and else the refusal
-abbrev pub leaf_or : Option Leaf → TableRefusal → Outcome
+abbrev pub leaf_or : Option Leaf → Refusal → Outcome
 leaf_or (Some l) r = Ok (leaf l)
 leaf_or None r = Err r
 

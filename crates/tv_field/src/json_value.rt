@@ -8,7 +8,7 @@ ghost use Rattle.tv_field.specs.JsonTable.{SignedText, UnsignedText, signed_numb
 ghost use Rattle.tv_field.specs.JsonTable.{boolean_text, date_row, date_text, facet_row, bytes_row};
 ghost use Rattle.tv_field.specs.JsonTable.{json_row, IpRow, IpText, leaf_or, mismatch};
 ghost use Rattle.tv_field.specs.JsonTokens.{tokenized_in};
-ghost use Rattle.tv_field.specs.JsonAnswer.{Lends, LendsLeaf, AnswersOwned, TakesMemory, IsJsonString};
+ghost use Rattle.tv_field.specs.JsonAnswer.{Lends, LendsLeaf, Answers, TakesMemory, IsText};
 ghost use Rattle.tv_field.specs.JsonAnswer.{IsNumberOrObject};
 
 use crate::field_type::FieldType;
@@ -116,7 +116,7 @@ fn lend_decimal<'a>(
 fn lend_signed(json: &Number) -> Result<ReferenceValueLeaf<'static>, JsonRefusal>
     ensures row { LendsLeaf (number (number_view json.now))
         (λ o. o ≡ signed_number (number_view json.now)) result }
-    ensures no_memory { ¬ IsErrOf result JsonRefusal.Memory }
+    ensures spares { ¬ IsErrOf result JsonRefusal.Memory }
 {
     match json.as_i64() {
         Some(signed) => Ok(ReferenceValueLeaf::I64(signed)),
@@ -127,7 +127,7 @@ fn lend_signed(json: &Number) -> Result<ReferenceValueLeaf<'static>, JsonRefusal
 // A value of a field of numbers from 0 to 2^64 - 1.
 fn lend_u64(coerce: bool, json: &Value) -> Result<ReferenceValueLeaf<'static>, JsonRefusal>
     ensures row { LendsLeaf (data_of json.now) (U64Row coerce (data_of json.now)) result }
-    ensures no_memory { ¬ IsErrOf result JsonRefusal.Memory }
+    ensures spares { ¬ IsErrOf result JsonRefusal.Memory }
 {
     match json {
         Value::String(_) if !coerce => Err(JsonRefusal::Mismatch("a u64")),
@@ -146,7 +146,7 @@ fn lend_u64(coerce: bool, json: &Value) -> Result<ReferenceValueLeaf<'static>, J
 // A value of a field of numbers from -2^63 to 2^63 - 1.
 fn lend_i64(coerce: bool, json: &Value) -> Result<ReferenceValueLeaf<'static>, JsonRefusal>
     ensures row { LendsLeaf (data_of json.now) (I64Row coerce (data_of json.now)) result }
-    ensures no_memory { ¬ IsErrOf result JsonRefusal.Memory }
+    ensures spares { ¬ IsErrOf result JsonRefusal.Memory }
 {
     match json {
         Value::String(_) if !coerce => Err(JsonRefusal::Mismatch("a i64")),
@@ -163,7 +163,7 @@ fn lend_i64(coerce: bool, json: &Value) -> Result<ReferenceValueLeaf<'static>, J
 fn lend_bool(coerce: bool, json: &Value) -> Result<ReferenceValueLeaf<'static>, JsonRefusal>
     ensures row { LendsLeaf (data_of json.now)
         (λ o. o ≡ bool_row coerce (data_of json.now)) result }
-    ensures no_memory { ¬ IsErrOf result JsonRefusal.Memory }
+    ensures spares { ¬ IsErrOf result JsonRefusal.Memory }
 {
     match json {
         Value::Bool(truth) => Ok(ReferenceValueLeaf::Bool(*truth)),
@@ -180,7 +180,7 @@ fn lend_bool(coerce: bool, json: &Value) -> Result<ReferenceValueLeaf<'static>, 
 #[inline(always)]
 pub fn lend_date_text(text: &str) -> Result<ReferenceValueLeaf<'static>, JsonRefusal>
     ensures row { LendsLeaf (string text.now) (λ o. o ≡ date_row (string text.now)) result }
-    ensures no_memory { ¬ IsErrOf result JsonRefusal.Memory }
+    ensures spares { ¬ IsErrOf result JsonRefusal.Memory }
 {
     match DateTime::from_rfc3339(text) {
         Ok(date) => Ok(ReferenceValueLeaf::Date(date)),
@@ -192,7 +192,7 @@ pub fn lend_date_text(text: &str) -> Result<ReferenceValueLeaf<'static>, JsonRef
 // A value of a field of dates: a whole number is a signed number, and no date.
 fn lend_date(json: &Value) -> Result<ReferenceValueLeaf<'static>, JsonRefusal>
     ensures row { LendsLeaf (data_of json.now) (λ o. o ≡ date_row (data_of json.now)) result }
-    ensures no_memory { ¬ IsErrOf result JsonRefusal.Memory }
+    ensures spares { ¬ IsErrOf result JsonRefusal.Memory }
 {
     match json {
         Value::String(text) => lend_date_text(text.as_str()),
@@ -221,7 +221,7 @@ fn lend_facet<'a>(
     scratch: &'a mut JsonScratch,
 ) -> Result<ReferenceValueLeaf<'a>, JsonRefusal>
     ensures row { LendsLeaf (data_of json.now) (λ o. o ≡ facet_row (data_of json.now)) result }
-    ensures memory { IsErrOf result JsonRefusal.Memory → IsJsonString (data_of json.now) }
+    ensures memory { IsErrOf result JsonRefusal.Memory → IsText (data_of json.now) }
 {
     match json {
         Value::String(path) => lend_facet_text(path.as_str(), scratch),
@@ -252,7 +252,7 @@ fn lend_bytes<'a>(
     scratch: &'a mut JsonScratch,
 ) -> Result<ReferenceValueLeaf<'a>, JsonRefusal>
     ensures row { LendsLeaf (data_of json.now) (λ o. o ≡ bytes_row (data_of json.now)) result }
-    ensures memory { IsErrOf result JsonRefusal.Memory → IsJsonString (data_of json.now) }
+    ensures memory { IsErrOf result JsonRefusal.Memory → IsText (data_of json.now) }
 {
     match json {
         Value::String(text) => lend_bytes_text(text.as_str(), scratch),
@@ -265,7 +265,7 @@ fn lend_bytes<'a>(
 #[inline(always)]
 pub fn lend_ip_addr_text(text: &str) -> Result<ReferenceValueLeaf<'static>, JsonRefusal>
     ensures row { LendsLeaf (string text.now) (IpRow (string text.now)) result }
-    ensures no_memory { ¬ IsErrOf result JsonRefusal.Memory }
+    ensures spares { ¬ IsErrOf result JsonRefusal.Memory }
 {
     match text.parse::<IpAddr>() {
         Ok(address) => Ok(ReferenceValueLeaf::IpAddr(address.into_ipv6_addr())),
@@ -276,7 +276,7 @@ pub fn lend_ip_addr_text(text: &str) -> Result<ReferenceValueLeaf<'static>, Json
 // A value of a field of IP addresses.
 fn lend_ip_addr(json: &Value) -> Result<ReferenceValueLeaf<'static>, JsonRefusal>
     ensures row { LendsLeaf (data_of json.now) (IpRow (data_of json.now)) result }
-    ensures no_memory { ¬ IsErrOf result JsonRefusal.Memory }
+    ensures spares { ¬ IsErrOf result JsonRefusal.Memory }
 {
     match json {
         Value::String(text) => lend_ip_addr_text(text.as_str()),
@@ -288,7 +288,7 @@ fn lend_ip_addr(json: &Value) -> Result<ReferenceValueLeaf<'static>, JsonRefusal
 // A value of a field of JSON objects.
 fn lend_object(json: &Value) -> Result<LentFieldValue<'_>, JsonRefusal>
     ensures row { Lends (data_of json.now) (λ o. o ≡ json_row (data_of json.now)) result }
-    ensures no_memory { ¬ IsErrOf result JsonRefusal.Memory }
+    ensures spares { ¬ IsErrOf result JsonRefusal.Memory }
 {
     match json {
         Value::Object(_) if has_float(json) => Err(JsonRefusal::FloatNumber),
@@ -341,11 +341,11 @@ fn lend_str<'a>(
 }
 
 impl JsonRefusal {
-    ghost use Rattle.tv_field.specs.JsonAnswer.{RefusesJson};
+    ghost use Rattle.tv_field.specs.JsonAnswer.{Refuses};
 
     /// The same as an error that holds the value that was refused. (Not in tantivy.)
     pub fn with_json(self, alloc: Global, json: Value) -> ValueParsingError
-        ensures { RefusesJson (data_of json) self result }
+        ensures { Refuses (data_of json) self result }
     {
         match self {
             JsonRefusal::Overflow(expected) => ValueParsingError::OverflowError { expected, json },
@@ -402,7 +402,7 @@ impl FieldType {
         alloc: Global,
         json: Value,
     ) -> Result<OwnedValue, ValueParsingError>
-        ensures { AnswersOwned (Table self.now (data_of json)) result }
+        ensures { Answers (Table self.now (data_of json)) result }
     {
         let mut scratch = JsonScratch::new(alloc);
         let made = match self.lend_json(&json, &mut scratch) {

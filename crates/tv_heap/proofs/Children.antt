@@ -11,9 +11,9 @@ use Rattle.tv_format.specs.Tree.{text, Tree, leaf, array, object, elements, entr
 use Rattle.tv_format.specs.TreeCode.{coded_text}
 use Rattle.tv_heap.specs.declared.value_type.ValueType.{ValueType}
 use Rattle.tv_heap.specs.declared.value_type.ValueType.TheVariants as type
-use Rattle.tv_heap.specs.Held.{Held, same_held, ReadAsElements, HeldElements, ReadAsEntries, HeldEntries}
+use Rattle.tv_heap.specs.Held.{Held, same_held, AreElements, HeldElements, AreEntries, HeldEntries}
 use Rattle.tv_heap.specs.Lent.{GivesChild}
-use Rattle.tv_heap.specs.Reads.{Stands, ShortText, ReadsTree, ReadsElements, ReadsEntries}
+use Rattle.tv_heap.specs.Reads.{Stands, ShortText, Reads, ReadsElements, ReadsEntries}
 use Rattle.tv_heap.specs.TypeCode.{type_code}
 use Rattle.tv_heap.proofs.Shapes.{same_elements, same_entries}
 
@@ -29,7 +29,7 @@ Gives list r = (t : ValueType) (at : ℕ) (rest : List ℕ) → at < 2 ^ 32 → 
 abbrev Typed : ℕ → Type 0
 Typed code = (t : ValueType) × (code ≡ type_code t)
 
-tree_typed : (heap : List ℕ) (code at : ℕ) (t : Tree) → ReadsTree heap code at t → Typed code
+tree_typed : (heap : List ℕ) (code at : ℕ) (t : Tree) → Reads heap code at t → Typed code
 tree_typed heap code at (leaf l) r = (type.Leaf (type_of l), r.0)
 tree_typed heap code at (array ts) r = (type.Array, r.0)
 tree_typed heap code at (object es) r = (type.Object, r.0)
@@ -41,8 +41,8 @@ pub record FirstTree (heap rest : List ℕ) (code at : ℕ) (ts : List Tree) : T
   pub tree : Tree
   pub others : List Tree
   pub is : ts ≡ tree ∷ others
-  pub reads : ∥ ReadsTree heap code at tree ∥₁
-  pub left : ∥ ReadAsElements heap rest others ∥₁
+  pub reads : ∥ Reads heap code at tree ∥₁
+  pub left : ∥ AreElements heap rest others ∥₁
 
 -- a child that reads is found
 pub record FoundChild (x : Found) (code at : ℕ) (rest : List ℕ) : Type 0 where
@@ -50,21 +50,21 @@ pub record FoundChild (x : Found) (code at : ℕ) (rest : List ℕ) : Type 0 whe
   pub same_at : at ≡ x.1
   pub same_rest : rest ≡ x.2.now
 
-found_child : (heap list : List ℕ) (x : Found) (code at : ℕ) (rest : List ℕ) (t : Tree) → Gives list (Some x) → ReadsTree heap code at t → at < 2 ^ 32 → list ≡ code ∷ (vnum at ++ rest) → FoundChild x code at rest
+found_child : (heap list : List ℕ) (x : Found) (code at : ℕ) (rest : List ℕ) (t : Tree) → Gives list (Some x) → Reads heap code at t → at < 2 ^ 32 → list ≡ code ∷ (vnum at ++ rest) → FoundChild x code at rest
 found_child heap list x code at rest t gives reads fits joined =
     let v = tree_typed heap code at t reads in
     let g = gives v.0 at rest fits (joined ∙ ap (λ c. c ∷ (vnum at ++ rest)) v.1) in
     record { same_code = v.1 ∙ sym g.0; same_at = sym g.1; same_rest = sym g.2 }
 
-none_found : {A : Type 0} (heap list : List ℕ) (code at : ℕ) (rest : List ℕ) (t : Tree) → Gives list None → ReadsTree heap code at t → at < 2 ^ 32 → list ≡ code ∷ (vnum at ++ rest) → A
+none_found : {A : Type 0} (heap list : List ℕ) (code at : ℕ) (rest : List ℕ) (t : Tree) → Gives list None → Reads heap code at t → at < 2 ^ 32 → list ≡ code ∷ (vnum at ++ rest) → A
 none_found heap list code at rest t gives reads fits joined =
     let v = tree_typed heap code at t reads in
     absurd (gives v.0 at rest fits (joined ∙ ap (λ c. c ∷ (vnum at ++ rest)) v.1))
 
-read_as : (heap : List ℕ) (code at to_code to_at : ℕ) (t : Tree) → code ≡ to_code → at ≡ to_at → ReadsTree heap code at t → ReadsTree heap to_code to_at t
-read_as heap code at to_code to_at t e f r = subst (λ z. ReadsTree heap to_code z t) f (subst (λ z. ReadsTree heap z at t) e r)
+read_as : (heap : List ℕ) (code at to_code to_at : ℕ) (t : Tree) → code ≡ to_code → at ≡ to_at → Reads heap code at t → Reads heap to_code to_at t
+read_as heap code at to_code to_at t e f r = subst (λ z. Reads heap to_code z t) f (subst (λ z. Reads heap z at t) e r)
 
-pub first_tree : (heap list : List ℕ) (ts : List Tree) → ∥ ReadAsElements heap list ts ∥₁ → (x : Found) → Gives list (Some x) → (list ≡ [] → Some x ≡ None) → FirstTree heap x.2.now (type_code x.0) x.1 ts
+pub first_tree : (heap list : List ℕ) (ts : List Tree) → ∥ AreElements heap list ts ∥₁ → (x : Found) → Gives list (Some x) → (list ≡ [] → Some x ≡ None) → FirstTree heap x.2.now (type_code x.0) x.1 ts
 first_tree heap list [] h x gives none = absurd (∥∥₁_elim h ⊥_prop (λ p. none-some _ (sym (none p.1))))
 first_tree heap list (t ∷ ts) h x gives none = record {
   tree = t;
@@ -80,7 +80,7 @@ first_tree heap list (t ∷ ts) h x gives none = record {
       (p.0, subst (λ z. ReadsElements heap p.0 z (elements ts)) f.same_rest q.others));
 }
 
-pub no_tree : (heap list : List ℕ) (ts : List Tree) → ∥ ReadAsElements heap list ts ∥₁ → Gives list None → ts ≡ []
+pub no_tree : (heap list : List ℕ) (ts : List Tree) → ∥ AreElements heap list ts ∥₁ → Gives list None → ts ≡ []
 no_tree heap list [] h gives = refl
 no_tree heap list (t ∷ ts) h gives = absurd (∥∥₁_elim h ⊥_prop (λ p. let q = p.1 in none_found heap list q.code q.at q.rest t gives q.reads q.fits q.joined))
 
@@ -102,8 +102,8 @@ pub record FirstEntry (heap rest : List ℕ) (key_at code at : ℕ) (es : List (
   pub others : List (List ℕ × Tree)
   pub is : es ≡ (key, tree) ∷ others
   pub stands : ∥ Stands heap key_at (λ w. ShortText key w) ∥₁
-  pub reads : ∥ ReadsTree heap code at tree ∥₁
-  pub left : ∥ ReadAsEntries heap rest others ∥₁
+  pub reads : ∥ Reads heap code at tree ∥₁
+  pub left : ∥ AreEntries heap rest others ∥₁
 
 abbrev OneLeft : List ℕ → List ℕ → List ℕ → Tree → List (List ℕ × Tree) → Type 0
 OneLeft heap list k t es = (parent : ℕ) × ReadsEntries heap parent list (entry k t (entries es))
@@ -111,8 +111,8 @@ OneLeft heap list k t es = (parent : ℕ) × ReadsEntries heap parent list (entr
 -- what the two calls of `child_at` give
 pub record TwoChildren (heap : List ℕ) (x y : Found) (k : List ℕ) (t : Tree) (es : List (List ℕ × Tree)) : Type 0 where
   pub stands : Stands heap x.1 (λ w. ShortText k w)
-  pub reads : ReadsTree heap (type_code y.0) y.1 t
-  pub left : ReadAsEntries heap y.2.now es
+  pub reads : Reads heap (type_code y.0) y.1 t
+  pub left : AreEntries heap y.2.now es
 
 two_children : (heap list : List ℕ) (k : List ℕ) (t : Tree) (es : List (List ℕ × Tree)) (x y : Found) → Gives list (Some x) → Gives x.2.now (Some y) → OneLeft heap list k t es → TwoChildren heap x y k t es
 two_children heap list k t es x y gx gy p =
@@ -126,7 +126,7 @@ two_children heap list k t es x y gx gy p =
       left = (p.0, subst (λ z. ReadsEntries heap p.0 z (entries es)) g.same_rest r.others);
     }
 
-pub first_entry : (heap list : List ℕ) (es : List (List ℕ × Tree)) → ∥ ReadAsEntries heap list es ∥₁ → (x y : Found) → Gives list (Some x) → (list ≡ [] → Some x ≡ None) → Gives x.2.now (Some y)
+pub first_entry : (heap list : List ℕ) (es : List (List ℕ × Tree)) → ∥ AreEntries heap list es ∥₁ → (x y : Found) → Gives list (Some x) → (list ≡ [] → Some x ≡ None) → Gives x.2.now (Some y)
     → FirstEntry heap y.2.now x.1 (type_code y.0) y.1 es
 first_entry heap list [] h x y gx none gy = absurd (∥∥₁_elim h ⊥_prop (λ p. none-some _ (sym (none p.1))))
 first_entry heap list (e ∷ es) h x y gx none gy = record {
@@ -139,13 +139,13 @@ first_entry heap list (e ∷ es) h x y gx none gy = record {
   left = ∥∥₁_map h (λ p. (two_children heap list e.0 e.1 es x y gx gy p).left);
 }
 
-pub no_entry : (heap list : List ℕ) (es : List (List ℕ × Tree)) → ∥ ReadAsEntries heap list es ∥₁ → Gives list None → es ≡ []
+pub no_entry : (heap list : List ℕ) (es : List (List ℕ × Tree)) → ∥ AreEntries heap list es ∥₁ → Gives list None → es ≡ []
 no_entry heap list [] h gives = refl
 no_entry heap list (e ∷ es) h gives =
     absurd (∥∥₁_elim h ⊥_prop (λ p. let q = p.1 in none_found heap list q.code q.at q.rest (leaf (text e.0)) gives q.reads q.fits q.joined))
 
 -- a key has a value behind it
-pub no_value : (heap list : List ℕ) (es : List (List ℕ × Tree)) → ∥ ReadAsEntries heap list es ∥₁ → (x : Found) → Gives list (Some x) → Gives x.2.now None → es ≡ []
+pub no_value : (heap list : List ℕ) (es : List (List ℕ × Tree)) → ∥ AreEntries heap list es ∥₁ → (x : Found) → Gives list (Some x) → Gives x.2.now None → es ≡ []
 no_value heap list [] h x gx gy = refl
 no_value heap list (e ∷ es) h x gx gy =
     absurd (∥∥₁_elim h ⊥_prop (λ p.

@@ -3,7 +3,7 @@ use Rattle.std.proofs.Common.{◌≡◌, ℕ, ◌≤◌, List, ◌++◌, ◌∙�
 use Rattle.tv_format.specs.Content.{Content, no_content, truth_content}
 use Rattle.tv_format.specs.Leaves.{content}
 use Rattle.tv_format.specs.Tree.{Tree, leaf, array, object, Elements, no_elements, element, Entries, no_entries, entry}
-use Rattle.tv_heap.specs.Reads.{Stands, ContentStands, ReadsTree, ReadsElements, ReadsEntries}
+use Rattle.tv_heap.specs.Reads.{Stands, ContentStands, Reads, ReadsElements, ReadsEntries}
 
 pub stands_grown : (old new more : List ℕ) (at : ℕ) (P : List ℕ → Type 0) → new ≡ old ++ more → Stands old at P → Stands new at P
 stands_grown old new more at P e p = record {
@@ -21,7 +21,7 @@ content_grown old new more at (truth_content b) e p = p
 content_grown old new more at _ e p = stands_grown old new more at _ e p
 
 mutual
-  pub grown : (old new more : List ℕ) (code at : ℕ) (t : Tree) → new ≡ old ++ more → ReadsTree old code at t → ReadsTree new code at t
+  pub grown : (old new more : List ℕ) (code at : ℕ) (t : Tree) → new ≡ old ++ more → Reads old code at t → Reads new code at t
   grown old new more code at (leaf l) e p = (p.0, content_grown old new more at (content l) e p.1)
   grown old new more code at (array ts) e p =
       (p.0, record { list = p.1.list; stands = stands_grown old new more at _ e p.1.stands; children = grown_elements old new more at at p.1.list ts e (omega arith) p.1.children })

@@ -22,9 +22,9 @@ use Rattle.tv_format.specs.TreeCode.{coded_text}
 use Rattle.tv_format.specs.Version.{Version, entry_total}
 use Rattle.tv_heap.specs.declared.encoded.Encoded.{Encoded}
 use Rattle.tv_heap.specs.declared.encoded.Encoded.TheVariants as held
-use Rattle.tv_heap.specs.Encoded.{HoldsTokens, IsTokenized, SaysTokenized, is_last, last_byte_count}
+use Rattle.tv_heap.specs.Encoded.{AreTokens, IsTokenized, SaysTokenized, is_last, last_bytes}
 use Rattle.tv_heap.specs.Held.{Held, HeldElements, HeldEntries}
-use Rattle.tv_heap.specs.Reads.{Stands, ShortSized, ShortTokenized, ContentStands, LeafStands, ReadsTree, ReadsElements, ReadsEntries}
+use Rattle.tv_heap.specs.Reads.{Stands, ShortSized, ShortTokenized, ContentStands, LeafStands, Reads, ReadsElements, ReadsEntries}
 use Rattle.tv_format.specs.LeavesLaws.{one_heap_code, small_heap_code}
 use Rattle.tv_heap.specs.ReadsLaws.{leaf_type_small}
 use Rattle.tv_format.proofs.Leaves.{agree_tokenized}
@@ -34,17 +34,17 @@ use Rattle.tv_heap.proofs.Shapes.{GivesSized, children_are, entries_are}
 
 -- ---- the last bytes of numbers
 
-pub last_more : (b : ℕ) (bs : List ℕ) → 128 ≤ b → last_byte_count (b ∷ bs) ≡ suc (last_byte_count bs)
+pub last_more : (b : ℕ) (bs : List ℕ) → 128 ≤ b → last_bytes (b ∷ bs) ≡ suc (last_bytes bs)
 last_more b bs h = ap length (cond-true (is_last b) (b ∷ filter is_last bs) (filter is_last bs) (ap not (le-ltb b 128 h)))
 
-pub last_same : (b : ℕ) (bs : List ℕ) → b < 128 → last_byte_count (b ∷ bs) ≡ last_byte_count bs
+pub last_same : (b : ℕ) (bs : List ℕ) → b < 128 → last_bytes (b ∷ bs) ≡ last_bytes bs
 last_same b bs h = ap length (cond-false (is_last b) (b ∷ filter is_last bs) (filter is_last bs) (ap not (lt-ltb b 128 h)))
 
-last_append : (a b : List ℕ) → last_byte_count (a ++ b) ≡ last_byte_count a + last_byte_count b
+last_append : (a b : List ℕ) → last_bytes (a ++ b) ≡ last_bytes a + last_bytes b
 last_append a b = ap length (filter-append is_last a b) ∙ length-append (filter is_last a) (filter is_last b)
 
 -- there are no more than bytes
-pub last_at_most : (bs : List ℕ) → last_byte_count bs ≤ length bs
+pub last_at_most : (bs : List ℕ) → last_bytes bs ≤ length bs
 last_at_most [] = omega arith
 last_at_most (b ∷ bs) =
     elim (cases_lt b 128) [
@@ -52,23 +52,23 @@ last_at_most (b ∷ bs) =
       | inr p ↦ omega (arith, last_more b bs p, last_at_most bs)
     ]
 
-groups_last : {bytes : List ℕ} {n : ℕ} → Groups bytes n → last_byte_count bytes ≡ 1
+groups_last : {bytes : List ℕ} {n : ℕ} → Groups bytes n → last_bytes bytes ≡ 1
 groups_last (last {n = n} p) = last_more (n + 128) [] (omega arith)
 groups_last (more {b = b} {bytes = bs} p g) = last_same b bs p ∙ groups_last g
 
-number_last : (n : ℕ) → n < 2 ^ 32 → last_byte_count (vnum n) ≡ 1
+number_last : (n : ℕ) → n < 2 ^ 32 → last_bytes (vnum n) ≡ 1
 number_last n h = groups_last (vnum_encodes n (omega (arith, h))).groups
 
-code_small : (heap : List ℕ) (code at : ℕ) (t : Tree) → ReadsTree heap code at t → code < 128
+code_small : (heap : List ℕ) (code at : ℕ) (t : Tree) → Reads heap code at t → code < 128
 code_small heap code at (leaf l) r = omega (arith, r.0, leaf_type_small l)
 code_small heap code at (array ts) r = omega (arith, r.0)
 code_small heap code at (object es) r = omega (arith, r.0)
 
-child_last : (code at : ℕ) (rest whole : List ℕ) → code < 128 → at < 2 ^ 32 → whole ≡ code ∷ (vnum at ++ rest) → last_byte_count whole ≡ suc (last_byte_count rest)
-child_last code at rest whole small fits joined = omega (arith, ap last_byte_count joined, last_same code (vnum at ++ rest) small, last_append (vnum at) rest, number_last at fits)
+child_last : (code at : ℕ) (rest whole : List ℕ) → code < 128 → at < 2 ^ 32 → whole ≡ code ∷ (vnum at ++ rest) → last_bytes whole ≡ suc (last_bytes rest)
+child_last code at rest whole small fits joined = omega (arith, ap last_bytes joined, last_same code (vnum at ++ rest) small, last_append (vnum at) rest, number_last at fits)
 
-elements_last : (heap : List ℕ) (parent : ℕ) (whole : List ℕ) (ts : Elements) → ReadsElements heap parent whole ts → last_byte_count whole ≡ element_count ts
-elements_last heap parent whole no_elements r = ap last_byte_count r
+elements_last : (heap : List ℕ) (parent : ℕ) (whole : List ℕ) (ts : Elements) → ReadsElements heap parent whole ts → last_bytes whole ≡ element_count ts
+elements_last heap parent whole no_elements r = ap last_bytes r
 elements_last heap parent whole (element t ts) r =
     child_last r.code r.at r.rest whole (code_small heap r.code r.at t r.reads) r.fits r.joined ∙ ap suc (elements_last heap parent r.rest ts r.others)
 
@@ -132,7 +132,7 @@ text_bytes heap at x is _ e p = absurd (cc)
 pub leaf_short : (t : LeafType) (l : Leaf) (code : ℕ) (behind : List ℕ) → type_of l ≡ t → code ≡ store_code t → behind ≡ short_content (content l) → code ∷ behind ≡ short_leaf l
 leaf_short t l code behind same is e = λ i. (is ∙ ap store_code (sym same)) i ∷ e i
 
-leaf_tree_bytes : (v : Version) (heap : List ℕ) (code at : ℕ) (u : Tree) (t : LeafType) (x : List ℕ) → code ≡ heap_code t → ((l : Leaf) → type_of l ≡ t → LeafStands heap at l → x ≡ short_leaf l) → ReadsTree heap code at u → x ≡ short v u
+leaf_tree_bytes : (v : Version) (heap : List ℕ) (code at : ℕ) (u : Tree) (t : LeafType) (x : List ℕ) → code ≡ heap_code t → ((l : Leaf) → type_of l ≡ t → LeafStands heap at l → x ≡ short_leaf l) → Reads heap code at u → x ≡ short v u
 leaf_tree_bytes v heap code at (leaf l) t x e is r = is l (one_heap_code (type_of l) t (sym r.0 ∙ e)) r.1
 leaf_tree_bytes v heap code at _ t x e is r = absurd (omega (arith, r.0, e, small_heap_code t))
 
@@ -141,24 +141,24 @@ leaf_bytes v heap code at h t x e is = ∥∥₁_elim h.1 (Coded-set coded_text 
 
 -- ---- lists
 
-pub array_bytes : (v : Version) (heap : List ℕ) (code at : ℕ) (t : Tree) → ∥ ReadsTree heap code at t ∥₁ → code ≡ 12 → (list : List ℕ) → GivesSized heap at list → (n : ℕ) → n ≡ last_byte_count list → (x : HeldElements heap list)
+pub array_bytes : (v : Version) (heap : List ℕ) (code at : ℕ) (t : Tree) → ∥ Reads heap code at t ∥₁ → code ≡ 12 → (list : List ℕ) → GivesSized heap at list → (n : ℕ) → n ≡ last_bytes list → (x : HeldElements heap list)
     → 12 ∷ (vnum n ++ short_elements v (elements x.0)) ≡ short v t
 array_bytes v heap code at (array ts) h e list is n counted x =
     let same = children_are heap code at ts h e list is x in
     ∥∥₁_elim h (Coded-set coded_text (12 ∷ (vnum n ++ short_elements v (elements x.0))) (short v (array ts)))
     (λ r.
-    let number : n ≡ element_count ts = counted ∙ ap last_byte_count (is r.1.list r.1.stands) ∙ elements_last heap at r.1.list ts r.1.children in
+    let number : n ≡ element_count ts = counted ∙ ap last_bytes (is r.1.list r.1.stands) ∙ elements_last heap at r.1.list ts r.1.children in
     λ i. 12 ∷ (vnum (number i) ++ short_elements v (same i)))
 array_bytes v heap code at (leaf l) h e list is n counted x = absurd (∥∥₁_elim h ⊥_prop (λ r. omega (arith, r.0, leaf_type_small l)))
 array_bytes v heap code at (object es) h e list is n counted x = absurd (∥∥₁_elim h ⊥_prop (λ r. omega (arith, r.0)))
 
-pub object_bytes : (v : Version) (heap : List ℕ) (code at : ℕ) (t : Tree) → ∥ ReadsTree heap code at t ∥₁ → code ≡ 11 → (list : List ℕ) → GivesSized heap at list → (n : ℕ) → n ≡ last_byte_count list / 2 → (x : HeldEntries heap list)
+pub object_bytes : (v : Version) (heap : List ℕ) (code at : ℕ) (t : Tree) → ∥ Reads heap code at t ∥₁ → code ≡ 11 → (list : List ℕ) → GivesSized heap at list → (n : ℕ) → n ≡ last_bytes list / 2 → (x : HeldEntries heap list)
     → 13 ∷ (vnum (entry_total v n) ++ short_entries v (entries x.0)) ≡ short v t
 object_bytes v heap code at (object es) h e list is n counted x =
     let same = entries_are heap code at es h e list is x in
     ∥∥₁_elim h (Coded-set coded_text (13 ∷ (vnum (entry_total v n) ++ short_entries v (entries x.0))) (short v (object es)))
     (λ r.
-    let all : last_byte_count list ≡ 2 * entry_count es = ap last_byte_count (is r.1.list r.1.stands) ∙ elements_last heap at r.1.list (flat es) (flat_reads heap at r.1.list es r.1.children) ∙ flat_count es in
+    let all : last_bytes list ≡ 2 * entry_count es = ap last_bytes (is r.1.list r.1.stands) ∙ elements_last heap at r.1.list (flat es) (flat_reads heap at r.1.list es r.1.children) ∙ flat_count es in
     let number : n ≡ entry_count es = omega (arith, counted, all) in
     λ i. 13 ∷ (vnum (entry_total v (number i)) ++ short_entries v (same i)))
 object_bytes v heap code at (leaf l) h e list is n counted x = absurd (∥∥₁_elim h ⊥_prop (λ r. omega (arith, r.0, leaf_type_small l)))
@@ -166,7 +166,7 @@ object_bytes v heap code at (array ts) h e list is n counted x = absurd (∥∥�
 
 -- ---- texts with their tokens
 
-are_tokens_prop : (c : Content) → IsProp (HoldsTokens c)
+are_tokens_prop : (c : Content) → IsProp (AreTokens c)
 are_tokens_prop (tokens_content t ts) x y = refl
 are_tokens_prop _ x y = absurd x
 
@@ -174,7 +174,7 @@ tokenized_prop : (t : Tree) → IsProp (IsTokenized t)
 tokenized_prop (leaf l) = are_tokens_prop (content l)
 tokenized_prop _ = λ x y. absurd x
 
-leaf_tree_tokens : (heap : List ℕ) (code at : ℕ) (u : Tree) (t : LeafType) (S : Type 0) → code ≡ heap_code t → ((l : Leaf) → type_of l ≡ t → S ↔ HoldsTokens (content l)) → ReadsTree heap code at u → S ↔ IsTokenized u
+leaf_tree_tokens : (heap : List ℕ) (code at : ℕ) (u : Tree) (t : LeafType) (S : Type 0) → code ≡ heap_code t → ((l : Leaf) → type_of l ≡ t → S ↔ AreTokens (content l)) → Reads heap code at u → S ↔ IsTokenized u
 leaf_tree_tokens heap code at (leaf l) t S e is r = is l (one_heap_code (type_of l) t (sym r.0 ∙ e))
 leaf_tree_tokens heap code at _ t S e is r = absurd (omega (arith, r.0, e, small_heap_code t))
 
@@ -182,14 +182,14 @@ says_prop : (x : Encoded) → IsProp (SaysTokenized x)
 says_prop (held.Tokenized content) x y = refl
 says_prop _ x y = absurd x
 
-pub leaf_tokens : (heap : List ℕ) (code at : ℕ) (h : Held heap code at) (t : LeafType) (x : Encoded) → code ≡ heap_code t → ((l : Leaf) → type_of l ≡ t → SaysTokenized x ↔ HoldsTokens (content l)) → SaysTokenized x ↔ IsTokenized h.0
+pub leaf_tokens : (heap : List ℕ) (code at : ℕ) (h : Held heap code at) (t : LeafType) (x : Encoded) → code ≡ heap_code t → ((l : Leaf) → type_of l ≡ t → SaysTokenized x ↔ AreTokens (content l)) → SaysTokenized x ↔ IsTokenized h.0
 leaf_tokens heap code at h t x e is = (
   λ s. ∥∥₁_elim h.1 (tokenized_prop h.0) (λ r. (leaf_tree_tokens heap code at h.0 t (SaysTokenized x) e is r).0 s),
   λ s. ∥∥₁_elim h.1 (says_prop x) (λ r. (leaf_tree_tokens heap code at h.0 t (SaysTokenized x) e is r).1 s),
 )
 
 -- lists are no texts with tokens
-not_tokens : (heap : List ℕ) (code at : ℕ) (t : Tree) → 10 < code → ReadsTree heap code at t → IsTokenized t → ⊥
+not_tokens : (heap : List ℕ) (code at : ℕ) (t : Tree) → 10 < code → Reads heap code at t → IsTokenized t → ⊥
 not_tokens heap code at (leaf l) e r is = omega (arith, r.0, e, leaf_type_small l)
 not_tokens heap code at _ e r is = is
 

@@ -3,14 +3,14 @@ use Rattle.std.proofs.Common.{◌≡◌, ◌≢◌, ℕ, ◌^◌, ◌<◌, List,
 use Rattle.std.proofs.lemmas.List.{append-nil}
 use Rattle.tv_base.specs.Number.{vnum}
 use Rattle.tv_format.specs.Tree.{Tree, elements}
-use Rattle.tv_heap.specs.Reads.{ReadsTree, ReadsElements}
+use Rattle.tv_heap.specs.Reads.{Reads, ReadsElements}
 
 -- one place more behind those of others
 pub place_added : (start places list mid new more : List ℕ) → places ≡ start ++ list → mid ≡ places → new ≡ mid ++ more → new ≡ start ++ (list ++ more)
 place_added start places list mid new more e same added = added ∙ ap (λ z. z ++ more) (same ∙ e) ∙ append_assoc start list more
 
 -- one child more
-pub elements_push : (heap : List ℕ) (parent : ℕ) (list : List ℕ) (done : List Tree) (code at : ℕ) (t : Tree) → ReadsElements heap parent list (elements done) → ReadsTree heap code at t → at < 2 ^ 32
+pub elements_push : (heap : List ℕ) (parent : ℕ) (list : List ℕ) (done : List Tree) (code at : ℕ) (t : Tree) → ReadsElements heap parent list (elements done) → Reads heap code at t → at < 2 ^ 32
     → (code ≢ 0 → code ≢ 9 → at < parent) → ReadsElements heap parent (list ++ (code ∷ vnum at)) (elements (done ++ t ∷ []))
 elements_push heap parent list [] code at t p r fits below = record {
   code = code;

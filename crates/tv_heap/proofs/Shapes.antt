@@ -11,7 +11,7 @@ use Rattle.tv_format.specs.Tree.{Leaf, Tree, leaf, array, object, Elements, no_e
 use Rattle.tv_format.specs.TreeCode.{coded_tree}
 use Rattle.tv_heap.specs.Held.{Held, HeldElements, HeldElements-prop, HeldEntries, HeldEntries-prop}
 use Rattle.tv_heap.specs.Lent.{HasText}
-use Rattle.tv_heap.specs.Reads.{Stands, ShortSized, ShortText, ContentStands, LeafStands, ReadsTree, ReadsElements, ReadsEntries}
+use Rattle.tv_heap.specs.Reads.{Stands, ShortSized, ShortText, ContentStands, LeafStands, Reads, ReadsElements, ReadsEntries}
 use Rattle.tv_format.specs.LeavesLaws.{form_of_content, one_heap_code, small_heap_code}
 use Rattle.tv_heap.specs.ReadsLaws.{leaf_type_small}
 
@@ -21,7 +21,7 @@ use Rattle.tv_heap.specs.ReadsLaws.{leaf_type_small}
 of_form : (t : LeafType) (l : Leaf) → type_of l ≡ t → form_of (content l) ≡ form t
 of_form t l same = form_of_content l ∙ ap form same
 
-leaf_tree : (heap : List ℕ) (code at : ℕ) (u : Tree) (t : LeafType) (x : Leaf) → code ≡ heap_code t → ((l : Leaf) → type_of l ≡ t → LeafStands heap at l → x ≡ l) → ReadsTree heap code at u → leaf x ≡ u
+leaf_tree : (heap : List ℕ) (code at : ℕ) (u : Tree) (t : LeafType) (x : Leaf) → code ≡ heap_code t → ((l : Leaf) → type_of l ≡ t → LeafStands heap at l → x ≡ l) → Reads heap code at u → leaf x ≡ u
 leaf_tree heap code at (leaf l) t x e is r = ap leaf (is l (one_heap_code (type_of l) t (sym r.0 ∙ e)) r.1)
 leaf_tree heap code at _ t x e is r = absurd (omega (arith, r.0, e, small_heap_code t))
 
@@ -33,7 +33,7 @@ text_held : (heap : List ℕ) (at : ℕ) (c : Content) → form_of c ≡ forms.T
 text_held heap at (text_content s) e p = (s, p)
 text_held heap at _ e p = absurd (cc)
 
-text_stands : (heap : List ℕ) (code at : ℕ) (u : Tree) (t : LeafType) → code ≡ heap_code t → form t ≡ forms.Text → ReadsTree heap code at u → (s : List ℕ) × Stands heap at (λ w. ShortText s w)
+text_stands : (heap : List ℕ) (code at : ℕ) (u : Tree) (t : LeafType) → code ≡ heap_code t → form t ≡ forms.Text → Reads heap code at u → (s : List ℕ) × Stands heap at (λ w. ShortText s w)
 text_stands heap code at (leaf l) t e f r = text_held heap at (content l) (of_form t l (one_heap_code (type_of l) t (sym r.0 ∙ e)) ∙ f) r.1
 text_stands heap code at _ t e f r = absurd (omega (arith, r.0, e, small_heap_code t))
 
@@ -62,34 +62,34 @@ same_entries heap whole x y = ap (λ p. p.0) (HeldEntries-prop heap whole x y)
 abbrev pub GivesSized : List ℕ → ℕ → List ℕ → Type 0
 GivesSized heap at list = (s : List ℕ) → Stands heap at (λ w. ShortSized s w) → list ≡ s
 
-pub array_list : (heap : List ℕ) (code at : ℕ) (t : Tree) → ∥ ReadsTree heap code at t ∥₁ → code ≡ 12 → (list : List ℕ) → GivesSized heap at list → HeldElements heap list
+pub array_list : (heap : List ℕ) (code at : ℕ) (t : Tree) → ∥ Reads heap code at t ∥₁ → code ≡ 12 → (list : List ℕ) → GivesSized heap at list → HeldElements heap list
 array_list heap code at (array ts) h e list is =
     (element_list ts, ∥∥₁_map h (λ r. (at, subst (λ z. ReadsElements heap at z (elements (element_list ts))) (sym (is r.1.list r.1.stands)) (subst (λ u. ReadsElements heap at r.1.list u) (sym (elements_listed ts)) r.1.children))))
 array_list heap code at (leaf l) h e list is = absurd (∥∥₁_elim h ⊥_prop (λ r. omega (arith, r.0, leaf_type_small l)))
 array_list heap code at (object es) h e list is = absurd (∥∥₁_elim h ⊥_prop (λ r. omega (arith, r.0)))
 
 -- the trees that are left of an array are its own
-pub children_are : (heap : List ℕ) (code at : ℕ) (ts : Elements) → ∥ ReadsTree heap code at (array ts) ∥₁ → code ≡ 12 → (list : List ℕ) → GivesSized heap at list → (x : HeldElements heap list) → elements x.0 ≡ ts
+pub children_are : (heap : List ℕ) (code at : ℕ) (ts : Elements) → ∥ Reads heap code at (array ts) ∥₁ → code ≡ 12 → (list : List ℕ) → GivesSized heap at list → (x : HeldElements heap list) → elements x.0 ≡ ts
 unfolding array_list
 children_are heap code at ts h e list is x = ap elements (same_elements heap list x (array_list heap code at (array ts) h e list is)) ∙ elements_listed ts
 
-pub array_is : (heap : List ℕ) (code at : ℕ) (t : Tree) → ∥ ReadsTree heap code at t ∥₁ → code ≡ 12 → (list : List ℕ) → GivesSized heap at list → (x : HeldElements heap list) → array (elements x.0) ≡ t
+pub array_is : (heap : List ℕ) (code at : ℕ) (t : Tree) → ∥ Reads heap code at t ∥₁ → code ≡ 12 → (list : List ℕ) → GivesSized heap at list → (x : HeldElements heap list) → array (elements x.0) ≡ t
 array_is heap code at (array ts) h e list is x = ap array (children_are heap code at ts h e list is x)
 array_is heap code at (leaf l) h e list is x = absurd (∥∥₁_elim h ⊥_prop (λ r. omega (arith, r.0, leaf_type_small l)))
 array_is heap code at (object es) h e list is x = absurd (∥∥₁_elim h ⊥_prop (λ r. omega (arith, r.0)))
 
-pub object_list : (heap : List ℕ) (code at : ℕ) (t : Tree) → ∥ ReadsTree heap code at t ∥₁ → code ≡ 11 → (list : List ℕ) → GivesSized heap at list → HeldEntries heap list
+pub object_list : (heap : List ℕ) (code at : ℕ) (t : Tree) → ∥ Reads heap code at t ∥₁ → code ≡ 11 → (list : List ℕ) → GivesSized heap at list → HeldEntries heap list
 object_list heap code at (object es) h e list is =
     (entry_list es, ∥∥₁_map h (λ r. (at, subst (λ z. ReadsEntries heap at z (entries (entry_list es))) (sym (is r.1.list r.1.stands)) (subst (λ u. ReadsEntries heap at r.1.list u) (sym (entries_listed es)) r.1.children))))
 object_list heap code at (leaf l) h e list is = absurd (∥∥₁_elim h ⊥_prop (λ r. omega (arith, r.0, leaf_type_small l)))
 object_list heap code at (array ts) h e list is = absurd (∥∥₁_elim h ⊥_prop (λ r. omega (arith, r.0)))
 
 -- the keys and trees that are left of an object are its own
-pub entries_are : (heap : List ℕ) (code at : ℕ) (es : Entries) → ∥ ReadsTree heap code at (object es) ∥₁ → code ≡ 11 → (list : List ℕ) → GivesSized heap at list → (x : HeldEntries heap list) → entries x.0 ≡ es
+pub entries_are : (heap : List ℕ) (code at : ℕ) (es : Entries) → ∥ Reads heap code at (object es) ∥₁ → code ≡ 11 → (list : List ℕ) → GivesSized heap at list → (x : HeldEntries heap list) → entries x.0 ≡ es
 unfolding object_list
 entries_are heap code at es h e list is x = ap entries (same_entries heap list x (object_list heap code at (object es) h e list is)) ∙ entries_listed es
 
-pub object_is : (heap : List ℕ) (code at : ℕ) (t : Tree) → ∥ ReadsTree heap code at t ∥₁ → code ≡ 11 → (list : List ℕ) → GivesSized heap at list → (x : HeldEntries heap list) → object (entries x.0) ≡ t
+pub object_is : (heap : List ℕ) (code at : ℕ) (t : Tree) → ∥ Reads heap code at t ∥₁ → code ≡ 11 → (list : List ℕ) → GivesSized heap at list → (x : HeldEntries heap list) → object (entries x.0) ≡ t
 object_is heap code at (object es) h e list is x = ap object (entries_are heap code at es h e list is x)
 object_is heap code at (leaf l) h e list is x = absurd (∥∥₁_elim h ⊥_prop (λ r. omega (arith, r.0, leaf_type_small l)))
 object_is heap code at (array ts) h e list is x = absurd (∥∥₁_elim h ⊥_prop (λ r. omega (arith, r.0)))

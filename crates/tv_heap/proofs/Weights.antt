@@ -9,7 +9,7 @@ use Rattle.tv_format.specs.Content.{Content, text_content, bytes_content, tokens
 use Rattle.tv_format.specs.Leaves.{content}
 use Rattle.tv_format.specs.Tree.{Leaf, Tree, leaf, array, object, Elements, no_elements, element, Entries, no_entries, entry}
 use Rattle.tv_heap.specs.LeafBytes.{leaf_bytes}
-use Rattle.tv_heap.specs.Reads.{Stands, ContentStands, LeafStands, ReadsTree, ReadsElements, ReadsEntries}
+use Rattle.tv_heap.specs.Reads.{Stands, ContentStands, LeafStands, Reads, ReadsElements, ReadsEntries}
 use Rattle.tv_heap.specs.Room.{leaf_room, room, elements_room, entries_room}
 use Rattle.tv_heap.specs.Weight.{tree_weight, elements_weight, entries_weight}
 use Rattle.tv_heap.proofs.Writes.{sized_length, FitsHeap, content_within}
@@ -31,7 +31,7 @@ leaf_weighs : (heap : List ℕ) (at : ℕ) (l : Leaf) → length heap < 2 ^ 32 �
 leaf_weighs heap at l small h = content_within (content l) (stands_fits heap at (content l) small h)
 
 mutual
-  pub reads_weigh : (heap : List ℕ) (code at : ℕ) (t : Tree) → length heap < 2 ^ 32 → ReadsTree heap code at t → tree_weight t ≤ room t
+  pub reads_weigh : (heap : List ℕ) (code at : ℕ) (t : Tree) → length heap < 2 ^ 32 → Reads heap code at t → tree_weight t ≤ room t
   reads_weigh heap code at (leaf l) small h = leaf_weighs heap at l small h.1
   reads_weigh heap code at (array ts) small h = omega (arith, elements_weigh heap at h.1.list ts small h.1.children)
   reads_weigh heap code at (object es) small h = omega (arith, entries_weigh heap at h.1.list es small h.1.children)

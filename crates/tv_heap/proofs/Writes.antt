@@ -23,7 +23,7 @@ use Rattle.tv_format.specs.Content.{Content, no_content, truth_content, unsigned
 use Rattle.tv_format.specs.Leaves.{type_of, content, heap_code}
 use Rattle.tv_format.specs.declared.leaf_type.LeafType.{LeafType}
 use Rattle.tv_format.specs.Tree.{Token, Leaf, null, boolean, Tree, leaf}
-use Rattle.tv_heap.specs.Reads.{Stands, leaf_type_byte, flag, ContentStands}
+use Rattle.tv_heap.specs.Reads.{Stands, leaf_type, flag, ContentStands}
 use Rattle.tv_heap.specs.LeafBytes.{content_bytes, content_address, leaf_bytes, leaf_address}
 use Rattle.tv_heap.specs.Room.{content_room, leaf_room, token_room}
 use Rattle.tv_heap.specs.Wrote.{Wrote}
@@ -183,7 +183,7 @@ HasBytes no_content = ⊥
 HasBytes (truth_content b) = ⊥
 HasBytes _ = Unit {0}
 
-has_bytes : (l : Leaf) → leaf_type_byte l ≢ 0 → leaf_type_byte l ≢ 9 → HasBytes (content l)
+has_bytes : (l : Leaf) → leaf_type l ≢ 0 → leaf_type l ≢ 9 → HasBytes (content l)
 has_bytes null x y = x refl
 has_bytes (boolean b) x y = y refl
 has_bytes _ x y = tt
@@ -209,7 +209,7 @@ some_bytes (bytes_content bs) h fits = sized_some bs fits
 some_bytes (tokens_content t ts) h fits = omega (arith, tokenized_parts t ts, sized_some t fits.0)
 
 -- a leaf whose bytes were added
-pub wrote_leaf : (old new : List ℕ) (l : Leaf) (at : ℕ) → new ≡ old ++ leaf_bytes l → IsLeaf l → length old + length (leaf_bytes l) < 2 ^ 32 → at ≡ leaf_address (length old) l → Wrote old new (leaf_type_byte l) at (leaf l)
+pub wrote_leaf : (old new : List ℕ) (l : Leaf) (at : ℕ) → new ≡ old ++ leaf_bytes l → IsLeaf l → length old + length (leaf_bytes l) < 2 ^ 32 → at ≡ leaf_address (length old) l → Wrote old new (leaf_type l) at (leaf l)
 wrote_leaf old new l at e valid small is =
     let c = content l in
     let fits : FitsHeap c = bytes_fit c valid (omega arith) in

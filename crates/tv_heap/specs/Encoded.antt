@@ -25,12 +25,12 @@ HasFewEntries (held.Object n members) = n < 2 ^ 63
 HasFewEntries _ = Unit {0}
 
 -- a text with its tokens
-abbrev pub HoldsTokens : Content → Type 0
-HoldsTokens (tokens_content t ts) = Unit {0}
-HoldsTokens _ = ⊥
+abbrev pub AreTokens : Content → Type 0
+AreTokens (tokens_content t ts) = Unit {0}
+AreTokens _ = ⊥
 
 abbrev pub IsTokenized : Tree → Type 0
-IsTokenized (leaf l) = HoldsTokens (content l)
+IsTokenized (leaf l) = AreTokens (content l)
 IsTokenized _ = ⊥
 
 abbrev pub SaysTokenized : Encoded → Type 0
@@ -42,5 +42,5 @@ abbrev pub is_last : ℕ → Bool
 is_last b = not (nat_lt b 128)
 
 -- how many such bytes there are
-abbrev pub last_byte_count : List ℕ → ℕ
-last_byte_count bytes = length (filter is_last bytes)
+abbrev pub last_bytes : List ℕ → ℕ
+last_bytes bytes = length (filter is_last bytes)

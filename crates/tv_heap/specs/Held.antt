@@ -7,12 +7,12 @@ use mathlib.Core.HLevel.{Σ_prop_path}
 use base.Stored.{Coded-set}
 use Rattle.tv_format.specs.Tree.{Tree, elements, element_list, entries, entry_list}
 use Rattle.tv_format.specs.TreeCode.{coded_text, coded_tree}
-use Rattle.tv_heap.specs.Reads.{ReadsTree, ReadsElements, ReadsEntries}
+use Rattle.tv_heap.specs.Reads.{Reads, ReadsElements, ReadsEntries}
 use Rattle.tv_heap.specs.ReadsLaws.{one_tree, one_elements, one_entries}
 
 -- the tree that a type and an address read as
 abbrev pub Held : List ℕ → ℕ → ℕ → Type 0
-Held heap code at = (t : Tree) × ∥ ReadsTree heap code at t ∥₁
+Held heap code at = (t : Tree) × ∥ Reads heap code at t ∥₁
 
 pub Held-prop : (heap : List ℕ) (code at : ℕ) → IsProp (Held heap code at)
 Held-prop heap code at x y =
@@ -23,11 +23,11 @@ pub same_held : (heap : List ℕ) (code at : ℕ) (x y : Held heap code at) → 
 same_held heap code at x y = ap (λ p. p.0) (Held-prop heap code at x y)
 
 -- the trees that are left of a list of children, whoever is their parent
-abbrev pub ReadAsElements : List ℕ → List ℕ → List Tree → Type 0
-ReadAsElements heap whole ts = (parent : ℕ) × ReadsElements heap parent whole (elements ts)
+abbrev pub AreElements : List ℕ → List ℕ → List Tree → Type 0
+AreElements heap whole ts = (parent : ℕ) × ReadsElements heap parent whole (elements ts)
 
 abbrev pub HeldElements : List ℕ → List ℕ → Type 0
-HeldElements heap whole = (ts : List Tree) × ∥ ReadAsElements heap whole ts ∥₁
+HeldElements heap whole = (ts : List Tree) × ∥ AreElements heap whole ts ∥₁
 
 listed_elements : (ts : List Tree) → element_list (elements ts) ≡ ts
 listed_elements [] = refl
@@ -42,11 +42,11 @@ HeldElements-prop heap whole x y =
     Σ_prop_path (λ d. ∥∥₁_prop) (∥∥₁_elim x.1 set (λ p. ∥∥₁_elim y.1 set (λ q. same_list x.0 y.0 (one_elements heap p.0 q.0 whole (elements x.0) (elements y.0) p.1 q.1))))
 
 -- the keys and trees that are left
-abbrev pub ReadAsEntries : List ℕ → List ℕ → List (List ℕ × Tree) → Type 0
-ReadAsEntries heap whole es = (parent : ℕ) × ReadsEntries heap parent whole (entries es)
+abbrev pub AreEntries : List ℕ → List ℕ → List (List ℕ × Tree) → Type 0
+AreEntries heap whole es = (parent : ℕ) × ReadsEntries heap parent whole (entries es)
 
 abbrev pub HeldEntries : List ℕ → List ℕ → Type 0
-HeldEntries heap whole = (es : List (List ℕ × Tree)) × ∥ ReadAsEntries heap whole es ∥₁
+HeldEntries heap whole = (es : List (List ℕ × Tree)) × ∥ AreEntries heap whole es ∥₁
 
 listed_entries : (es : List (List ℕ × Tree)) → entry_list (entries es) ≡ es
 listed_entries [] = refl

@@ -32,11 +32,11 @@ pub record ShortTokenized (content : List ℕ) (tokens : List Token) (whole : Li
   pub tokens_fit : AreTokens tokens
 
 -- the type bytes
-abbrev pub leaf_type_byte : Leaf → ℕ
-leaf_type_byte l = heap_code (type_of l)
+abbrev pub leaf_type : Leaf → ℕ
+leaf_type l = heap_code (type_of l)
 
 abbrev pub tree_type : Tree → ℕ
-tree_type (leaf l) = leaf_type_byte l
+tree_type (leaf l) = leaf_type l
 tree_type (array ts) = 12
 tree_type (object es) = 11
 
@@ -77,18 +77,18 @@ pub record Listed (heap : List ℕ) (at : ℕ) (P : List ℕ → Type 0) : Type 
 
 -- the tree that stands at an address, of the type of this byte
 abbrev mutual
-  pub ReadsTree : List ℕ → ℕ → ℕ → Tree → Type 0
-  ReadsTree heap code at (leaf l) = (code ≡ leaf_type_byte l) × LeafStands heap at l
-  ReadsTree heap code at (array ts) = (code ≡ 12) × Listed heap at (λ b. ReadsElements heap at b ts)
-  ReadsTree heap code at (object es) = (code ≡ 11) × Listed heap at (λ b. ReadsEntries heap at b es)
+  pub Reads : List ℕ → ℕ → ℕ → Tree → Type 0
+  Reads heap code at (leaf l) = (code ≡ leaf_type l) × LeafStands heap at l
+  Reads heap code at (array ts) = (code ≡ 12) × Listed heap at (λ b. ReadsElements heap at b ts)
+  Reads heap code at (object es) = (code ≡ 11) × Listed heap at (λ b. ReadsEntries heap at b es)
 
   pub ReadsElements : List ℕ → ℕ → List ℕ → Elements → Type 0
   ReadsElements heap parent whole no_elements = whole ≡ []
-  ReadsElements heap parent whole (element t ts) = Child parent (λ code at. ReadsTree heap code at t) (λ b. ReadsElements heap parent b ts) whole
+  ReadsElements heap parent whole (element t ts) = Child parent (λ code at. Reads heap code at t) (λ b. ReadsElements heap parent b ts) whole
 
   -- of an entry, the key and then the value
   pub ReadsEntries : List ℕ → ℕ → List ℕ → Entries → Type 0
   ReadsEntries heap parent whole no_entries = whole ≡ []
   ReadsEntries heap parent whole (entry k t es) =
       Child parent (λ code at. (code ≡ 1) × Stands heap at (λ w. ShortText k w))
-      (λ b. Child parent (λ code at. ReadsTree heap code at t) (λ c. ReadsEntries heap parent c es) b) whole
+      (λ b. Child parent (λ code at. Reads heap code at t) (λ c. ReadsEntries heap parent c es) b) whole

@@ -14,7 +14,7 @@ use Rattle.tv_format.specs.Tree.{Token, Leaf, tokenized, Tree, leaf, array, obje
 use Rattle.tv_format.specs.Encoding.{Tokenized}
 use Rattle.tv_format.proofs.Leaves.{agree_tokenized}
 use Rattle.tv_format.proofs.ShortEncodings.{tokenized_of}
-use Rattle.tv_heap.specs.Reads.{Stands, ShortSized, ShortText, ShortTokenized, leaf_type_byte, flag, ContentStands, LeafStands, Child, ReadsTree, ReadsElements, ReadsEntries}
+use Rattle.tv_heap.specs.Reads.{Stands, ShortSized, ShortText, ShortTokenized, leaf_type, flag, ContentStands, LeafStands, Child, Reads, ReadsElements, ReadsEntries}
 
 -- two cuts of one list at one place
 one_place : (b c x y : List ℕ) → length b ≡ length c → b ++ x ≡ c ++ y → x ≡ y
@@ -55,12 +55,12 @@ one_content heap at (bytes_content s) (bytes_content t) e p q = ap bytes_content
 one_content heap at (tokens_content s ss) (tokens_content t ts) e p q = ap content (stands_agree (agree_short_tokenized s t ss ts) p q)
 one_content heap at _ _ e p q = absurd (cc)
 
-pub one_leaf : (heap : List ℕ) (at : ℕ) (l m : Leaf) → leaf_type_byte l ≡ leaf_type_byte m → LeafStands heap at l → LeafStands heap at m → l ≡ m
+pub one_leaf : (heap : List ℕ) (at : ℕ) (l m : Leaf) → leaf_type l ≡ leaf_type m → LeafStands heap at l → LeafStands heap at m → l ≡ m
 one_leaf heap at l m e p q =
     let same = one_heap_code (type_of l) (type_of m) e in
     leaf_of_parts l m same (one_content heap at (content l) (content m) (form_of_content l ∙ ap form same ∙ sym (form_of_content m)) p q)
 
-pub leaf_type_small : (l : Leaf) → leaf_type_byte l < 11
+pub leaf_type_small : (l : Leaf) → leaf_type l < 11
 leaf_type_small l = small_heap_code (type_of l)
 
 -- two children that stand first in one list
@@ -73,7 +73,7 @@ one_child c d m n x y whole f g p q =
     (code, r.1, append_cancel_left (vnum n) x y (ap (λ z. z ++ x) (sym r.0) ∙ left))
 
 mutual
-  pub one_tree : (heap : List ℕ) (code at : ℕ) (t u : Tree) → ReadsTree heap code at t → ReadsTree heap code at u → t ≡ u
+  pub one_tree : (heap : List ℕ) (code at : ℕ) (t u : Tree) → Reads heap code at t → Reads heap code at u → t ≡ u
   one_tree heap code at (leaf l) (leaf m) p q = ap leaf (one_leaf heap at l m (sym p.0 ∙ q.0) p.1 q.1)
   one_tree heap code at (array ts) (array us) p q =
       let e : p.1.list ≡ q.1.list = stands_agree (agree_short _ _) p.1.stands q.1.stands in
@@ -92,7 +92,7 @@ mutual
   one_elements heap a b whole no_elements no_elements p q = refl
   one_elements heap a b whole (element t ts) (element u us) p q =
       let same = one_child p.code q.code p.at q.at p.rest q.rest whole p.fits q.fits p.joined q.joined in
-      let first = one_tree heap q.code q.at t u (subst (λ c. ReadsTree heap c q.at t) same.0 (subst (λ m. ReadsTree heap p.code m t) same.1 p.reads)) q.reads in
+      let first = one_tree heap q.code q.at t u (subst (λ c. Reads heap c q.at t) same.0 (subst (λ m. Reads heap p.code m t) same.1 p.reads)) q.reads in
       let others = one_elements heap a b q.rest ts us (subst (λ r. ReadsElements heap a r ts) same.2 p.others) q.others in
       λ i. element (first i) (others i)
   one_elements heap a b whole no_elements (element u us) p q = let e = sym p ∙ q.joined in absurd (cc)
@@ -103,10 +103,10 @@ mutual
   one_entries heap a b whole (entry k t es) (entry l u fs) p q =
       let same = one_child p.code q.code p.at q.at p.rest q.rest whole p.fits q.fits p.joined q.joined in
       let key : k ≡ l = stands_agree (agree_short_text k l) (subst (λ m. Stands heap m (λ w. ShortText k w)) same.1 p.reads.1) q.reads.1 in
-      let pp = subst (λ r. Child a (λ code at. ReadsTree heap code at t) (λ c. ReadsEntries heap a c es) r) same.2 p.others in
+      let pp = subst (λ r. Child a (λ code at. Reads heap code at t) (λ c. ReadsEntries heap a c es) r) same.2 p.others in
       let qq = q.others in
       let next = one_child pp.code qq.code pp.at qq.at pp.rest qq.rest q.rest pp.fits qq.fits pp.joined qq.joined in
-      let value = one_tree heap qq.code qq.at t u (subst (λ c. ReadsTree heap c qq.at t) next.0 (subst (λ m. ReadsTree heap pp.code m t) next.1 pp.reads)) qq.reads in
+      let value = one_tree heap qq.code qq.at t u (subst (λ c. Reads heap c qq.at t) next.0 (subst (λ m. Reads heap pp.code m t) next.1 pp.reads)) qq.reads in
       let others = one_entries heap a b qq.rest es fs (subst (λ r. ReadsEntries heap a r es) next.2 pp.others) qq.others in
       λ i. entry (key i) (value i) (others i)
   one_entries heap a b whole no_entries (entry l u fs) p q = let e = sym p ∙ q.joined in absurd (cc)

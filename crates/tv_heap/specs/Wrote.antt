@@ -2,7 +2,7 @@
 use Rattle.std.specs.Prelude.{◌≡◌, ◌≢◌, ℕ, ◌<◌, ◌≤◌, ◌^◌, List, ◌++◌, length}
 use Rattle.tv_format.specs.Tree.{Tree}
 use Rattle.tv_heap.specs.Room.{room}
-use Rattle.tv_heap.specs.Reads.{ReadsTree}
+use Rattle.tv_heap.specs.Reads.{Reads}
 use Rattle.tv_heap.specs.Weight.{tree_weight}
 
 -- The old heap is kept as a prefix and grew by the tree's room at most, and by its weight at most, and the tree reads. Unless it is null or a
@@ -12,7 +12,7 @@ pub record Wrote (old new : List ℕ) (code at : ℕ) (t : Tree) : Type 0 where
   pub grows : new ≡ old ++ added
   pub within : length added ≤ room t
   pub weighed : length added ≤ tree_weight t
-  pub reads : ReadsTree new code at t
+  pub reads : Reads new code at t
   pub behind : code ≢ 0 → code ≢ 9 → length old ≤ at
   pub below : code ≢ 0 → code ≢ 9 → at < length new
   pub fits : at < 2 ^ 32

@@ -2,10 +2,10 @@
 
 ghost use Rattle.std.specs.Prelude.{◌≡◌, ℕ, List};
 ghost use Rattle.tv_format.specs.Tree.{Tree};
-ghost use Rattle.tv_heap.specs.Reads.{ReadsTree};
+ghost use Rattle.tv_heap.specs.Reads.{Reads};
 
 /// One type and address reads as one tree at most.
 pub fn places_read_as_one_tree()
-    ensures { (heap : List ℕ) (code at : ℕ) (t u : Tree) → ReadsTree heap code at t
-        → ReadsTree heap code at u → t ≡ u }
+    ensures { (heap : List ℕ) (code at : ℕ) (t u : Tree) → Reads heap code at t
+        → Reads heap code at u → t ≡ u }
 {}

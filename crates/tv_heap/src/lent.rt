@@ -14,7 +14,7 @@ ghost use Rattle.tv_format.specs.Tree.{Token, Leaf, tokenized};
 ghost use Rattle.tv_format.specs.Version.{Version};
 ghost use Rattle.tv_format.specs.declared.leaf_type.Form.TheVariants as forms;
 ghost use Rattle.tv_heap.specs.declared.value_type.ValueType.{ValueType};
-ghost use Rattle.tv_heap.specs.Encoded.{encoded_bytes, last_byte_count, HoldsTokens, HasFewEntries};
+ghost use Rattle.tv_heap.specs.Encoded.{encoded_bytes, last_bytes, AreTokens, HasFewEntries};
 ghost use Rattle.tv_heap.specs.Encoded.{SaysTokenized};
 ghost use Rattle.tv_heap.specs.Lent.{GivesChild, HasText};
 ghost use Rattle.tv_heap.specs.Reads.{Stands, ShortSized, ShortText, ShortTokenized};
@@ -233,7 +233,7 @@ pub fn encoded_at(heap: &[u8], leaf_type: LeafType, address: u32) -> Encoded<'_>
     ensures bytes { (v : Version) (l : Leaf) → type_of l ≡ leaf_type
         → LeafStands heap.now address l → encoded_bytes v result ≡ short_leaf l }
     ensures tokens { (l : Leaf) → type_of l ≡ leaf_type
-        → SaysTokenized result ↔ HoldsTokens (content l) }
+        → SaysTokenized result ↔ AreTokens (content l) }
     ensures entries { HasFewEntries result }
 {
     let code = leaf_type.store_code();
@@ -252,7 +252,7 @@ pub fn encoded_at(heap: &[u8], leaf_type: LeafType, address: u32) -> Encoded<'_>
 /// How many children a list has: each one's address ends with a byte of 128 or more, and no other byte is one.
 #[inline]
 pub fn children(list: &[u8]) -> u64
-    ensures { result ≡ last_byte_count list.now }
+    ensures { result ≡ last_bytes list.now }
 {
     let mut count = 0;
     for byte in list {

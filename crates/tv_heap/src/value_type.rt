@@ -4,7 +4,7 @@ ghost use Rattle.std.specs.Prelude.{◌≡◌, ◌≢◌, IfSome, IfNone};
 ghost use Rattle.tv_base.specs.Number.{Fixed, one_byte};
 ghost use Rattle.tv_base.specs.ReadsAs.{ReadsLean};
 ghost use Rattle.tv_value.specs.Lent.{leaf_of, tree_of};
-ghost use Rattle.tv_heap.specs.Reads.{leaf_type_byte, tree_type};
+ghost use Rattle.tv_heap.specs.Reads.{leaf_type, tree_type};
 
 use std::alloc::Global;
 use std::io;
@@ -104,7 +104,7 @@ impl BinarySerializable for ValueType {
 impl From<&ReferenceValueLeaf<'_>> for ValueType {
     ghost use Rattle.tv_heap.specs.TypeCode.{type_code};
 
-    ghost from_gives = { λ value made. type_code made ≡ leaf_type_byte (leaf_of value.now) };
+    ghost from_gives = { λ value made. type_code made ≡ leaf_type (leaf_of value.now) };
 
     fn from(value: &ReferenceValueLeaf<'_>) -> ValueType {
         ValueType::Leaf(value.leaf_type())

@@ -3,7 +3,7 @@ use Rattle.std.specs.Prelude.{ℕ, List}
 use Rattle.tv_indexing.specs.declared.payload.Payload.{Payload}
 use Rattle.tv_indexing.specs.declared.payload.Payload.TheVariants as held
 use Rattle.tv_options.specs.declared.types.TypeTag.{TypeTag}
-use Rattle.tv_term.specs.Key.{TermValue, payload, tag_of}
+use Rattle.tv_term.specs.Key.{TermValue, payload, type_of}
 
 abbrev pub payload_bytes : Payload → List ℕ
 payload_bytes (held.Bytes bs) = bs.now
@@ -16,4 +16,4 @@ part_seen part = (part.0, payload_bytes part.1)
 
 -- those of a value
 abbrev pub value_parts : TermValue → TypeTag × List ℕ
-value_parts value = (tag_of value, payload value)
+value_parts value = (type_of value, payload value)

@@ -7,11 +7,11 @@ use Rattle.tv_base.specs.Sink.{AppendsSome}
 use Rattle.tv_base.specs.Source.{AllBytes, Failures, HasFailed, CountsFailure, GivesSome}
 use Rattle.std.proofs.lemmas.List.{append-nil}
 use Rattle.tv_base.proofs.SmallBytes.{bytes_after}
-use Rattle.tv_io.specs.Calls.{of_read, of_write, CountsOnce}
+use Rattle.tv_io.specs.Calls.{of_read, of_write, Counts}
 
 -- ---- failures
 
-pub failures_counted : (call result : Result ℕ ErrorKind) (old new : Failures) → CountsOnce call result old new → CountsFailure result old new
+pub failures_counted : (call result : Result ℕ ErrorKind) (old new : Failures) → Counts call result old new → CountsFailure result old new
 failures_counted (Ok n) result old new h = subst (λ r. CountsFailure r old new) (sym h.0) h.1
 failures_counted (Err kind) result old new h =
     subst (λ r. CountsFailure r old new) (sym h.0) (subst (HasFailed kind old) (sym h.1) (record { counted = omega arith; kept = refl }))
@@ -46,7 +46,7 @@ kept (Some xs) None same known = absurd same
 kept None new same known = absurd (cc)
 
 pub bytes_given : {E : Type 0} (kind : E → ErrorKind) (call : Result ℕ E) (result : Result ℕ ErrorKind) (buf : List ℕ) (old new : Option (List ℕ)) (failures now : Failures)
-    → ReadConsumes old new call buf → CountsOnce (of_read kind call) result failures now → IsSome old → GivesSome (unwrap_or old []) (unwrap_or new []) result buf
+    → ReadConsumes old new call buf → Counts (of_read kind call) result failures now → IsSome old → GivesSome (unwrap_or old []) (unwrap_or new []) result buf
 bytes_given kind (Ok n) result buf old new failures now h counts known =
     subst (λ r. GivesSome (unwrap_or old []) (unwrap_or new []) r buf) (sym counts.0) (given_some n buf old new h.0 h.1 known)
 bytes_given kind (Err e) result buf old new failures now h counts known =
@@ -63,7 +63,7 @@ appended_none : (old new : Option (List ℕ)) → Appends old new [] → IsSome 
 appended_none old new h known = appended old new [] h known ∙ append-nil (unwrap_or old [])
 
 pub bytes_written : {E : Type 0} (kind : E → ErrorKind) (call : Result ℕ E) (result : Result ℕ ErrorKind) (buf : List ℕ) (old new : Option (List ℕ)) (failures now : Failures)
-    → WriteAppends old new call buf → CountsOnce (of_write kind buf call) result failures now → IsSome old → AppendsSome (unwrap_or old []) (unwrap_or new []) result buf
+    → WriteAppends old new call buf → Counts (of_write kind buf call) result failures now → IsSome old → AppendsSome (unwrap_or old []) (unwrap_or new []) result buf
 bytes_written kind (Ok n) result [] old new failures now h counts known =
     subst (λ r. AppendsSome (unwrap_or old []) (unwrap_or new []) r []) (sym counts.0) (appended old new (take n []) h known)
 bytes_written kind (Ok zero) result (b ∷ bs) old new failures now h counts known =

@@ -31,6 +31,6 @@ of_write kind (byte ∷ bytes) (Ok (suc n)) = Ok (suc n)
 of_write kind (byte ∷ bytes) (Err e) = Err (kind e)
 
 -- an error is returned and counted once, and nothing else is counted
-abbrev pub CountsOnce : Result ℕ ErrorKind → Result ℕ ErrorKind → Failures → Failures → Type 0
-CountsOnce (Ok n) result old new = (result ≡ Ok n) × (new ≡ old)
-CountsOnce (Err kind) result old new = (result ≡ Err kind) × (new ≡ with_failure kind old)
+abbrev pub Counts : Result ℕ ErrorKind → Result ℕ ErrorKind → Failures → Failures → Type 0
+Counts (Ok n) result old new = (result ≡ Ok n) × (new ≡ old)
+Counts (Err kind) result old new = (result ≡ Err kind) × (new ≡ with_failure kind old)

@@ -2,7 +2,7 @@
 
 ghost use Rattle.std.specs.Prelude.{◌≡◌, None};
 ghost use Rattle.std.specs.IoError.{error_kind};
-ghost use Rattle.tv_io.specs.Calls.{failures_of, of_read, of_write, CountsOnce};
+ghost use Rattle.tv_io.specs.Calls.{failures_of, of_read, of_write, Counts};
 
 use std::io;
 
@@ -29,7 +29,7 @@ impl CountedFailures {
         &mut self,
         call: Result<usize, io::ErrorKind>,
     ) -> Result<usize, io::ErrorKind>
-        ensures { CountsOnce call result (failures_of self.old) (failures_of self.new) }
+        ensures { Counts call result (failures_of self.old) (failures_of self.new) }
     {
         if let Err(kind) = call {
             self.number = self.number.saturating_add(1);

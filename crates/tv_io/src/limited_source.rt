@@ -46,7 +46,7 @@ impl<'s, S: ByteSource> LimitedSource<'s, S> {
 
     // So many, or as many as may be taken.
     fn within(&self, most: usize) -> usize
-        ensures at_most { result ≤ most }
+        ensures few { result ≤ most }
         ensures limit { result ≤ self.now.limit }
         ensures some { 0 < most → 0 < self.now.limit → 0 < result }
     {

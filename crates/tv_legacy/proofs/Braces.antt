@@ -3,10 +3,10 @@ use Rattle.std.proofs.Common.{◌≡◌, ℕ, ◌+◌, List, [], ◌∷◌, ◌+
 use Rattle.std.specs.Prelude.{◌==◌, fold}
 use Rattle.std.specs.List.{count_by}
 use Rattle.std.proofs.lemmas.List.Sums.{fold-append, sum_by-append}
-use Rattle.tv_legacy.specs.Legacy.{BytePlace, outside, inside, escaped, next, behind, bare, opened, closed}
+use Rattle.tv_legacy.specs.Legacy.{Place, outside, inside, escaped, next, behind, bare, opened, closed}
 use Rattle.tv_legacy.specs.LegacyScan.{brace_count}
 
-bare-append : (place : BytePlace) (a b : List ℕ) → bare place (a ++ b) ≡ bare place a ++ bare (fold next place a) b
+bare-append : (place : Place) (a b : List ℕ) → bare place (a ++ b) ≡ bare place a ++ bare (fold next place a) b
 bare-append place [] b = refl
 bare-append outside (c ∷ a) b = ap (λ (l : List ℕ). c ∷ l) (bare-append (next outside c) a b)
 bare-append inside (c ∷ a) b = bare-append (next inside c) a b

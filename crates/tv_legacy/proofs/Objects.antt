@@ -13,7 +13,7 @@ use Rattle.tv_base.specs.declared.cause.Cause.TheVariants.{LegacyJson, LegacyFlo
 use Rattle.tv_value.specs.JsonTree.{json_tree, whole_entries}
 use Rattle.tv_format.specs.Tree.{Tree, object}
 use Rattle.tv_legacy.specs.Legacy.{ReadsObject}
-use Rattle.tv_legacy.specs.LegacyReading.{whole_or_legacy_float, object_tree, slice_tree}
+use Rattle.tv_legacy.specs.LegacyReading.{whole_or_float, object_tree, slice_tree}
 
 -- the answer for a slice, and why
 pub data SliceAnswer (slice : List ℕ) (answer : Result Tree Cause) : Type 0 where
@@ -21,7 +21,7 @@ pub data SliceAnswer (slice : List ℕ) (answer : Result Tree Cause) : Type 0 wh
   has_no_tree : (ms : Members) → ReadsObject slice ms → json_tree (json.object ms) ≡ None → answer ≡ Err LegacyFloat → SliceAnswer slice answer
   is_none : ((ms : Members) → ¬ (ReadsObject slice ms)) → answer ≡ Err LegacyJson → SliceAnswer slice answer
 
-object_answer : (slice : List ℕ) (ms : Members) (o : Option Tree) → ReadsObject slice ms → json_tree (json.object ms) ≡ o → SliceAnswer slice (whole_or_legacy_float o)
+object_answer : (slice : List ℕ) (ms : Members) (o : Option Tree) → ReadsObject slice ms → json_tree (json.object ms) ≡ o → SliceAnswer slice (whole_or_float o)
 object_answer slice ms (Some t) reads e = is_object ms t reads e refl
 object_answer slice ms None reads e = has_no_tree ms reads e refl
 

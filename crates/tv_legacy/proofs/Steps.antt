@@ -15,7 +15,7 @@ use Rattle.tv_format.specs.Tree.{Tree}
 use Rattle.tv_value.specs.Owned.{owned_tree}
 use Rattle.tv_value.specs.declared.owned_value.OwnedValue.{OwnedValue}
 use Rattle.tv_base.specs.Reading.{u8_at}
-use Rattle.tv_legacy.specs.Legacy.{BytePlace, outside, inside, escaped, next, opened, closed, behind}
+use Rattle.tv_legacy.specs.Legacy.{Place, outside, inside, escaped, next, opened, closed, behind}
 use Rattle.tv_legacy.specs.LegacyReading.{is_blank, nonblank_at, is_even, rest_at, braced_at, slice_at, slice_tree, beside, AnswersSlice}
 use Rattle.tv_legacy.specs.LegacyScan.{brace_count}
 use Rattle.tv_legacy.proofs.Braces.{opened-push, closed-push, behind-push}
@@ -68,18 +68,18 @@ first_depth prefix e = subst (IsDepth 1) (sym e) refl
 pub first_place : (prefix : List ℕ) → prefix ≡ 123 ∷ [] → outside ≡ behind prefix
 first_place prefix e = ap behind (sym e)
 
-pub next_place : (prefix : List ℕ) (b : ℕ) (old new : BytePlace) → old ≡ behind prefix → new ≡ next old b → new ≡ behind (prefix ++ b ∷ [])
+pub next_place : (prefix : List ℕ) (b : ℕ) (old new : Place) → old ≡ behind prefix → new ≡ next old b → new ≡ behind (prefix ++ b ∷ [])
 next_place prefix b old new h step = step ∙ ap (λ p. next p b) h ∙ sym (behind-push prefix b)
 
 pub next_depth : (prefix : List ℕ) (b old new : ℕ) → IsDepth old prefix → new + brace_count 125 (behind prefix) b ≡ old + brace_count 123 (behind prefix) b → IsDepth new (prefix ++ b ∷ [])
 next_depth prefix b old new h step = omega (arith, h, step, closed-push prefix b, opened-push prefix b)
 
-one_brace : (brace : ℕ) (place : BytePlace) (b : ℕ) → brace_count brace place b ≤ 1
+one_brace : (brace : ℕ) (place : Place) (b : ℕ) → brace_count brace place b ≤ 1
 one_brace brace outside b = count_by-le-length (λ c. c == brace) (b ∷ [])
 one_brace brace inside b = omega arith
 one_brace brace escaped b = omega arith
 
-pub next_bound : (prefix : List ℕ) (b old new : ℕ) (place : BytePlace) → old ≤ length prefix → new + brace_count 125 place b ≡ old + brace_count 123 place b → new ≤ length (prefix ++ b ∷ [])
+pub next_bound : (prefix : List ℕ) (b old new : ℕ) (place : Place) → old ≤ length prefix → new + brace_count 125 place b ≡ old + brace_count 123 place b → new ≤ length (prefix ++ b ∷ [])
 next_bound prefix b old new place h step = omega (arith, h, step, one_brace 123 place b, length-append prefix (b ∷ []))
 
 -- ---- blanks, and then the slice

@@ -14,21 +14,21 @@ abbrev pub IsBlank : ℕ → Type 0
 IsBlank b = (b ≡ 9) ⊎ ((b ≡ 10) ⊎ ((b ≡ 13) ⊎ (b ≡ 32)))
 
 -- Where a byte stands: outside of JSON strings, in one, or behind a backslash in one.
-pub data BytePlace : Type 0 where
-  outside inside escaped : BytePlace
+pub data Place : Type 0 where
+  outside inside escaped : Place
 
 -- Where the next byte stands. 34 is the quotation mark, 92 the backslash, which takes the next byte.
-abbrev pub next : BytePlace → ℕ → BytePlace
+abbrev pub next : Place → ℕ → Place
 next outside b = if b == 34 then inside else outside
 next inside b = if b == 34 then outside else (if b == 92 then escaped else inside)
 next escaped b = inside
 
 -- where the byte behind these stands, the first of which stands outside
-abbrev pub behind : List ℕ → BytePlace
+abbrev pub behind : List ℕ → Place
 behind bytes = fold next outside bytes
 
 -- the bytes that stand outside of strings, where the first stands at a place
-abbrev pub bare : BytePlace → List ℕ → List ℕ
+abbrev pub bare : Place → List ℕ → List ℕ
 bare place [] = []
 bare outside (b ∷ bytes) = b ∷ bare (next outside b) bytes
 bare inside (b ∷ bytes) = bare (next inside b) bytes

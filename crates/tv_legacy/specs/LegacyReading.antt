@@ -42,12 +42,12 @@ slice_at bytes = do
   braced_at first.0 first.1
 
 -- where there is no tree, a number isn't whole
-abbrev pub whole_or_legacy_float : Option Tree → Result Tree Cause
-whole_or_legacy_float (Some t) = Ok t
-whole_or_legacy_float None = Err LegacyFloat
+abbrev pub whole_or_float : Option Tree → Result Tree Cause
+whole_or_float (Some t) = Ok t
+whole_or_float None = Err LegacyFloat
 
 abbrev pub object_tree : Option Data → Result Tree Cause
-object_tree (Some (json.object ms)) = whole_or_legacy_float (json_tree (json.object ms))
+object_tree (Some (json.object ms)) = whole_or_float (json_tree (json.object ms))
 object_tree _ = Err LegacyJson
 
 -- the tree of the object that a slice reads as

@@ -5,7 +5,7 @@ use Rattle.std.proofs.lemmas.List.{take-append-drop, take-append-le, take-take, 
 use Rattle.std.specs.List.{slice_range}
 use Rattle.memchr.specs.Find.{Nowhere, NoneBefore, Passes, is_byte}
 use Rattle.tv_lines.specs.Lines.{IsUnbroken}
-use Rattle.tv_lines.specs.Reader.{MovesLine}
+use Rattle.tv_lines.specs.Reader.{Moves}
 
 unbroken_to : (bytes : List ℕ) (k : ℕ) → Nowhere (Passes (is_byte 10) bytes) 0 k → IsUnbroken (take k bytes)
 unbroken_to [] zero none = tt
@@ -29,7 +29,7 @@ behind chunk from to len within =
 
 pub moves_to_feed : (chunk before after : List ℕ) (from to len : ℕ) → length (slice_range chunk from to) ≤ to - from
     → NoneBefore (Passes (is_byte 10) (slice_range chunk from to)) 0 (length (slice_range chunk from to)) len → Passes (is_byte 10) (slice_range chunk from to) len
-    → after ≡ before ++ slice_range chunk from (from + len) → MovesLine (slice_range chunk from to) (slice_range chunk (from + (len + 1)) to) before after true
+    → after ≡ before ++ slice_range chunk from (from + len) → Moves (slice_range chunk from to) (slice_range chunk (from + (len + 1)) to) before after true
 moves_to_feed chunk before after from to len short none passes e =
     let unread = slice_range chunk from to in
     let below : len < to - from = omega (arith, none.high) in (
@@ -46,7 +46,7 @@ none_left chunk to =
 
 pub moves_all : (chunk before after : List ℕ) (from to : ℕ)
     → Nowhere (Passes (is_byte 10) (slice_range chunk from to)) 0 (length (slice_range chunk from to))
-    → after ≡ before ++ slice_range chunk from to → MovesLine (slice_range chunk from to) (slice_range chunk to to) before after false
+    → after ≡ before ++ slice_range chunk from to → Moves (slice_range chunk from to) (slice_range chunk to to) before after false
 moves_all chunk before after from to none e =
     let unread = slice_range chunk from to in
     (subst IsUnbroken (take_all (length unread) unread (omega arith)) (unbroken_to unread (length unread) none), none_left chunk to, e)

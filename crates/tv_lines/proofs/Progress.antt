@@ -4,20 +4,20 @@ use lib.Chars.{codes}
 use Rattle.std.specs.Prelude.{OnErr}
 use Rattle.std.proofs.lemmas.List.{append-nil}
 use Rattle.tv_base.specs.Sink.{IsPrefix}
-use Rattle.tv_lines.specs.Answers.{Answer, AreAnswers, ReadsSchema, SchemaRefusal}
+use Rattle.tv_lines.specs.Answers.{Answer, Answers, ReadsSchema, SchemaRefusal}
 use Rattle.tv_lines.specs.Answers.Answer.{no_memory}
 use Rattle.tv_lines.specs.Answers.Answers.{no_answers, next_answer}
 use Rattle.tv_lines.specs.Answers.SchemaRefusal.{no_memory as no_schema_memory}
 use Rattle.tv_lines.specs.Lines.{FirstLine}
 use Rattle.tv_lines.specs.Lines.Lines.{no_lines, next_line}
 use Rattle.tv_lines.specs.Reader.{TakesLine}
-use Rattle.tv_lines.specs.Run.{AnswersOf, BrokenText, PrefixOf, IsEnded, WritesText}
+use Rattle.tv_lines.specs.Run.{AnswersOf, BrokenText, PrefixOf, IsEnded, Leaves}
 use Rattle.tv_lines.proofs.LineSteps.{some_lines, some_line}
 use Rattle.tv_field.specs.Entry.{Entry}
 
 -- ---- any input has answers
 
-some_answers : (schema : List Entry) (lines : List (List ℕ)) → (text : List ℕ) × AreAnswers schema lines text
+some_answers : (schema : List Entry) (lines : List (List ℕ)) → (text : List ℕ) × Answers schema lines text
 some_answers schema [] = ([], no_answers)
 some_answers schema (line ∷ lines) =
     let rest = some_answers schema lines in
@@ -60,18 +60,18 @@ no_more : {schema : List Entry} {pending : List ℕ} → pending ≡ [] → Answ
 no_more {schema = schema} e = subst (λ (l : List ℕ). AnswersOf schema l []) (sym e) ([], no_lines, no_answers)
 
 pub Answered-ends : {schema : List Entry} {input pending before held line rest : List ℕ} → Answered schema input pending before held → TakesLine pending line rest false
-    → WritesText (AnswersOf schema input) before held
+    → Leaves (AnswersOf schema input) before held
 Answered-ends {schema = schema} {input = input} h takes =
     (h.done, subst (λ (l : List ℕ). AnswersOf schema input l) (append-nil h.done) (h.follows [] (no_more takes.0)), h.holds)
 
 pub Answered-breaks : {schema : List Entry} {input pending before held : List ℕ} → Answered schema input pending before held
-    → WritesText (PrefixOf (AnswersOf schema input)) before held
+    → Leaves (PrefixOf (AnswersOf schema input)) before held
 Answered-breaks {schema = schema} {pending = pending} h =
     let others = any_answers schema pending in
     (h.done, (h.done ++ others.0, h.follows others.0 others.1, (others.0, refl)), h.holds)
 
 pub Answered-cut : {schema : List Entry} {input pending before held line rest text held' : List ℕ} → Answered schema input pending before held → TakesLine pending line rest true
-    → IsEnded (Answer schema line) text → WritesText (λ prefix. IsPrefix prefix text) held held' → WritesText (PrefixOf (AnswersOf schema input)) before held'
+    → IsEnded (Answer schema line) text → Leaves (λ prefix. IsPrefix prefix text) held held' → Leaves (PrefixOf (AnswersOf schema input)) before held'
 Answered-cut {schema = schema} {input = input} {before = before} {rest = rest} {text = text} h takes ends part =
     let others = any_answers schema rest in
     let prefix = part.0 in
@@ -88,12 +88,12 @@ Answered-cut {schema = schema} {input = input} {before = before} {rest = rest} {
 -- ---- a whole run
 
 pub broken_lines : {input line rest : List ℕ} {schema : List Entry} (before held : List ℕ) → FirstLine input line rest → ReadsSchema line schema
-    → WritesText (PrefixOf (AnswersOf schema rest)) before held → WritesText (BrokenText input) before held
+    → Leaves (PrefixOf (AnswersOf schema rest)) before held → Leaves (BrokenText input) before held
 broken_lines {line = line} {rest = rest} {schema = schema} before held first reads leaves =
     (leaves.0, (leaves.1.0, inl (record { line = line; rest = rest; schema = schema; first = first; reads = reads; answers = leaves.1.1 }), leaves.1.2), leaves.2)
 
 pub broken_refusal : {input line rest text : List ℕ} (before held : List ℕ) → FirstLine input line rest → IsEnded (SchemaRefusal line) text
-    → WritesText (λ prefix. IsPrefix prefix text) before held → WritesText (BrokenText input) before held
+    → Leaves (λ prefix. IsPrefix prefix text) before held → Leaves (BrokenText input) before held
 broken_refusal {line = line} {rest = rest} {text = text} before held first refused part =
     (part.0, (text, inr (record { line = line; rest = rest; first = first; refused = refused }), part.1), part.2)
 
@@ -101,7 +101,7 @@ any_refusal : (line : List ℕ) → IsEnded (SchemaRefusal line) (codes "error M
 any_refusal line = (codes "error Memory", no_schema_memory refl, refl)
 
 -- nothing was written
-pub broken_early : (input held : List ℕ) → WritesText (BrokenText input) held held
+pub broken_early : (input held : List ℕ) → Leaves (BrokenText input) held held
 broken_early input held =
     let first = some_line input in
     ([], (codes "error Memory" ++ 10 ∷ [], inr (record { line = first.line; rest = first.rest; first = first.first; refused = any_refusal first.line }), (codes "error Memory" ++ 10 ∷ [], refl)), sym (append-nil held))

@@ -15,11 +15,11 @@ use Rattle.tv_doc.specs.declared.document.CompactDoc.{CompactDoc}
 use Rattle.tv_lines.specs.Answers.{refusal_name, Answer, IsDocumentText}
 use Rattle.tv_lines.specs.Answers.Answer.{answered, no_memory, no_room}
 use Rattle.tv_lines.specs.Answers.LineAnswer.{no_object, refused, written}
-use Rattle.tv_lines.specs.Run.{WritesText}
-use Rattle.tv_lines.specs.Unwritten.{IsRefusalText, error_text, value_error_text}
+use Rattle.tv_lines.specs.Run.{Leaves}
+use Rattle.tv_lines.specs.Unwritten.{IsUnwritten, error_text, value_error_text}
 use Rattle.tv_field.specs.Entry.{Entry}
 use Rattle.tv_field.specs.JsonAnswer.{error_of}
-use Rattle.tv_field.specs.JsonTable.{TableRefusal, Table}
+use Rattle.tv_field.specs.JsonTable.{Refusal, Table}
 use Rattle.tv_field.specs.declared.value_parsing_error.ValueParsingError.{ValueParsingError}
 use Rattle.tv_field.specs.declared.value_parsing_error.ValueParsingError.TheVariants as values
 use Rattle.tv_store.specs.Stored.{stored}
@@ -33,7 +33,7 @@ no_text schema line none = answered (no_object (λ members h. none h.0) refl)
 some_is : {A : Type 0} {x y : A} → Some x ≡ Some y → x ≡ y
 some_is e = cc
 
-named_by : (e : ValueParsingError) (refusal : TableRefusal) → error_of e ≡ Some refusal → value_error_text e ≡ codes "error ValueError " ++ refusal_name refusal
+named_by : (e : ValueParsingError) (refusal : Refusal) → error_of e ≡ Some refusal → value_error_text e ≡ codes "error ValueError " ++ refusal_name refusal
 named_by (values.OverflowError expected json) refusal is = rw (← some_is is)
 named_by (values.TypeError expected json) refusal is = rw (← some_is is)
 named_by (values.ParseError cause json) refusal is = rw (← some_is is)
@@ -73,11 +73,11 @@ refusal_answers schema line errors.Memory utf8 h = no_memory refl
 -- ---- the answer for a document
 
 pub document_answers : (schema : List Entry) (line old new : List ℕ) (made : CompactDoc) → IsUtf8 line → Parses schema line (Ok made)
-    → WritesText (IsDocumentText schema (stored schema (document_of made))) old new → WritesText (Answer schema line) old new
+    → Leaves (IsDocumentText schema (stored schema (document_of made))) old new → Leaves (Answer schema line) old new
 document_answers schema line old new made utf8 h leaves = (leaves.0, answered (written h.0 (document_of made) (utf8, h.1) h.2.0 leaves.1), leaves.2)
 
 pub unwritten_answers : (schema : List Entry) (line text : List ℕ) (made : CompactDoc) → IsUtf8 line → Parses schema line (Ok made)
-    → IsRefusalText (document_of made) text → Answer schema line text
+    → IsUnwritten (document_of made) text → Answer schema line text
 unwritten_answers schema line text made utf8 h why =
     elim why [ inl e ↦ no_memory e | inr full ↦ no_room h.0 (object_values schema h.0) [] (document_of made) (utf8, h.1) (sym (append-nil (object_values schema h.0))) h.2.0 full.0 full.1 ]
 

@@ -8,7 +8,7 @@ use Rattle.tv_doc.specs.JsonObject.{FieldJson, object_values, Pairs}
 use Rattle.tv_doc.specs.Named.{IsJsonText, field_names}
 use Rattle.tv_heap.specs.Room.{document_room}
 use Rattle.tv_field.specs.Entry.{Entry}
-use Rattle.tv_field.specs.JsonTable.{TableRefusal, overflow, mismatch, bad_text, bad_base64, float_number, Table}
+use Rattle.tv_field.specs.JsonTable.{Refusal, overflow, mismatch, bad_text, bad_base64, float_number, Table}
 use Rattle.tv_schema.specs.SchemaJsonReading.{schema_of}
 use Rattle.tv_field.specs.declared.schema_error.SchemaError.{SchemaError}
 use Rattle.tv_field.specs.declared.schema_error.SchemaError.TheVariants as schema_error
@@ -45,7 +45,7 @@ pub data SchemaRefusal (line text : List ℕ) : Type 0 where
 
 -- ---- a document's line
 
-abbrev pub refusal_name : TableRefusal → List ℕ
+abbrev pub refusal_name : Refusal → List ℕ
 refusal_name (overflow expected d) = codes "OverflowError"
 refusal_name (mismatch expected d) = codes "TypeError"
 refusal_name (bad_text cause d) = codes "ParseError"
@@ -54,7 +54,7 @@ refusal_name float_number = codes "FloatNumber"
 
 -- the text for a value that the table of its field's type refuses
 abbrev pub RefusalText : FieldJson → List ℕ → Type 0
-RefusalText v text = (refusal : TableRefusal) × Table v.field_type v.value (Err refusal) × (text ≡ codes "error ValueError " ++ refusal_name refusal)
+RefusalText v text = (refusal : Refusal) × Table v.field_type v.value (Err refusal) × (text ≡ codes "error ValueError " ++ refusal_name refusal)
 
 -- the bytes of a document in lower-case hexadecimal, a space, and its text of JSON by the names of the fields
 abbrev pub IsDocumentText : List Entry → Document → List ℕ → Type 0
@@ -78,6 +78,6 @@ pub data Answer (schema : List Entry) (line text : List ℕ) : Type 0 where
       → object_values schema members ≡ prefix ++ behind → Pairs prefix pairs → 4294967295 < document_room pairs → text ≡ codes "error HeapFull" → Answer schema line text
 
 -- an answer for each line, with its line feed
-pub data AreAnswers (schema : List Entry) : List (List ℕ) → List ℕ → Type 0 where
-  no_answers : AreAnswers schema [] []
-  next_answer : {line text rest : List ℕ} {lines : List (List ℕ)} → Answer schema line text → AreAnswers schema lines rest → AreAnswers schema (line ∷ lines) (text ++ 10 ∷ rest)
+pub data Answers (schema : List Entry) : List (List ℕ) → List ℕ → Type 0 where
+  no_answers : Answers schema [] []
+  next_answer : {line text rest : List ℕ} {lines : List (List ℕ)} → Answer schema line text → Answers schema lines rest → Answers schema (line ∷ lines) (text ++ 10 ∷ rest)

@@ -12,14 +12,14 @@ abbrev pub most_left : LineReader → ℕ
 most_left r = (2 ^ 64 - 1 - r.count) + length (unread r)
 
 -- what was moved to the line: up to the next line feed if there is one, or else all
-abbrev pub MovesLine : List ℕ → List ℕ → List ℕ → List ℕ → Bool → Type 0
-MovesLine old new before after true = (piece : List ℕ) × IsUnbroken piece × (old ≡ piece ++ 10 ∷ new) × (after ≡ before ++ piece)
-MovesLine old new before after false = IsUnbroken old × (new ≡ []) × (after ≡ before ++ old)
+abbrev pub Moves : List ℕ → List ℕ → List ℕ → List ℕ → Bool → Type 0
+Moves old new before after true = (piece : List ℕ) × IsUnbroken piece × (old ≡ piece ++ 10 ∷ new) × (after ≡ before ++ piece)
+Moves old new before after false = IsUnbroken old × (new ≡ []) × (after ≡ before ++ old)
 
 -- what was read, or that there was nothing left
-abbrev pub ReadsSome : List ℕ → List ℕ → List ℕ → Bool → Type 0
-ReadsSome left_old left_new read true = left_old ≡ read ++ left_new
-ReadsSome left_old left_new read false = (left_old ≡ []) × (left_new ≡ []) × (read ≡ [])
+abbrev pub Fills : List ℕ → List ℕ → List ℕ → Bool → Type 0
+Fills left_old left_new read true = left_old ≡ read ++ left_new
+Fills left_old left_new read false = (left_old ≡ []) × (left_new ≡ []) × (read ≡ [])
 
 -- whether there was a line, and then which
 abbrev pub TakesLine : List ℕ → List ℕ → List ℕ → Bool → Type 0

@@ -4,7 +4,7 @@ use Rattle.tv_base.specs.Sink.{IsPrefix}
 use Rattle.tv_base.specs.Source.{Failures}
 use Rattle.tv_base.specs.Stop.{Stop, CountsStop}
 use Rattle.tv_base.specs.Stop.Stop.{Failed, Short}
-use Rattle.tv_lines.specs.Answers.{ReadsSchema, SchemaRefusal, AreAnswers}
+use Rattle.tv_lines.specs.Answers.{ReadsSchema, SchemaRefusal, Answers}
 use Rattle.tv_lines.specs.Lines.{FirstLine, Lines}
 use Rattle.tv_lines.specs.declared.halt.Halt.{Halt}
 use Rattle.tv_lines.specs.declared.halt.Halt.TheVariants.{Read, Write, Memory, TooLong}
@@ -18,7 +18,7 @@ IsEnded P text = (answer : List ℕ) × P answer × (text ≡ answer ++ 10 ∷ [
 
 -- the answers of the lines of an input
 abbrev pub AnswersOf : List Entry → List ℕ → List ℕ → Type 0
-AnswersOf schema input text = (lines : List (List ℕ)) × Lines input lines × AreAnswers schema lines text
+AnswersOf schema input text = (lines : List (List ℕ)) × Lines input lines × Answers schema lines text
 
 -- the first line describes a schema, and the text is the answers of the other lines
 pub record DoneText (input text : List ℕ) : Type 0 where
@@ -45,13 +45,13 @@ abbrev pub BrokenText : List ℕ → List ℕ → Type 0
 BrokenText input text = PrefixOf (λ whole. DoneText input whole ⊎ BadSchemaText input whole) text
 
 -- such a text was written behind what was held
-abbrev pub WritesText : (List ℕ → Type 0) → List ℕ → List ℕ → Type 0
-WritesText P old new = (text : List ℕ) × P text × (new ≡ old ++ text)
+abbrev pub Leaves : (List ℕ → Type 0) → List ℕ → List ℕ → Type 0
+Leaves P old new = (text : List ℕ) × P text × (new ≡ old ++ text)
 
 -- what is written at an end that isn't broken
 abbrev pub EndsWith : RunEnd → List ℕ → List ℕ → List ℕ → Type 0
-EndsWith Done input old new = WritesText (DoneText input) old new
-EndsWith BadSchema input old new = WritesText (BadSchemaText input) old new
+EndsWith Done input old new = Leaves (DoneText input) old new
+EndsWith BadSchema input old new = Leaves (BadSchemaText input) old new
 EndsWith (Broken halt) input old new = ⊥
 
 abbrev pub IsWhole : RunEnd → Type 0

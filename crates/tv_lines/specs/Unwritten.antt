@@ -26,8 +26,8 @@ error_text errors.HeapFull = codes "error HeapFull"
 error_text errors.Memory = codes "error Memory"
 
 -- memory was refused, or the pairs have no room
-abbrev pub IsRefusalText : Document → List ℕ → Type 0
-IsRefusalText d text = (text ≡ codes "error Memory") ⊎ ((4294967295 < document_room d) × (text ≡ codes "error HeapFull"))
+abbrev pub IsUnwritten : Document → List ℕ → Type 0
+IsUnwritten d text = (text ≡ codes "error Memory") ⊎ ((4294967295 < document_room d) × (text ≡ codes "error HeapFull"))
 
 -- these bytes in hexadecimal, a space, and the text of JSON of the document
 abbrev pub IsTexts : List Entry → List ℕ → Document → List ℕ → Type 0

@@ -6,8 +6,8 @@ ghost use Rattle.tv_doc.specs.Document.{document_of};
 ghost use Rattle.tv_format.specs.Short.{short_document};
 ghost use Rattle.tv_format.specs.Version.{V2};
 ghost use Rattle.tv_lines.specs.Answers.{Answer, IsDocumentText};
-ghost use Rattle.tv_lines.specs.Run.{IsEnded, WritesText};
-ghost use Rattle.tv_lines.specs.Unwritten.{IsTexts, IsRefusalText, error_text, value_error_text};
+ghost use Rattle.tv_lines.specs.Run.{IsEnded, Leaves};
+ghost use Rattle.tv_lines.specs.Unwritten.{IsTexts, IsUnwritten, error_text, value_error_text};
 ghost use Rattle.tv_store.specs.Stored.{stored};
 
 use crate::hex_text::append_hex;
@@ -107,9 +107,9 @@ fn append_document(
 ) -> Result<(), &'static str>
     requires { Belongs schema.now (document_of document.now) }
     ensures ok { OnOk result
-        (WritesText (IsDocumentText schema.now (stored schema.now (document_of document.now)))
+        (Leaves (IsDocumentText schema.now (stored schema.now (document_of document.now)))
         text.old.items text.new.items) }
-    ensures err { IfErr result (λ answer. IsRefusalText (document_of document.now) answer.now) }
+    ensures err { IfErr result (λ answer. IsUnwritten (document_of document.now) answer.now) }
 {
     documents_are_valid();
     stored_pairs_are_valid();
@@ -133,7 +133,7 @@ fn append_texts(
     text: &mut Vec<u8>,
 ) -> Result<(), AllocError>
     ensures { OnOk result
-        (WritesText (IsTexts schema.now bytes.now (document_of found.now)) text.old.items
+        (Leaves (IsTexts schema.now bytes.now (document_of found.now)) text.old.items
         text.new.items) }
 {
     let json = found.to_json(alloc, schema)?;
@@ -150,7 +150,7 @@ fn append_answer(
     memory: &mut LineMemory,
     text: &mut Vec<u8>,
 ) -> Result<(), &'static str>
-    ensures ok { OnOk result (WritesText (Answer schema.now line.now) text.old.items text.new.items) }
+    ensures ok { OnOk result (Leaves (Answer schema.now line.now) text.old.items text.new.items) }
     ensures err { IfErr result (λ answer. Answer schema.now line.now answer.now) }
 {
     let Ok(json) = str::from_utf8(line) else {

@@ -58,7 +58,7 @@ impl LineReader {
     ghost use Rattle.tv_base.specs.Stop.{Counts, Taken};
     ghost use Rattle.tv_lines.specs.Run.{source_stop};
     ghost use Rattle.tv_lines.specs.declared.halt.Halt.TheVariants.{TooLong};
-    ghost use Rattle.tv_lines.specs.Reader.{unread, most_left, MovesLine, ReadsSome, TakesLine};
+    ghost use Rattle.tv_lines.specs.Reader.{unread, most_left, Moves, Fills, TakesLine};
 
     // A reader that has taken nothing yet. The only error is that memory was refused.
     pub(crate) fn new(alloc: Global) -> Result<LineReader, AllocError>
@@ -86,7 +86,7 @@ impl LineReader {
     // Tells whether there was a line feed. The only error is that memory was refused.
     fn take_unread(&mut self, line: &mut Vec<u8>) -> Result<bool, AllocError>
         ensures moves { IfOk result
-            (λ ended. MovesLine (unread self.old) (unread self.new) line.old.items line.new.items
+            (λ ended. Moves (unread self.old) (unread self.new) line.old.items line.new.items
             ended) }
         ensures count { self.new.count ≡ self.old.count }
     {
@@ -109,7 +109,7 @@ impl LineReader {
     fn fill<S: ByteSource>(&mut self, source: &mut S) -> Result<bool, Halt>
         ensures fills { S.is_known source.old
             → IfOk result
-            (λ more. ReadsSome (S.left source.old) (S.left source.new) (unread self.new) more) }
+            (λ more. Fills (S.left source.old) (S.left source.new) (unread self.new) more) }
         ensures most { IfOk result (λ more. most_left self.new ≡ 2 ^ 64 - 1 - self.old.count) }
         ensures fewer { IfOk result
             (λ more. more ≡ true → 2 ^ 64 - 1 - self.new.count < 2 ^ 64 - 1 - self.old.count) }

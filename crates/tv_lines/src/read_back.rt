@@ -5,7 +5,7 @@ ghost use Rattle.tv_doc.specs.Document.{document_of};
 ghost use Rattle.tv_format.specs.Short.{short_document, IsDocument};
 ghost use Rattle.tv_format.specs.Tree.{Document};
 ghost use Rattle.tv_format.specs.Version.{V2};
-ghost use Rattle.tv_lines.specs.Unwritten.{IsRefusalText};
+ghost use Rattle.tv_lines.specs.Unwritten.{IsUnwritten};
 ghost use Rattle.tv_reader.specs.declared.error.DeserializeError.TheVariants.{Memory, HeapFull};
 
 use std::alloc::Global;
@@ -40,7 +40,7 @@ pub(crate) fn read_back(
     ensures ok { (d : Document) → IsDocument d → bytes.now ≡ short_document V2 d
         → OnOk result (document_of found.new ≡ d) }
     ensures err { (d : Document) → IsDocument d → bytes.now ≡ short_document V2 d
-        → IfErr result (λ text. IsRefusalText d text.now) }
+        → IfErr result (λ text. IsUnwritten d text.now) }
 {
     documents_have_one_reading();
     malformed_documents_derive_none();

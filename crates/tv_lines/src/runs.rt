@@ -6,7 +6,7 @@ ghost use Rattle.tv_base.specs.Source.{CountsFailure};
 ghost use Rattle.tv_base.specs.Stop.{Counts, Taken};
 ghost use Rattle.tv_base.specs.Sink.{IsPrefix};
 ghost use Rattle.tv_lines.specs.Run.{AnswersOf, BadSchemaText, BrokenText, DoneText, EndsWith};
-ghost use Rattle.tv_lines.specs.Run.{PrefixOf, WritesText, CountsEnd, IsWhole};
+ghost use Rattle.tv_lines.specs.Run.{PrefixOf, Leaves, CountsEnd, IsWhole};
 ghost use Rattle.tv_lines.specs.Run.{source_stop, sink_stop};
 ghost use Rattle.tv_lines.specs.declared.halt.Halt.{Halt};
 ghost use Rattle.tv_lines.specs.declared.halt.Halt.TheVariants.{TooLong};
@@ -29,7 +29,7 @@ fn write_line<K: ByteSink>(sink: &mut K, line: &[u8]) -> Result<(), io::ErrorKin
     ensures ok { K.is_known sink.old → OnOk result (K.held sink.new ≡ K.held sink.old ++ line.now) }
     ensures err { K.is_known sink.old
         → OnErr result
-        (WritesText (λ text. IsPrefix text line.now) (K.held sink.old) (K.held sink.new)) }
+        (Leaves (λ text. IsPrefix text line.now) (K.held sink.old) (K.held sink.new)) }
     ensures is_known { K.is_known sink.old → K.is_known sink.new }
     ensures failures { CountsFailure result (K.failures sink.old) (K.failures sink.new) }
 {
@@ -46,11 +46,11 @@ fn answer_lines<S: ByteSource, K: ByteSink>(
 ) -> Result<(), Halt>
     ensures ok { S.is_known source.old → K.is_known sink.old
         → OnOk result
-        (WritesText (AnswersOf schema.now (unread reader.old ++ S.left source.old))
+        (Leaves (AnswersOf schema.now (unread reader.old ++ S.left source.old))
         (K.held sink.old) (K.held sink.new)) }
     ensures err { S.is_known source.old → K.is_known sink.old
         → OnErr result
-        (WritesText (PrefixOf (AnswersOf schema.now (unread reader.old ++ S.left source.old)))
+        (Leaves (PrefixOf (AnswersOf schema.now (unread reader.old ++ S.left source.old)))
         (K.held sink.old) (K.held sink.new)) }
     ensures all { S.is_known source.old → OnOk result (S.left source.new ≡ []) }
     ensures source_is_known { S.is_known source.old → S.is_known source.new }
@@ -88,7 +88,7 @@ fn answer_source<S: ByteSource, K: ByteSink>(
         (λ end. EndsWith end (S.left source.old) (K.held sink.old) (K.held sink.new)) }
     ensures err { S.is_known source.old → K.is_known sink.old
         → OnErr result
-        (WritesText (BrokenText (S.left source.old)) (K.held sink.old) (K.held sink.new)) }
+        (Leaves (BrokenText (S.left source.old)) (K.held sink.old) (K.held sink.new)) }
     ensures whole { IfOk result IsWhole }
     ensures all { S.is_known source.old → IfOk result (λ end. end ≡ Done → S.left source.new ≡ []) }
     ensures source_is_known { S.is_known source.old → S.is_known source.new }
@@ -130,12 +130,12 @@ fn answer_source<S: ByteSource, K: ByteSink>(
 pub fn run<S: ByteSource, K: ByteSink>(alloc: Global, source: &mut S, sink: &mut K) -> RunEnd
     // what is written behind what the sink held
     ensures done { S.is_known source.old → K.is_known sink.old → result ≡ Done
-        → WritesText (DoneText (S.left source.old)) (K.held sink.old) (K.held sink.new) }
+        → Leaves (DoneText (S.left source.old)) (K.held sink.old) (K.held sink.new) }
     ensures bad_schema { S.is_known source.old → K.is_known sink.old → result ≡ BadSchema
-        → WritesText (BadSchemaText (S.left source.old)) (K.held sink.old) (K.held sink.new) }
+        → Leaves (BadSchemaText (S.left source.old)) (K.held sink.old) (K.held sink.new) }
     ensures broken { S.is_known source.old → K.is_known sink.old → (halt : Halt)
         → result ≡ Broken halt
-        → WritesText (BrokenText (S.left source.old)) (K.held sink.old) (K.held sink.new) }
+        → Leaves (BrokenText (S.left source.old)) (K.held sink.old) (K.held sink.new) }
 
     // all of the source was read
     ensures all { S.is_known source.old → result ≡ Done → S.left source.new ≡ [] }

@@ -14,7 +14,7 @@ use Rattle.tv_format.specs.declared.leaf_type.LeafType.TheVariants as leaves
 use Rattle.tv_reader.specs.declared.value_type.ValueType.{ValueType}
 use Rattle.tv_reader.specs.declared.value_type.ValueType.TheVariants as types
 use Rattle.tv_reader.specs.Kinds.{extension_of, extension_at, known_kind, kind_of, kind_at}
-use Rattle.tv_reader.specs.ValueType.{of_leaf, value_type_code, value_type_with, type_prefix, IsCoded, ErrorInCode, no_code, unknown_type, float_type, no_extension_code, unknown_extension}
+use Rattle.tv_reader.specs.ValueType.{of_leaf, type_code, type_with, coded, IsCoded, ErrorInCode, no_code, unknown_type, float_type, no_extension_code, unknown_extension}
 use Rattle.tv_reader.proofs.Codes.{differs, above, no_type}
 
 passes : {A : Type 0} (test : Bool) (x y : A) → test ≡ false → (if test then x else y) ≡ y
@@ -24,20 +24,20 @@ passes false x y e = refl
 -- a code above the largest
 far : (code : ℕ) (bytes : List ℕ) → last_code < code → kind_of code bytes ≡ Err (UnknownTypeCode code, bytes)
 far code bytes h =
-    let known = known_kind code bytes (value_type_with code) in
+    let known = known_kind code bytes (type_with code) in
     let no_float : Result (ValueType × List ℕ) (Cause × List ℕ) = if eqb code 6 then Err (FloatCode, bytes) else known in
     passes (eqb code 7) (extension_at bytes) no_float (above code 7 (omega (arith, h))) ∙ passes (eqb code 6) (Err (FloatCode, bytes)) known (above code 6 (omega (arith, h))) ∙ ap (known_kind code bytes) (no_type code h)
 
 extension_far : (code : ℕ) (bytes : List ℕ) → code ≢ 0 → extension_of code bytes ≡ Err (UnknownExtCode code, bytes)
 extension_far code bytes h = rw (differs code 0 h) refl
 
-pub known_read : (k : ValueType) (rest : List ℕ) → kind_at (type_prefix k ++ rest) ≡ Ok (k, rest)
+pub known_read : (k : ValueType) (rest : List ℕ) → kind_at (coded k ++ rest) ≡ Ok (k, rest)
 unfolding kind_at extension_at u8_at
 known_read types.PreTokStr rest = refl
 known_read _ rest = refl
 
 -- a code says the type, and where what is behind it begins
-pub same_coded : (k l : ValueType) (a b : List ℕ) → type_prefix k ++ a ≡ type_prefix l ++ b → (k ≡ l) × (a ≡ b)
+pub same_coded : (k l : ValueType) (a b : List ℕ) → coded k ++ a ≡ coded l ++ b → (k ≡ l) × (a ≡ b)
 same_coded k l a b e =
     let q = ok_is (Cause × List ℕ) (k, a) (l, b) (sym (known_read k a) ∙ ap kind_at e ∙ known_read l b) in
     (ap (λ z. z.0) q, ap (λ z. z.1) q)
@@ -54,13 +54,13 @@ unfolding kind_at extension_at u8_at
 extension_early code start byte last = ap kind_at (same_start start (7 ∷ []) byte code (sym last))
 
 -- without its last byte a code is at its end
-coded_early : (k : ValueType) (start : List ℕ) (byte : ℕ) → type_prefix k ≡ start ++ byte ∷ [] → kind_at start ≡ Err (UnexpectedEnd, [])
+coded_early : (k : ValueType) (start : List ℕ) (byte : ℕ) → coded k ≡ start ++ byte ∷ [] → kind_at start ≡ Err (UnexpectedEnd, [])
 coded_early types.PreTokStr start byte last = extension_early 0 start byte last
-coded_early kind start byte last = one_early (value_type_code kind) start byte last
+coded_early kind start byte last = one_early (type_code kind) start byte last
 
 -- bytes begin with the code of a type, or are malformed there
 data Coding (bytes : List ℕ) : Type 0 where
-  known : (k : ValueType) (rest : List ℕ) → bytes ≡ type_prefix k ++ rest → Coding bytes
+  known : (k : ValueType) (rest : List ℕ) → bytes ≡ coded k ++ rest → Coding bytes
   malformed : (c : Cause) (rest : List ℕ) → kind_at bytes ≡ Err (c, rest) → ErrorInCode bytes c → Shown UnexpectedEnd kind_at bytes rest c → Coding bytes
 
 -- a malformed part behind one byte, and behind two
@@ -99,7 +99,7 @@ unfolding kind_at u8_at
 float_coding rest = malformed_byte 6 rest FloatCode (λ e. cc) refl refl float_type
 
 -- but for that of a text with its tokens, all that stands before a leaf is its code
-before_leaf : (t : LeafType) → store_code t ≢ 7 → type_prefix (of_leaf t) ≡ store_code t ∷ []
+before_leaf : (t : LeafType) → store_code t ≢ 7 → coded (of_leaf t) ≡ store_code t ∷ []
 before_leaf leaves.PreTokStr other = absurd (other refl)
 before_leaf _ other = refl
 
@@ -136,11 +136,11 @@ coding : (bytes : List ℕ) → Coding bytes
 coding [] = malformed UnexpectedEnd [] nothing_read no_code (ended_shown kind_at [] [] UnexpectedEnd nothing_read nothing_read)
 coding (code ∷ rest) = code_coding code rest
 
-known_at : (bytes : List ℕ) (k : ValueType) (rest : List ℕ) → bytes ≡ type_prefix k ++ rest → kind_at bytes ≡ Ok (k, rest)
+known_at : (bytes : List ℕ) (k : ValueType) (rest : List ℕ) → bytes ≡ coded k ++ rest → kind_at bytes ≡ Ok (k, rest)
 known_at bytes k rest joined = ap kind_at joined ∙ known_read k rest
 
-sound : (bytes : List ℕ) (x : ValueType × List ℕ) → Coding bytes → kind_at bytes ≡ Ok x → bytes ≡ type_prefix x.0 ++ x.1
-sound bytes x (known k rest joined) e = joined ∙ ap (λ z. type_prefix z.0 ++ z.1) (ok_is (Cause × List ℕ) (k, rest) x (sym (known_at bytes k rest joined) ∙ e))
+sound : (bytes : List ℕ) (x : ValueType × List ℕ) → Coding bytes → kind_at bytes ≡ Ok x → bytes ≡ coded x.0 ++ x.1
+sound bytes x (known k rest joined) e = joined ∙ ap (λ z. coded z.0 ++ z.1) (ok_is (Cause × List ℕ) (k, rest) x (sym (known_at bytes k rest joined) ∙ e))
 sound bytes x (malformed c rest read error shown) e = absurd (no_ok (c, rest) x (sym read ∙ e))
 
 refused : (bytes : List ℕ) (c : Cause) (rest : List ℕ) → Coding bytes → kind_at bytes ≡ Err (c, rest) → ErrorInCode bytes c × Shown UnexpectedEnd kind_at bytes rest c
@@ -151,7 +151,7 @@ refused bytes c rest (malformed d after read error shown) e =
 
 pub kind_agrees : Agrees UnexpectedEnd kind_at IsCoded ErrorInCode
 kind_agrees = record {
-  sound = λ bytes x small e. (type_prefix x.0, refl, sound bytes x (coding bytes) e);
+  sound = λ bytes x small e. (coded x.0, refl, sound bytes x (coding bytes) e);
   complete = λ prefix k rest p. known_at (prefix ++ rest) k rest (ap (λ (l : List ℕ). l ++ rest) p);
   refused = λ bytes c rest small e. (refused bytes c rest (coding bytes) e).0;
   before = λ prefix k p start byte last. coded_early k start byte (sym p ∙ last);

@@ -27,7 +27,7 @@ use Rattle.tv_format.specs.declared.leaf_type.Form.{Form}
 use Rattle.tv_format.specs.declared.leaf_type.Form.TheVariants as forms
 use Rattle.tv_format.specs.declared.leaf_type.LeafType.{LeafType}
 use Rattle.tv_format.specs.declared.leaf_type.LeafType.TheVariants as leaves
-use Rattle.tv_reader.specs.LeafBodies.{TokenizedPair, HoldsByForm, ErrorInHeld, LeafOfType, ErrorInLeafOfType, LeafOf, ErrorInLeafOf}
+use Rattle.tv_reader.specs.LeafBodies.{TokenizedPair, Held, ErrorInHeld, LeafOfType, ErrorInLeafOfType, LeafOf, ErrorInLeafOf}
 use Rattle.tv_reader.specs.Leaves.{micros_of, date_at, token_at, tokens_at, counted_tokens_at, tokenized_at, leaf_holding, number_at, content_at, leaf_of_type, leaf_at}
 use Rattle.tv_reader.specs.ValueType.{leaf_type}
 use Rattle.tv_reader.specs.declared.value_type.ValueType.{ValueType}
@@ -189,7 +189,7 @@ pub number_agrees : (v : Version) (t : LeafType) → Agrees UnexpectedEnd (numbe
 number_agrees v leaves.Date = date_agrees v
 number_agrees v _ = i64_agrees
 
-held_agrees : (v : Version) (t : LeafType) (f : Form) → Agrees UnexpectedEnd (content_at v t f) (HoldsByForm v t f) (ErrorInHeld v t f)
+held_agrees : (v : Version) (t : LeafType) (f : Form) → Agrees UnexpectedEnd (content_at v t f) (Held v t f) (ErrorInHeld v t f)
 held_agrees v t forms.Nothing = nothing_read UnexpectedEnd (leaf (leaf_holding t no_content))
 held_agrees v t forms.Truth = made (λ x. leaf (leaf_holding t (truth_content x))) truth_agrees
 held_agrees v t forms.Unsigned = made (λ x. leaf (leaf_holding t (unsigned_content x))) u64_agrees

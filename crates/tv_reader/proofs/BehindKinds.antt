@@ -17,7 +17,7 @@ use Rattle.tv_reader.specs.Kinds.{kind_at}
 use Rattle.tv_reader.specs.LeafBodies.{LeafOf, ErrorInLeafOf}
 use Rattle.tv_reader.specs.Leaves.{is_leaf_type}
 use Rattle.tv_reader.specs.Trees.{NoValue}
-use Rattle.tv_reader.specs.ValueType.{leaf_type, value_type_code, type_prefix, ErrorInCode, no_code, unknown_type, float_type, no_extension_code, unknown_extension}
+use Rattle.tv_reader.specs.ValueType.{leaf_type, type_code, coded, ErrorInCode, no_code, unknown_type, float_type, no_extension_code, unknown_extension}
 use Rattle.tv_reader.specs.declared.error.DeserializeError.{DeserializeError}
 use Rattle.tv_reader.specs.declared.value_type.ValueType.{ValueType}
 use Rattle.tv_reader.specs.declared.value_type.ValueType.TheVariants as types
@@ -32,14 +32,14 @@ end = corrupted UnexpectedEnd
 -- ---- behind a code
 
 -- without its last byte a code is at its end
-pub kind_edge : {F : Type 0} (end : F) (Q : List ℕ → F → Type 0) → Q [] end → Q (7 ∷ []) end → (kind : ValueType) (start : List ℕ) (byte : ℕ) → type_prefix kind ≡ start ++ byte ∷ [] → Q start end
+pub kind_edge : {F : Type 0} (end : F) (Q : List ℕ → F → Type 0) → Q [] end → Q (7 ∷ []) end → (kind : ValueType) (start : List ℕ) (byte : ℕ) → coded kind ≡ start ++ byte ∷ [] → Q start end
 kind_edge end Q none seven types.PreTokStr start byte last = subst (λ l. Q l end) (sym (same_start start (7 ∷ []) byte 0 (sym last))) seven
-kind_edge end Q none seven kind start byte last = subst (λ l. Q l end) (sym (same_start start [] byte (value_type_code kind) (sym last))) none
+kind_edge end Q none seven kind start byte last = subst (λ l. Q l end) (sym (same_start start [] byte (type_code kind) (sym last))) none
 
 -- the type was taken, and then what stands behind it
 pub finds_behind : {S Y : Type 0} {stop : DeserializeError → Stop Refusal} {May : DeserializeError → ℕ → Type 0} {is_known : S → Type 0} {left : S → List ℕ} {failures : S → Failures} {old mid new : S} {i j k : ℕ} {kind : ValueType} {result : Result Y DeserializeError} (B : List ℕ → Y → Type 0) (Q : List ℕ → Refusal → Type 0)
     → ((source : S) → is_known source → AllBytes (left source)) → Q [] end → Q (7 ∷ []) end → reads.TakesIf reads.MayStopLean is_known left failures old i mid j (λ x. x) (Ok kind) kind_at
-    → FindsBy stop May end is_known left failures mid j new k result (λ b y. B (type_prefix kind ++ b) y) (λ w r. Q (type_prefix kind ++ w) r) → FindsBy stop May end is_known left failures old i new k result B Q
+    → FindsBy stop May end is_known left failures mid j new k result (λ b y. B (coded kind ++ b) y) (λ w r. Q (coded kind ++ w) r) → FindsBy stop May end is_known left failures old i new k result B Q
 finds_behind {stop = stop} {May = May} {kind = kind} B Q are_bytes none seven part h =
     finds_then B Q
     (λ a b y is p. subst (λ l. B (l ++ b) y) (sym is) p)
@@ -49,7 +49,7 @@ finds_behind {stop = stop} {May = May} {kind = kind} B Q are_bytes none seven pa
 
 -- what a leaf of a type holds is malformed
 pub held_error : {v : Version} {w : List ℕ} {c : Cause} (t : LeafType) → ErrorInBody v t w c → NoValue v (store_code t ∷ w) (corrupted c)
-held_error t h = in_leaf (record { of_type = t; type_prefix = refl; error = h })
+held_error t h = in_leaf (record { of_type = t; coded = refl; error = h })
 
 pub code_value : (v : Version) (w : List ℕ) (c : Cause) → ErrorInCode w c → NoValue v w (corrupted c)
 code_value v _ _ no_code = value_ends
@@ -66,20 +66,20 @@ code_key _ _ no_extension_code = key_no_extension
 code_key _ _ (unknown_extension h) = key_other_extension h
 
 -- a value of another type in a key's place
-pub other_key : (kind : ValueType) (rest : List ℕ) → kind ≢ types.String → ErrorInCodedKey (type_prefix kind ++ rest) (no_text_key (value_type_code kind))
+pub other_key : (kind : ValueType) (rest : List ℕ) → kind ≢ types.String → ErrorInCodedKey (coded kind ++ rest) (no_text_key (type_code kind))
 other_key types.String rest ne = absurd (ne refl)
 other_key types.PreTokStr rest ne = key_tokenized
 other_key _ rest ne = key_other (omega arith) (omega arith) (λ e. omega (arith, e)) (λ e. omega (arith, e))
 
 -- ---- leaves
 
-pub leaf_encoded : (v : Version) (kind : ValueType) (a : List ℕ) (t : Tree) → LeafOf v kind a t → Encodes Legacy v (type_prefix kind ++ a) t
+pub leaf_encoded : (v : Version) (kind : ValueType) (a : List ℕ) (t : Tree) → LeafOf v kind a t → Encodes Legacy v (coded kind ++ a) t
 leaf_encoded v types.PreTokStr a t p = subst (Encodes Legacy v (7 ∷ 0 ∷ a)) (sym p.2) (record { body = 0 ∷ a; joined = refl; encoded = record { body = a; joined = refl; encoded = p.1 } })
 leaf_encoded v types.JSONObject a t p = absurd p
 leaf_encoded v types.Null a t p = subst (Encodes Legacy v (11 ∷ a)) (sym p.1) (record { body = a; joined = refl; encoded = p.0 })
 leaf_encoded v types.Array a t p = absurd p
 leaf_encoded v types.Object a t p = absurd p
-leaf_encoded v kind a t p = subst (Encodes Legacy v (type_prefix kind ++ a)) (sym p.2) (record { body = a; joined = refl; encoded = p.1 })
+leaf_encoded v kind a t p = subst (Encodes Legacy v (coded kind ++ a)) (sym p.2) (record { body = a; joined = refl; encoded = p.1 })
 
 impossible : false ≡ true → ⊥
 impossible e = absurd cc
@@ -88,7 +88,7 @@ abbrev pub type_or_text : Option LeafType → LeafType
 type_or_text (Some t) = t
 type_or_text None = leaves.Str
 
-pub leaf_refused : (v : Version) (kind : ValueType) → is_leaf_type kind ≡ true → (w : List ℕ) (c : Cause) → ErrorInLeafOf v kind w c → NoValue v (type_prefix kind ++ w) (corrupted c)
+pub leaf_refused : (v : Version) (kind : ValueType) → is_leaf_type kind ≡ true → (w : List ℕ) (c : Cause) → ErrorInLeafOf v kind w c → NoValue v (coded kind ++ w) (corrupted c)
 leaf_refused v types.PreTokStr is w c h = held_error leaves.PreTokStr (in_tokenized w refl h)
 leaf_refused v types.JSONObject is w c h = absurd (impossible is)
 leaf_refused v types.Array is w c h = absurd (impossible is)

@@ -27,7 +27,7 @@ use Rattle.tv_reader.specs.Kinds.{kind_at}
 use Rattle.tv_reader.specs.LeafBodies.{LeafOf}
 use Rattle.tv_reader.specs.Leaves.{leaf_at}
 use Rattle.tv_reader.specs.Trees.{EncodesBehind, NoneBehind, EncodesItems, NoItems, EncodesMembers, NoMembers}
-use Rattle.tv_reader.specs.ValueType.{type_prefix}
+use Rattle.tv_reader.specs.ValueType.{coded}
 use Rattle.tv_reader.specs.declared.error.DeserializeError.{DeserializeError}
 use Rattle.tv_reader.specs.declared.error.DeserializeError.TheVariants as errors
 use Rattle.tv_reader.specs.declared.value_type.ValueType.{ValueType}
@@ -108,10 +108,10 @@ abbrev pub ValueWithin : Version → ℕ → List ℕ → OwnedValue → Type 0
 ValueWithin v n b x = EncodesWithin v n b (owned_tree x)
 
 abbrev pub BehindWithin : Version → ValueType → ℕ → List ℕ → OwnedValue → Type 0
-BehindWithin v kind n b x = EncodesWithin v n (type_prefix kind ++ b) (owned_tree x)
+BehindWithin v kind n b x = EncodesWithin v n (coded kind ++ b) (owned_tree x)
 
 abbrev pub OpensBehind : Version → ValueType → ℕ → List ℕ → Type 0
-OpensBehind v kind n b = Opens v n (type_prefix kind ++ b)
+OpensBehind v kind n b = Opens v n (coded kind ++ b)
 
 pub value_deepens : {S : Type 0} {is_known : S → Type 0} {left : S → List ℕ} {old mid new : S} {i j : ℕ} {kind : ValueType} {result : Result OwnedValue DeserializeError} (failures : S → Failures) (v : Version) (n : ℕ)
     → ((source : S) → is_known source → AllBytes (left source)) → reads.TakesIf reads.MayStopLean is_known left failures old i mid j (λ x. x) (Ok kind) kind_at
@@ -121,13 +121,13 @@ value_deepens failures v n are_bytes part h =
     deepens_then (ValueWithin v n) (Opens v n)
     (λ a b y is w. subst (λ l. ValueWithin v n (l ++ b) y) (sym is) w) (λ a b is w. subst (λ l. Opens v n (l ++ b)) (sym is) w) p.found p.stays_known h
 
-leaf_within : (v : Version) (n : ℕ) (kind : ValueType) (a : List ℕ) (t : Tree) → LeafOf v kind a t → EncodesWithin v n (type_prefix kind ++ a) t
+leaf_within : (v : Version) (n : ℕ) (kind : ValueType) (a : List ℕ) (t : Tree) → LeafOf v kind a t → EncodesWithin v n (coded kind ++ a) t
 leaf_within v n types.PreTokStr a t p = subst (EncodesWithin v n (7 ∷ 0 ∷ a)) (sym p.2) (record { body = 0 ∷ a; joined = refl; encoded = record { body = a; joined = refl; encoded = p.1 } })
 leaf_within v n types.JSONObject a t p = absurd p
 leaf_within v n types.Null a t p = subst (EncodesWithin v n (11 ∷ a)) (sym p.1) (record { body = a; joined = refl; encoded = p.0 })
 leaf_within v n types.Array a t p = absurd p
 leaf_within v n types.Object a t p = absurd p
-leaf_within v n kind a t p = subst (EncodesWithin v n (type_prefix kind ++ a)) (sym p.2) (record { body = a; joined = refl; encoded = p.1 })
+leaf_within v n kind a t p = subst (EncodesWithin v n (coded kind ++ a)) (sym p.2) (record { body = a; joined = refl; encoded = p.1 })
 
 pub leaf_deepens : {S : Type 0} {is_known : S → Type 0} {left : S → List ℕ} {old new : S} {i k : ℕ} {value : OwnedValue} (failures : S → Failures) (v : Version) (n : ℕ) (kind : ValueType)
     → ((source : S) → is_known source → AllBytes (left source)) → reads.TakesIf reads.MayStop is_known left failures old i new k owned_tree (Ok value) (leaf_at v kind)

@@ -20,7 +20,7 @@ use Rattle.tv_reader.specs.Error.{read_error, store_stop, tree_stop, StoreMaySto
 use Rattle.tv_reader.specs.Error as store
 use Rattle.tv_reader.specs.declared.error.DeserializeError.{DeserializeError}
 use Rattle.tv_reader.specs.declared.error.DeserializeError.TheVariants as errors
-use Rattle.tv_reader.specs.Finds.{ShowsRefusal, GivesStop, Found, FindsBy, FindsIf, FindsDeepBy}
+use Rattle.tv_reader.specs.Finds.{Refuses, GivesStop, Found, FindsBy, FindsIf, FindsDeepBy}
 
 -- ---- bytes that show an error
 
@@ -55,7 +55,7 @@ shows_behind {end = end} {P = P} {Q = Q} prefix old mid new f joined behind edge
 
 refuses_behind : {F : Type 0} {end : F} {P Q : List ℕ → F → Type 0} (prefix old mid new : List ℕ) (f : F) → old ≡ prefix ++ mid
     → ((w : List ℕ) (c : F) → P w c → Q (prefix ++ w) c) → (f ≢ end → P [] f → (start : List ℕ) (byte : ℕ) → prefix ≡ start ++ byte ∷ [] → Q start end)
-    → ShowsRefusal end P mid new f → ShowsRefusal end Q old new f
+    → Refuses end P mid new f → Refuses end Q old new f
 refuses_behind {Q = Q} prefix old mid new f joined behind edge r =
     record { stands = subst (λ l. Q l f) (sym joined) (behind mid f r.stands); shows = shows_behind prefix old mid new f joined behind edge r.shows }
 
@@ -224,7 +224,7 @@ read_found view agrees x old new small e = let p = agrees.sound old (view x, new
 
 -- a part was read
 pub finds_read : {S X Y : Type 0} {is_known : S → Type 0} {left : S → List ℕ} {failures : S → Failures} {old new : S} {i k : ℕ} {view : X → Y} {x : X} {reading : List ℕ → Result (Y × List ℕ) (Refusal × List ℕ)} {Encodes : List ℕ → Y → Type 0} {HasError : List ℕ → Refusal → Type 0}
-    → ((source : S) → is_known source → AllBytes (left source)) → Agrees (corrupted UnexpectedEnd) reading Encodes HasError → store.StoreTakesIf store.StoreMayStopLean is_known left failures old i new k view (Ok x) reading
+    → ((source : S) → is_known source → AllBytes (left source)) → Agrees (corrupted UnexpectedEnd) reading Encodes HasError → store.TakesIf store.StoreMayStopLean is_known left failures old i new k view (Ok x) reading
     → FindsIf StoreMayStop is_known left failures old i new k (Ok x) (λ b x. Encodes b (view x)) (λ w f. ⊥)
 finds_read {left = left} {old = old} {new = new} {view = view} {x = x} are_bytes agrees h =
     record { found = λ t. read_found view agrees x (left old) (left new) (are_bytes old t) (read_ok h t); taken = h.taken; stays_known = h.stays_known; counts = h.counts; rises = h.rises; may_stop = tt }
@@ -243,7 +243,7 @@ read_shown Never Q agrees map old taken new count small joined h = h
 -- a part was refused
 pub finds_read_fails : {S X Y Z : Type 0} {is_known : S → Type 0} {left : S → List ℕ} {failures : S → Failures} {old new : S} {i k : ℕ} {view : X → Y} {e : DeserializeError} {reading : List ℕ → Result (Y × List ℕ) (Refusal × List ℕ)} {Encodes : List ℕ → Y → Type 0} {HasError : List ℕ → Refusal → Type 0}
     (B : List ℕ → Z → Type 0) (Q : List ℕ → Refusal → Type 0) → ((source : S) → is_known source → AllBytes (left source)) → Agrees (corrupted UnexpectedEnd) reading Encodes HasError → ((w : List ℕ) (r : Refusal) → HasError w r → Q w r)
-    → store.StoreTakesIf store.StoreMayStopLean is_known left failures old i new k view (Err e) reading → FindsIf StoreMayStopLean is_known left failures old i new k (Err e) B Q
+    → store.TakesIf store.StoreMayStopLean is_known left failures old i new k view (Err e) reading → FindsIf StoreMayStopLean is_known left failures old i new k (Err e) B Q
 finds_read_fails {left = left} {old = old} {new = new} {k = k} {e = e} B Q are_bytes agrees map h =
     record { found = λ t. let p = h.taken t in read_shown (store_stop e) Q agrees map (left old) p.prefix (left new) k (are_bytes old t) p.joined (h.gives t p.prefix p.joined); taken = h.taken; stays_known = h.stays_known; counts = h.counts; rises = h.rises; may_stop = h.may_stop }
 

@@ -23,7 +23,7 @@ use Rattle.tv_reader.specs.Heads.{HeadPart, leaf_head, length_head, array_head, 
 use Rattle.tv_reader.specs.Kinds.{kind_at}
 use Rattle.tv_reader.specs.Leaves.{leaf_holding}
 use Rattle.tv_reader.specs.Trees.{NoValue, EncodesEntryCount, ErrorInEntryCount}
-use Rattle.tv_reader.specs.ValueType.{leaf_type, value_type_code, type_prefix}
+use Rattle.tv_reader.specs.ValueType.{leaf_type, type_code, coded}
 use Rattle.tv_reader.specs.Version.{version_of}
 use Rattle.tv_reader.specs.declared.error.DeserializeError.TheVariants as errors
 use Rattle.tv_reader.specs.declared.value_type.ValueType.{ValueType}
@@ -107,14 +107,14 @@ head_agrees v kind = type_head_agrees v (leaf_type kind)
 
 -- ---- with the code
 
-head_encoded : (version : DocStoreVersion) (kind : ValueType) (a : List ℕ) (h : HeadPart) → Body (version_of version) kind a h → EncodesHead (version_of version) (type_prefix kind ++ a) h
+head_encoded : (version : DocStoreVersion) (kind : ValueType) (a : List ℕ) (h : HeadPart) → Body (version_of version) kind a h → EncodesHead (version_of version) (coded kind ++ a) h
 head_encoded version types.PreTokStr a h p = subst (EncodesHead (version_of version) (7 ∷ 0 ∷ a)) (sym p.1) (ap (λ (l : List ℕ). 7 ∷ 0 ∷ l) p.0)
 head_encoded version types.JSONObject a h p = subst (EncodesHead (version_of version) (8 ∷ a)) (sym p.1) (ap (λ (l : List ℕ). 8 ∷ l) p.0)
 head_encoded version types.Null a h p = subst (EncodesHead (version_of version) (11 ∷ a)) (sym p.1) (tt, record { body = a; joined = refl; encoded = p.0 })
 head_encoded version types.Array a h p = subst (EncodesHead (version_of version) (12 ∷ a)) (sym p.2) (record { body = a; joined = refl; encoded = p.1 })
 head_encoded version types.Object a h p =
     subst (EncodesHead (version_of version) (13 ∷ a)) (sym p.2) (record { body = a; joined = refl; encoded = p.1 })
-head_encoded version kind a h p = subst (EncodesHead (version_of version) (type_prefix kind ++ a)) (sym p.2) (tt, record { body = a; joined = refl; encoded = p.1 })
+head_encoded version kind a h p = subst (EncodesHead (version_of version) (coded kind ++ a)) (sym p.2) (tt, record { body = a; joined = refl; encoded = p.1 })
 
 -- an error in the head of a leaf is one in what it holds
 in_content : (v : Version) (t : LeafType) (f : Form) (w : List ℕ) (c : Cause) → ErrorInFormHead v t f w c → ErrorInContent (scale v t) f w c
@@ -123,7 +123,7 @@ in_content v t forms.Bytes w c h = inl h
 in_content v t forms.Tokens w c h = absurd h
 in_content v t _ w c h = h
 
-head_refused : (version : DocStoreVersion) (kind : ValueType) (w : List ℕ) (c : Cause) → ErrorInBody (version_of version) kind w c → NoValue (version_of version) (type_prefix kind ++ w) (corrupted c)
+head_refused : (version : DocStoreVersion) (kind : ValueType) (w : List ℕ) (c : Cause) → ErrorInBody (version_of version) kind w c → NoValue (version_of version) (coded kind ++ w) (corrupted c)
 head_refused version types.PreTokStr w c h = absurd h
 head_refused version types.JSONObject w c h = absurd h
 head_refused version types.Array w c h = in_count h
@@ -156,21 +156,21 @@ pub key_length_found : {S : Type 0} {is_known : S → Type 0} {left : S → List
     → reads.TakesIf reads.MayStopLean is_known left failures mid j new k (λ x. x) (Ok n) vint_at → FindsIf StoreMayStopLean is_known left failures old i new k (Ok n) CodedLength ErrorInCodedKey
 key_length_found {n = n} are_bytes is part h =
     finds_behind CodedLength ErrorInCodedKey are_bytes key_ends key_no_extension part
-    (finds_as n _ _ (λ a t. subst (λ z. CodedLength (type_prefix z ++ a) n) (sym is) (record { body = a; joined = refl; encoded = t })) (finds_part are_bytes vint_agrees h))
+    (finds_as n _ _ (λ a t. subst (λ z. CodedLength (coded z ++ a) n) (sym is) (record { body = a; joined = refl; encoded = t })) (finds_part are_bytes vint_agrees h))
 
 pub key_length_fails : {S : Type 0} {is_known : S → Type 0} {left : S → List ℕ} {failures : S → Failures} {old mid new : S} {i j k : ℕ} {kind : ValueType} {e : ReadError}
     → ((source : S) → is_known source → AllBytes (left source)) → kind ≡ types.String → reads.TakesIf reads.MayStopLean is_known left failures old i mid j (λ x. x) (Ok kind) kind_at
     → reads.TakesIf {X = ℕ} reads.MayStopLean is_known left failures mid j new k (λ x. x) (Err e) vint_at → FindsIf {X = ℕ} StoreMayStopLean is_known left failures old i new k (Err (read_error e)) CodedLength ErrorInCodedKey
 key_length_fails are_bytes is part h =
     finds_behind CodedLength ErrorInCodedKey are_bytes key_ends key_no_extension part
-    (finds_part_fails _ _ raised_lean are_bytes vint_agrees (λ w c f. subst (λ z. ErrorInCodedKey (type_prefix z ++ w) (corrupted c)) (sym is) (in_key (in_sized (inl f)))) h)
+    (finds_part_fails _ _ raised_lean are_bytes vint_agrees (λ w c f. subst (λ z. ErrorInCodedKey (coded z ++ w) (corrupted c)) (sym is) (in_key (in_sized (inl f)))) h)
 
 pub key_length_refused : {S : Type 0} {is_known : S → Type 0} {left : S → List ℕ} {failures : S → Failures} {old mid : S} {i j : ℕ} {kind : ValueType}
     → ((source : S) → is_known source → AllBytes (left source)) → kind ≢ types.String → reads.TakesIf reads.MayStopLean is_known left failures old i mid j (λ x. x) (Ok kind) kind_at
     → FindsIf StoreMayStopLean is_known left failures old i mid j (Err (errors.TypeMismatch types.String kind)) CodedLength ErrorInCodedKey
 key_length_refused {is_known = is_known} {left = left} {failures = failures} {mid = mid} {j = j} {kind = kind} are_bytes other part =
     finds_behind CodedLength ErrorInCodedKey are_bytes key_ends key_no_extension part
-    (finds_refused store_stop end is_known left failures mid j (errors.TypeMismatch types.String kind) (no_text_key (value_type_code kind)) _ _ refl ((tt, λ is. cc), λ is. cc) (λ e. cc) (λ w. other_key kind w other))
+    (finds_refused store_stop end is_known left failures mid j (errors.TypeMismatch types.String kind) (no_text_key (type_code kind)) _ _ refl ((tt, λ is. cc), λ is. cc) (λ e. cc) (λ w. other_key kind w other))
 
 -- without a code
 pub plain_length_fails : {S : Type 0} {is_known : S → Type 0} {left : S → List ℕ} {failures : S → Failures} {old new : S} {i k : ℕ} {e : ReadError}

@@ -36,7 +36,7 @@ use Rattle.tv_reader.specs.Finds.{FindsIf, FindsDeepBy}
 use Rattle.tv_reader.specs.Kinds.{kind_at}
 use Rattle.tv_reader.specs.Leaves.{is_leaf_type, leaf_at}
 use Rattle.tv_reader.specs.Trees.{EncodesValue, NoValue, EncodesBehind, NoneBehind, EncodesItems, NoItems, EncodesMember, NoMember, EncodesMembers, NoMembers, CodedKey, EncodesTwice, ErrorInTwice, in_number, odd_number, EncodesEntryCount, ErrorInEntryCount, in_count_number, odd_count_number}
-use Rattle.tv_reader.specs.ValueType.{value_type_code, type_prefix}
+use Rattle.tv_reader.specs.ValueType.{type_code, coded}
 use Rattle.tv_reader.specs.Version.{version_of}
 use Rattle.tv_reader.specs.declared.error.DeserializeError.{DeserializeError}
 use Rattle.tv_reader.specs.declared.error.DeserializeError.TheVariants as errors
@@ -58,21 +58,21 @@ pub key_found : {S : Type 0} {is_known : S → Type 0} {left : S → List ℕ} {
     → reads.TakesIf reads.MayStop is_known left failures mid j new k (λ s. string_bytes s) (Ok key) text_at → FindsIf StoreMayStopRoomy is_known left failures old i new k (Ok key) CodedKey ErrorInCodedKey
 key_found {key = key} are_bytes is part text_part =
     finds_behind CodedKey ErrorInCodedKey are_bytes key_ends key_no_extension part
-    (finds_as key _ _ (λ a t. subst (λ z. CodedKey (type_prefix z ++ a) key) (sym is) (record { body = a; joined = refl; encoded = t })) (finds_part are_bytes text_agrees text_part))
+    (finds_as key _ _ (λ a t. subst (λ z. CodedKey (coded z ++ a) key) (sym is) (record { body = a; joined = refl; encoded = t })) (finds_part are_bytes text_agrees text_part))
 
 pub key_text_fails : {S : Type 0} {is_known : S → Type 0} {left : S → List ℕ} {failures : S → Failures} {old mid new : S} {i j k : ℕ} {kind : ValueType} {e : ReadError}
     → ((source : S) → is_known source → AllBytes (left source)) → kind ≡ types.String → reads.TakesIf reads.MayStopLean is_known left failures old i mid j (λ x. x) (Ok kind) kind_at
     → reads.TakesIf {X = String Global} reads.MayStop is_known left failures mid j new k (λ s. string_bytes s) (Err e) text_at → FindsIf {X = String Global} StoreMayStopRoomy is_known left failures old i new k (Err (read_error e)) CodedKey ErrorInCodedKey
 key_text_fails are_bytes is part text_part =
     finds_behind CodedKey ErrorInCodedKey are_bytes key_ends key_no_extension part
-    (finds_part_fails _ _ raised_roomy are_bytes text_agrees (λ w c f. subst (λ z. ErrorInCodedKey (type_prefix z ++ w) (corrupted c)) (sym is) (in_key f)) text_part)
+    (finds_part_fails _ _ raised_roomy are_bytes text_agrees (λ w c f. subst (λ z. ErrorInCodedKey (coded z ++ w) (corrupted c)) (sym is) (in_key f)) text_part)
 
 pub key_refused : {S : Type 0} {is_known : S → Type 0} {left : S → List ℕ} {failures : S → Failures} {old mid : S} {i j : ℕ} {kind : ValueType}
     → ((source : S) → is_known source → AllBytes (left source)) → kind ≢ types.String → reads.TakesIf reads.MayStopLean is_known left failures old i mid j (λ x. x) (Ok kind) kind_at
     → FindsIf StoreMayStopRoomy is_known left failures old i mid j (Err (errors.TypeMismatch types.String kind)) CodedKey ErrorInCodedKey
 key_refused {is_known = is_known} {left = left} {failures = failures} {mid = mid} {j = j} {kind = kind} are_bytes other part =
     finds_behind CodedKey ErrorInCodedKey are_bytes key_ends key_no_extension part
-    (finds_refused store_stop end is_known left failures mid j (errors.TypeMismatch types.String kind) (no_text_key (value_type_code kind)) _ _ refl (tt, λ is. cc) (λ e. cc) (λ w. other_key kind w other))
+    (finds_refused store_stop end is_known left failures mid j (errors.TypeMismatch types.String kind) (no_text_key (type_code kind)) _ _ refl (tt, λ is. cc) (λ e. cc) (λ w. other_key kind w other))
 
 -- a key as a text that owns its bytes
 abbrev pub KeyEncoded : Version → List ℕ → String Global → Type 0

@@ -5,7 +5,7 @@ use Rattle.tv_format.specs.Encoding.{Encodes}
 use Rattle.tv_format.specs.Tree.{Tree, leaf, tokenized}
 use Rattle.tv_format.specs.Version.{Version}
 use Rattle.tv_legacy.specs.Legacy.{Legacy}
-use Rattle.tv_reader.specs.ValueType.{type_prefix}
+use Rattle.tv_reader.specs.ValueType.{coded}
 use Rattle.tv_reader.specs.declared.value_type.ValueType.TheVariants as types
 use Rattle.tv_value.specs.EncodedTokens.{gathered}
 use Rattle.tv_value.specs.declared.encoded_tokens.EncodedTokens.{EncodedTokens}
@@ -16,4 +16,4 @@ tokenized_tree x = leaf (tokenized (string_bytes x.0) (gathered x.1))
 
 -- the bytes encode them, behind the codes
 abbrev pub EncodesTokenized : Version → List ℕ → String Global × EncodedTokens → Type 0
-EncodesTokenized v b x = Encodes Legacy v (type_prefix types.PreTokStr ++ b) (tokenized_tree x)
+EncodesTokenized v b x = Encodes Legacy v (coded types.PreTokStr ++ b) (tokenized_tree x)

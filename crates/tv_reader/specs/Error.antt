@@ -10,7 +10,7 @@ use Rattle.tv_base.specs.Stop.{Stop, Takes}
 use Rattle.tv_base.specs.Stop.Stop.{InputError, Uncounted, Failed, Short, Never}
 use Rattle.tv_base.specs.Take.{told, CauseMayStop}
 use Rattle.tv_format.specs.InputError.{Refusal, corrupted, no_text_key}
-use Rattle.tv_reader.specs.ValueType.{value_type_code}
+use Rattle.tv_reader.specs.ValueType.{type_code}
 use Rattle.tv_reader.specs.declared.error.DeserializeError.{DeserializeError}
 use Rattle.tv_reader.specs.declared.error.DeserializeError.TheVariants as errors
 use Rattle.tv_reader.specs.declared.value_type.ValueType.{ValueType}
@@ -23,7 +23,7 @@ read_error reads.Memory = errors.Memory
 
 -- a value of this type stands where one of that type was expected, which is told of a key alone
 abbrev pub key_stop : ValueType → ValueType → Stop Refusal
-key_stop types.String actual = InputError (no_text_key (value_type_code actual))
+key_stop types.String actual = InputError (no_text_key (type_code actual))
 key_stop _ actual = Never
 
 -- Why a reader of documents stopped: its bytes are refused, no more can be counted and those that were taken end too early, the source
@@ -67,13 +67,13 @@ StoreMayStopLean e count = StoreMayStopRoomy e count × (e ≢ errors.Memory)
 -- The error in the bytes that an error says: what is corrupt, or in a key's place a value of another type than a text.
 pub data IsRefusal : DeserializeError → Refusal → Type 0 where
   is_corrupted : {c : Cause} → IsRefusal (errors.CorruptedValue c) (corrupted c)
-  is_no_text : {actual : ValueType} → IsRefusal (errors.TypeMismatch types.String actual) (no_text_key (value_type_code actual))
+  is_no_text : {actual : ValueType} → IsRefusal (errors.TypeMismatch types.String actual) (no_text_key (type_code actual))
 
 -- what a reader of the store returned and did, by a reading of lists
-abbrev pub StoreTakesIf : {S X Y : Type 0} (May : DeserializeError → ℕ → Type 0) (is_known : S → Type 0) (left : S → List ℕ) (failures : S → Failures) (old : S) (old_count : ℕ) (new : S) (new_count : ℕ) (view : X → Y) (result : Result X DeserializeError) (reading : List ℕ → Result (Y × List ℕ) (Refusal × List ℕ)) → Type 0
-StoreTakesIf May is_known left failures old old_count new new_count view result reading =
+abbrev pub TakesIf : {S X Y : Type 0} (May : DeserializeError → ℕ → Type 0) (is_known : S → Type 0) (left : S → List ℕ) (failures : S → Failures) (old : S) (old_count : ℕ) (new : S) (new_count : ℕ) (view : X → Y) (result : Result X DeserializeError) (reading : List ℕ → Result (Y × List ℕ) (Refusal × List ℕ)) → Type 0
+TakesIf May is_known left failures old old_count new new_count view result reading =
     Takes store_stop May (told is_known) (λ p. left p.source) (λ p. p.count) (λ p. failures p.source) (record { source = old; count = old_count }) (record { source = new; count = new_count }) view result reading
 
 -- a lean reader of a source, as contracts say it
-abbrev pub StoreTakesLean : {S X Y : Type 0} (source : Ghosts S) (old : S) (old_count : ℕ) (new : S) (new_count : ℕ) (view : X → Y) (result : Result X DeserializeError) (reading : List ℕ → Result (Y × List ℕ) (Refusal × List ℕ)) → Type 0
-StoreTakesLean source old old_count new new_count view result reading = StoreTakesIf StoreMayStopLean source.is_known source.left source.failures old old_count new new_count view result reading
+abbrev pub TakesLean : {S X Y : Type 0} (source : Ghosts S) (old : S) (old_count : ℕ) (new : S) (new_count : ℕ) (view : X → Y) (result : Result X DeserializeError) (reading : List ℕ → Result (Y × List ℕ) (Refusal × List ℕ)) → Type 0
+TakesLean source old old_count new new_count view result reading = TakesIf StoreMayStopLean source.is_known source.left source.failures old old_count new new_count view result reading

@@ -12,13 +12,13 @@ use Rattle.tv_reader.specs.Error.{store_stop, tree_stop, StoreMayStop, StoreMayS
 use Rattle.tv_reader.specs.declared.error.DeserializeError.{DeserializeError}
 
 -- the error stands in the bytes that were left, and just those that show it were taken
-pub record ShowsRefusal {F : Type 0} (end : F) (HasError : List ℕ → F → Type 0) (old new : List ℕ) (error : F) : Type 0 where
+pub record Refuses {F : Type 0} (end : F) (HasError : List ℕ → F → Type 0) (old new : List ℕ) (error : F) : Type 0 where
   pub stands : HasError old error
   pub shows : Shows end HasError old new error
 
 -- an error is told; where no more bytes can be counted, those that were taken end too early
 abbrev pub GivesStop : {F : Type 0} → F → (List ℕ → F → Type 0) → List ℕ → List ℕ → ℕ → Stop F → Type 0
-GivesStop end HasError old new count (InputError f) = ShowsRefusal end HasError old new f
+GivesStop end HasError old new count (InputError f) = Refuses end HasError old new f
 GivesStop end HasError old new count (Uncounted f) = (count ≡ 2 ^ 64 - 1) × EndsEarly f HasError old new
 GivesStop end HasError old new count (Failed kind) = Unit {0}
 GivesStop end HasError old new count Short = Unit {0}

@@ -4,7 +4,7 @@ use Rattle.tv_base.specs.declared.cause.Cause.{Cause}
 use Rattle.tv_base.specs.declared.cause.Cause.TheVariants.{UnknownTypeCode, FloatCode, UnknownExtCode}
 use Rattle.tv_base.specs.Reading.{u8_at}
 use Rattle.tv_base.specs.Stop.{◌>>=◌}
-use Rattle.tv_reader.specs.ValueType.{value_type_with}
+use Rattle.tv_reader.specs.ValueType.{type_with}
 use Rattle.tv_reader.specs.declared.value_type.ValueType.{ValueType}
 use Rattle.tv_reader.specs.declared.value_type.ValueType.TheVariants as types
 
@@ -24,7 +24,7 @@ known_kind code bytes None = Err (UnknownTypeCode code, bytes)
 abbrev pub kind_of : ℕ → List ℕ → Result (ValueType × List ℕ) (Cause × List ℕ)
 kind_of code bytes =
     if code == 7 then extension_at bytes else (
-    if code == 6 then Err (FloatCode, bytes) else known_kind code bytes (value_type_with code))
+    if code == 6 then Err (FloatCode, bytes) else known_kind code bytes (type_with code))
 
 unfoldable pub kind_at : List ℕ → Result (ValueType × List ℕ) (Cause × List ℕ)
 kind_at bytes = do

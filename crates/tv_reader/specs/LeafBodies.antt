@@ -26,18 +26,18 @@ abbrev pub TokenizedPair : List ℕ → List ℕ × List Token → Type 0
 TokenizedPair whole pair = Tokenized whole pair.0 pair.1
 
 -- what a leaf of a type holds, by its form
-abbrev pub HoldsByForm : Version → LeafType → Form → List ℕ → Tree → Type 0
-HoldsByForm v t forms.Nothing = λ whole tree. (whole ≡ []) × (tree ≡ leaf (leaf_holding t no_content))
-HoldsByForm v t forms.Truth = MadeOf Truth (λ x. leaf (leaf_holding t (truth_content x)))
-HoldsByForm v t forms.Unsigned = MadeOf (Fixed 8) (λ x. leaf (leaf_holding t (unsigned_content x)))
-HoldsByForm v t forms.Signed = MadeOf (Scaled (scale v t)) (λ x. leaf (leaf_holding t (signed_content x)))
-HoldsByForm v t forms.Wide = MadeOf (Fixed 16) (λ x. leaf (leaf_holding t (wide_content x)))
-HoldsByForm v t forms.Text = MadeOf Text (λ x. leaf (leaf_holding t (text_content x)))
-HoldsByForm v t forms.Bytes = MadeOf Sized (λ x. leaf (leaf_holding t (bytes_content x)))
-HoldsByForm v t forms.Tokens = MadeOf TokenizedPair (λ x. leaf (leaf_holding t (tokens_content x.0 x.1)))
+abbrev pub Held : Version → LeafType → Form → List ℕ → Tree → Type 0
+Held v t forms.Nothing = λ whole tree. (whole ≡ []) × (tree ≡ leaf (leaf_holding t no_content))
+Held v t forms.Truth = MadeOf Truth (λ x. leaf (leaf_holding t (truth_content x)))
+Held v t forms.Unsigned = MadeOf (Fixed 8) (λ x. leaf (leaf_holding t (unsigned_content x)))
+Held v t forms.Signed = MadeOf (Scaled (scale v t)) (λ x. leaf (leaf_holding t (signed_content x)))
+Held v t forms.Wide = MadeOf (Fixed 16) (λ x. leaf (leaf_holding t (wide_content x)))
+Held v t forms.Text = MadeOf Text (λ x. leaf (leaf_holding t (text_content x)))
+Held v t forms.Bytes = MadeOf Sized (λ x. leaf (leaf_holding t (bytes_content x)))
+Held v t forms.Tokens = MadeOf TokenizedPair (λ x. leaf (leaf_holding t (tokens_content x.0 x.1)))
 
 abbrev pub LeafOfType : Version → Option LeafType → List ℕ → Tree → Type 0
-LeafOfType v (Some t) = HoldsByForm v t (form t)
+LeafOfType v (Some t) = Held v t (form t)
 LeafOfType v None = λ whole t. ⊥
 
 abbrev pub LeafOf : Version → ValueType → List ℕ → Tree → Type 0

@@ -14,7 +14,7 @@ use Rattle.tv_format.specs.Encoding.{Key, Encodes, EncodesElements, EncodesEntri
 use Rattle.tv_format.specs.Tree.{elements, entries}
 use Rattle.tv_format.specs.Version.{Version, entry_total}
 use Rattle.tv_value.specs.declared.owned_value.OwnedValue.{OwnedValue}
-use Rattle.tv_reader.specs.ValueType.{type_prefix}
+use Rattle.tv_reader.specs.ValueType.{coded}
 use Rattle.tv_reader.specs.declared.value_type.ValueType.{ValueType}
 
 -- the value, and why there is none
@@ -26,10 +26,10 @@ NoValue v b r = ErrorInValue Legacy ErrorInLegacy v b r
 
 -- the same behind the code of a type
 abbrev pub EncodesBehind : Version → ValueType → List ℕ → OwnedValue → Type 0
-EncodesBehind v kind b x = EncodesValue v (type_prefix kind ++ b) x
+EncodesBehind v kind b x = EncodesValue v (coded kind ++ b) x
 
 abbrev pub NoneBehind : Version → ValueType → List ℕ → Refusal → Type 0
-NoneBehind v kind b r = NoValue v (type_prefix kind ++ b) r
+NoneBehind v kind b r = NoValue v (coded kind ++ b) r
 
 -- so many values, one after the other
 pub record EncodesItems (v : Version) (n : ℕ) (b : List ℕ) (items : Vec OwnedValue Global) : Type 0 where

@@ -35,31 +35,31 @@ leaf_type types.Bool = Some leaves.Bool
 leaf_type types.PreTokStr = Some leaves.PreTokStr
 leaf_type _ = None
 
-abbrev pub leaf_type_code : Option LeafType → ℕ
-leaf_type_code (Some t) = store_code t
-leaf_type_code None = 0
+abbrev pub leaf_code : Option LeafType → ℕ
+leaf_code (Some t) = store_code t
+leaf_code None = 0
 
 -- the code of a type, and the type of a code
-abbrev pub value_type_code : ValueType → ℕ
-value_type_code types.JSONObject = 8
-value_type_code types.Array = 12
-value_type_code types.Object = 13
-value_type_code kind = leaf_type_code (leaf_type kind)
+abbrev pub type_code : ValueType → ℕ
+type_code types.JSONObject = 8
+type_code types.Array = 12
+type_code types.Object = 13
+type_code kind = leaf_code (leaf_type kind)
 
-abbrev pub value_type_with : ℕ → Option ValueType
-value_type_with code =
+abbrev pub type_with : ℕ → Option ValueType
+type_with code =
     if code == 8 then Some types.JSONObject else (
     if code == 12 then Some types.Array else (
     if code == 13 then Some types.Object else option_map of_leaf (coded_leaves.type_with code)))
 
 -- all that stands before a value of this type: of a pre-tokenised text, the code of an extension and its own
-abbrev pub type_prefix : ValueType → List ℕ
-type_prefix types.PreTokStr = 7 ∷ 0 ∷ []
-type_prefix kind = value_type_code kind ∷ []
+abbrev pub coded : ValueType → List ℕ
+coded types.PreTokStr = 7 ∷ 0 ∷ []
+coded kind = type_code kind ∷ []
 
 -- the bytes are all that stands before a value of this type
 abbrev pub IsCoded : List ℕ → ValueType → Type 0
-IsCoded b kind = b ≡ type_prefix kind
+IsCoded b kind = b ≡ coded kind
 
 -- of a value's code: there is none, it is unknown, or it is that of floating-point numbers
 pub data ErrorInCode : List ℕ → Cause → Type 0 where

@@ -10,9 +10,9 @@ version_of stores.V2 = V2
 version_of stores.V3 = V3
 
 -- the version of a number
-abbrev pub version_of_number : ℕ → Option DocStoreVersion
-version_of_number zero = None
-version_of_number (suc zero) = Some stores.V1
-version_of_number (suc (suc zero)) = Some stores.V2
-version_of_number (suc (suc (suc zero))) = Some stores.V3
-version_of_number (suc (suc (suc (suc n)))) = None
+abbrev pub numbered : ℕ → Option DocStoreVersion
+numbered zero = None
+numbered (suc zero) = Some stores.V1
+numbered (suc (suc zero)) = Some stores.V2
+numbered (suc (suc (suc zero))) = Some stores.V3
+numbered (suc (suc (suc (suc n)))) = None

@@ -48,7 +48,7 @@ pub fn take_head<S: ByteSource>(
     ensures finds { FindsLean S.ByteSource source.old count.old source.new count.new
         result (λ b head. EncodesHead (version_of version) b (head_part head))
         (NoValue (version_of version)) }
-    ensures at_most { count.new ≤ count.old + 18 }
+    ensures few { count.new ≤ count.old + 18 }
 {
     let kind = take_kind(source, count)?;
     let head = take_head_behind(source, count, version, kind)?;
@@ -66,7 +66,7 @@ pub fn take_key_head<S: ByteSource>(
 ) -> Result<u64, DeserializeError>
     ensures finds { FindsLean S.ByteSource source.old count.old source.new count.new
         result (EncodesKeyHead (version_of version)) (ErrorInKey (version_of version)) }
-    ensures at_most { count.new ≤ count.old + 12 }
+    ensures few { count.new ≤ count.old + 12 }
 {
     match version {
         DocStoreVersion::V1 | DocStoreVersion::V2 => take_coded_key_head(source, count),
@@ -84,7 +84,7 @@ fn take_coded_key_head<S: ByteSource>(
 ) -> Result<u64, DeserializeError>
     ensures finds { FindsLean S.ByteSource source.old count.old source.new count.new
         result CodedLength ErrorInCodedKey }
-    ensures at_most { count.new ≤ count.old + 12 }
+    ensures few { count.new ≤ count.old + 12 }
 {
     let kind = take_kind(source, count)?;
     match kind {
@@ -108,7 +108,7 @@ pub fn take_document_head<S: ByteSource>(
 ) -> Result<u64, DeserializeError>
     ensures finds { FindsLean S.ByteSource source.old count.old source.new count.new
         result VNum (Corrupt ErrorInNumber) }
-    ensures at_most { count.new ≤ count.old + 10 }
+    ensures few { count.new ≤ count.old + 10 }
 {
     let number = take_vint(source, count)?;
     Ok(number)

@@ -13,8 +13,8 @@ use tv_base::{ByteSource, Cause, ReadError};
 fn take_extension<S: ByteSource>(source: &mut S, count: &mut u64) -> Result<ValueType, ReadError>
     ensures takes { TakesLean S.ByteSource source.old count.old source.new count.new
         (λ x. x) result extension_at }
-    ensures advances { OnOk result (count.old < count.new) }
-    ensures at_most { count.new ≤ count.old + 1 }
+    ensures rises { OnOk result (count.old < count.new) }
+    ensures few { count.new ≤ count.old + 1 }
 {
     match take_u8(source, count)? {
         TOK_STR_EXT_CODE => Ok(ValueType::PreTokStr),
@@ -30,8 +30,8 @@ fn take_extension<S: ByteSource>(source: &mut S, count: &mut u64) -> Result<Valu
 pub fn take_kind<S: ByteSource>(source: &mut S, count: &mut u64) -> Result<ValueType, ReadError>
     ensures takes { TakesLean S.ByteSource source.old count.old source.new count.new
         (λ x. x) result kind_at }
-    ensures advances { OnOk result (count.old < count.new) }
-    ensures at_most { count.new ≤ count.old + 2 }
+    ensures rises { OnOk result (count.old < count.new) }
+    ensures few { count.new ≤ count.old + 2 }
 {
     match take_u8(source, count)? {
         EXT_CODE => take_extension(source, count),

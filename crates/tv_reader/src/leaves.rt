@@ -44,7 +44,7 @@ pub fn take_date<S: ByteSource>(
 ) -> Result<DateTime, ReadError>
     ensures takes { TakesLean S.ByteSource source.old count.old source.new count.new
         (λ d. d.nanoseconds) result (date_at (version_of version)) }
-    ensures at_most { count.new ≤ count.old + 8 }
+    ensures few { count.new ≤ count.old + 8 }
 {
     let number = take_i64(source, count)?;
     match version {
@@ -68,7 +68,7 @@ pub fn take_ip_address<S: ByteSource>(
 ) -> Result<Ipv6Addr, ReadError>
     ensures takes { TakesLean S.ByteSource source.old count.old source.new count.new
         (λ a. ipv6_bits a) result u128_at }
-    ensures at_most { count.new ≤ count.old + 16 }
+    ensures few { count.new ≤ count.old + 16 }
 {
     let bits = take_u128(source, count)?;
     Ok(address_of(bits))

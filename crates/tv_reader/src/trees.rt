@@ -14,7 +14,7 @@ ghost use Rattle.tv_reader.specs.Finds.{FindsRoomy, FindsDeep};
 ghost use Rattle.tv_reader.specs.Trees.{EncodesValue, NoValue, EncodesBehind, NoneBehind};
 ghost use Rattle.tv_reader.specs.Trees.{EncodesItems, NoItems, EncodesMember, NoMember};
 ghost use Rattle.tv_reader.specs.Trees.{EncodesMembers, NoMembers, CodedKey};
-ghost use Rattle.tv_reader.specs.ValueType.{type_prefix};
+ghost use Rattle.tv_reader.specs.ValueType.{coded};
 ghost use Rattle.tv_reader.specs.Version.{version_of};
 ghost use Rattle.tv_reader.specs.declared.error.DeserializeError.TheVariants as errors;
 ghost use Rattle.tv_reader.specs.declared.value_type.ValueType.TheVariants as types;
@@ -37,7 +37,7 @@ use tv_value::owned_value::OwnedValue;
 fn take_half<S: ByteSource>(source: &mut S, count: &mut u64) -> Result<u64, ReadError>
     ensures takes { reads.TakesLean S.ByteSource source.old count.old source.new
         count.new (λ x. x) result half_at }
-    ensures at_most { count.new ≤ count.old + 10 }
+    ensures few { count.new ≤ count.old + 10 }
 {
     let number = take_vint(source, count)?;
     if number % 2 == 0 {
@@ -58,7 +58,7 @@ pub fn take_entry_count<S: ByteSource>(
 ) -> Result<u64, ReadError>
     ensures takes { reads.TakesLean S.ByteSource source.old count.old source.new
         count.new (λ x. x) result (entry_count_at (version_of version)) }
-    ensures at_most { count.new ≤ count.old + 10 }
+    ensures few { count.new ≤ count.old + 10 }
 {
     match version {
         DocStoreVersion::V1 | DocStoreVersion::V2 => take_half(source, count),
@@ -182,10 +182,10 @@ pub fn take_behind<S: ByteSource>(
         result (EncodesBehind (version_of version) kind) (NoneBehind (version_of version) kind) }
     ensures within { S.is_known source.old → IfOk result
         (λ made. Begins
-        (λ b. EncodesWithin (version_of version) levels (type_prefix kind ++ b) (owned_tree made))
+        (λ b. EncodesWithin (version_of version) levels (coded kind ++ b) (owned_tree made))
         (S.left source.old) (S.left source.new)) }
     ensures deep { S.is_known source.old → IsErrOf result errors.TooDeep
-        → Begins (λ b. Opens (version_of version) levels (type_prefix kind ++ b)) (S.left source.old)
+        → Begins (λ b. Opens (version_of version) levels (coded kind ++ b)) (S.left source.old)
         (S.left source.new) }
 {
     match kind {

@@ -4,7 +4,7 @@ ghost use Rattle.std.specs.Prelude.{◌≡◌, ◌≤◌, ◌+◌, IsTrue, IfOk}
 ghost use Rattle.tv_base.specs.Take.{TakesBy, TakesLean};
 ghost use Rattle.tv_reader.specs.HeadReading.{head_part, head_at};
 ghost use Rattle.tv_reader.specs.Leaves.{leaf_at, is_leaf_type, IsSingle};
-ghost use Rattle.tv_reader.specs.ValueType.{of_leaf, leaf_type, value_type_with};
+ghost use Rattle.tv_reader.specs.ValueType.{of_leaf, leaf_type, type_with};
 ghost use Rattle.tv_reader.specs.Version.{version_of};
 ghost use Rattle.tv_value.specs.Owned.{owned_tree};
 
@@ -96,7 +96,7 @@ impl ValueType {
     /// The type of this code; `None` where there is none. (Not in tantivy.)
     #[inline(always)]
     pub fn from_code(code: u8) -> Option<ValueType>
-        ensures { result ≡ value_type_with code }
+        ensures { result ≡ type_with code }
     {
         match code {
             JSON_OBJ_CODE => Some(ValueType::JSONObject),
@@ -122,7 +122,7 @@ pub(crate) fn take_head_behind<S: ByteSource>(
 ) -> Result<Head, ReadError>
     ensures takes { TakesLean S.ByteSource source.old count.old source.new count.new
         head_part result (head_at (version_of version) kind) }
-    ensures at_most { count.new ≤ count.old + 16 }
+    ensures few { count.new ≤ count.old + 16 }
 {
     match kind {
         ValueType::String => Ok(Head::Length(LeafType::Str, take_vint(source, count)?)),

@@ -2,7 +2,7 @@
 
 ghost use Rattle.std.specs.Prelude.{◌≡◌, Ok, Err, MatchOption};
 ghost use Rattle.tv_format.specs.WriteVersion.{written_version};
-ghost use Rattle.tv_reader.specs.Version.{version_of_number, version_of};
+ghost use Rattle.tv_reader.specs.Version.{numbered, version_of};
 
 use crate::error::DeserializeError;
 use tv_format::version::WriteVersion;
@@ -22,7 +22,7 @@ impl DocStoreVersion {
     /// The version of this number. Every number other than 1, 2 and 3 is refused as `UnsupportedVersion`, with itself and the
     /// largest that there is, 3.
     pub fn from_u32(number: u32) -> Result<DocStoreVersion, DeserializeError>
-        ensures { MatchOption (version_of_number number)
+        ensures { MatchOption (numbered number)
             (result ≡ Err (DeserializeError.UnsupportedVersion number 3))
             (λ version. result ≡ Ok version) }
     {

@@ -22,7 +22,7 @@ use Rattle.tv_format.specs.Version.{Version}
 use Rattle.tv_builder.specs.HeldPairs.{document_of, heap_of, IsUnchanged}
 use Rattle.tv_builder.specs.EncodedPairs.{AddsEncoded, StoodIn}
 use Rattle.tv_builder.specs.declared.heap_pairs.HeapPairs.{HeapPairs}
-use Rattle.tv_reading.specs.Buffered.{AddsBufferedPairs}
+use Rattle.tv_reading.specs.Buffered.{AddsPairs}
 use Rattle.tv_reading.specs.Prefix.{parts_at, parts_read}
 use Rattle.tv_reading.specs.Steps.{Advances}
 use Rattle.tv_reading.specs.declared.reading.Reading.{Reading}
@@ -84,7 +84,7 @@ taken_prefix : (whole prefix rest : List ℕ) → whole ≡ prefix ++ rest → t
 taken_prefix whole prefix rest joined = ap (take (length whole - length rest)) joined ∙ take_at prefix rest (length whole - length rest) (omega (arith, ap length joined, length-append prefix rest))
 
 -- none at all
-pub no_pairs : (v : Version) (d : HeapPairs) → AddsBufferedPairs v d d [] 0
+pub no_pairs : (v : Version) (d : HeapPairs) → AddsPairs v d d [] 0
 no_pairs v d = record { pairs = []; counted = refl; encoded = refl; document = sym (append-nil (document_of d)) }
 
 -- what the document was before, by what was added since
@@ -92,11 +92,11 @@ pub stood_in : {v : Version} {whole rest : List ℕ} {n : ℕ} (old now : HeapPa
 stood_in old now pairs heap h p q = record { counted = sym p; heap_length = sym q; start = h.start }
 
 -- or they were taken back
-pub none_kept : (v : Version) (old new : HeapPairs) → IsUnchanged old new → AddsBufferedPairs v old new [] 0
+pub none_kept : (v : Version) (old new : HeapPairs) → IsUnchanged old new → AddsPairs v old new [] 0
 none_kept v old new u = record { pairs = []; counted = refl; encoded = refl; document = u.document ∙ sym (append-nil (document_of old)) }
 
 -- as many as were added, of the bytes before those that are left over
-pub pairs_taken : (v : Version) (old new : HeapPairs) (whole rest : List ℕ) (n : ℕ) → AddsEncoded v old new whole rest n → AddsBufferedPairs v old new (take (length whole - length rest) whole) n
+pub pairs_taken : (v : Version) (old new : HeapPairs) (whole rest : List ℕ) (n : ℕ) → AddsEncoded v old new whole rest n → AddsPairs v old new (take (length whole - length rest) whole) n
 pairs_taken v old new whole rest n h = record {
   pairs = h.pairs;
   counted = h.counted;
@@ -105,7 +105,7 @@ pairs_taken v old new whole rest n h = record {
 }
 
 -- the reading goes on with them
-pub reading_goes : (v : Version) (r new : Reading) (n m : ℕ) (document more : HeapPairs) (taken : List ℕ) → r.announced ≡ Some n → r.field ≡ None → document_of document ≡ built r.builder → AddsBufferedPairs v document more taken m
+pub reading_goes : (v : Version) (r new : Reading) (n m : ℕ) (document more : HeapPairs) (taken : List ℕ) → r.announced ≡ Some n → r.field ≡ None → document_of document ≡ built r.builder → AddsPairs v document more taken m
     → parts_read new ≡ document_parts n (document_of more) → Advances Legacy v r new taken
 reading_goes v r new n m document more taken announced none is h parts = λ bytes p.
     subst (λ z. Encoded Legacy v (bytes ++ taken) z) (sym parts)

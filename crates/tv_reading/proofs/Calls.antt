@@ -24,7 +24,7 @@ use Rattle.tv_reader.specs.declared.error.DeserializeError.{DeserializeError}
 use Rattle.tv_format.specs.Tree.{Tree, Document}
 use Rattle.tv_reading.specs.Errors.{build_error}
 use Rattle.tv_reading.specs.Prefix.{parts_at, IsPlace, IsSound, HasField}
-use Rattle.tv_reading.specs.Puts.{MayStand, IsOpen, Awaiting, LacksRoom, PutsParts}
+use Rattle.tv_reading.specs.Puts.{MayStand, IsOpen, Awaiting, Fills, Puts}
 use Rattle.tv_reading.specs.Kept.{LetGo}
 use Rattle.tv_reading.specs.declared.reading.Reading.{Reading}
 use Rattle.tv_reading.proofs.Building.{Called, called}
@@ -87,7 +87,7 @@ fills_at None (Some f) d old new ps has h is t full = absurd h
 fills_at (Some n) None d old new ps has h is t full = absurd has
 fills_at (Some n) (Some f) d old new ps has h is t full = record { announced = n; field = f; state = new; less = h.0; is = is; trades = trades_at (Some n) (Some f) d old new ps has h t; full = full }
 
-pub fills : (r : Reading) (s : State) (ps : List Part) → IsSound r → HasField r.field → IsState s → Trades (parts_of (state_of r.builder) ++ ps) (parts_of s) → Overfull r.builder s → LacksRoom r ps
+pub fills : (r : Reading) (s : State) (ps : List Part) → IsSound r → HasField r.field → IsState s → Trades (parts_of (state_of r.builder) ++ ps) (parts_of s) → Overfull r.builder s → Fills r ps
 fills r s ps sound has is t full =
     let k = fills_at r.announced r.field (built r.builder) (state_of r.builder) s ps has sound.place is t full.room in
     record { announced = k.announced; finished = built r.builder; field = k.field; state = k.state; less = k.less; is = k.is; trades = k.trades; full = k.full }
@@ -102,7 +102,7 @@ module _ (r : Reading) (b : PairBuilder) (what : Awaits) (in_place fits : Type 0
   call_lead x h here c t = call_leads r b (after (state_of r.builder)) ps h.sound h.field (called r.builder b in_place fits after (Ok x) h.sound.live here c) t
 
   pub call_puts : (x : Unit {0}) (new : Reading) (result : Result (Unit {0}) DeserializeError) → Awaiting r what → in_place → Builds r.builder b in_place fits after (Ok x) → Trades (parts_of (state_of r.builder) ++ ps) (parts_of (after (state_of r.builder)))
-      → PutsParts (with_builder r b) new [] result → PutsParts r new ps result
+      → Puts (with_builder r b) new [] result → Puts r new ps result
   call_puts x new result h here c t p = puts_on r (with_builder r b) new ps result (call_lead x h here c t) p
 
   pub call_left : (x : Unit {0}) (new : Reading) (result : Result (Unit {0}) DeserializeError) → Awaiting r what → in_place → Builds r.builder b in_place fits after (Ok x) → OnErr result (LetGo (with_builder r b) new) → OnErr result (LetGo r new)
@@ -110,10 +110,10 @@ module _ (r : Reading) (b : PairBuilder) (what : Awaits) (in_place fits : Type 0
   call_left x new (Err e) h here c l = goes_let_go r b (after (state_of r.builder)) new (called r.builder b in_place fits after (Ok x) h.sound.live here c) l
 
   pub call_refused : (e : BuildError) (new : Reading) → Awaiting r what → in_place → Builds r.builder b in_place fits after (Err e) → IsState (after (state_of r.builder)) → Trades (parts_of (state_of r.builder) ++ ps) (parts_of (after (state_of r.builder)))
-      → PutsParts r new ps (Err (build_error e))
+      → Puts r new ps (Err (build_error e))
   call_refused e new h here c is t = refused e (called r.builder b in_place fits after (Err e) h.sound.live here c)
     where
-      refused : (e : BuildError) → Called r.builder b (after (state_of r.builder)) (Err e) → PutsParts r new ps (Err (build_error e))
+      refused : (e : BuildError) → Called r.builder b (after (state_of r.builder)) (Err e) → Puts r new ps (Err (build_error e))
       refused HeapFull k = fills r (after (state_of r.builder)) ps h.sound h.field is t k
       refused Memory k = tt
       refused AlreadyFailed k = absurd k

@@ -32,10 +32,10 @@ use Rattle.tv_reader.specs.Trees.{NoValue}
 use Rattle.tv_reader.specs.declared.error.DeserializeError.{DeserializeError}
 use Rattle.tv_reader.proofs.BehindKinds.{value_ended}
 use Rattle.tv_reader.proofs.Finding.{finds_then, finds_as, finds_fails, finds_any}
-use Rattle.tv_reading.specs.Skip.{IsValueEncoding}
+use Rattle.tv_reading.specs.Skip.{IsValue}
 use Rattle.tv_reading.proofs.Passing.{bytes_ended}
 use Rattle.tv_value.specs.declared.field.Field.{Field}
-use Rattle.tv_reading.specs.Buffered.{AddsBufferedPairs}
+use Rattle.tv_reading.specs.Buffered.{AddsPairs}
 use Rattle.tv_reading.specs.Documents.{NoDocument}
 use Rattle.tv_reading.specs.PairValue.{CanStand, AddsValue, FindsValue, FindsNoValue, ValueHasNoRoom}
 use Rattle.tv_reading.proofs.BufferedPairs.{pair_with_legacy}
@@ -93,7 +93,7 @@ none_buffered : (v : Version) (old new : HeapPairs) (taken : List ℕ) (pairs : 
 none_buffered v old new taken [] many each is = (each, is ∙ append-nil (document_of old))
 none_buffered v old new taken (p ∷ d) many each is = absurd (omega (arith, many))
 
-buffered : (v : Version) (fields : List Field) (old new : HeapPairs) (number : ℕ) (taken left whole : List ℕ) (n : ℕ) → n ≤ 1 → AddsBufferedPairs v old new taken n → whole ≡ taken ++ left → BeginsAsPair whole number → is_among fields number ≡ true → AddsIf v fields old new taken (nat_eq n 1)
+buffered : (v : Version) (fields : List Field) (old new : HeapPairs) (number : ℕ) (taken left whole : List ℕ) (n : ℕ) → n ≤ 1 → AddsPairs v old new taken n → whole ≡ taken ++ left → BeginsAsPair whole number → is_among fields number ≡ true → AddsIf v fields old new taken (nat_eq n 1)
 buffered v fields old new number taken left whole zero most h joined named among = none_buffered v old new taken h.pairs h.counted h.encoded h.document
 buffered v fields old new number taken left whole (suc zero) most h joined named among = one_buffered v fields old new number taken left whole h.pairs h.counted h.encoded h.document joined named among
 buffered v fields old new number taken left whole (suc (suc n)) most h joined named among = absurd (omega (arith, most))
@@ -109,7 +109,7 @@ pair_ended v r (inl h) = bytes_ended 4 r h
 pair_ended v r (inr h) = value_ended (rest_none h.1.prefix h.1.rest h.1.joined) h.1.second
 
 module _ {S : Type 0} {is_known : S → Type 0} {left : S → List ℕ} {failures : S → Failures} (v : Version) (fields : List Field) where
-  pub pair_buffered : {os ns : S} {i k : ℕ} (before after : HeapPairs) (number n : ℕ) → n ≤ 1 → (is_known os → BeginsAsPair (left os) number) → is_among fields number ≡ true → FindsIf StoreMayStop is_known left failures os i ns k (Ok n) (λ b added. AddsBufferedPairs v before after b added) Nothing
+  pub pair_buffered : {os ns : S} {i k : ℕ} (before after : HeapPairs) (number n : ℕ) → n ≤ 1 → (is_known os → BeginsAsPair (left os) number) → is_among fields number ≡ true → FindsIf StoreMayStop is_known left failures os i ns k (Ok n) (λ b added. AddsPairs v before after b added) Nothing
       → FindsIf StoreMayStop is_known left failures os i ns k (Ok (nat_eq n 1)) (λ b added. AddsIf v fields before after b added) Nothing
   pair_buffered {os = os} {ns = ns} before after number n most named among p = record {
     found = λ t. let h = p.found t in record { prefix = h.prefix; joined = h.joined; encoded = buffered v fields before after number h.prefix (left ns) (left os) n most h.encoded h.joined (named t) among };
@@ -154,10 +154,10 @@ module _ {S : Type 0} {is_known : S → Type 0} {left : S → List ℕ} {failure
 
   -- its value is passed over
   pub value_passed : {old mid new : S} {i j k : ℕ} {x : Unit {0}} (document : HeapPairs) (number : ℕ) → is_among fields number ≡ false → FindsIf StoreMayStop is_known left failures old i mid j (Ok number) (Fixed 4) (λ w f. ⊥)
-      → FindsIf StoreMayStopRoomy is_known left failures mid j new k (Ok x) (λ b _. IsValueEncoding v b) (NoValue v) → FindsIf StoreMayStop is_known left failures old i new k (Ok document) (FindsPair v fields (document_of document)) (FindsNoPair v (document_of document))
+      → FindsIf StoreMayStopRoomy is_known left failures mid j new k (Ok x) (λ b _. IsValue v b) (NoValue v) → FindsIf StoreMayStop is_known left failures old i new k (Ok document) (FindsPair v fields (document_of document)) (FindsNoPair v (document_of document))
   value_passed {old = old} {mid = mid} {new = new} {i = i} {j = j} {k = k} {x = x} document number other p h =
       let d = document_of document in
-      let value : FindsIf StoreMayStop is_known left failures mid j new k (Ok x) (λ b _. IsValueEncoding v b) Nothing = finds_as x (λ b _. IsValueEncoding v b) Nothing (λ a s. s) h in
+      let value : FindsIf StoreMayStop is_known left failures mid j new k (Ok x) (λ b _. IsValue v b) Nothing = finds_as x (λ b _. IsValue v b) Nothing (λ a s. s) h in
       let pair : FindsIf StoreMayStop is_known left failures old i new k (Ok x) (λ b _. FindsPair v fields d b document) Nothing =
       finds_then (λ b _. FindsPair v fields d b document) Nothing
       (λ a b y fixed t. λ stands. record {
@@ -168,7 +168,7 @@ module _ {S : Type 0} {is_known : S → Type 0} {left : S → List ℕ} {failure
       (λ a w r fixed f. f) (λ a r fixed o f start byte last. f) p value in
       finds_as document (FindsPair v fields d) (FindsNoPair v d) (λ a s. s) pair
 
-  pub value_not_passed : {old mid new : S} {i j k : ℕ} {e : DeserializeError} (d : Document) (number : ℕ) → FindsIf StoreMayStop is_known left failures old i mid j (Ok number) (Fixed 4) (λ w f. ⊥) → FindsIf {X = Unit {0}} StoreMayStopRoomy is_known left failures mid j new k (Err e) (λ b _. IsValueEncoding v b) (NoValue v)
+  pub value_not_passed : {old mid new : S} {i j k : ℕ} {e : DeserializeError} (d : Document) (number : ℕ) → FindsIf StoreMayStop is_known left failures old i mid j (Ok number) (Fixed 4) (λ w f. ⊥) → FindsIf {X = Unit {0}} StoreMayStopRoomy is_known left failures mid j new k (Err e) (λ b _. IsValue v b) (NoValue v)
       → FindsIf {X = HeapPairs} StoreMayStop is_known left failures old i new k (Err e) (FindsPair v fields d) (FindsNoPair v d)
   value_not_passed d number p h =
       finds_then (FindsPair v fields d) (FindsNoPair v d) (λ a b y fixed s. absurd s)

@@ -13,7 +13,7 @@ use Rattle.tv_legacy.specs.Legacy.{Legacy, ErrorInLegacy}
 use Rattle.tv_reader.specs.Trees.{NoValue}
 use Rattle.tv_reader.proofs.BehindKinds.{value_ended}
 use Rattle.tv_reader.proofs.TreeSteps.{key_error_ended}
-use Rattle.tv_reading.specs.Skip.{Before, ErrorBefore, IsValueEncoding, OpensList, IsItem, ErrorInItem, AreItems, ErrorInItems, AreLeft, ErrorInLeft, Passed}
+use Rattle.tv_reading.specs.Skip.{Before, ErrorBefore, IsValue, OpensList, IsItem, ErrorInItem, AreItems, ErrorInItems, AreLeft, ErrorInLeft, Passed}
 use Rattle.tv_reading.specs.declared.items.ItemKind.{ItemKind}
 use Rattle.tv_reading.specs.declared.items.ItemKind.TheVariants as kinds
 use Rattle.tv_reading.specs.declared.items.ItemsLeft.{ItemsLeft}
@@ -55,8 +55,8 @@ record Values (v : Version) (Rest : List ℕ → Type 0) (n : ℕ) (whole : List
   many : element_count trees ≡ n
   parts : Then (λ b. EncodesElements Legacy v b trees) Rest whole
 
-of_item : (v : Version) (whole : List ℕ) → IsItem v kinds.Value whole → IsValueEncoding v whole
-of_item v whole p = subst (IsValueEncoding v) (sym (p.joined ∙ ap (λ (l : List ℕ). l ++ p.rest) p.first)) p.second
+of_item : (v : Version) (whole : List ℕ) → IsItem v kinds.Value whole → IsValue v whole
+of_item v whole p = subst (IsValue v) (sym (p.joined ∙ ap (λ (l : List ℕ). l ++ p.rest) p.first)) p.second
 
 values_of : (v : Version) (Rest : List ℕ → Type 0) (n : ℕ) (whole : List ℕ) → AreItems v kinds.Value Rest n whole → Values v Rest n whole
 values_of v Rest zero whole p = record { trees = no_elements; many = refl; parts = record { prefix = []; rest = whole; joined = refl; first = refl; second = p } }
@@ -169,7 +169,7 @@ entry_errors v E (suc n) whole r (inr p) = elim (entry_errors v E n p.rest r p.s
 -- ---- a list as one value
 
 -- its head, and so many items behind it
-array_closes : (v : Version) (Rest : List ℕ → Type 0) (n : ℕ) (head rest : List ℕ) → OpensList v head kinds.Value n → Values v Rest n rest → Then (IsValueEncoding v) Rest (head ++ rest)
+array_closes : (v : Version) (Rest : List ℕ → Type 0) (n : ℕ) (head rest : List ℕ) → OpensList v head kinds.Value n → Values v Rest n rest → Then (IsValue v) Rest (head ++ rest)
 array_closes v Rest n head rest h q = record {
   prefix = head ++ q.parts.prefix;
   rest = q.parts.rest;
@@ -185,7 +185,7 @@ array_closes v Rest n head rest h q = record {
   second = q.parts.second;
 }
 
-object_closes : (v : Version) (Rest : List ℕ → Type 0) (n : ℕ) (head rest : List ℕ) → OpensList v head kinds.Entry n → Members v Rest n rest → Then (IsValueEncoding v) Rest (head ++ rest)
+object_closes : (v : Version) (Rest : List ℕ → Type 0) (n : ℕ) (head rest : List ℕ) → OpensList v head kinds.Entry n → Members v Rest n rest → Then (IsValue v) Rest (head ++ rest)
 object_closes v Rest n head rest h q = record {
   prefix = head ++ q.parts.prefix;
   rest = q.parts.rest;
@@ -201,7 +201,7 @@ object_closes v Rest n head rest h q = record {
   second = q.parts.second;
 }
 
-pub list_closes : (v : Version) (Rest : List ℕ → Type 0) (kind : ItemKind) (n : ℕ) (head rest : List ℕ) → OpensList v head kind n → AreItems v kind Rest n rest → Then (IsValueEncoding v) Rest (head ++ rest)
+pub list_closes : (v : Version) (Rest : List ℕ → Type 0) (kind : ItemKind) (n : ℕ) (head rest : List ℕ) → OpensList v head kind n → AreItems v kind Rest n rest → Then (IsValue v) Rest (head ++ rest)
 list_closes v Rest kinds.Value n head rest h p = array_closes v Rest n head rest h (values_of v Rest n rest p)
 list_closes v Rest kinds.Entry n head rest h p = object_closes v Rest n head rest h (members_of v Rest n rest p)
 list_closes v Rest kinds.Pair n head rest h p = absurd h
@@ -217,7 +217,7 @@ entries_refused v n head body rest r is number (in_next_value es k prefix key mo
     subst (λ (l : List ℕ). NoValue v (l ++ rest) r) (sym is) (in_entry n es k body prefix key more (ap (λ (l : List ℕ). body ++ l) joined) number encoded fewer keyed f)
 
 -- what is wrong behind its head is wrong in it, or behind it
-list_refused : (v : Version) (E : List ℕ → Refusal → Type 0) (kind : ItemKind) (n : ℕ) (head rest : List ℕ) (r : Refusal) → OpensList v head kind n → ErrorInItems v kind E n rest r → NoValue v (head ++ rest) r ⊎ Then (IsValueEncoding v) (λ b. E b r) (head ++ rest)
+list_refused : (v : Version) (E : List ℕ → Refusal → Type 0) (kind : ItemKind) (n : ℕ) (head rest : List ℕ) (r : Refusal) → OpensList v head kind n → ErrorInItems v kind E n rest r → NoValue v (head ++ rest) r ⊎ Then (IsValue v) (λ b. E b r) (head ++ rest)
 list_refused v E kinds.Value n head rest r h f = elim (value_errors v E n rest r f) [
   | inl g ↦ inl (elements_refused v n head h.body rest r h.joined h.encoded g)
   | inr q ↦ inr (array_closes v (λ b. E b r) n head rest h q)
@@ -257,7 +257,7 @@ value_passed v kind n outer taken p = record {
 }
 
 -- what stands before a value, and then the value and what is behind it
-item_then : (v : Version) (kind : ItemKind) (Rest : List ℕ → Type 0) (whole before more : List ℕ) → whole ≡ before ++ more → Before v kind before → Then (IsValueEncoding v) Rest more → Then (IsItem v kind) Rest whole
+item_then : (v : Version) (kind : ItemKind) (Rest : List ℕ → Type 0) (whole before more : List ℕ) → whole ≡ before ++ more → Before v kind before → Then (IsValue v) Rest more → Then (IsItem v kind) Rest whole
 item_then v kind Rest whole before more joined b p = record {
   prefix = before ++ p.prefix;
   rest = p.rest;
@@ -306,7 +306,7 @@ list_pushed items outer more is = sym (ap reverse is ∙ reverse-append outer (i
 
 -- ---- one value, and the pairs of a document
 
-pub one_value : (v : Version) (whole : List ℕ) → AreLeft v (so_many kinds.Value 1 ∷ []) whole → IsValueEncoding v whole
+pub one_value : (v : Version) (whole : List ℕ) → AreLeft v (so_many kinds.Value 1 ∷ []) whole → IsValue v whole
 one_value v whole p = of_item v whole (subst (IsItem v kinds.Value) (sym (p.joined ∙ ap (λ (l : List ℕ). p.prefix ++ l) p.second ∙ append-nil p.prefix)) p.first)
 
 pub one_value_error : (v : Version) (whole : List ℕ) (r : Refusal) → ErrorInLeft v (so_many kinds.Value 1 ∷ []) whole r → NoValue v whole r

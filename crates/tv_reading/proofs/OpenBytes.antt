@@ -10,7 +10,7 @@ use Rattle.tv_builder.specs.declared.build_error.BuildError.TheVariants.{Already
 use Rattle.tv_builder.specs.declared.bytes_kind.BytesKind.{BytesKind}
 use Rattle.tv_builder.specs.declared.bytes_kind.BytesKind.TheVariants as kinds
 use Rattle.tv_builder.specs.Kinds.{IsTextKind}
-use Rattle.tv_builder.specs.Parts.{Part, bytes_head, some_bytes, IsContentOf, Trades}
+use Rattle.tv_builder.specs.Parts.{Part, bytes_head, some_bytes, IsContent, Trades}
 use Rattle.tv_builder.specs.State.{State, complete, in_lists, in_bytes, and_head, and_bytes, and_end, awaited, head_awaits, IsState, state_room, lists_parts, parts_of}
 use Rattle.tv_builder.proofs.CallsTrade.{heads_trade, bytes_trade, ends_trade}
 use Rattle.tv_builder.proofs.Trading.{trades_as, trades_from}
@@ -22,7 +22,7 @@ use Rattle.tv_reader.specs.declared.error.DeserializeError.TheVariants as errors
 use Rattle.tv_format.specs.Tree.{Document}
 use Rattle.tv_reading.specs.Errors.{build_error}
 use Rattle.tv_reading.specs.Prefix.{parts_at, parts_read, IsPlace, IsSound, HasField}
-use Rattle.tv_reading.specs.Puts.{MayStand, IsWithinPair, IsOpen, IsEnding, AtEnd, PutsParts, NoContent, PutsEnd, EndNoText, NoText, PutsBytes}
+use Rattle.tv_reading.specs.Puts.{MayStand, IsWithin, IsOpen, IsEnding, AtEnd, Puts, NoContent, PutsEnd, EndNoText, NoText, PutsBytes}
 use Rattle.tv_reading.specs.Kept.{LetGo}
 use Rattle.tv_reading.specs.declared.reading.Reading.{Reading}
 use Rattle.tv_reading.proofs.Building.{CalledEnd, ended}
@@ -53,7 +53,7 @@ head_all (in_lists ls) kind n e none = sym none
 head_all (complete t) kind n e none = absurd (not_finish kind e)
 head_all (in_bytes ls k m bs) kind n e none = absurd (not_bytes kind (m - length bs) e)
 
-no_content : (kind : BytesKind) → IsContentOf kind []
+no_content : (kind : BytesKind) → IsContent kind []
 no_content kinds.Bytes = tt
 no_content _ = IsUtf8-nil
 
@@ -90,13 +90,13 @@ bytes_all (in_bytes ls kind n bs) more m is e h all = let same : n - length bs �
 bytes_all (complete t) more m is e h all = absurd h
 bytes_all (in_lists ls) more m is e h all = absurd h
 
-no_text : (kind : BytesKind) (content : List ℕ) → ¬ IsContentOf kind content → IsTextKind kind × ¬ IsUtf8 content
+no_text : (kind : BytesKind) (content : List ℕ) → ¬ IsContent kind content → IsTextKind kind × ¬ IsUtf8 content
 no_text kinds.Bytes content h = absurd (h tt)
 no_text _ content h = (tt, h)
 
 pub end_no_text : (s after : State) (more : List ℕ) → TakesBytes s (length more) → HasAllBytes after → after ≡ and_bytes s more → ¬ HasContent after → EndNoText s more
 end_no_text (in_bytes ls kind n bs) after more h all is none =
-    let content : ¬ IsContentOf kind (bs ++ more) = λ c. none (subst HasContent (sym is) c) in
+    let content : ¬ IsContent kind (bs ++ more) = λ c. none (subst HasContent (sym is) c) in
     let k = no_text kind (bs ++ more) content in
     let whole : length (bs ++ more) ≡ n = subst HasAllBytes is all in
     (k.0, omega (arith, whole, length-append bs more), k.1)
@@ -114,7 +114,7 @@ end_trades (complete t) is all content = absurd all
 end_trades (in_lists ls) is all content = absurd all
 
 record EndedAt (a f : Option ℕ) (d : Document) (old new : State) : Type 0 where
-  within : IsWithinPair a d f new
+  within : IsWithin a d f new
   trades : Trades (parts_at a d f old ++ []) (parts_at a d f new)
 
 ended_at : (a f : Option ℕ) (d : Document) (old new : State) → IsEnding a d f old → MayStand new → Trades (parts_of old ++ []) (parts_of new) → EndedAt a f d old new
@@ -147,7 +147,7 @@ end_opens r b x h c =
       open_is = record {
         live = g.live;
         counted = h.counted ∙ ap length (sym g.document);
-        within = subst (λ z. IsWithinPair r.announced z r.field (state_of b)) (sym g.document) (subst (λ z. IsWithinPair r.announced (built r.builder) r.field z) (sym g.state) e.within);
+        within = subst (λ z. IsWithin r.announced z r.field (state_of b)) (sym g.document) (subst (λ z. IsWithin r.announced (built r.builder) r.field z) (sym g.state) e.within);
       };
       goes = g;
       leads = leads r b (and_end (state_of r.builder)) [] g (trades_as _ now e.trades);
@@ -181,7 +181,7 @@ end_refused r new b e h c = refused e c (ended r.builder b (Err e) h.live (ends_
 
 -- ---- together
 
-pub puts_end : (r mid new : Reading) (result : Result (Unit {0}) DeserializeError) → Leads r mid [] → PutsParts mid new [] result → PutsEnd r new result
+pub puts_end : (r mid new : Reading) (result : Result (Unit {0}) DeserializeError) → Leads r mid [] → Puts mid new [] result → PutsEnd r new result
 puts_end r mid new (Ok x) t h = puts_on r mid new [] (Ok x) t h
 puts_end r mid new (Err errors.HeapFull) t h = puts_on r mid new [] (Err errors.HeapFull) t h
 puts_end r mid new (Err errors.Memory) t h = tt
@@ -198,7 +198,7 @@ content_there : (c : Cause) (s : State) → HasContent s → NoContent c s → �
 content_there causes.NotUtf8 s h none = none h
 content_there _ s h none = none
 
-pub puts_from_end : (r mid new : Reading) (ps : List Part) (result : Result (Unit {0}) DeserializeError) → Leads r mid ps → HasContent (state_of mid.builder) → PutsEnd mid new result → PutsParts r new ps result
+pub puts_from_end : (r mid new : Reading) (ps : List Part) (result : Result (Unit {0}) DeserializeError) → Leads r mid ps → HasContent (state_of mid.builder) → PutsEnd mid new result → Puts r new ps result
 puts_from_end r mid new ps (Ok x) t content h = puts_on r mid new ps (Ok x) t h
 puts_from_end r mid new ps (Err errors.HeapFull) t content h = puts_on r mid new ps (Err errors.HeapFull) t h
 puts_from_end r mid new ps (Err errors.Memory) t content h = tt

@@ -21,7 +21,7 @@ use Rattle.tv_reader.specs.Error.{store_stop, StoreMayStopRoomy}
 use Rattle.tv_reader.specs.Finds.{FindsIf, Nothing}
 use Rattle.tv_reader.specs.Kinds.{kind_at}
 use Rattle.tv_reader.specs.Trees.{NoValue}
-use Rattle.tv_reader.specs.ValueType.{type_prefix}
+use Rattle.tv_reader.specs.ValueType.{coded}
 use Rattle.tv_reader.specs.Version.{version_of}
 use Rattle.tv_reader.specs.declared.error.DeserializeError.{DeserializeError}
 use Rattle.tv_reader.specs.declared.error.DeserializeError.TheVariants as errors
@@ -32,7 +32,7 @@ use Rattle.tv_reader.specs.declared.version.DocStoreVersion.TheVariants as store
 use Rattle.tv_reader.proofs.BehindKinds.{finds_behind, held_error}
 use Rattle.tv_reader.proofs.Finding.{finds_then, finds_as, finds_fails, finds_refused, finds_part}
 use Rattle.tv_reading.specs.declared.items.ItemKind.TheVariants as kinds
-use Rattle.tv_reading.specs.Skip.{Before, IsValueEncoding, IsTextEncoding, IsCodedText, IsSizedEncoding, Tested, IsTextOf, ErrorInTextOf, text_ends, text_is_none}
+use Rattle.tv_reading.specs.Skip.{Before, IsValue, IsText, IsCodedText, IsSized, Tested, IsTextOf, ErrorInTextOf, text_ends, text_is_none}
 
 abbrev pub end : Refusal
 end = corrupted UnexpectedEnd
@@ -101,9 +101,9 @@ sized_behind n a w _ number (corrupt f) = corrupt (inr (n, record { prefix = a; 
 
 pub sized_then : {S X : Type 0} {is_known : S → Type 0} {left : S → List ℕ} {failures : S → Failures} {old mid new : S} {i j k n : ℕ} {result : Result X DeserializeError}
     → ((source : S) → is_known source → AllBytes (left source)) → reads.TakesIf reads.MayStopLean is_known left failures old i mid j (λ x. x) (Ok n) vint_at → FindsIf StoreMayStopRoomy is_known left failures mid j new k result (λ b _. length b ≡ n) (Corrupt (ErrorInBytes n))
-    → FindsIf StoreMayStopRoomy is_known left failures old i new k result (λ b _. IsSizedEncoding b) (Corrupt ErrorInSized)
+    → FindsIf StoreMayStopRoomy is_known left failures old i new k result (λ b _. IsSized b) (Corrupt ErrorInSized)
 sized_then {n = n} are_bytes part h =
-    finds_after (λ b _. IsSizedEncoding b) (Corrupt ErrorInSized) (bytes_ended n) (λ a b y number many. (b, record { size = a; joined = refl; number = subst (VNum a) (sym many) number })) (sized_behind n) (finds_part are_bytes vint_agrees part) h
+    finds_after (λ b _. IsSized b) (Corrupt ErrorInSized) (bytes_ended n) (λ a b y number many. (b, record { size = a; joined = refl; number = subst (VNum a) (sym many) number })) (sized_behind n) (finds_part are_bytes vint_agrees part) h
 
 -- ---- texts
 
@@ -127,9 +127,9 @@ text_behind n a w _ number (text_is_none content rest joined many none) =
 
 pub text_then : {S X : Type 0} {is_known : S → Type 0} {left : S → List ℕ} {failures : S → Failures} {old mid new : S} {i j k n : ℕ} {result : Result X DeserializeError}
     → ((source : S) → is_known source → AllBytes (left source)) → reads.TakesIf reads.MayStopLean is_known left failures old i mid j (λ x. x) (Ok n) vint_at → FindsIf StoreMayStopRoomy is_known left failures mid j new k result (λ b _. IsTextOf n b) (ErrorInTextOf n)
-    → FindsIf StoreMayStopRoomy is_known left failures old i new k result (λ b _. IsTextEncoding b) (Corrupt ErrorInText)
+    → FindsIf StoreMayStopRoomy is_known left failures old i new k result (λ b _. IsText b) (Corrupt ErrorInText)
 text_then {n = n} are_bytes part h =
-    finds_after (λ b _. IsTextEncoding b) (Corrupt ErrorInText) (text_ended n) (λ a b y number t. (b, record { sized = record { size = a; joined = refl; number = subst (VNum a) (sym t.many) number }; utf8 = t.utf8 })) (text_behind n) (finds_part are_bytes vint_agrees part) h
+    finds_after (λ b _. IsText b) (Corrupt ErrorInText) (text_ended n) (λ a b y number t. (b, record { sized = record { size = a; joined = refl; number = subst (VNum a) (sym t.many) number }; utf8 = t.utf8 })) (text_behind n) (finds_part are_bytes vint_agrees part) h
 
 -- ---- keys
 
@@ -138,12 +138,12 @@ in_coded_key w _ (corrupt f) = in_key f
 
 pub coded_text_then : {S X : Type 0} {is_known : S → Type 0} {left : S → List ℕ} {failures : S → Failures} {old mid new : S} {i j k : ℕ} {kind : ValueType} (result : Result X DeserializeError)
     → ((source : S) → is_known source → AllBytes (left source)) → kind ≡ types.String → reads.TakesIf reads.MayStopLean is_known left failures old i mid j (λ x. x) (Ok kind) kind_at
-    → FindsIf StoreMayStopRoomy is_known left failures mid j new k result (λ b _. IsTextEncoding b) (Corrupt ErrorInText) → FindsIf StoreMayStopRoomy is_known left failures old i new k result (λ b _. IsCodedText b) ErrorInCodedKey
+    → FindsIf StoreMayStopRoomy is_known left failures mid j new k result (λ b _. IsText b) (Corrupt ErrorInText) → FindsIf StoreMayStopRoomy is_known left failures old i new k result (λ b _. IsCodedText b) ErrorInCodedKey
 coded_text_then {kind = kind} result are_bytes is part h =
     finds_behind (λ b _. IsCodedText b) ErrorInCodedKey are_bytes key_ends key_no_extension part
-    (finds_map (λ b _. IsCodedText (type_prefix kind ++ b)) (λ w r. ErrorInCodedKey (type_prefix kind ++ w) r) result
-    (λ a x t. subst (λ z. IsCodedText (type_prefix z ++ a)) (sym is) (t.0, record { body = a; joined = refl; encoded = t.1 }))
-    (λ w r f. subst (λ z. ErrorInCodedKey (type_prefix z ++ w) r) (sym is) (in_coded_key w r f)) h)
+    (finds_map (λ b _. IsCodedText (coded kind ++ b)) (λ w r. ErrorInCodedKey (coded kind ++ w) r) result
+    (λ a x t. subst (λ z. IsCodedText (coded z ++ a)) (sym is) (t.0, record { body = a; joined = refl; encoded = t.1 }))
+    (λ w r f. subst (λ z. ErrorInCodedKey (coded z ++ w) r) (sym is) (in_coded_key w r f)) h)
 
 -- a key of versions 1 and 2
 pub older_key : {S : Type 0} {is_known : S → Type 0} {left : S → List ℕ} {failures : S → Failures} {old new : S} {i k : ℕ} (version : DocStoreVersion) (result : Result (Unit {0}) DeserializeError) → (version ≡ stores.V1) ⊎ (version ≡ stores.V2)
@@ -155,13 +155,13 @@ older_key {is_known = is_known} {left = left} {failures = failures} {old = old} 
 
 -- ---- values
 
-pub text_is_value : (v : Version) (kind : ValueType) → (kind ≡ types.String) ⊎ (kind ≡ types.Facet) → (a : List ℕ) → IsTextEncoding a → IsValueEncoding v (type_prefix kind ++ a)
-text_is_value v kind (inl e) a t = subst (λ z. IsValueEncoding v (type_prefix z ++ a)) (sym e) (leaf (text t.0), record { body = a; joined = refl; encoded = t.1 })
-text_is_value v kind (inr e) a t = subst (λ z. IsValueEncoding v (type_prefix z ++ a)) (sym e) (leaf (facet t.0), record { body = a; joined = refl; encoded = t.1 })
+pub text_is_value : (v : Version) (kind : ValueType) → (kind ≡ types.String) ⊎ (kind ≡ types.Facet) → (a : List ℕ) → IsText a → IsValue v (coded kind ++ a)
+text_is_value v kind (inl e) a t = subst (λ z. IsValue v (coded z ++ a)) (sym e) (leaf (text t.0), record { body = a; joined = refl; encoded = t.1 })
+text_is_value v kind (inr e) a t = subst (λ z. IsValue v (coded z ++ a)) (sym e) (leaf (facet t.0), record { body = a; joined = refl; encoded = t.1 })
 
-pub text_no_value : (v : Version) (kind : ValueType) → (kind ≡ types.String) ⊎ (kind ≡ types.Facet) → (w : List ℕ) (r : Refusal) → Corrupt ErrorInText w r → NoValue v (type_prefix kind ++ w) r
-text_no_value v kind (inl e) w _ (corrupt {c} f) = subst (λ z. NoValue v (type_prefix z ++ w) (corrupted c)) (sym e) (held_error leaves.Str f)
-text_no_value v kind (inr e) w _ (corrupt {c} f) = subst (λ z. NoValue v (type_prefix z ++ w) (corrupted c)) (sym e) (held_error leaves.Facet f)
+pub text_no_value : (v : Version) (kind : ValueType) → (kind ≡ types.String) ⊎ (kind ≡ types.Facet) → (w : List ℕ) (r : Refusal) → Corrupt ErrorInText w r → NoValue v (coded kind ++ w) r
+text_no_value v kind (inl e) w _ (corrupt {c} f) = subst (λ z. NoValue v (coded z ++ w) (corrupted c)) (sym e) (held_error leaves.Str f)
+text_no_value v kind (inr e) w _ (corrupt {c} f) = subst (λ z. NoValue v (coded z ++ w) (corrupted c)) (sym e) (held_error leaves.Facet f)
 
 pub bytes_no_value : (v : Version) (w : List ℕ) (r : Refusal) → Corrupt ErrorInSized w r → NoValue v (4 ∷ w) r
 bytes_no_value v w _ (corrupt f) = held_error leaves.Bytes f

@@ -11,7 +11,7 @@ use Rattle.tv_reader.specs.Finds.{FindsIf}
 use Rattle.tv_format.specs.Encoding.{NoLegacy}
 use Rattle.tv_format.specs.Tree.{Document}
 use Rattle.tv_format.specs.Version.{Version}
-use Rattle.tv_reading.specs.Prefix.{parts_at, parts_read, IsPlace, IsSound, IsMalformedNext}
+use Rattle.tv_reading.specs.Prefix.{parts_at, parts_read, IsPlace, IsSound, NoPrefix}
 use Rattle.tv_reading.specs.Paid.{PaidBy}
 use Rattle.tv_reading.specs.Kept.{KeepsPairs}
 use Rattle.tv_reading.specs.Steps.{Stepped}
@@ -58,7 +58,7 @@ paid_left v old new b count sound p less (inr e) = subst (λ (z : Reading). Paid
 
 -- a step that took these bytes
 pub paid_next : {S : Type 0} {is_known : S → Type 0} {left : S → List ℕ} {failures : S → Failures} {os ns : S} {i k : ℕ} (x : Unit {0}) (v : Version) (legacy : Bool) (old new : Reading) (b : List ℕ) → IsSound new → Encoded NoLegacy v b (parts_read old) → i ≡ length b → legacy ≡ false
-    → FindsIf StoreMayStop is_known left failures os i ns k (Ok x) (λ b _. Stepped v legacy old new b) (IsMalformedNext v old) → is_known os → PaidBy new.builder k
+    → FindsIf StoreMayStop is_known left failures os i ns k (Ok x) (λ b _. Stepped v legacy old new b) (NoPrefix v old) → is_known os → PaidBy new.builder k
 paid_next {left = left} {ns = ns} x v legacy old new b sound p counted none h t =
     let f = h.found t in
     let g = h.taken t in

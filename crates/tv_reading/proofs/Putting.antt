@@ -16,8 +16,8 @@ use Rattle.tv_builder.specs.Builder.{built, state_of, heap_so_far, Goes, HasAllB
 use Rattle.tv_reader.specs.declared.error.DeserializeError.{DeserializeError}
 use Rattle.tv_reader.specs.declared.error.DeserializeError.TheVariants as errors
 use Rattle.tv_format.specs.Tree.{Tree, Document}
-use Rattle.tv_reading.specs.Prefix.{parts_at, parts_read, IsBetweenParts, IsPlace, IsSound, HasField}
-use Rattle.tv_reading.specs.Puts.{MayStand, IsWithinPair, IsOpen, PartsPut, PutsParts}
+use Rattle.tv_reading.specs.Prefix.{parts_at, parts_read, Lacks, IsPlace, IsSound, HasField}
+use Rattle.tv_reading.specs.Puts.{MayStand, IsWithin, IsOpen, Put, Puts}
 use Rattle.tv_reading.specs.Kept.{Grows, LetGo}
 use Rattle.tv_reading.specs.declared.reading.Reading.{Reading}
 use Rattle.tv_reading.proofs.States.{no_finish_next}
@@ -33,16 +33,16 @@ record ClosedAt (a : Option ℕ) (d : Document) (f : ℕ) (s : State) (t : Tree)
   place : IsPlace a (d ++ (f, t) ∷ []) None (in_lists [])
   trades : Trades (parts_at a d (Some f) s ++ []) (parts_at a (d ++ (f, t) ∷ []) None (in_lists []))
 
-closed_at : (a : Option ℕ) (d : Document) (f : ℕ) (s : State) (t : Tree) → IsWithinPair a d (Some f) s → s ≡ complete t → ClosedAt a d f s t
+closed_at : (a : Option ℕ) (d : Document) (f : ℕ) (s : State) (t : Tree) → IsWithin a d (Some f) s → s ≡ complete t → ClosedAt a d f s t
 closed_at None d f s t h e = absurd h
 closed_at (Some n) d f s t h e = record {
   place = (omega (arith, h.0, length-append d ((f, t) ∷ [])), refl);
   trades = trades_from _ (append-nil (open_parts n d f s) ∙ ap (λ z. open_parts n d f z) e) (pair_trades n d f t);
 }
 
-pub closed : (r new : Reading) (f : ℕ) → IsOpen r → r.field ≡ Some f → Finished r.builder new.builder f → new.announced ≡ r.announced → new.finished ≡ r.finished + 1 → new.field ≡ None → PartsPut r new []
+pub closed : (r new : Reading) (f : ℕ) → IsOpen r → r.field ≡ Some f → Finished r.builder new.builder f → new.announced ≡ r.announced → new.finished ≡ r.finished + 1 → new.field ≡ None → Put r new []
 closed r new f h is g announced finished field =
-    let k = closed_at r.announced (built r.builder) f (state_of r.builder) g.tree (subst (λ z. IsWithinPair r.announced (built r.builder) z (state_of r.builder)) is h.within) g.was in
+    let k = closed_at r.announced (built r.builder) f (state_of r.builder) g.tree (subst (λ z. IsWithin r.announced (built r.builder) z (state_of r.builder)) is h.within) g.was in
     let now : parts_at r.announced (built r.builder ++ (f, g.tree) ∷ []) None (in_lists []) ≡ parts_read new = λ i. parts_at (sym announced i) (sym g.document i) (sym field i) (sym g.state i) in
     record {
       sound = record {
@@ -66,12 +66,12 @@ finish_awaited (in_lists (l ∷ ls)) e = absurd (no_finish_next l.kind (length l
 finish_awaited (in_bytes ls kind n bs) e = absurd cc
 
 -- or no value is complete
-lacks_at : (s : State) → awaited s ≢ awaits.Finish → MayStand s → IsBetweenParts s
+lacks_at : (s : State) → awaited s ≢ awaits.Finish → MayStand s → Lacks s
 lacks_at (complete t) other h = absurd (other refl)
 lacks_at (in_lists ls) other h = tt
 lacks_at (in_bytes ls kind n bs) other h = h
 
-place_at : (a : Option ℕ) (d : Document) (f : Option ℕ) (s : State) → awaited s ≢ awaits.Finish → IsWithinPair a d f s → IsPlace a d f s
+place_at : (a : Option ℕ) (d : Document) (f : Option ℕ) (s : State) → awaited s ≢ awaits.Finish → IsWithin a d f s → IsPlace a d f s
 place_at (Some n) d (Some f) s other h = (h.0, lacks_at s other h.1)
 place_at (Some n) d None s other h = absurd h
 place_at None d f s other h = absurd h
@@ -80,7 +80,7 @@ place_at None d f s other h = absurd h
 pub same_grows : (r new : Reading) → new.builder ≡ r.builder → Grows r new
 same_grows r new e = record { heap = ([], ap heap_so_far e ∙ sym (append-nil (heap_so_far r.builder))); ends = inl (ap built e, ap (λ (b : PairBuilder). b.kept) e) }
 
-pub stays : (r : Reading) → IsOpen r → awaited (state_of r.builder) ≢ awaits.Finish → PartsPut r r []
+pub stays : (r : Reading) → IsOpen r → awaited (state_of r.builder) ≢ awaits.Finish → Put r r []
 stays r h other = record {
   sound = record { live = h.live; counted = h.counted; place = place_at r.announced (built r.builder) r.field (state_of r.builder) other h.within };
   grows = same_grows r r refl;
@@ -95,7 +95,7 @@ trades_at None (Some f) d old new ps has h t = absurd h
 trades_at (Some n) None d old new ps has h t = absurd has
 trades_at (Some n) (Some f) d old new ps has h t = open_trades n d f old new ps t
 
-within_at : (a f : Option ℕ) (d : Document) (old new : State) → HasField f → IsPlace a d f old → MayStand new → IsWithinPair a d f new
+within_at : (a f : Option ℕ) (d : Document) (old new : State) → HasField f → IsPlace a d f old → MayStand new → IsWithin a d f new
 within_at None None d old new has h stands = absurd has
 within_at None (Some f) d old new has h stands = absurd h
 within_at (Some n) None d old new has h stands = absurd has
@@ -106,8 +106,8 @@ opened r b s h has g stands = record {
   live = g.live;
   counted = h.counted ∙ ap length (sym g.document);
   within =
-      subst (λ z. IsWithinPair r.announced z r.field (state_of b)) (sym g.document)
-      (subst (λ z. IsWithinPair r.announced (built r.builder) r.field z) (sym g.state) (within_at r.announced r.field (built r.builder) (state_of r.builder) s has h.place stands));
+      subst (λ z. IsWithin r.announced z r.field (state_of b)) (sym g.document)
+      (subst (λ z. IsWithin r.announced (built r.builder) r.field z) (sym g.state) (within_at r.announced r.field (built r.builder) (state_of r.builder) s has h.place stands));
 }
 
 -- what a call leads to, before what it completes is closed
@@ -143,7 +143,7 @@ goes_let_go r b s new g l = record {
   state = l.state;
 }
 
-pub puts_on : (r mid new : Reading) (ps : List Part) (result : Result (Unit {0}) DeserializeError) → Leads r mid ps → PutsParts mid new [] result → PutsParts r new ps result
+pub puts_on : (r mid new : Reading) (ps : List Part) (result : Result (Unit {0}) DeserializeError) → Leads r mid ps → Puts mid new [] result → Puts r new ps result
 puts_on r mid new ps (Ok x) l h = record { sound = h.sound; grows = grows_on r mid new ps l h.grows; trades = trades_then l.trades (trades_from _ (sym (append-nil (parts_read mid))) h.trades) }
 puts_on r mid new ps (Err errors.HeapFull) l h = record { announced = h.announced; finished = h.finished; field = h.field; state = h.state; less = h.less; is = h.is; trades = trades_then l.trades (trades_from _ (sym (append-nil (parts_read mid))) h.trades); full = h.full }
 puts_on r mid new ps (Err errors.Memory) t h = tt

@@ -25,7 +25,7 @@ use Rattle.tv_builder.specs.Behind.{pairs_parts, open_parts}
 use Rattle.tv_builder.specs.Prefix.{KeyHead, EncodesPart}
 use Rattle.tv_builder.specs.Kinds.{total}
 use Rattle.tv_builder.specs.Parts.{Part, field, value, bytes_head, some_bytes}
-use Rattle.tv_builder.specs.State.{OpenList, State, complete, in_lists, in_bytes, key_text, IsKeyLeaf, StartsWithKey, AreChildren, AreLists, IsValueNext, IsKeyNext, AllAwait, OthersAwait, HeadNext, IsState, key_parts, list_head, children_parts, list_parts, lists_parts, parts_of, children_room, lists_room, state_room}
+use Rattle.tv_builder.specs.State.{OpenList, State, complete, in_lists, in_bytes, text_of, IsKey, AreEntries, AreChildren, AreLists, IsValueNext, IsKeyNext, AllAwait, OthersAwait, HeadNext, IsState, key_parts, list_head, children_parts, list_parts, lists_parts, parts_of, children_room, lists_room, state_room}
 use Rattle.tv_builder.proofs.Grammar.{each_split}
 use Rattle.tv_reader.specs.Heads.{HasLength}
 
@@ -48,7 +48,7 @@ behind_codes m n c d p q a b x y f g h e =
     (ap (λ (z : List ℕ). m ∷ z) (sym (append_assoc a q x)) ∙ ap (λ (z : List ℕ). (z ++ q) ++ x) (sym g) ∙ ap (λ (z : List ℕ). z ++ x) (sym f) ∙ e ∙ ap (λ (z : List ℕ). z ++ y) h)
 
 -- a key's room is that of its text
-key_room : (k : Tree) → IsKeyLeaf k → room k ≡ 5 + length (key_text k)
+key_room : (k : Tree) → IsKey k → room k ≡ 5 + length (text_of k)
 key_room (leaf (text content)) h = refl
 key_room _ h = absurd h
 
@@ -93,13 +93,13 @@ module _ (L : List ℕ → Entries → Type 0) (v : Version) (one_l : OneReading
 
   -- ---- the next value behind a key
 
-  next_behind_key : (ts : List Tree) (es : Entries) (c q d y : List ℕ) → StartsWithKey ts → length ts % 2 ≡ 1 → Each R c (key_parts ts) → EncodesEntries L v d es → length ts < 2 * entry_count es → c ++ q ≡ d ++ y
+  next_behind_key : (ts : List Tree) (es : Entries) (c q d y : List ℕ) → AreEntries ts → length ts % 2 ≡ 1 → Each R c (key_parts ts) → EncodesEntries L v d es → length ts < 2 * entry_count es → c ++ q ≡ d ++ y
       → NextIn q (children_room ts) (entries_room es)
   next_behind_key [] es c q d y are odd p s less e = absurd (omega (arith, odd))
   next_behind_key (k ∷ ts) no_entries c q d y are odd p s less e = absurd (omega (arith, less))
   next_behind_key (k ∷ []) (entry l u es) c q d y are odd p s less e =
       let whole = both_cut c d p.prefix p.rest s.prefix s.rest q y p.joined s.joined e in
-      let same = (agree_key v (key_text k) l).agree p.prefix s.prefix (p.rest ++ q) (s.rest ++ y) p.first s.first whole in
+      let same = (agree_key v (text_of k) l).agree p.prefix s.prefix (p.rest ++ q) (s.rest ++ y) p.first s.first whole in
       let rest = rest_is p.prefix s.prefix (p.rest ++ q) (s.rest ++ y) same.0 whole in
       let t = s.second in
       record {
@@ -109,7 +109,7 @@ module _ (L : List ℕ → Entries → Type 0) (v : Version) (one_l : OneReading
       }
   next_behind_key (k ∷ t ∷ ts) (entry l u es) c q d y are odd p s less e =
       let whole = both_cut c d p.prefix p.rest s.prefix s.rest q y p.joined s.joined e in
-      let same = (agree_key v (key_text k) l).agree p.prefix s.prefix (p.rest ++ q) (s.rest ++ y) p.first s.first whole in
+      let same = (agree_key v (text_of k) l).agree p.prefix s.prefix (p.rest ++ q) (s.rest ++ y) p.first s.first whole in
       let rest = rest_is p.prefix s.prefix (p.rest ++ q) (s.rest ++ y) same.0 whole in
       let r = p.second in
       let o = s.second in
@@ -128,7 +128,7 @@ module _ (L : List ℕ → Entries → Type 0) (v : Version) (one_l : OneReading
     encoded : Key v prefix next
     room_is : before + (11 + length next) ≤ within
 
-  next_key : (ts : List Tree) (es : Entries) (c q d y : List ℕ) → StartsWithKey ts → length ts % 2 ≡ 0 → Each R c (key_parts ts) → EncodesEntries L v d es → length ts < 2 * entry_count es → c ++ q ≡ d ++ y
+  next_key : (ts : List Tree) (es : Entries) (c q d y : List ℕ) → AreEntries ts → length ts % 2 ≡ 0 → Each R c (key_parts ts) → EncodesEntries L v d es → length ts < 2 * entry_count es → c ++ q ≡ d ++ y
       → NextKey q (children_room ts) (entries_room es)
   next_key [] no_entries c q d y are even p s less e = absurd (omega (arith, less))
   next_key [] (entry l u es) c q d y are even p s less e = record {
@@ -143,7 +143,7 @@ module _ (L : List ℕ → Entries → Type 0) (v : Version) (one_l : OneReading
   next_key (k ∷ []) (entry l u es) c q d y are even p s less e = absurd (omega (arith, even))
   next_key (k ∷ t ∷ ts) (entry l u es) c q d y are even p s less e =
       let whole = both_cut c d p.prefix p.rest s.prefix s.rest q y p.joined s.joined e in
-      let same = (agree_key v (key_text k) l).agree p.prefix s.prefix (p.rest ++ q) (s.rest ++ y) p.first s.first whole in
+      let same = (agree_key v (text_of k) l).agree p.prefix s.prefix (p.rest ++ q) (s.rest ++ y) p.first s.first whole in
       let rest = rest_is p.prefix s.prefix (p.rest ++ q) (s.rest ++ y) same.0 whole in
       let r = p.second in
       let o = s.second in

@@ -10,21 +10,21 @@ use Rattle.tv_builder.specs.declared.bytes_kind.BytesKind.{BytesKind}
 use Rattle.tv_builder.specs.declared.bytes_kind.BytesKind.TheVariants as kinds
 use Rattle.tv_builder.specs.declared.list_kind.ListKind.{ListKind}
 use Rattle.tv_builder.specs.declared.list_kind.ListKind.TheVariants.{Array, Object}
-use Rattle.tv_builder.specs.State.{OpenList, State, complete, in_lists, in_bytes, next_at, IsKeyLeaf, StartsWithKey, StartsWithValue, AreChildren, IsList, AreLists, IsValueNext, IsKeyNext, AllAwait, OthersAwait, HeadNext, IsState}
+use Rattle.tv_builder.specs.State.{OpenList, State, complete, in_lists, in_bytes, next_at, IsKey, AreEntries, AreValues, AreChildren, IsList, AreLists, IsValueNext, IsKeyNext, AllAwait, OthersAwait, HeadNext, IsState}
 use Rattle.tv_builder.specs.declared.pair_builder.PairBuilder.{PairBuilder}
 use Rattle.tv_builder.specs.Builder.{state_of}
 use Rattle.tv_format.specs.Tree.{Tree, leaf, text}
 
-key_prop : (t : Tree) → IsProp (IsKeyLeaf t)
+key_prop : (t : Tree) → IsProp (IsKey t)
 key_prop (leaf (text content)) x y = refl
 key_prop _ x y = absurd x
 
 mutual
-  entries_prop : (ts : List Tree) → IsProp (StartsWithKey ts)
+  entries_prop : (ts : List Tree) → IsProp (AreEntries ts)
   entries_prop [] x y = refl
   entries_prop (t ∷ ts) x y = λ i. (key_prop t x.0 y.0 i, values_prop ts x.1 y.1 i)
 
-  values_prop : (ts : List Tree) → IsProp (StartsWithValue ts)
+  values_prop : (ts : List Tree) → IsProp (AreValues ts)
   values_prop [] x y = refl
   values_prop (t ∷ ts) x y = entries_prop ts x y
 

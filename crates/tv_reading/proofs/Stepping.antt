@@ -31,9 +31,9 @@ use Rattle.tv_format.specs.Version.{Version, V1, V2, V3, Scale, Scaled}
 use Rattle.tv_format.specs.Version as scales
 use Rattle.tv_format.specs.declared.leaf_type.LeafType.TheVariants as leaves
 use Rattle.tv_reading.proofs.Putting.{same_grows}
-use Rattle.tv_reading.specs.Prefix.{parts_at, parts_read, IsBetweenParts, IsPlace, IsSound, LacksPair, IsMalformedNext, NoRoomBehind, ValueNext}
-use Rattle.tv_reading.specs.Puts.{PartsPut, LacksRoom, PutsParts, IsParts, head_parts}
-use Rattle.tv_reading.specs.Steps.{Advances, HasFirstByte, IsTakenWhole, Stepped}
+use Rattle.tv_reading.specs.Prefix.{parts_at, parts_read, Lacks, IsPlace, IsSound, LacksPair, NoPrefix, NoRoomBehind, ValueNext}
+use Rattle.tv_reading.specs.Puts.{Put, Fills, Puts, IsParts, head_parts}
+use Rattle.tv_reading.specs.Steps.{Advances, BeginsWith, IsTakenWhole, Stepped}
 use Rattle.tv_reading.specs.declared.reading.Reading.{Reading}
 use Rattle.tv_reader.specs.Error.{StoreMayStop}
 
@@ -46,7 +46,7 @@ one_part L v b p h = record { prefix = b; rest = []; joined = sym (append-nil b)
 pub advances : (L : List ℕ → Entries → Type 0) (v : Version) (old new : Reading) (ps : List Part) (taken : List ℕ) → Trades (parts_read old ++ ps) (parts_read new) → EncodesIn L v taken ps → Advances L v old new taken
 advances L v old new ps taken t h = λ bytes p. trades_sound L v (parts_read old ++ ps) (parts_read new) (bytes ++ taken) t (each_append (EncodesPart L v) (parts_read old) ps bytes taken p h)
 
-pub stepped : (v : Version) (legacy : Bool) (old new : Reading) (ps : List Part) (taken : List ℕ) → PartsPut old new ps → 0 < length taken → (length taken ≤ 4096) ⊎ IsTakenWhole old taken → EncodesIn Legacy v taken ps → (legacy ≡ false → EncodesIn NoLegacy v taken ps) → Stepped v legacy old new taken
+pub stepped : (v : Version) (legacy : Bool) (old new : Reading) (ps : List Part) (taken : List ℕ) → Put old new ps → 0 < length taken → (length taken ≤ 4096) ⊎ IsTakenWhole old taken → EncodesIn Legacy v taken ps → (legacy ≡ false → EncodesIn NoLegacy v taken ps) → Stepped v legacy old new taken
 stepped v legacy old new ps taken p some few encoded plain = record { some = some; few = few; goes = advances Legacy v old new ps taken p.trades encoded; plain = λ e. advances NoLegacy v old new ps taken p.trades (plain e) }
 
 pub none_seen : (v : Version) (legacy : Bool) (old new : Reading) (taken : List ℕ) → Stepped v false old new taken → Stepped v legacy old new taken
@@ -61,7 +61,7 @@ some_groups (more l g) = omega arith
 pub some_number : {b : List ℕ} {n : ℕ} → VNum b n → 0 < length b
 some_number h = some_groups h.groups
 
-pub number_put : (r new : Reading) (n : ℕ) → IsSound r → r.announced ≡ None → new.announced ≡ Some n → new.finished ≡ r.finished → new.field ≡ r.field → new.builder ≡ r.builder → PartsPut r new (number n ∷ [])
+pub number_put : (r new : Reading) (n : ℕ) → IsSound r → r.announced ≡ None → new.announced ≡ Some n → new.finished ≡ r.finished → new.field ≡ r.field → new.builder ≡ r.builder → Put r new (number n ∷ [])
 number_put r new n sound none announced finished field_is builder =
     let none_built : built new.builder ≡ built r.builder = ap built builder in
     let state : state_of new.builder ≡ state_of r.builder = ap state_of builder in
@@ -88,7 +88,7 @@ number_put r new n sound none announced finished field_is builder =
 
 -- ---- a field
 
-pub field_put : (r new : Reading) (f : ℕ) → IsSound r → r.field ≡ None → LacksPair r.announced r.finished → new.announced ≡ r.announced → new.finished ≡ r.finished → new.field ≡ Some f → new.builder ≡ r.builder → PartsPut r new (field f ∷ [])
+pub field_put : (r new : Reading) (f : ℕ) → IsSound r → r.field ≡ None → LacksPair r.announced r.finished → new.announced ≡ r.announced → new.finished ≡ r.finished → new.field ≡ Some f → new.builder ≡ r.builder → Put r new (field f ∷ [])
 field_put r new f sound none lacks announced finished field_is builder =
     let built_is : built new.builder ≡ built r.builder = ap built builder in
     let state : state_of new.builder ≡ state_of r.builder = ap state_of builder in
@@ -113,7 +113,7 @@ field_put r new f sound none lacks announced finished field_is builder =
         → IsPlace a (built r.builder) (Some f) (state_of r.builder) × (parts_at a (built r.builder) None (state_of r.builder) ++ field f ∷ [] ≡ parts_at a (built r.builder) (Some f) (state_of r.builder))
     at None lacks h = absurd lacks
     at (Some n) lacks h = (
-      (omega (arith, lacks, sound.counted), subst (λ z. IsBetweenParts z) (sym h.1) tt),
+      (omega (arith, lacks, sound.counted), subst (λ z. Lacks z) (sym h.1) tt),
       ap (λ (z : List Part). document_parts n (built r.builder) ++ (field f ∷ z)) (sym (ap parts_of h.1)),
     )
 
@@ -126,14 +126,14 @@ pub record IsPart (v : Version) (legacy : Bool) (old : Reading) (taken : List �
   pub encoded : EncodesIn Legacy v taken ps
   pub plain : legacy ≡ false → EncodesIn NoLegacy v taken ps
 
-pub part_steps : (v : Version) (legacy : Bool) (old new : Reading) (ps : List Part) (taken : List ℕ) → IsPart v legacy old taken ps → PartsPut old new ps → Stepped v legacy old new taken
+pub part_steps : (v : Version) (legacy : Bool) (old new : Reading) (ps : List Part) (taken : List ℕ) → IsPart v legacy old taken ps → Put old new ps → Stepped v legacy old new taken
 part_steps v legacy old new ps taken h p = stepped v legacy old new ps taken p h.some h.few h.encoded h.plain
 
 pub puts_found : {S X : Type 0} {May : DeserializeError → ℕ → Type 0} {is_known : S → Type 0} {left : S → List ℕ} {failures : S → Failures} {os ns : S} {i k : ℕ} {x : X} {A : List ℕ → X → Type 0} {I : List ℕ → Refusal → Type 0} (v : Version) (legacy : Bool) (old new : Reading) (ps : List Part) (result : Result (Unit {0}) DeserializeError)
-    → ((a : List ℕ) → A a x → IsPart v legacy old a ps) → FindsIf May is_known left failures os i ns k (Ok x) A I → PutsParts old new ps result → FindsIf StoreMayStop is_known left failures os i ns k result (λ b _. Stepped v legacy old new b) (IsMalformedNext v old)
-puts_found v legacy old new ps (Ok y) part h p = finds_as y (λ b _. Stepped v legacy old new b) (IsMalformedNext v old) (λ a s. part_steps v legacy old new ps a (part a s) p) h
-puts_found v legacy old new ps (Err errors.HeapFull) part h p = finds_short errors.HeapFull (λ b _. Stepped v legacy old new b) (IsMalformedNext v old) refl tt h
-puts_found v legacy old new ps (Err errors.Memory) part h p = finds_short errors.Memory (λ b _. Stepped v legacy old new b) (IsMalformedNext v old) refl tt h
+    → ((a : List ℕ) → A a x → IsPart v legacy old a ps) → FindsIf May is_known left failures os i ns k (Ok x) A I → Puts old new ps result → FindsIf StoreMayStop is_known left failures os i ns k result (λ b _. Stepped v legacy old new b) (NoPrefix v old)
+puts_found v legacy old new ps (Ok y) part h p = finds_as y (λ b _. Stepped v legacy old new b) (NoPrefix v old) (λ a s. part_steps v legacy old new ps a (part a s) p) h
+puts_found v legacy old new ps (Err errors.HeapFull) part h p = finds_short errors.HeapFull (λ b _. Stepped v legacy old new b) (NoPrefix v old) refl tt h
+puts_found v legacy old new ps (Err errors.Memory) part h p = finds_short errors.Memory (λ b _. Stepped v legacy old new b) (NoPrefix v old) refl tt h
 puts_found v legacy old new ps (Err (errors.CorruptedValue c)) part h p = absurd p
 puts_found v legacy old new ps (Err (errors.UnsupportedType t)) part h p = absurd p
 puts_found v legacy old new ps (Err (errors.TypeMismatch t u)) part h p = absurd p
@@ -144,7 +144,7 @@ puts_found v legacy old new ps (Err errors.AlreadyFailed) part h p = absurd p
 puts_found v legacy old new ps (Err errors.TooDeep) part h p = absurd p
 
 -- and where there is no room for it
-pub no_room : (v : Version) (old : Reading) (ps : List Part) (whole rest taken : List ℕ) → whole ≡ taken ++ rest → EncodesIn Legacy v taken ps → LacksRoom old ps → NoRoomBehind v old whole
+pub no_room : (v : Version) (old : Reading) (ps : List Part) (whole rest taken : List ℕ) → whole ≡ taken ++ rest → EncodesIn Legacy v taken ps → Fills old ps → NoRoomBehind v old whole
 no_room v old ps whole rest taken joined encoded f = λ bytes p. record {
   announced = f.announced;
   finished = f.finished;
@@ -159,11 +159,11 @@ no_room v old ps whole rest taken joined encoded f = λ bytes p. record {
   full = f.full;
 }
 
-full_by : (v : Version) (old new : Reading) (ps : List Part) (result : Result (Unit {0}) DeserializeError) → IsErrOf result errors.HeapFull → PutsParts old new ps result → LacksRoom old ps
-full_by v old new ps result is p = subst (λ z. PutsParts old new ps z) is p
+full_by : (v : Version) (old new : Reading) (ps : List Part) (result : Result (Unit {0}) DeserializeError) → IsErrOf result errors.HeapFull → Puts old new ps result → Fills old ps
+full_by v old new ps result is p = subst (λ z. Puts old new ps z) is p
 
 pub puts_full : {S X : Type 0} {May : DeserializeError → ℕ → Type 0} {is_known : S → Type 0} {left : S → List ℕ} {failures : S → Failures} {os ns : S} {i k : ℕ} {x : X} {A : List ℕ → X → Type 0} {I : List ℕ → Refusal → Type 0} (v : Version) (legacy : Bool) (old new : Reading) (ps : List Part) (result : Result (Unit {0}) DeserializeError)
-    → ((a : List ℕ) → A a x → IsPart v legacy old a ps) → FindsIf May is_known left failures os i ns k (Ok x) A I → PutsParts old new ps result → is_known os → IsErrOf result errors.HeapFull → NoRoomBehind v old (left os)
+    → ((a : List ℕ) → A a x → IsPart v legacy old a ps) → FindsIf May is_known left failures os i ns k (Ok x) A I → Puts old new ps result → is_known os → IsErrOf result errors.HeapFull → NoRoomBehind v old (left os)
 puts_full {left = left} {os = os} {ns = ns} v legacy old new ps result part h p t is =
     let f = h.found t in
     no_room v old ps (left os) (left ns) f.prefix f.joined (part f.prefix f.encoded).encoded (full_by v old new ps result is p)
@@ -233,7 +233,7 @@ plain_leaf v a (object es) h = elim h [
 pub tokenized_part : (v : Version) (legacy : Bool) (old : Reading) (t : Tree) (a : List ℕ) → ValueNext old → (b : List ℕ) → a ≡ 7 ∷ 0 ∷ b → Encodes Legacy v a t → IsPart v legacy old a (value t ∷ [])
 tokenized_part v legacy old t a next b is h = record {
   some = omega (arith, ap length is);
-  few = inr (next, inl (subst (HasFirstByte 7) (sym is) refl));
+  few = inr (next, inl (subst (BeginsWith 7) (sym is) refl));
   encoded = one_part Legacy v a (value t) h;
   plain = λ _. one_part NoLegacy v a (value t) (subst (λ z. Encodes NoLegacy v z t) (sym is) (plain_leaf v (0 ∷ b) t (subst (λ z. Encodes Legacy v z t) is h)));
 }
@@ -241,7 +241,7 @@ tokenized_part v legacy old t a next b is h = record {
 pub legacy_part : (v : Version) (old : Reading) (t : Tree) (a : List ℕ) → ValueNext old → (b : List ℕ) → a ≡ 8 ∷ b → Encodes Legacy v a t → IsPart v true old a (value t ∷ [])
 legacy_part v old t a next b is h = record {
   some = omega (arith, ap length is);
-  few = inr (next, inr (subst (HasFirstByte 8) (sym is) refl));
+  few = inr (next, inr (subst (BeginsWith 8) (sym is) refl));
   encoded = one_part Legacy v a (value t) h;
   plain = λ e. absurd (let f : true ≡ false = e in cc);
 }

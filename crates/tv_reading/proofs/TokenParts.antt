@@ -18,7 +18,7 @@ use Rattle.tv_reader.specs.Trees.{NoValue}
 use Rattle.tv_reader.specs.declared.error.DeserializeError.{DeserializeError}
 use Rattle.tv_reader.proofs.BehindKinds.{held_error}
 use Rattle.tv_reader.proofs.Finding.{finds_fails}
-use Rattle.tv_reading.specs.Skip.{IsNumberEncoding, IsTextEncoding, IsTextAndNumber, IsTokenEncoding, AreTokenEncodings, ErrorInTextAndNumber, ErrorInTokens, AreCounted, ErrorInCounted, IsTokenizedEncoding, IsValueEncoding}
+use Rattle.tv_reading.specs.Skip.{IsNumber, IsText, IsTextAndNumber, IsToken, AreTokens, ErrorInTextAndNumber, ErrorInTokens, AreCounted, ErrorInCounted, IsTokenized, IsValue}
 use Rattle.tv_reading.proofs.Passing.{end, finds_after}
 use Rattle.tv_reader.specs.Error.{StoreMayStopRoomy}
 
@@ -98,7 +98,7 @@ counted_ends_first = then_ends_first ErrorInNumber VNum ErrorInTokens number_end
 
 -- ---- tokens
 
-pub is_token : (b : List ℕ) → Then IsNumberEncoding (Then IsNumberEncoding (Then IsNumberEncoding IsTextAndNumber)) b → IsTokenEncoding b
+pub is_token : (b : List ℕ) → Then IsNumber (Then IsNumber (Then IsNumber IsTextAndNumber)) b → IsToken b
 is_token b p =
     let q = p.second in
     let s = q.second in
@@ -125,7 +125,7 @@ is_token b p =
       },
     )
 
-pub no_tokens : AreTokenEncodings 0 []
+pub no_tokens : AreTokens 0 []
 no_tokens = record { tokens = []; many = refl; encoded = refl }
 
 each_push : (xs : List Token) (x : Token) (a b : List ℕ) → Each TokenEncoding a xs → TokenEncoding b x → Each TokenEncoding (a ++ b) (xs ++ x ∷ [])
@@ -138,7 +138,7 @@ each_push (y ∷ ys) x a b p q = record {
   second = each_push ys x p.rest b p.second q;
 }
 
-pub more_tokens : (m : ℕ) (a b : List ℕ) → AreTokenEncodings m a → IsTokenEncoding b → AreTokenEncodings (m + 1) (a ++ b)
+pub more_tokens : (m : ℕ) (a b : List ℕ) → AreTokens m a → IsToken b → AreTokens (m + 1) (a ++ b)
 more_tokens m a b p q =
     record { tokens = p.tokens ++ q.0 ∷ []; many = omega (arith, length-append p.tokens (q.0 ∷ []), p.many); encoded = each_push p.tokens q.0 a b p.encoded q.1 }
 
@@ -156,21 +156,21 @@ each_fails (x ∷ xs) (suc n) a w c less p f = inr (
   },
 )
 
-pub tokens_fail : (m n : ℕ) (a w : List ℕ) (r : Refusal) → m < n → AreTokenEncodings m a → Corrupt ErrorInToken w r → Corrupt (ErrorInTokens n) (a ++ w) r
+pub tokens_fail : (m n : ℕ) (a w : List ℕ) (r : Refusal) → m < n → AreTokens m a → Corrupt ErrorInToken w r → Corrupt (ErrorInTokens n) (a ++ w) r
 tokens_fail m n a w _ less p (corrupt {c} f) = corrupt (each_fails p.tokens n a w c (omega (arith, less, p.many)) p.encoded f)
 
-pub counted_tokens : (n : ℕ) (a b : List ℕ) → VNum a n → AreTokenEncodings n b → AreCounted (a ++ b)
+pub counted_tokens : (n : ℕ) (a b : List ℕ) → VNum a n → AreTokens n b → AreCounted (a ++ b)
 counted_tokens n a b number p = (p.tokens, record { prefix = a; rest = b; joined = refl; first = subst (VNum a) (sym p.many) number; second = p.encoded })
 
 pub counted_fail : (n : ℕ) (a w : List ℕ) (r : Refusal) → VNum a n → Corrupt (ErrorInTokens n) w r → Corrupt ErrorInCounted (a ++ w) r
 counted_fail n a w _ number (corrupt f) = corrupt (inr (n, record { prefix = a; rest = w; joined = refl; first = number; second = f }))
 
-pub is_tokenized : (b : List ℕ) → Then IsTextEncoding AreCounted b → IsTokenizedEncoding b
+pub is_tokenized : (b : List ℕ) → Then IsText AreCounted b → IsTokenized b
 is_tokenized b p = (p.first.0, p.second.0, record { prefix = p.prefix; rest = p.rest; joined = p.joined; first = p.first.1; second = p.second.1 })
 
 -- ---- as a value
 
-pub tokenized_is_value : (v : Version) (a : List ℕ) → IsTokenizedEncoding a → IsValueEncoding v (7 ∷ 0 ∷ a)
+pub tokenized_is_value : (v : Version) (a : List ℕ) → IsTokenized a → IsValue v (7 ∷ 0 ∷ a)
 tokenized_is_value v a t = (leaf (tokenized t.0 t.1), record { body = 0 ∷ a; joined = refl; encoded = record { body = a; joined = refl; encoded = t.2 } })
 
 pub tokenized_no_value : (v : Version) (w : List ℕ) (r : Refusal) → Corrupt ErrorInTokenized w r → NoValue v (7 ∷ 0 ∷ w) r

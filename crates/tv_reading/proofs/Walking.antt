@@ -11,7 +11,7 @@ use Rattle.tv_format.specs.Encoding.{Encodes, NoLegacy}
 use Rattle.tv_format.specs.InputError.{Refusal}
 use Rattle.tv_format.specs.Tree.{Leaf, leaf}
 use Rattle.tv_format.specs.Version.{Version, entry_total}
-use Rattle.tv_reading.specs.Skip.{Before, IsValueEncoding, IsItem, OpensList, AreItems, ErrorInItems, AreLeft, ErrorInLeft, BeginsItems, Passed}
+use Rattle.tv_reading.specs.Skip.{Before, IsValue, IsItem, OpensList, AreItems, ErrorInItems, AreLeft, ErrorInLeft, BeginsItems, Passed}
 use Rattle.tv_reading.specs.declared.items.ItemKind.{ItemKind}
 use Rattle.tv_reading.specs.declared.items.ItemKind.TheVariants as kinds
 use Rattle.tv_reading.proofs.Left.{so_many, list_closes}
@@ -77,7 +77,7 @@ items_passed v kind all n whole rest a within p is =
 pub no_items : (v : Version) (kind : ItemKind) (bytes : List ℕ) → BeginsItems v kind 0 bytes bytes
 no_items v kind bytes = begins_nothing bytes refl
 
-pub one_more : (v : Version) (kind : ItemKind) (n : ℕ) (bytes rest value behind : List ℕ) → BeginsItems v kind n bytes rest → Begins (Before v kind) rest value → Begins (IsValueEncoding v) value behind → BeginsItems v kind (n + 1) bytes behind
+pub one_more : (v : Version) (kind : ItemKind) (n : ℕ) (bytes rest value behind : List ℕ) → BeginsItems v kind n bytes rest → Begins (Before v kind) rest value → Begins (IsValue v) value behind → BeginsItems v kind (n + 1) bytes behind
 one_more v kind n bytes rest value behind p before is =
     let item : Begins (IsItem v kind) rest behind = begins_then rest value behind before is in
     record {
@@ -88,24 +88,24 @@ one_more v kind n bytes rest value behind p before is =
     }
 
 -- a list with its items is one value
-list_begins : (v : Version) (code : ℕ) (kind : ItemKind) (n : ℕ) (bytes behind items rest : List ℕ) → bytes ≡ code ∷ behind → Begins (λ b. OpensList v (code ∷ b) kind n) behind items → BeginsItems v kind n items rest → Begins (IsValueEncoding v) bytes rest
+list_begins : (v : Version) (code : ℕ) (kind : ItemKind) (n : ℕ) (bytes behind items rest : List ℕ) → bytes ≡ code ∷ behind → Begins (λ b. OpensList v (code ∷ b) kind n) behind items → BeginsItems v kind n items rest → Begins (IsValue v) bytes rest
 list_begins v code kind n bytes behind items rest is head all =
     let p = list_closes v Ends kind n (code ∷ head.prefix) all.prefix head.encoded all.encoded in
     record {
       prefix = code ∷ (head.prefix ++ all.prefix);
       joined = is ∙ ap (λ (l : List ℕ). code ∷ l) (head.joined ∙ ap (λ (l : List ℕ). head.prefix ++ l) all.joined ∙ sym (append_assoc head.prefix all.prefix rest));
-      encoded = subst (IsValueEncoding v) (sym (p.joined ∙ ap (λ (l : List ℕ). p.prefix ++ l) p.second ∙ append-nil p.prefix)) p.first;
+      encoded = subst (IsValue v) (sym (p.joined ∙ ap (λ (l : List ℕ). p.prefix ++ l) p.second ∙ append-nil p.prefix)) p.first;
     }
 
-array_begins : (v : Version) (n : ℕ) (bytes behind items rest : List ℕ) → bytes ≡ 12 ∷ behind → Begins (λ b. VNum b n) behind items → BeginsItems v kinds.Value n items rest → Begins (IsValueEncoding v) bytes rest
+array_begins : (v : Version) (n : ℕ) (bytes behind items rest : List ℕ) → bytes ≡ 12 ∷ behind → Begins (λ b. VNum b n) behind items → BeginsItems v kinds.Value n items rest → Begins (IsValue v) bytes rest
 array_begins v n bytes behind items rest is number all =
     list_begins v 12 kinds.Value n bytes behind items rest is (record { prefix = number.prefix; joined = number.joined; encoded = record { body = number.prefix; joined = refl; encoded = number.encoded } }) all
 
-object_begins : (v : Version) (n : ℕ) (bytes behind items rest : List ℕ) → bytes ≡ 13 ∷ behind → Begins (λ b. VNum b (entry_total v n)) behind items → BeginsItems v kinds.Entry n items rest → Begins (IsValueEncoding v) bytes rest
+object_begins : (v : Version) (n : ℕ) (bytes behind items rest : List ℕ) → bytes ≡ 13 ∷ behind → Begins (λ b. VNum b (entry_total v n)) behind items → BeginsItems v kinds.Entry n items rest → Begins (IsValue v) bytes rest
 object_begins v n bytes behind items rest is number all =
     list_begins v 13 kinds.Entry n bytes behind items rest is (record { prefix = number.prefix; joined = number.joined; encoded = record { body = number.prefix; joined = refl; encoded = number.encoded } }) all
 
-pub leaf_is_value : (v : Version) (bytes rest : List ℕ) {P : Leaf → Type 0} → (l : Leaf) × P l × Begins (λ b. Encodes NoLegacy v b (leaf l)) bytes rest → Begins (IsValueEncoding v) bytes rest
+pub leaf_is_value : (v : Version) (bytes rest : List ℕ) {P : Leaf → Type 0} → (l : Leaf) × P l × Begins (λ b. Encodes NoLegacy v b (leaf l)) bytes rest → Begins (IsValue v) bytes rest
 leaf_is_value v bytes rest p = record { prefix = p.2.prefix; joined = p.2.joined; encoded = (leaf p.0, p.2.encoded) }
 
 -- four bytes are a field
@@ -114,10 +114,10 @@ field_begins v bytes prefix rest small is after long =
     begins_cut (Before v kinds.Pair) 4 bytes (take 4 bytes) rest refl after (from_le_bytes w32 (take 4 bytes), fixed_4 (take 4 bytes) (length-take-le 4 bytes long) (small_take 4 bytes small))
 
 -- what is behind the items of a list is behind the list
-pub array_behind : (v : Version) (n : ℕ) (bytes behind items : List ℕ) (result : Option (Bor (List ℕ))) → bytes ≡ 12 ∷ behind → Begins (λ b. VNum b n) behind items → IfSome result (λ rest. BeginsItems v kinds.Value n items rest.now) → IfSome result (λ rest. Begins (IsValueEncoding v) bytes rest.now)
+pub array_behind : (v : Version) (n : ℕ) (bytes behind items : List ℕ) (result : Option (Bor (List ℕ))) → bytes ≡ 12 ∷ behind → Begins (λ b. VNum b n) behind items → IfSome result (λ rest. BeginsItems v kinds.Value n items rest.now) → IfSome result (λ rest. Begins (IsValue v) bytes rest.now)
 array_behind v n bytes behind items None is number all = tt
 array_behind v n bytes behind items (Some rest) is number all = array_begins v n bytes behind items rest.now is number all
 
-pub object_behind : (v : Version) (n : ℕ) (bytes behind items : List ℕ) (result : Option (Bor (List ℕ))) → bytes ≡ 13 ∷ behind → Begins (λ b. VNum b (entry_total v n)) behind items → IfSome result (λ rest. BeginsItems v kinds.Entry n items rest.now) → IfSome result (λ rest. Begins (IsValueEncoding v) bytes rest.now)
+pub object_behind : (v : Version) (n : ℕ) (bytes behind items : List ℕ) (result : Option (Bor (List ℕ))) → bytes ≡ 13 ∷ behind → Begins (λ b. VNum b (entry_total v n)) behind items → IfSome result (λ rest. BeginsItems v kinds.Entry n items rest.now) → IfSome result (λ rest. Begins (IsValue v) bytes rest.now)
 object_behind v n bytes behind items None is number all = tt
 object_behind v n bytes behind items (Some rest) is number all = object_begins v n bytes behind items rest.now is number all

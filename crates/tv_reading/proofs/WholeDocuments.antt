@@ -29,9 +29,9 @@ use Rattle.tv_format.specs.Encoding.{EncodesPair, EncodesDocument}
 use Rattle.tv_format.specs.Tree.{Document}
 use Rattle.tv_format.specs.Version.{Version, V1, V2, V3}
 use Rattle.tv_format.proofs.SingleTrees.{single_document}
-use Rattle.tv_reading.specs.Buffered.{AddsBufferedPairs}
-use Rattle.tv_reading.specs.Documents.{EncodesRead, EncodesRest, NoDocument}
-use Rattle.tv_reading.specs.Prefix.{parts_at, parts_read, IsBetweenParts, IsPlace, IsSound, AllFinished, IsDone, LacksPair, HasField, IsMalformedNext, HasNoRoom, NoRoomBehind}
+use Rattle.tv_reading.specs.Buffered.{AddsPairs}
+use Rattle.tv_reading.specs.Documents.{EncodesRead, EncodesBehind, NoDocument}
+use Rattle.tv_reading.specs.Prefix.{parts_at, parts_read, Lacks, IsPlace, IsSound, AllFinished, IsDone, LacksPair, HasField, NoPrefix, HasNoRoom, NoRoomBehind}
 use Rattle.tv_reading.specs.Steps.{Advances, Stepped}
 use Rattle.tv_reading.specs.declared.reading.Reading.{Reading}
 use Rattle.tv_reading.proofs.BufferedPairs.{pairs_as_parts}
@@ -68,18 +68,18 @@ pair_lacks : (a : Option ℕ) (d : Document) (finished : ℕ) (s : State) → fi
 pair_lacks None d finished s counted h more some = absurd (some refl)
 pair_lacks (Some n) d finished s counted h more some = elim (eqb_tells finished n) [ inl p ↦ absurd (more p.1) | inr p ↦ omega (arith, p.1, counted, h.0) ]
 
-value_ended_at : (v : Version) (r : Reading) → IsSound r → HasField r.field → (s : State) → state_of r.builder ≡ s → IsBetweenParts s → IsMalformedNext v r [] end
+value_ended_at : (v : Version) (r : Reading) → IsSound r → HasField r.field → (s : State) → state_of r.builder ≡ s → Lacks s → NoPrefix v r [] end
 value_ended_at v r sound has (complete t) is lacks = absurd lacks
 value_ended_at v r sound has (in_lists []) is lacks = value_at_error v r [] end (record { sound = sound; field = has; next = ap awaited is }) value_ends
 value_ended_at v r sound has (in_lists (l ∷ ls)) is lacks = by_next l.kind refl
   where
-    a_value : next_in (l ∷ ls) ≡ awaits.Value → IsMalformedNext v r [] end
+    a_value : next_in (l ∷ ls) ≡ awaits.Value → NoPrefix v r [] end
     a_value e = value_at_error v r [] end (record { sound = sound; field = has; next = ap awaited is ∙ e }) value_ends
 
-    a_key : next_in (l ∷ ls) ≡ awaits.Key → IsMalformedNext v r [] end
+    a_key : next_in (l ∷ ls) ≡ awaits.Key → NoPrefix v r [] end
     a_key e = key_at_error v r [] end (record { sound = sound; field = has; next = ap awaited is ∙ e }) (key_ended v)
 
-    by_next : (kind : ListKind) → l.kind ≡ kind → IsMalformedNext v r [] end
+    by_next : (kind : ListKind) → l.kind ≡ kind → NoPrefix v r [] end
     by_next Array e = a_value (ap (λ z. next_at z (length l.children)) e)
     by_next Object e = elim (eqb_tells (length l.children % 2) 0) [
       | inl p ↦ a_key (ap (λ z. next_at z (length l.children)) e ∙ cond-true (nat_eq (length l.children % 2) 0) awaits.Key awaits.Value p.0)
@@ -87,7 +87,7 @@ value_ended_at v r sound has (in_lists (l ∷ ls)) is lacks = by_next l.kind ref
     ]
 value_ended_at v r sound has (in_bytes ls kind n bs) is lacks = end_at_error v r [] (n - length bs) (record { sound = sound; field = has; next = ap awaited is }) (omega (arith, lacks))
 
-ended_at : (v : Version) (r : Reading) → IsSound r → ¬ IsDone r → (a f : Option ℕ) → r.announced ≡ a → r.field ≡ f → IsMalformedNext v r [] end
+ended_at : (v : Version) (r : Reading) → IsSound r → ¬ IsDone r → (a f : Option ℕ) → r.announced ≡ a → r.field ≡ f → NoPrefix v r [] end
 ended_at v r sound more None f ea ef = number_at_error v r [] end ea (corrupt (number_ends (omega arith) tt))
 ended_at v r sound more (Some n) None ea ef =
     let place = subst (λ z. IsPlace r.announced (built r.builder) z (state_of r.builder)) ef sound.place in
@@ -98,7 +98,7 @@ ended_at v r sound more (Some n) (Some f) ea ef =
     value_ended_at v r sound (subst HasField (sym ef) tt) (state_of r.builder) refl place.1
 
 -- without a byte more, only the end is missing
-pub ended : (v : Version) (r : Reading) (b : List ℕ) (f : Refusal) → IsSound r → ¬ IsDone r → Encoded Legacy v b (parts_read r) → IsMalformedNext v r [] f → f ≡ end
+pub ended : (v : Version) (r : Reading) (b : List ℕ) (f : Refusal) → IsSound r → ¬ IsDone r → Encoded Legacy v b (parts_read r) → NoPrefix v r [] f → f ≡ end
 ended v r b f sound more p h = (single_document Legacy ErrorInLegacy v one_legacy legacy_excludes single_legacy).single (b ++ []) f end (h b p) (ended_at v r sound more r.announced r.field refl refl b p)
 
 -- ---- steps, one after the other
@@ -109,7 +109,7 @@ Goes v begun b r = Advances Legacy v begun r b
 pub two_steps : (v : Version) (a b c : Reading) (x y : List ℕ) → Advances Legacy v a b x → Advances Legacy v b c y → Advances Legacy v a c (x ++ y)
 two_steps v a b c x y p q = λ bytes s. subst (λ z. Encoded Legacy v z (parts_read c)) (append_assoc bytes x y) (q (bytes ++ x) (p bytes s))
 
-refused_behind : (v : Version) (a b : Reading) (x w : List ℕ) (f : Refusal) → Advances Legacy v a b x → IsMalformedNext v b w f → IsMalformedNext v a (x ++ w) f
+refused_behind : (v : Version) (a b : Reading) (x w : List ℕ) (f : Refusal) → Advances Legacy v a b x → NoPrefix v b w f → NoPrefix v a (x ++ w) f
 refused_behind v a b x w f p q = λ bytes s. subst (λ z. ErrorInDocument Legacy ErrorInLegacy v z f) (append_assoc bytes x w) (q (bytes ++ x) (p bytes s))
 
 -- a refusal is the same, whatever was wanted
@@ -117,19 +117,19 @@ pub same_refusal : {A B : Type 0} (e f : DeserializeError) → IsErrOf {T = A} (
 same_refusal e f is = let same : e ≡ f = cc in ap (λ x. Err x) same
 
 module _ {S : Type 0} {is_known : S → Type 0} {left : S → List ℕ} {failures : S → Failures} (v : Version) (begun r : Reading) where
-  pub step_more : {old mid new : S} {i j k : ℕ} (x : Unit {0}) (legacy : Bool) (after : Reading) → FindsIf StoreMayStop is_known left failures old i mid j (Ok r) (Goes v begun) Nothing → FindsIf StoreMayStop is_known left failures mid j new k (Ok x) (λ b _. Stepped v legacy r after b) (IsMalformedNext v r) → FindsIf StoreMayStop is_known left failures old i new k (Ok after) (Goes v begun) Nothing
+  pub step_more : {old mid new : S} {i j k : ℕ} (x : Unit {0}) (legacy : Bool) (after : Reading) → FindsIf StoreMayStop is_known left failures old i mid j (Ok r) (Goes v begun) Nothing → FindsIf StoreMayStop is_known left failures mid j new k (Ok x) (λ b _. Stepped v legacy r after b) (NoPrefix v r) → FindsIf StoreMayStop is_known left failures old i new k (Ok after) (Goes v begun) Nothing
   step_more x legacy after p h =
       finds_as after (Goes v begun) Nothing (λ a s. s)
       (finds_then (λ b z. Goes v begun b after) (λ w c. Unit {0}) (λ a b z q s. two_steps v begun r after a b q s.goes) (λ a w c q f. tt) (λ a f q _ _ start byte last. tt) p h)
 
-  pub step_fails : {old mid new : S} {i j k : ℕ} (e : DeserializeError) (legacy : Bool) (after : Reading) → IsSound r → ¬ IsDone r → FindsIf StoreMayStop is_known left failures old i mid j (Ok r) (Goes v begun) Nothing → FindsIf {X = Unit {0}} StoreMayStop is_known left failures mid j new k (Err e) (λ b _. Stepped v legacy r after b) (IsMalformedNext v r)
-      → FindsIf StoreMayStop is_known left failures old i new k (Err e) (EncodesRest v begun) (IsMalformedNext v begun)
+  pub step_fails : {old mid new : S} {i j k : ℕ} (e : DeserializeError) (legacy : Bool) (after : Reading) → IsSound r → ¬ IsDone r → FindsIf StoreMayStop is_known left failures old i mid j (Ok r) (Goes v begun) Nothing → FindsIf {X = Unit {0}} StoreMayStop is_known left failures mid j new k (Err e) (λ b _. Stepped v legacy r after b) (NoPrefix v r)
+      → FindsIf StoreMayStop is_known left failures old i new k (Err e) (EncodesBehind v begun) (NoPrefix v begun)
   step_fails e legacy after sound more p h =
-      finds_then (EncodesRest v begun) (IsMalformedNext v begun) (λ a b z q s. absurd s) (λ a w c q f. refused_behind v begun r a w c q f) (λ a f q other nothing start byte last. λ bytes s. absurd (other (ended v r (bytes ++ a) f sound more (q bytes s) nothing)))
-      p (finds_fails (λ b z. ⊥) (IsMalformedNext v r) (λ w c f. f) h)
+      finds_then (EncodesBehind v begun) (NoPrefix v begun) (λ a b z q s. absurd s) (λ a w c q f. refused_behind v begun r a w c q f) (λ a f q other nothing start byte last. λ bytes s. absurd (other (ended v r (bytes ++ a) f sound more (q bytes s) nothing)))
+      p (finds_fails (λ b z. ⊥) (NoPrefix v r) (λ w c f. f) h)
 
   -- and takes a byte
-  pub step_takes : {mid new : S} {j k : ℕ} (x : Unit {0}) (legacy : Bool) (after : Reading) → FindsIf StoreMayStop is_known left failures mid j new k (Ok x) (λ b _. Stepped v legacy r after b) (IsMalformedNext v r) → is_known mid → j < k
+  pub step_takes : {mid new : S} {j k : ℕ} (x : Unit {0}) (legacy : Bool) (after : Reading) → FindsIf StoreMayStop is_known left failures mid j new k (Ok x) (λ b _. Stepped v legacy r after b) (NoPrefix v r) → is_known mid → j < k
   step_takes {mid = mid} {new = new} x legacy after h t =
       let f = h.found t in
       let g = h.taken t in
@@ -141,8 +141,8 @@ module _ {S : Type 0} {is_known : S → Type 0} {left : S → List ℕ} {failure
 
   -- all pairs are finished
   pub all_finished : {old mid : S} {i j : ℕ} (document : HeapPairs) → IsSound r → IsDone r → document_of document ≡ built r.builder → FindsIf StoreMayStop is_known left failures old i mid j (Ok r) (Goes v begun) Nothing
-      → FindsIf StoreMayStop is_known left failures old i mid j (Ok document) (EncodesRest v begun) (IsMalformedNext v begun)
-  all_finished document sound done is p = finds_as document (EncodesRest v begun) (IsMalformedNext v begun) (λ a s. λ bytes q. done_encodes v r document (bytes ++ a) sound done is (s bytes q)) p
+      → FindsIf StoreMayStop is_known left failures old i mid j (Ok document) (EncodesBehind v begun) (NoPrefix v begun)
+  all_finished document sound done is p = finds_as document (EncodesBehind v begun) (NoPrefix v begun) (λ a s. λ bytes q. done_encodes v r document (bytes ++ a) sound done is (s bytes q)) p
 
   -- what has come has no room
   pub no_room : {old mid : S} {i j : ℕ} → FindsIf StoreMayStop is_known left failures old i mid j (Ok r) (Goes v begun) Nothing → is_known old → NoRoomBehind v r (left mid) → NoRoomBehind v begun (left old)
@@ -152,15 +152,15 @@ module _ {S : Type 0} {is_known : S → Type 0} {left : S → List ℕ} {failure
       subst (HasNoRoom v) joined (none (bytes ++ f.prefix) (f.encoded bytes q))
 
   -- more is awaited, so what was taken ends too early
-  pub awaits_more : {old mid : S} {i j : ℕ} → IsSound r → ¬ IsDone r → FindsIf StoreMayStop is_known left failures old i mid j (Ok r) (Goes v begun) Nothing → is_known old → EndsEarly end (IsMalformedNext v begun) (left old) (left mid)
+  pub awaits_more : {old mid : S} {i j : ℕ} → IsSound r → ¬ IsDone r → FindsIf StoreMayStop is_known left failures old i mid j (Ok r) (Goes v begun) Nothing → is_known old → EndsEarly end (NoPrefix v begun) (left old) (left mid)
   awaits_more sound more p t =
       let f = p.found t in
       let early = refused_behind v begun r f.prefix [] end f.encoded (ended_at v r sound more r.announced r.field refl refl) in
-      record { taken = f.prefix; joined = f.joined; shown = subst (λ z. IsMalformedNext v begun z end) (append-nil f.prefix) early }
+      record { taken = f.prefix; joined = f.joined; shown = subst (λ z. NoPrefix v begun z end) (append-nil f.prefix) early }
 
   -- so many steps that no more can be counted
   pub too_many : {old mid : S} {i j : ℕ} (counter : ℕ) → IsSound r → ¬ IsDone r → j < 2 ^ 64 → 2 ^ 64 - 1 ≤ counter → (is_known old → counter + i ≤ j) → FindsIf StoreMayStop is_known left failures old i mid j (Ok r) (Goes v begun) Nothing
-      → FindsIf {X = HeapPairs} StoreMayStop is_known left failures old i mid 18446744073709551615 (Err (errors.CorruptedValue causes.TooLong)) (EncodesRest v begun) (IsMalformedNext v begun)
+      → FindsIf {X = HeapPairs} StoreMayStop is_known left failures old i mid 18446744073709551615 (Err (errors.CorruptedValue causes.TooLong)) (EncodesBehind v begun) (NoPrefix v begun)
   too_many counter sound more second many counts p = record {
     found = λ t. (refl, awaits_more sound more p t);
     taken = λ t. let g = p.taken t in record { prefix = g.prefix; joined = g.joined; counted = omega (arith, g.counted, counts t, many, second) };
@@ -176,13 +176,13 @@ module _ {S : Type 0} {is_known : S → Type 0} {left : S → List ℕ} {failure
 abbrev Begun : Version → ℕ → HeapPairs → List ℕ → ℕ → Type 0
 Begun v n document b finished = Encoded Legacy v b (document_parts n (document_of document)) × (length (document_of document) ≡ finished)
 
-begun_encodes : (v : Version) (n m : ℕ) (empty document : HeapPairs) (a b : List ℕ) → document_of empty ≡ [] → VNum a n → AddsBufferedPairs v empty document b m → Begun v n document (a ++ b) m
+begun_encodes : (v : Version) (n m : ℕ) (empty document : HeapPairs) (a b : List ℕ) → document_of empty ≡ [] → VNum a n → AddsPairs v empty document b m → Begun v n document (a ++ b) m
 begun_encodes v n m empty document a b none number h =
     let is : document_of document ≡ h.pairs = h.document ∙ ap (λ z. z ++ h.pairs) none in
     (record { prefix = a; rest = b; joined = refl; first = number; second = subst (λ z. Each (EncodesPart Legacy v) b (pairs_parts z)) (sym is) (pairs_as_parts Legacy v h.pairs b h.encoded) }, ap length is ∙ h.counted)
 
 module _ {S : Type 0} {is_known : S → Type 0} {left : S → List ℕ} {failures : S → Failures} (v : Version) (n : ℕ) (empty document : HeapPairs) (none : document_of empty ≡ []) where
-  pub begun_finds : {old mid new : S} {i j k : ℕ} (m : ℕ) → FindsIf StoreMayStopLean is_known left failures old i mid j (Ok n) VNum (Corrupt ErrorInNumber) → FindsIf StoreMayStop is_known left failures mid j new k (Ok m) (λ b z. AddsBufferedPairs v empty document b z) Nothing → FindsIf StoreMayStop is_known left failures old i new k (Ok m) (Begun v n document) Nothing
+  pub begun_finds : {old mid new : S} {i j k : ℕ} (m : ℕ) → FindsIf StoreMayStopLean is_known left failures old i mid j (Ok n) VNum (Corrupt ErrorInNumber) → FindsIf StoreMayStop is_known left failures mid j new k (Ok m) (λ b z. AddsPairs v empty document b z) Nothing → FindsIf StoreMayStop is_known left failures old i new k (Ok m) (Begun v n document) Nothing
   begun_finds m p h = finds_then (Begun v n document) Nothing (λ a b z q s. begun_encodes v n z empty document a b none q s) (λ a w c q f. f) (λ a f q _ never start byte last. never) p h
 
   -- these are all
@@ -192,7 +192,7 @@ module _ {S : Type 0} {is_known : S → Type 0} {left : S → List ℕ} {failure
 
   -- and the rest behind them
   pub begun_then : {old mid new : S} {i j k : ℕ} (m : ℕ) (begun : Reading) (result : Result HeapPairs DeserializeError) → parts_read begun ≡ document_parts n (document_of document) → FindsIf StoreMayStop is_known left failures old i mid j (Ok m) (Begun v n document) Nothing
-      → FindsIf StoreMayStop is_known left failures mid j new k result (EncodesRest v begun) (IsMalformedNext v begun) → IsSound begun → ¬ IsDone begun → FindsIf StoreMayStop is_known left failures old i new k result (EncodesRead v) (NoDocument v)
+      → FindsIf StoreMayStop is_known left failures mid j new k result (EncodesBehind v begun) (NoPrefix v begun) → IsSound begun → ¬ IsDone begun → FindsIf StoreMayStop is_known left failures old i new k result (EncodesRead v) (NoDocument v)
   begun_then m begun result is p h sound more =
       let encoded : (a : List ℕ) → Encoded Legacy v a (document_parts n (document_of document)) → Encoded Legacy v a (parts_read begun) = λ a q. subst (λ z. Encoded Legacy v a z) (sym is) q in
       finds_then (EncodesRead v) (NoDocument v) (λ a b z q s. s a (encoded a q.0)) (λ a w c q f. f a (encoded a q.0)) (λ a f q other nothing start byte last. absurd (other (ended v begun a f sound more (encoded a q.0) nothing))) p h

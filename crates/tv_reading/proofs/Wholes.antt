@@ -11,12 +11,12 @@ use Rattle.tv_builder.specs.Parts.{Part, some_bytes}
 use Rattle.tv_builder.specs.State.{State, complete, in_lists, in_bytes, awaited}
 use Rattle.tv_builder.specs.Builder.{built, state_of}
 use Rattle.tv_legacy.specs.Legacy.{Legacy}
-use Rattle.tv_reader.specs.Finds.{ShowsRefusal, Found, FindsIf}
+use Rattle.tv_reader.specs.Finds.{Refuses, Found, FindsIf}
 use Rattle.tv_reader.specs.HeadReading.{head_part}
 use Rattle.tv_reader.specs.Heads.{EncodesHead}
 use Rattle.tv_reader.specs.Trees.{NoValue, NoneBehind}
 use Rattle.tv_reader.specs.Error.{store_stop, StoreMayStop, StoreMayStopRoomy, StoreMayStopLean}
-use Rattle.tv_reader.specs.ValueType.{type_prefix}
+use Rattle.tv_reader.specs.ValueType.{coded}
 use Rattle.tv_reader.specs.declared.error.DeserializeError.{DeserializeError}
 use Rattle.tv_reader.specs.declared.error.DeserializeError.TheVariants as errors
 use Rattle.tv_reader.specs.declared.value_type.ValueType.{ValueType}
@@ -37,8 +37,8 @@ use Rattle.std.specs.String.{string_bytes}
 use Rattle.std.specs.declared.alloc.Global.{Global}
 use Rattle.std.specs.declared.string.String.{String}
 use Rattle.tv_format.specs.Version.{Version}
-use Rattle.tv_reading.specs.Prefix.{IsPlace, IsSound, HasField, IsMalformedNext, NoRoomBehind}
-use Rattle.tv_reading.specs.Puts.{Awaiting, LacksRoom, PutsParts, EndNoText, NoText, PutsBytes, IsParts}
+use Rattle.tv_reading.specs.Prefix.{IsPlace, IsSound, HasField, NoPrefix, NoRoomBehind}
+use Rattle.tv_reading.specs.Puts.{Awaiting, Fills, Puts, EndNoText, NoText, PutsBytes, IsParts}
 use Rattle.tv_reading.specs.Kept.{Grows, LetGo, KeepsPairs}
 use Rattle.tv_reading.specs.Steps.{Stepped}
 use Rattle.tv_reading.specs.declared.reading.Reading.{Reading}
@@ -51,11 +51,11 @@ end = corrupted causes.UnexpectedEnd
 
 -- ---- what a call says of its answer
 
-pub sound_of : (old new : Reading) (ps : List Part) (result : Result (Unit {0}) DeserializeError) → PutsParts old new ps result → OnOk result (IsSound new)
+pub sound_of : (old new : Reading) (ps : List Part) (result : Result (Unit {0}) DeserializeError) → Puts old new ps result → OnOk result (IsSound new)
 sound_of old new ps (Ok x) h = h.sound
 sound_of old new ps (Err e) h = tt
 
-pub grows_of : (old new : Reading) (ps : List Part) (result : Result (Unit {0}) DeserializeError) → PutsParts old new ps result → OnOk result (Grows old new)
+pub grows_of : (old new : Reading) (ps : List Part) (result : Result (Unit {0}) DeserializeError) → Puts old new ps result → OnOk result (Grows old new)
 grows_of old new ps (Ok x) h = h.grows
 grows_of old new ps (Err e) h = tt
 
@@ -74,39 +74,39 @@ seen_as v legacy old new (Err e) Q a b k h = h
 
 -- no object of an older store is encoded there, whether one was seen before or not
 pub finds_seen : {S : Type 0} {is_known : S → Type 0} {left : S → List ℕ} {failures : S → Failures} {os ns : S} {i k : ℕ} {result : Result (Unit {0}) DeserializeError} (v : Version) (legacy : Bool) (old new : Reading)
-    → FindsIf StoreMayStop is_known left failures os i ns k result (λ b _. Stepped v false old new b) (IsMalformedNext v old) → FindsIf StoreMayStop is_known left failures os i ns k result (λ b _. Stepped v legacy old new b) (IsMalformedNext v old)
+    → FindsIf StoreMayStop is_known left failures os i ns k result (λ b _. Stepped v false old new b) (NoPrefix v old) → FindsIf StoreMayStop is_known left failures os i ns k result (λ b _. Stepped v legacy old new b) (NoPrefix v old)
 finds_seen {left = left} {os = os} {ns = ns} {k = k} {result = result} v legacy old new h =
-    record { found = λ t. seen_as v legacy old new result (IsMalformedNext v old) (left os) (left ns) k (h.found t); taken = h.taken; stays_known = h.stays_known; counts = h.counts; rises = h.rises; may_stop = h.may_stop }
+    record { found = λ t. seen_as v legacy old new result (NoPrefix v old) (left os) (left ns) k (h.found t); taken = h.taken; stays_known = h.stays_known; counts = h.counts; rises = h.rises; may_stop = h.may_stop }
 
 -- ---- a value behind its codes
 
 pub record IsBehind {X : Type 0} (view : X → Tree) (v : Version) (kind : ValueType) (a : List ℕ) (x : X) : Type 0 where
   pub body : List ℕ
-  pub joined : a ≡ type_prefix kind ++ body
+  pub joined : a ≡ coded kind ++ body
   pub encoded : Encodes Legacy v a (view x)
 
-value_edge : (v : Version) (old : Reading) (kind : ValueType) → Awaiting old awaits.Value → (a start : List ℕ) (byte : ℕ) → a ≡ type_prefix kind → a ≡ start ++ byte ∷ [] → IsMalformedNext v old start end
-value_edge v old kind h a start byte is last = kind_edge end (IsMalformedNext v old) (value_at_error v old [] end h value_ends) (value_at_error v old (7 ∷ []) end h (held_error leaves.PreTokStr (no_extension refl))) kind start byte (sym is ∙ last)
+value_edge : (v : Version) (old : Reading) (kind : ValueType) → Awaiting old awaits.Value → (a start : List ℕ) (byte : ℕ) → a ≡ coded kind → a ≡ start ++ byte ∷ [] → NoPrefix v old start end
+value_edge v old kind h a start byte is last = kind_edge end (NoPrefix v old) (value_at_error v old [] end h value_ends) (value_at_error v old (7 ∷ []) end h (held_error leaves.PreTokStr (no_extension refl))) kind start byte (sym is ∙ last)
 
 pub whole_found : {S X : Type 0} {is_known : S → Type 0} {left : S → List ℕ} {failures : S → Failures} {os ms ns : S} {i j k : ℕ} {head : Head} {x : X} {I : List ℕ → Refusal → Type 0} (view : X → Tree) (v : Version) (old : Reading) (kind : ValueType) → Awaiting old awaits.Value
-    → ((a : List ℕ) → EncodesHead v a (head_part head) → a ≡ type_prefix kind) → FindsIf StoreMayStopLean is_known left failures os i ms j (Ok head) (λ b x. EncodesHead v b (head_part x)) I → FindsIf StoreMayStopRoomy is_known left failures ms j ns k (Ok x) (λ b y. Encodes Legacy v (type_prefix kind ++ b) (view y)) (NoneBehind v kind)
-    → FindsIf StoreMayStopRoomy is_known left failures os i ns k (Ok x) (IsBehind view v kind) (IsMalformedNext v old)
+    → ((a : List ℕ) → EncodesHead v a (head_part head) → a ≡ coded kind) → FindsIf StoreMayStopLean is_known left failures os i ms j (Ok head) (λ b x. EncodesHead v b (head_part x)) I → FindsIf StoreMayStopRoomy is_known left failures ms j ns k (Ok x) (λ b y. Encodes Legacy v (coded kind ++ b) (view y)) (NoneBehind v kind)
+    → FindsIf StoreMayStopRoomy is_known left failures os i ns k (Ok x) (IsBehind view v kind) (NoPrefix v old)
 whole_found {head = head} view v old kind h is p q =
-    finds_then {May0 = StoreMayStop} (IsBehind view v kind) (IsMalformedNext v old)
+    finds_then {May0 = StoreMayStop} (IsBehind view v kind) (NoPrefix v old)
     (λ a b y r s. record { body = b; joined = ap (λ (z : List ℕ). z ++ b) r; encoded = subst (λ z. Encodes Legacy v (z ++ b) (view y)) (sym r) s })
     (λ a w c r f. value_at_error v old (a ++ w) c h (subst (λ z. NoValue v (z ++ w) c) (sym r) f))
     (λ a f r other _ start byte last. value_edge v old kind h a start byte r last)
-    (finds_as {May = StoreMayStop} head (λ a _. a ≡ type_prefix kind) (λ w r. Unit {0}) is p) q
+    (finds_as {May = StoreMayStop} head (λ a _. a ≡ coded kind) (λ w r. Unit {0}) is p) q
 
 pub whole_fails : {S X : Type 0} {A : List ℕ → X → Type 0} {is_known : S → Type 0} {left : S → List ℕ} {failures : S → Failures} {os ms ns : S} {i j k : ℕ} {head : Head} {e : DeserializeError} {I : List ℕ → Refusal → Type 0} (v : Version) (legacy : Bool) (old new : Reading) (kind : ValueType) → Awaiting old awaits.Value
-    → ((a : List ℕ) → EncodesHead v a (head_part head) → a ≡ type_prefix kind) → FindsIf StoreMayStopLean is_known left failures os i ms j (Ok head) (λ b x. EncodesHead v b (head_part x)) I → FindsIf {X = X} StoreMayStopRoomy is_known left failures ms j ns k (Err e) A (NoneBehind v kind)
-    → FindsIf {X = Unit {0}} StoreMayStop is_known left failures os i ns k (Err e) (λ b _. Stepped v legacy old new b) (IsMalformedNext v old)
+    → ((a : List ℕ) → EncodesHead v a (head_part head) → a ≡ coded kind) → FindsIf StoreMayStopLean is_known left failures os i ms j (Ok head) (λ b x. EncodesHead v b (head_part x)) I → FindsIf {X = X} StoreMayStopRoomy is_known left failures ms j ns k (Err e) A (NoneBehind v kind)
+    → FindsIf {X = Unit {0}} StoreMayStop is_known left failures os i ns k (Err e) (λ b _. Stepped v legacy old new b) (NoPrefix v old)
 whole_fails {head = head} v legacy old new kind h is p q =
-    finds_then {May0 = StoreMayStop} (λ b _. Stepped v legacy old new b) (IsMalformedNext v old)
+    finds_then {May0 = StoreMayStop} (λ b _. Stepped v legacy old new b) (NoPrefix v old)
     (λ a b y r s. absurd s)
     (λ a w c r f. value_at_error v old (a ++ w) c h (subst (λ z. NoValue v (z ++ w) c) (sym r) f))
     (λ a f r other _ start byte last. value_edge v old kind h a start byte r last)
-    (finds_as head (λ a _. a ≡ type_prefix kind) (λ w r. Unit {0}) is p) (finds_fails (λ b z. ⊥) (NoneBehind v kind) (λ w c f. f) (finds_any (λ e n may. may.0) q))
+    (finds_as head (λ a _. a ≡ coded kind) (λ w r. Unit {0}) is p) (finds_fails (λ b z. ⊥) (NoneBehind v kind) (λ w c f. f) (finds_any (λ e n may. may.0) q))
 
 -- a text with its tokens, lent out of what was gathered
 pub lent_is : (s : PreTokenizedStr) (content : String Global) (tokens : EncodedTokens) → text_of s ≡ string_bytes content → tokens_of s ≡ gathered tokens → leaf (tokenized_leaf s) ≡ tokenized_tree (content, tokens)
@@ -141,33 +141,33 @@ piece_part v legacy old n bytes a some few h = record {
   plain = λ _. one_part NoLegacy v a (some_bytes bytes) (piece_is n bytes a h);
 }
 
-pub piece_ends : (v : Version) (old : Reading) (n missing : ℕ) (w : List ℕ) (c : Cause) → Awaiting old (awaits.Bytes missing) → n ≤ missing → ErrorInBytes n w c → IsMalformedNext v old w (corrupted c)
-piece_ends v old n missing w c h few f = let q = bytes_error n w c f in subst (λ z. IsMalformedNext v old w (corrupted z)) (sym q.0) (end_at_error v old w missing h (omega (arith, q.1, few)))
+pub piece_ends : (v : Version) (old : Reading) (n missing : ℕ) (w : List ℕ) (c : Cause) → Awaiting old (awaits.Bytes missing) → n ≤ missing → ErrorInBytes n w c → NoPrefix v old w (corrupted c)
+piece_ends v old n missing w c h few f = let q = bytes_error n w c f in subst (λ z. NoPrefix v old w (corrupted z)) (sym q.0) (end_at_error v old w missing h (omega (arith, q.1, few)))
 
 other_cause : corrupted causes.NotUtf8 ≡ end → ⊥
 other_cause e = cc
 
-no_text_refuses : (v : Version) (old : Reading) (n missing : ℕ) (bytes a whole rest : List ℕ) → Awaiting old (awaits.Bytes missing) → n ≤ missing → EndNoText (state_of old.builder) bytes → Piece n bytes a → whole ≡ a ++ rest → ShowsRefusal end (IsMalformedNext v old) whole rest (corrupted causes.NotUtf8)
+no_text_refuses : (v : Version) (old : Reading) (n missing : ℕ) (bytes a whole rest : List ℕ) → Awaiting old (awaits.Bytes missing) → n ≤ missing → EndNoText (state_of old.builder) bytes → Piece n bytes a → whole ≡ a ++ rest → Refuses end (NoPrefix v old) whole rest (corrupted causes.NotUtf8)
 no_text_refuses v old n missing bytes a whole rest h few none p joined =
     let is = piece_is n bytes a p in
-    let error : (x : List ℕ) → IsMalformedNext v old (a ++ x) (corrupted causes.NotUtf8) = λ x. subst (λ z. IsMalformedNext v old (z ++ x) (corrupted causes.NotUtf8)) (sym is) (text_at_error v old bytes x (awaits.Bytes missing) h none) in
+    let error : (x : List ℕ) → NoPrefix v old (a ++ x) (corrupted causes.NotUtf8) = λ x. subst (λ z. NoPrefix v old (z ++ x) (corrupted causes.NotUtf8)) (sym is) (text_at_error v old bytes x (awaits.Bytes missing) h none) in
     record {
-      stands = subst (λ z. IsMalformedNext v old z (corrupted causes.NotUtf8)) (sym joined) (error rest);
+      stands = subst (λ z. NoPrefix v old z (corrupted causes.NotUtf8)) (sym joined) (error rest);
       shows = record {
         taken = a;
         joined = joined;
-        shown = subst (λ z. IsMalformedNext v old z (corrupted causes.NotUtf8)) (append-nil a) (error []);
+        shown = subst (λ z. NoPrefix v old z (corrupted causes.NotUtf8)) (append-nil a) (error []);
         all = λ e. absurd (other_cause e);
         early = λ _ start byte last. end_at_error v old start missing h (omega (arith, ap length last, length-append start (byte ∷ []), p.1.0, few));
       };
     }
 
-bytes_fill : (old new : Reading) (bytes : List ℕ) (result : Result (Unit {0}) DeserializeError) → IsErrOf result errors.HeapFull → PutsBytes old new bytes (some_bytes bytes ∷ []) result → LacksRoom old (some_bytes bytes ∷ [])
+bytes_fill : (old new : Reading) (bytes : List ℕ) (result : Result (Unit {0}) DeserializeError) → IsErrOf result errors.HeapFull → PutsBytes old new bytes (some_bytes bytes ∷ []) result → Fills old (some_bytes bytes ∷ [])
 bytes_fill old new bytes result is q = subst (λ z. PutsBytes old new bytes (some_bytes bytes ∷ []) z) is q
 
 module _ {S X : Type 0} {is_known : S → Type 0} {left : S → List ℕ} {failures : S → Failures} {os ns : S} {i k : ℕ} {x : X} {I : List ℕ → Refusal → Type 0} (v : Version) (old new : Reading) (n missing : ℕ) (bytes : List ℕ) where
   text_refused : (c : Cause) → Awaiting old (awaits.Bytes missing) → n ≤ missing → NoText c (state_of old.builder) bytes → FindsIf StoreMayStop is_known left failures os i ns k (Ok x) (λ a _. Piece n bytes a) I
-      → FindsIf {X = Unit {0}} StoreMayStop is_known left failures os i ns k (Err (errors.CorruptedValue c)) (λ b _. Stepped v false old new b) (IsMalformedNext v old)
+      → FindsIf {X = Unit {0}} StoreMayStop is_known left failures os i ns k (Err (errors.CorruptedValue c)) (λ b _. Stepped v false old new b) (NoPrefix v old)
   text_refused causes.NotUtf8 h few none p = record {
     found = λ t. let f = p.found t in no_text_refuses v old n missing bytes f.prefix (left os) (left ns) h few none f.encoded f.joined;
     taken = p.taken;
@@ -179,10 +179,10 @@ module _ {S X : Type 0} {is_known : S → Type 0} {left : S → List ℕ} {failu
   text_refused _ h few none p = absurd none
 
   pub bytes_found : (result : Result (Unit {0}) DeserializeError) → Awaiting old (awaits.Bytes missing) → 0 < n → n ≤ missing → n ≤ 4096 → FindsIf StoreMayStop is_known left failures os i ns k (Ok x) (λ a _. Piece n bytes a) I → PutsBytes old new bytes (some_bytes bytes ∷ []) result
-      → FindsIf StoreMayStop is_known left failures os i ns k result (λ b _. Stepped v false old new b) (IsMalformedNext v old)
-  bytes_found (Ok y) h some few small p q = finds_as y (λ b _. Stepped v false old new b) (IsMalformedNext v old) (λ a s. part_steps v false old new (some_bytes bytes ∷ []) a (piece_part v false old n bytes a some small s) q) p
-  bytes_found (Err errors.HeapFull) h some few small p q = finds_short errors.HeapFull (λ b _. Stepped v false old new b) (IsMalformedNext v old) refl tt p
-  bytes_found (Err errors.Memory) h some few small p q = finds_short errors.Memory (λ b _. Stepped v false old new b) (IsMalformedNext v old) refl tt p
+      → FindsIf StoreMayStop is_known left failures os i ns k result (λ b _. Stepped v false old new b) (NoPrefix v old)
+  bytes_found (Ok y) h some few small p q = finds_as y (λ b _. Stepped v false old new b) (NoPrefix v old) (λ a s. part_steps v false old new (some_bytes bytes ∷ []) a (piece_part v false old n bytes a some small s) q) p
+  bytes_found (Err errors.HeapFull) h some few small p q = finds_short errors.HeapFull (λ b _. Stepped v false old new b) (NoPrefix v old) refl tt p
+  bytes_found (Err errors.Memory) h some few small p q = finds_short errors.Memory (λ b _. Stepped v false old new b) (NoPrefix v old) refl tt p
   bytes_found (Err (errors.CorruptedValue c)) h some few small p q = text_refused c h few q p
   bytes_found (Err (errors.UnsupportedType t)) h some few small p q = absurd q
   bytes_found (Err (errors.TypeMismatch t u)) h some few small p q = absurd q

@@ -15,7 +15,7 @@ use Rattle.tv_legacy.specs.Legacy.{Legacy, ErrorInLegacy}
 use Rattle.tv_format.specs.InputError.{Refusal, corrupted, Corrupt, corrupt, ErrorInKey, ErrorInValue, ErrorInDocument}
 use Rattle.tv_format.specs.Tree.{Document}
 use Rattle.tv_format.specs.Version.{Version}
-use Rattle.tv_reading.specs.Prefix.{parts_at, IsPlace, IsSound, HasField, LacksPair, IsMalformedNext}
+use Rattle.tv_reading.specs.Prefix.{parts_at, IsPlace, IsSound, HasField, LacksPair, NoPrefix}
 use Rattle.tv_reading.specs.Puts.{Awaiting, EndNoText}
 use Rattle.tv_reading.specs.declared.reading.Reading.{Reading}
 use Rattle.tv_reading.proofs.States.{is_state, no_bytes_next}
@@ -25,7 +25,7 @@ Behind v a d f s rest r = ErrorsBehind Legacy ErrorInLegacy v (parts_at a d f s)
 
 -- ---- of the number of the pairs
 
-pub number_at_error : (v : Version) (r : Reading) (rest : List ℕ) (e : Refusal) → r.announced ≡ None → Corrupt ErrorInNumber rest e → IsMalformedNext v r rest e
+pub number_at_error : (v : Version) (r : Reading) (rest : List ℕ) (e : Refusal) → r.announced ≡ None → Corrupt ErrorInNumber rest e → NoPrefix v r rest e
 number_at_error v r rest e is h = λ bytes p.
     let none : bytes ≡ [] = subst (λ z. Encoded Legacy v bytes (parts_at z (built r.builder) r.field (state_of r.builder))) is p in
     subst (λ z. ErrorInDocument Legacy ErrorInLegacy v (z ++ rest) e) (sym none) (inl h)
@@ -36,7 +36,7 @@ field_at : (v : Version) (a : Option ℕ) (d : Document) (finished : ℕ) (s : S
 field_at v None d finished s rest c lacks counted h = absurd lacks
 field_at v (Some n) d finished s rest c lacks counted h = field_errors Legacy ErrorInLegacy v n d rest c (omega (arith, lacks, counted)) h
 
-pub field_at_error : (v : Version) (r : Reading) (rest : List ℕ) (e : Refusal) → IsSound r → r.field ≡ None → LacksPair r.announced r.finished → Corrupt (ErrorInBytes 4) rest e → IsMalformedNext v r rest e
+pub field_at_error : (v : Version) (r : Reading) (rest : List ℕ) (e : Refusal) → IsSound r → r.field ≡ None → LacksPair r.announced r.finished → Corrupt (ErrorInBytes 4) rest e → NoPrefix v r rest e
 field_at_error v r rest _ sound is lacks (corrupt {c} h) =
     subst (λ z. Behind v r.announced (built r.builder) z (state_of r.builder) rest (corrupted c)) (sym is) (field_at v r.announced (built r.builder) r.finished (state_of r.builder) rest c lacks sound.counted h)
 
@@ -49,7 +49,7 @@ value_at v (Some n) (Some f) d (in_bytes ls kind m bs) rest r has h is e error =
 value_at v None (Some f) d s rest r has h is e error = absurd h
 value_at v a None d s rest r has h is e error = absurd has
 
-pub value_at_error : (v : Version) (r : Reading) (rest : List ℕ) (e : Refusal) → Awaiting r awaits.Value → ErrorInValue Legacy ErrorInLegacy v rest e → IsMalformedNext v r rest e
+pub value_at_error : (v : Version) (r : Reading) (rest : List ℕ) (e : Refusal) → Awaiting r awaits.Value → ErrorInValue Legacy ErrorInLegacy v rest e → NoPrefix v r rest e
 value_at_error v r rest e h error = value_at v r.announced r.field (built r.builder) (state_of r.builder) rest e h.field h.sound.place (is_state r.builder) h.next error
 
 -- ---- of a key
@@ -65,7 +65,7 @@ key_at v (Some n) (Some f) d (in_bytes ls kind m bs) rest r has h is e error = a
 key_at v None (Some f) d s rest r has h is e error = absurd h
 key_at v a None d s rest r has h is e error = absurd has
 
-pub key_at_error : (v : Version) (r : Reading) (rest : List ℕ) (e : Refusal) → Awaiting r awaits.Key → ErrorInKey v rest e → IsMalformedNext v r rest e
+pub key_at_error : (v : Version) (r : Reading) (rest : List ℕ) (e : Refusal) → Awaiting r awaits.Key → ErrorInKey v rest e → NoPrefix v r rest e
 key_at_error v r rest e h error = key_at v r.announced r.field (built r.builder) (state_of r.builder) rest e h.field h.sound.place (is_state r.builder) h.next error
 
 -- ---- of open bytes
@@ -83,7 +83,7 @@ end_at v (Some n) (Some f) d (in_lists (l ∷ ls)) rest missing has h is e less 
 end_at v None (Some f) d s rest missing has h is e less = absurd h
 end_at v a None d s rest missing has h is e less = absurd has
 
-pub end_at_error : (v : Version) (r : Reading) (rest : List ℕ) (missing : ℕ) → Awaiting r (awaits.Bytes missing) → length rest < missing → IsMalformedNext v r rest (corrupted UnexpectedEnd)
+pub end_at_error : (v : Version) (r : Reading) (rest : List ℕ) (missing : ℕ) → Awaiting r (awaits.Bytes missing) → length rest < missing → NoPrefix v r rest (corrupted UnexpectedEnd)
 end_at_error v r rest missing h less = end_at v r.announced r.field (built r.builder) (state_of r.builder) rest missing h.field h.sound.place (is_state r.builder) h.next less
 
 text_at : (v : Version) (a f : Option ℕ) (d : Document) (s : State) (piece rest : List ℕ) → HasField f → IsPlace a d f s → IsState s → EndNoText s piece → Behind v a d f s (piece ++ rest) (corrupted NotUtf8)
@@ -93,5 +93,5 @@ text_at v (Some n) (Some f) d (in_lists ls) piece rest has h is none = absurd no
 text_at v None (Some f) d s piece rest has h is none = absurd h
 text_at v a None d s piece rest has h is none = absurd has
 
-pub text_at_error : (v : Version) (r : Reading) (piece rest : List ℕ) (next : Awaits) → Awaiting r next → EndNoText (state_of r.builder) piece → IsMalformedNext v r (piece ++ rest) (corrupted NotUtf8)
+pub text_at_error : (v : Version) (r : Reading) (piece rest : List ℕ) (next : Awaits) → Awaiting r next → EndNoText (state_of r.builder) piece → NoPrefix v r (piece ++ rest) (corrupted NotUtf8)
 text_at_error v r piece rest next h none = text_at v r.announced r.field (built r.builder) (state_of r.builder) piece rest h.field h.sound.place (is_state r.builder) none

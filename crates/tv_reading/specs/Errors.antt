@@ -6,12 +6,12 @@ use Rattle.tv_reader.specs.declared.error.DeserializeError.{DeserializeError}
 use Rattle.tv_reader.specs.declared.error.DeserializeError.TheVariants as errors
 
 -- those that come where each call is made in its place
-abbrev pub ComesInPlace : BuildError → Type 0
-ComesInPlace builds.AlreadyFailed = ⊥
-ComesInPlace builds.OutOfPlace = ⊥
-ComesInPlace builds.NotUtf8 = Unit {0}
-ComesInPlace builds.HeapFull = Unit {0}
-ComesInPlace builds.Memory = Unit {0}
+abbrev pub Comes : BuildError → Type 0
+Comes builds.AlreadyFailed = ⊥
+Comes builds.OutOfPlace = ⊥
+Comes builds.NotUtf8 = Unit {0}
+Comes builds.HeapFull = Unit {0}
+Comes builds.Memory = Unit {0}
 
 abbrev pub build_error : BuildError → DeserializeError
 build_error builds.AlreadyFailed = errors.AlreadyFailed

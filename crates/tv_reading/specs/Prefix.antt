@@ -25,17 +25,17 @@ parts_read r = parts_at r.announced (built r.builder) r.field (state_of r.builde
 -- ---- which states there are
 
 -- between two parts: no value is complete, and open bytes lack some
-abbrev pub IsBetweenParts : State → Type 0
-IsBetweenParts (complete t) = ⊥
-IsBetweenParts (in_lists ls) = Unit {0}
-IsBetweenParts (in_bytes ls kind n bs) = length bs < n
+abbrev pub Lacks : State → Type 0
+Lacks (complete t) = ⊥
+Lacks (in_lists ls) = Unit {0}
+Lacks (in_bytes ls kind n bs) = length bs < n
 
 -- The number comes before all else, and a field only where a pair is awaited. Nothing of a value has come without a field.
 abbrev pub IsPlace : Option ℕ → Document → Option ℕ → State → Type 0
 IsPlace None d None s = (d ≡ []) × (s ≡ in_lists [])
 IsPlace None d (Some f) s = ⊥
 IsPlace (Some n) d None s = (length d ≤ n) × (s ≡ in_lists [])
-IsPlace (Some n) d (Some f) s = (length d < n) × IsBetweenParts s
+IsPlace (Some n) d (Some f) s = (length d < n) × Lacks s
 
 pub record IsSound (r : Reading) : Type 0 where
   pub live : r.builder.failed ≡ false
@@ -58,8 +58,8 @@ LacksPair (Some n) finished = finished < n
 -- ---- why there is no more
 
 -- Behind the bytes of which this has come, these ones are malformed.
-abbrev pub IsMalformedNext : Version → Reading → List ℕ → Refusal → Type 0
-IsMalformedNext v r rest refusal = (bytes : List ℕ) → Encoded Legacy v bytes (parts_read r) → ErrorInDocument Legacy ErrorInLegacy v (bytes ++ rest) refusal
+abbrev pub NoPrefix : Version → Reading → List ℕ → Refusal → Type 0
+NoPrefix v r rest refusal = (bytes : List ℕ) → Encoded Legacy v bytes (parts_read r) → ErrorInDocument Legacy ErrorInLegacy v (bytes ++ rest) refusal
 
 -- A prefix of the bytes encodes what has come of a document, and what is announced and finished in it has no room in a heap.
 pub record HasNoRoom (v : Version) (whole : List ℕ) : Type 0 where

@@ -28,15 +28,15 @@ MayStand (complete t) = Unit {0}
 MayStand (in_lists ls) = Unit {0}
 MayStand (in_bytes ls kind n bs) = length bs < n
 
-abbrev pub IsWithinPair : Option ℕ → Document → Option ℕ → State → Type 0
-IsWithinPair (Some n) d (Some f) s = (length d < n) × MayStand s
-IsWithinPair _ d f s = ⊥
+abbrev pub IsWithin : Option ℕ → Document → Option ℕ → State → Type 0
+IsWithin (Some n) d (Some f) s = (length d < n) × MayStand s
+IsWithin _ d f s = ⊥
 
 -- within a pair
 pub record IsOpen (r : Reading) : Type 0 where
   pub live : r.builder.failed ≡ false
   pub counted : r.finished ≡ length (built r.builder)
-  pub within : IsWithinPair r.announced (built r.builder) r.field (state_of r.builder)
+  pub within : IsWithin r.announced (built r.builder) r.field (state_of r.builder)
 
 abbrev pub IsEnding : Option ℕ → Document → Option ℕ → State → Type 0
 IsEnding (Some n) d (Some f) s = (length d < n) × HasAllBytes s
@@ -57,13 +57,13 @@ pub record Awaiting (r : Reading) (what : Awaits) : Type 0 where
 -- ---- what a call leaves
 
 -- Whatever encodes what had come, with the part behind it, encodes what has come now.
-pub record PartsPut (old new : Reading) (ps : List Part) : Type 0 where
+pub record Put (old new : Reading) (ps : List Part) : Type 0 where
   pub sound : IsSound new
   pub grows : Grows old new
   pub trades : Trades (parts_read old ++ ps) (parts_read new)
 
 -- it encodes what has no room
-pub record LacksRoom (old : Reading) (ps : List Part) : Type 0 where
+pub record Fills (old : Reading) (ps : List Part) : Type 0 where
   pub announced : ℕ
   pub finished : Document
   pub field : ℕ
@@ -73,11 +73,11 @@ pub record LacksRoom (old : Reading) (ps : List Part) : Type 0 where
   pub trades : Trades (parts_read old ++ ps) (open_parts announced finished field state)
   pub full : 4294967295 < document_room finished + state_room state
 
-abbrev pub PutsParts : Reading → Reading → List Part → Result (Unit {0}) DeserializeError → Type 0
-PutsParts old new ps (Ok x) = PartsPut old new ps
-PutsParts old new ps (Err errors.HeapFull) = LacksRoom old ps
-PutsParts old new ps (Err errors.Memory) = Unit {0}
-PutsParts old new ps (Err _) = ⊥
+abbrev pub Puts : Reading → Reading → List Part → Result (Unit {0}) DeserializeError → Type 0
+Puts old new ps (Ok x) = Put old new ps
+Puts old new ps (Err errors.HeapFull) = Fills old ps
+Puts old new ps (Err errors.Memory) = Unit {0}
+Puts old new ps (Err _) = ⊥
 
 -- they are no text
 abbrev pub NoContent : Cause → State → Type 0
@@ -86,8 +86,8 @@ NoContent _ s = ⊥
 
 -- the same where open bytes end
 abbrev pub PutsEnd : Reading → Reading → Result (Unit {0}) DeserializeError → Type 0
-PutsEnd old new (Ok x) = PartsPut old new []
-PutsEnd old new (Err errors.HeapFull) = LacksRoom old []
+PutsEnd old new (Ok x) = Put old new []
+PutsEnd old new (Err errors.HeapFull) = Fills old []
 PutsEnd old new (Err errors.Memory) = Unit {0}
 PutsEnd old new (Err (errors.CorruptedValue c)) = NoContent c (state_of old.builder)
 PutsEnd old new (Err _) = ⊥
@@ -103,8 +103,8 @@ NoText _ s more = ⊥
 
 -- the same of bytes, which may be no text
 abbrev pub PutsBytes : Reading → Reading → List ℕ → List Part → Result (Unit {0}) DeserializeError → Type 0
-PutsBytes old new more ps (Ok x) = PartsPut old new ps
-PutsBytes old new more ps (Err errors.HeapFull) = LacksRoom old ps
+PutsBytes old new more ps (Ok x) = Put old new ps
+PutsBytes old new more ps (Err errors.HeapFull) = Fills old ps
 PutsBytes old new more ps (Err errors.Memory) = Unit {0}
 PutsBytes old new more ps (Err (errors.CorruptedValue c)) = NoText c (state_of old.builder) more
 PutsBytes old new more ps (Err _) = ⊥

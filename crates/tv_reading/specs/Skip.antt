@@ -18,15 +18,15 @@ use Rattle.tv_reading.specs.declared.items.ItemsLeft.{ItemsLeft}
 
 -- ---- texts and bytes, whatever they hold
 
-abbrev pub IsTextEncoding : List ℕ → Type 0
-IsTextEncoding whole = (content : List ℕ) × Text whole content
+abbrev pub IsText : List ℕ → Type 0
+IsText whole = (content : List ℕ) × Text whole content
 
 -- behind the code of a text
 abbrev pub IsCodedText : List ℕ → Type 0
 IsCodedText whole = (content : List ℕ) × Behind 0 (λ b. Text b content) whole
 
-abbrev pub IsSizedEncoding : List ℕ → Type 0
-IsSizedEncoding whole = (content : List ℕ) × Sized whole content
+abbrev pub IsSized : List ℕ → Type 0
+IsSized whole = (content : List ℕ) × Sized whole content
 
 -- so many bytes, or none were taken
 abbrev pub PassesBytes : ℕ → List ℕ → Bool → Type 0
@@ -54,20 +54,20 @@ pub data ErrorInTextOf (n : ℕ) (whole : List ℕ) : Refusal → Type 0 where
 
 -- ---- texts with their tokens, whatever they hold
 
-abbrev pub IsNumberEncoding : List ℕ → Type 0
-IsNumberEncoding whole = (n : ℕ) × VNum whole n
+abbrev pub IsNumber : List ℕ → Type 0
+IsNumber whole = (n : ℕ) × VNum whole n
 
 abbrev pub IsTextAndNumber : List ℕ → Type 0
-IsTextAndNumber whole = Then IsTextEncoding IsNumberEncoding whole
+IsTextAndNumber whole = Then IsText IsNumber whole
 
 abbrev pub ErrorInTextAndNumber : List ℕ → Cause → Type 0
 ErrorInTextAndNumber = InThen ErrorInText Text (λ _. ErrorInNumber)
 
-abbrev pub IsTokenEncoding : List ℕ → Type 0
-IsTokenEncoding whole = (token : Token) × TokenEncoding whole token
+abbrev pub IsToken : List ℕ → Type 0
+IsToken whole = (token : Token) × TokenEncoding whole token
 
 -- so many tokens
-pub record AreTokenEncodings (n : ℕ) (whole : List ℕ) : Type 0 where
+pub record AreTokens (n : ℕ) (whole : List ℕ) : Type 0 where
   pub tokens : List Token
   pub many : length tokens ≡ n
   pub encoded : Each TokenEncoding whole tokens
@@ -82,8 +82,8 @@ AreCounted whole = (tokens : List Token) × Counted TokenEncoding whole tokens
 abbrev pub ErrorInCounted : List ℕ → Cause → Type 0
 ErrorInCounted = InThen ErrorInNumber VNum ErrorInTokens
 
-abbrev pub IsTokenizedEncoding : List ℕ → Type 0
-IsTokenizedEncoding whole = (content : List ℕ) × (tokens : List Token) × Tokenized whole content tokens
+abbrev pub IsTokenized : List ℕ → Type 0
+IsTokenized whole = (content : List ℕ) × (tokens : List Token) × Tokenized whole content tokens
 
 -- ---- one item
 
@@ -98,11 +98,11 @@ ErrorBefore v kinds.Value whole r = ⊥
 ErrorBefore v kinds.Entry whole r = ErrorInKey v whole r
 ErrorBefore v kinds.Pair whole r = Corrupt (ErrorInBytes 4) whole r
 
-abbrev pub IsValueEncoding : Version → List ℕ → Type 0
-IsValueEncoding v whole = (t : Tree) × Encodes Legacy v whole t
+abbrev pub IsValue : Version → List ℕ → Type 0
+IsValue v whole = (t : Tree) × Encodes Legacy v whole t
 
-abbrev pub IsDocumentEncoding : Version → List ℕ → Type 0
-IsDocumentEncoding v whole = (d : Document) × EncodesDocument Legacy v whole d
+abbrev pub IsDocument : Version → List ℕ → Type 0
+IsDocument v whole = (d : Document) × EncodesDocument Legacy v whole d
 
 -- the code of an array or of an object, and how many items it has
 abbrev pub OpensList : Version → List ℕ → ItemKind → ℕ → Type 0
@@ -111,15 +111,15 @@ OpensList v whole kinds.Entry n = Behind 13 (λ b. VNum b (entry_total v n)) who
 OpensList v whole kinds.Pair n = ⊥
 
 -- a whole value, or all that stands before the items of one
-abbrev pub OpensValue : Version → List ℕ → Option ItemsLeft → Type 0
-OpensValue v whole None = IsValueEncoding v whole
-OpensValue v whole (Some items) = OpensList v whole items.kind items.left
+abbrev pub Opens : Version → List ℕ → Option ItemsLeft → Type 0
+Opens v whole None = IsValue v whole
+Opens v whole (Some items) = OpensList v whole items.kind items.left
 
 abbrev pub OpensItem : Version → ItemKind → List ℕ → Option ItemsLeft → Type 0
-OpensItem v kind whole opened = Then (Before v kind) (λ b. OpensValue v b opened) whole
+OpensItem v kind whole opened = Then (Before v kind) (λ b. Opens v b opened) whole
 
 abbrev pub IsItem : Version → ItemKind → List ℕ → Type 0
-IsItem v kind whole = Then (Before v kind) (IsValueEncoding v) whole
+IsItem v kind whole = Then (Before v kind) (IsValue v) whole
 
 abbrev pub ErrorInItem : Version → ItemKind → List ℕ → Refusal → Type 0
 ErrorInItem v kind whole r = ErrorBefore v kind whole r ⊎ Then (Before v kind) (λ b. NoValue v b r) whole

@@ -7,10 +7,10 @@ use Rattle.tv_builder.specs.State.{State, complete, in_lists, in_bytes}
 use Rattle.tv_builder.specs.Builder.{built, state_of}
 use Rattle.tv_format.specs.Tree.{Document}
 use Rattle.tv_format.specs.TreeCode.{coded_document}
-use Rattle.tv_reading.specs.Prefix.{IsBetweenParts, IsPlace, IsSound}
+use Rattle.tv_reading.specs.Prefix.{Lacks, IsPlace, IsSound}
 use Rattle.tv_reading.specs.declared.reading.Reading.{Reading}
 
-Lacks-prop : (s : State) → IsProp (IsBetweenParts s)
+Lacks-prop : (s : State) → IsProp (Lacks s)
 Lacks-prop (complete t) x y = absurd x
 Lacks-prop (in_lists ls) x y = refl
 Lacks-prop (in_bytes ls kind n bs) x y = le_prop x y

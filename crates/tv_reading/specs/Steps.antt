@@ -12,13 +12,13 @@ use Rattle.tv_reading.specs.declared.reading.Reading.{Reading}
 abbrev pub Advances : (List ℕ → Entries → Type 0) → Version → Reading → Reading → List ℕ → Type 0
 Advances L v old new taken = (bytes : List ℕ) → Encoded L v bytes (parts_read old) → Encoded L v (bytes ++ taken) (parts_read new)
 
-abbrev pub HasFirstByte : ℕ → List ℕ → Type 0
-HasFirstByte code [] = ⊥
-HasFirstByte code (b ∷ bytes) = b ≡ code
+abbrev pub BeginsWith : ℕ → List ℕ → Type 0
+BeginsWith code [] = ⊥
+BeginsWith code (b ∷ bytes) = b ≡ code
 
 -- a pre-tokenized text, or an object as older stores hold it
 abbrev pub IsTakenWhole : Reading → List ℕ → Type 0
-IsTakenWhole r bytes = ValueNext r × (HasFirstByte 7 bytes ⊎ HasFirstByte 8 bytes)
+IsTakenWhole r bytes = ValueNext r × (BeginsWith 7 bytes ⊎ BeginsWith 8 bytes)
 
 -- so many bytes of those that were left were taken, whatever came of them: at most 4096, unless a value is taken whole
 abbrev pub IsFew : Reading → List ℕ → ℕ → ℕ → Type 0
@@ -35,4 +35,4 @@ pub record Stepped (v : Version) (legacy_seen : Bool) (old new : Reading) (taken
 -- Whether an object of an older store was seen: it still is, where it was; and one is seen where a value is awaited and its code comes first.
 pub record Sees (old : Reading) (left : List ℕ) (before after : Bool) : Type 0 where
   pub still : before ≡ true → after ≡ true
-  pub first : before ≡ false → after ≡ true → ValueNext old × HasFirstByte 8 left
+  pub first : before ≡ false → after ≡ true → ValueNext old × BeginsWith 8 left

@@ -1,7 +1,7 @@
 //! Whole pairs that a source has buffered.
 
 ghost use Rattle.std.specs.Prelude.{◌≡◌, ◌+◌, ◌≤◌, length, Ok};
-ghost use Rattle.tv_reading.specs.Buffered.{AddsBufferedPairs};
+ghost use Rattle.tv_reading.specs.Buffered.{AddsPairs};
 ghost use Rattle.tv_builder.specs.HeldPairs.{document_of};
 ghost use Rattle.tv_reader.specs.Finds.{Finds, Nothing};
 ghost use Rattle.tv_reader.specs.Version.{version_of};
@@ -20,7 +20,7 @@ pub fn take_buffered_pairs<S: ByteSource>(
     most: u64,
 ) -> u64
     ensures finds { Finds S.ByteSource source.old count.old source.new count.new
-        (Ok result) (λ b added. AddsBufferedPairs (version_of version) document.old document.new b added)
+        (Ok result) (λ b added. AddsPairs (version_of version) document.old document.new b added)
         Nothing }
     ensures counted { length (document_of document.new)
         ≡ length (document_of document.old) + result }

@@ -2,9 +2,9 @@
 
 ghost use Rattle.std.specs.Prelude.{◌≡◌, [], IsErrOf};
 ghost use Rattle.tv_builder.specs.HeldPairs.{document_of};
-ghost use Rattle.tv_reading.specs.Documents.{EncodesRead, EncodesRest, NoDocument};
+ghost use Rattle.tv_reading.specs.Documents.{EncodesRead, EncodesBehind, NoDocument};
 ghost use Rattle.tv_reading.specs.PairValue.{CanStand, FindsValue, FindsNoValue, ValueHasNoRoom};
-ghost use Rattle.tv_reading.specs.Prefix.{IsSound, IsMalformedNext, HasNoRoom, NoRoomBehind};
+ghost use Rattle.tv_reading.specs.Prefix.{IsSound, NoPrefix, HasNoRoom, NoRoomBehind};
 ghost use Rattle.tv_reader.specs.Finds.{Finds};
 ghost use Rattle.tv_reader.specs.Version.{version_of};
 ghost use Rattle.tv_reader.specs.declared.error.DeserializeError.TheVariants.{HeapFull};
@@ -29,7 +29,7 @@ fn take_rest<S: ByteSource>(
 ) -> Result<HeapPairs, DeserializeError>
     requires { IsSound begun }
     ensures finds { Finds S.ByteSource source.old count.old source.new count.new
-        result (EncodesRest (version_of version) begun) (IsMalformedNext (version_of version) begun) }
+        result (EncodesBehind (version_of version) begun) (NoPrefix (version_of version) begun) }
     ensures full { S.is_known source.old → IsErrOf result HeapFull
         → NoRoomBehind (version_of version) begun (S.left source.old) }
 {

@@ -4,7 +4,7 @@ ghost use Rattle.std.specs.Prelude.{◌≡◌, ◌≤◌, ◌∷◌, IfSome};
 ghost use Rattle.tv_base.specs.Parts.{Begins};
 ghost use Rattle.tv_format.specs.WriteVersion.{written_version};
 ghost use Rattle.tv_format.specs.declared.version.WriteVersion.{WriteVersion};
-ghost use Rattle.tv_reading.specs.Skip.{Before, BeginsItems, IsItem, IsValueEncoding};
+ghost use Rattle.tv_reading.specs.Skip.{Before, BeginsItems, IsItem, IsValue};
 
 use crate::items::ItemKind;
 use tv_format::leaf_type::LeafType;
@@ -16,7 +16,7 @@ use tv_value::in_place::{content_at, entry_count_at, key_at, number_at};
 #[inline(always)]
 fn behind_leaf(code: u8, bytes: &[u8]) -> Option<&[u8]>
     ensures { IfSome result
-        (λ rest. (version : WriteVersion) → Begins (IsValueEncoding (written_version version))
+        (λ rest. (version : WriteVersion) → Begins (IsValue (written_version version))
         (code ∷ bytes.now) rest.now) }
 {
     let leaf_type = LeafType::from_store_code(code)?;
@@ -48,7 +48,7 @@ fn behind_before(kind: ItemKind, bytes: &[u8], version: WriteVersion) -> Option<
 #[cycle(encoded)]
 fn behind_value(bytes: &[u8], version: WriteVersion, levels: u32) -> Option<&[u8]>
     ensures { IfSome result
-        (λ rest. Begins (IsValueEncoding (written_version version)) bytes.now rest.now) }
+        (λ rest. Begins (IsValue (written_version version)) bytes.now rest.now) }
 {
     let (code, behind) = bytes.split_first()?;
     match *code {

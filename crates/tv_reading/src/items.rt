@@ -5,10 +5,10 @@ ghost use Rattle.tv_format.specs.InputError.{ErrorInDocument};
 ghost use Rattle.tv_legacy.specs.Legacy.{Legacy, ErrorInLegacy};
 ghost use Rattle.tv_reader.specs.Finds.{FindsRoomy, Nothing};
 ghost use Rattle.tv_reader.specs.Trees.{NoValue};
-ghost use Rattle.tv_reader.specs.ValueType.{type_prefix};
+ghost use Rattle.tv_reader.specs.ValueType.{coded};
 ghost use Rattle.tv_reader.specs.Version.{version_of};
 ghost use Rattle.tv_reading.specs.Skip.{Before, ErrorBefore, ErrorInItem, ErrorInLeft};
-ghost use Rattle.tv_reading.specs.Skip.{AreLeft, IsValueEncoding, IsDocumentEncoding, OpensValue, OpensItem, TakesItem};
+ghost use Rattle.tv_reading.specs.Skip.{AreLeft, IsValue, IsDocument, Opens, OpensItem, TakesItem};
 ghost use Rattle.tv_reading.specs.Skip.{open_items, Passed};
 
 use crate::encoded::behind_as_many;
@@ -118,8 +118,8 @@ fn skip_behind<S: ByteSource>(
     kind: ValueType,
 ) -> Result<Option<ItemsLeft>, DeserializeError>
     ensures finds { FindsRoomy S.ByteSource source.old count.old source.new
-        count.new result (λ b opened. OpensValue (version_of version) (type_prefix kind ++ b) opened)
-        (λ b r. NoValue (version_of version) (type_prefix kind ++ b) r) }
+        count.new result (λ b opened. Opens (version_of version) (coded kind ++ b) opened)
+        (λ b r. NoValue (version_of version) (coded kind ++ b) r) }
 {
     match kind {
         ValueType::Array => {
@@ -168,8 +168,8 @@ fn skip_head<S: ByteSource>(
     scratch: &mut Vec<u8>,
 ) -> Result<Option<ItemsLeft>, DeserializeError>
     ensures finds { FindsRoomy S.ByteSource source.old count.old source.new
-        count.new result (OpensValue (version_of version)) (NoValue (version_of version)) }
-    ensures advances { OnOk result (count.old < count.new) }
+        count.new result (Opens (version_of version)) (NoValue (version_of version)) }
+    ensures rises { OnOk result (count.old < count.new) }
 {
     let kind = take_kind(source, count)?;
     skip_behind(alloc, source, count, version, scratch, kind)
@@ -187,7 +187,7 @@ fn skip_item<S: ByteSource>(
     ensures finds { FindsRoomy S.ByteSource source.old count.old source.new
         count.new result (OpensItem (version_of version) kind)
         (ErrorInItem (version_of version) kind) }
-    ensures advances { OnOk result (count.old < count.new) }
+    ensures rises { OnOk result (count.old < count.new) }
 {
     skip_before(source, count, version, scratch, kind)?;
     skip_head(alloc, source, count, version, scratch)
@@ -235,7 +235,7 @@ pub fn pass_value<S: ByteSource>(
     version: DocStoreVersion,
 ) -> Result<(), DeserializeError>
     ensures finds { FindsRoomy S.ByteSource source.old count.old source.new
-        count.new result (λ b _. IsValueEncoding (version_of version) b) (NoValue (version_of version)) }
+        count.new result (λ b _. IsValue (version_of version) b) (NoValue (version_of version)) }
 {
     let one = ItemsLeft {
         kind: ItemKind::Value,
@@ -254,7 +254,7 @@ pub fn pass_document<S: ByteSource>(
     version: DocStoreVersion,
 ) -> Result<(), DeserializeError>
     ensures finds { FindsRoomy S.ByteSource source.old count.old source.new
-        count.new result (λ b _. IsDocumentEncoding (version_of version) b)
+        count.new result (λ b _. IsDocument (version_of version) b)
         (ErrorInDocument Legacy ErrorInLegacy (version_of version)) }
 {
     let left = take_document_head(source, count)?;

@@ -5,7 +5,7 @@ ghost use Rattle.tv_base.specs.ErrorInPart.{ErrorInBytes, ErrorInSized, ErrorInT
 ghost use Rattle.tv_format.specs.InputError.{Corrupt, ErrorInCodedKey, ErrorInKey};
 ghost use Rattle.tv_reader.specs.Finds.{FindsLean, FindsRoomy, Nothing};
 ghost use Rattle.tv_reader.specs.Version.{version_of};
-ghost use Rattle.tv_reading.specs.Skip.{Before, IsSizedEncoding, IsTextEncoding, IsTextOf, ErrorInTextOf, MayTest};
+ghost use Rattle.tv_reading.specs.Skip.{Before, IsSized, IsText, IsTextOf, ErrorInTextOf, MayTest};
 ghost use Rattle.tv_reading.specs.Skip.{PassesBytes, Tested, IsCodedText};
 ghost use Rattle.tv_reading.specs.declared.items.ItemKind.TheVariants as kinds;
 
@@ -96,7 +96,7 @@ pub(crate) fn skip_text<S: ByteSource>(
     scratch: &mut Vec<u8>,
 ) -> Result<(), DeserializeError>
     ensures finds { FindsRoomy S.ByteSource source.old count.old source.new
-        count.new result (λ b _. IsTextEncoding b) (Corrupt ErrorInText) }
+        count.new result (λ b _. IsText b) (Corrupt ErrorInText) }
 {
     let len = take_vint(source, count)?;
     skip_text_of(source, count, scratch, len)
@@ -159,7 +159,7 @@ pub(crate) fn skip_sized<S: ByteSource>(
     count: &mut u64,
 ) -> Result<(), DeserializeError>
     ensures finds { FindsRoomy S.ByteSource source.old count.old source.new
-        count.new result (λ b _. IsSizedEncoding b) (Corrupt ErrorInSized) }
+        count.new result (λ b _. IsSized b) (Corrupt ErrorInSized) }
 {
     let len = take_vint(source, count)?;
     skip_bytes(source, count, len)

@@ -10,9 +10,9 @@ ghost use Rattle.tv_builder.specs.State.{in_lists};
 ghost use Rattle.tv_builder.specs.declared.awaits.Awaits.TheVariants.{Value as ValueAwaited};
 ghost use Rattle.tv_builder.specs.declared.awaits.Awaits.TheVariants.{Key as KeyAwaited};
 ghost use Rattle.tv_builder.specs.declared.awaits.Awaits.TheVariants.{Bytes as BytesAwaited};
-ghost use Rattle.tv_reading.specs.Prefix.{parts_read, IsSound, IsDone, LacksPair, IsMalformedNext};
+ghost use Rattle.tv_reading.specs.Prefix.{parts_read, IsSound, IsDone, LacksPair, NoPrefix};
 ghost use Rattle.tv_reading.specs.Prefix.{NoRoomBehind};
-ghost use Rattle.tv_reading.specs.Puts.{IsOpen, AtEnd, Awaiting, PutsParts, PutsEnd, PutsBytes, IsParts};
+ghost use Rattle.tv_reading.specs.Puts.{IsOpen, AtEnd, Awaiting, Puts, PutsEnd, PutsBytes, IsParts};
 ghost use Rattle.tv_reading.specs.Puts.{bytes_kind, head_parts};
 ghost use Rattle.tv_reading.specs.Kept.{Grows, LetGo, KeepsPairs};
 ghost use Rattle.tv_reading.specs.Steps.{Advances, Stepped, Sees, IsFew};
@@ -120,7 +120,7 @@ impl Reading {
             ≡ open_parts (length (document_of document) + 1) (document_of document) field
             (in_lists []) }
         ensures sound { IsSound result }
-        ensures at_most { length (document_of document) + 1 < 2 ^ 64 }
+        ensures few { length (document_of document) + 1 < 2 ^ 64 }
     {
         let finished = document.pairs.len() as u64;
         Reading {
@@ -198,7 +198,7 @@ impl Reading {
     // Makes a complete value that of the pair whose field was read.
     fn close_pair(&mut self) -> Result<(), DeserializeError>
         requires { IsOpen self.old }
-        ensures puts { PutsParts self.old self.new [] result }
+        ensures puts { Puts self.old self.new [] result }
         ensures left { OnErr result (LetGo self.old self.new) }
     {
         let Awaits::Finish = self.builder.awaits() else {
@@ -221,7 +221,7 @@ impl Reading {
     // A value without children has come.
     fn put_leaf(&mut self, value: ReferenceValueLeaf<'_>) -> Result<(), DeserializeError>
         requires { Awaiting self.old ValueAwaited }
-        ensures puts { PutsParts self.old self.new (value_part (leaf_tree (leaf_of value.entry)) ∷ [])
+        ensures puts { Puts self.old self.new (value_part (leaf_tree (leaf_of value.entry)) ∷ [])
             result }
         ensures left { OnErr result (LetGo self.old self.new) }
     {
@@ -234,7 +234,7 @@ impl Reading {
     // A whole value has come.
     fn put_tree<'a, V: Value<'a>>(&mut self, value: &V) -> Result<(), DeserializeError>
         requires { Awaiting self.old ValueAwaited }
-        ensures puts { PutsParts self.old self.new (value_part (V.tree value.now) ∷ []) result }
+        ensures puts { Puts self.old self.new (value_part (V.tree value.now) ∷ []) result }
         ensures left { OnErr result (LetGo self.old self.new) }
     {
         match self.builder.tree(value) {
@@ -246,7 +246,7 @@ impl Reading {
     // The head of a list has come.
     fn put_list(&mut self, kind: ListKind, announced: u64) -> Result<(), DeserializeError>
         requires { Awaiting self.old ValueAwaited }
-        ensures puts { PutsParts self.old self.new (list_head kind announced ∷ []) result }
+        ensures puts { Puts self.old self.new (list_head kind announced ∷ []) result }
         ensures left { OnErr result (LetGo self.old self.new) }
     {
         match self.builder.open_list(kind, announced) {
@@ -270,7 +270,7 @@ impl Reading {
     // The length of bytes has come. None at all are a value or a key at once.
     fn put_bytes_head(&mut self, kind: BytesKind, announced: u64) -> Result<(), DeserializeError>
         requires { Awaiting self.old (head_awaits kind) }
-        ensures puts { PutsParts self.old self.new (bytes_head kind announced ∷ []) result }
+        ensures puts { Puts self.old self.new (bytes_head kind announced ∷ []) result }
         ensures left { OnErr result (LetGo self.old self.new) }
     {
         if let Err(error) = self.builder.begin_bytes(kind, announced) {
@@ -302,7 +302,7 @@ impl Reading {
     fn put_head(&mut self, head: Head) -> Result<(), DeserializeError>
         requires awaiting { Awaiting self.old ValueAwaited }
         requires parts { IsParts (head_part head) }
-        ensures puts { PutsParts self.old self.new (head_parts (head_part head)) result }
+        ensures puts { Puts self.old self.new (head_parts (head_part head)) result }
         ensures left { OnErr result (LetGo self.old self.new) }
     {
         match head {
@@ -327,8 +327,8 @@ impl Reading {
         ensures left { OnErr result (KeepsPairs self.old self.new) }
         ensures finds { (v : Version)
             → FindsLean S.ByteSource source.old count.old source.new count.new
-            result (λ b _. Stepped v false self.old self.new b) (IsMalformedNext v self.old) }
-        ensures at_most { count.new ≤ count.old + 4096 }
+            result (λ b _. Stepped v false self.old self.new b) (NoPrefix v self.old) }
+        ensures few { count.new ≤ count.old + 4096 }
     {
         let announced = take_document_head(source, count)?;
         self.announced = Some(announced);
@@ -349,8 +349,8 @@ impl Reading {
         ensures left { OnErr result (KeepsPairs self.old self.new) }
         ensures finds { (v : Version)
             → FindsLean S.ByteSource source.old count.old source.new count.new
-            result (λ b _. Stepped v false self.old self.new b) (IsMalformedNext v self.old) }
-        ensures at_most { count.new ≤ count.old + 4096 }
+            result (λ b _. Stepped v false self.old self.new b) (NoPrefix v self.old) }
+        ensures few { count.new ≤ count.old + 4096 }
     {
         let field = take_field(source, count)?;
         self.field = Some(field);
@@ -372,12 +372,12 @@ impl Reading {
         ensures left { OnErr result (KeepsPairs self.old self.new) }
         ensures finds { Finds S.ByteSource source.old count.old source.new count.new
             result (λ b _. Stepped (version_of version) legacy_seen.new self.old self.new b)
-            (IsMalformedNext (version_of version) self.old) }
+            (NoPrefix (version_of version) self.old) }
         ensures full { S.is_known source.old → IsErrOf result HeapFull
             → NoRoomBehind (version_of version) self.old (S.left source.old) }
         ensures seen { S.is_known source.old
             → Sees self.old (S.left source.old) legacy_seen.old legacy_seen.new }
-        ensures at_most { S.is_known source.old
+        ensures few { S.is_known source.old
             → IsFew self.old (S.left source.old) count.old count.new }
     {
         let head = take_head(source, count, version)?;
@@ -408,10 +408,10 @@ impl Reading {
         ensures left { OnErr result (KeepsPairs self.old self.new) }
         ensures finds { Finds S.ByteSource source.old count.old source.new count.new
             result (λ b _. Stepped (version_of version) false self.old self.new b)
-            (IsMalformedNext (version_of version) self.old) }
+            (NoPrefix (version_of version) self.old) }
         ensures full { S.is_known source.old → IsErrOf result HeapFull
             → NoRoomBehind (version_of version) self.old (S.left source.old) }
-        ensures at_most { count.new ≤ count.old + 4096 }
+        ensures few { count.new ≤ count.old + 4096 }
     {
         let len = take_key_head(source, count, version)?;
         self.put_bytes_head(BytesKind::Key, len)
@@ -431,10 +431,10 @@ impl Reading {
         ensures left { OnErr result (KeepsPairs self.old self.new) }
         ensures finds { (v : Version)
             → Finds S.ByteSource source.old count.old source.new count.new result
-            (λ b _. Stepped v false self.old self.new b) (IsMalformedNext v self.old) }
+            (λ b _. Stepped v false self.old self.new b) (NoPrefix v self.old) }
         ensures full { (v : Version) → S.is_known source.old → IsErrOf result HeapFull
             → NoRoomBehind v self.old (S.left source.old) }
-        ensures at_most { count.new ≤ count.old + 4096 }
+        ensures few { count.new ≤ count.old + 4096 }
     {
         let len = missing.min(PIECE);
         bytes.clear();
@@ -465,12 +465,12 @@ impl Reading {
         ensures left { OnErr result (KeepsPairs self.old self.new) }
         ensures finds { Finds S.ByteSource source.old count.old source.new count.new
             result (λ b _. Stepped (version_of version) legacy_seen.new self.old self.new b)
-            (IsMalformedNext (version_of version) self.old) }
+            (NoPrefix (version_of version) self.old) }
         ensures full { S.is_known source.old → IsErrOf result HeapFull
             → NoRoomBehind (version_of version) self.old (S.left source.old) }
         ensures seen { S.is_known source.old
             → Sees self.old (S.left source.old) legacy_seen.old legacy_seen.new }
-        ensures at_most { S.is_known source.old
+        ensures few { S.is_known source.old
             → IsFew self.old (S.left source.old) count.old count.new }
     {
         if self.announced.is_none() {

@@ -4,9 +4,9 @@ ghost use Rattle.tv_base.specs.ErrorInPart.{ErrorInNumber, InEach};
 ghost use Rattle.tv_format.specs.Encoding.{TokenEncoding};
 ghost use Rattle.tv_format.specs.InputError.{Corrupt, ErrorInToken, ErrorInTokenized};
 ghost use Rattle.tv_reader.specs.Finds.{FindsRoomy};
-ghost use Rattle.tv_reading.specs.Skip.{IsNumberEncoding, IsTokenEncoding, AreTokenEncodings, IsTextAndNumber};
+ghost use Rattle.tv_reading.specs.Skip.{IsNumber, IsToken, AreTokens, IsTextAndNumber};
 ghost use Rattle.tv_reading.specs.Skip.{ErrorInTextAndNumber, ErrorInTokens, AreCounted};
-ghost use Rattle.tv_reading.specs.Skip.{ErrorInCounted, IsTokenizedEncoding};
+ghost use Rattle.tv_reading.specs.Skip.{ErrorInCounted, IsTokenized};
 
 use crate::parts::skip_text;
 use tv_base::ByteSource;
@@ -16,7 +16,7 @@ use tv_reader::DeserializeError;
 // Passes over a number of variable length.
 fn skip_number<S: ByteSource>(source: &mut S, count: &mut u64) -> Result<(), DeserializeError>
     ensures finds { FindsRoomy S.ByteSource source.old count.old source.new
-        count.new result (λ b _. IsNumberEncoding b) (Corrupt ErrorInNumber) }
+        count.new result (λ b _. IsNumber b) (Corrupt ErrorInNumber) }
 {
     take_vint(source, count)?;
     Ok(())
@@ -42,7 +42,7 @@ fn skip_token<S: ByteSource>(
     scratch: &mut Vec<u8>,
 ) -> Result<(), DeserializeError>
     ensures finds { FindsRoomy S.ByteSource source.old count.old source.new
-        count.new result (λ b _. IsTokenEncoding b) (Corrupt ErrorInToken) }
+        count.new result (λ b _. IsToken b) (Corrupt ErrorInToken) }
 {
     skip_number(source, count)?;
     skip_number(source, count)?;
@@ -58,7 +58,7 @@ fn skip_tokens<S: ByteSource>(
     announced: u64,
 ) -> Result<(), DeserializeError>
     ensures finds { FindsRoomy S.ByteSource source.old count.old source.new
-        count.new result (λ b _. AreTokenEncodings announced b) (Corrupt (ErrorInTokens announced)) }
+        count.new result (λ b _. AreTokens announced b) (Corrupt (ErrorInTokens announced)) }
 {
     for _ in 0..announced {
         skip_token(source, count, scratch)?;
@@ -86,7 +86,7 @@ pub(crate) fn skip_tokenized<S: ByteSource>(
     scratch: &mut Vec<u8>,
 ) -> Result<(), DeserializeError>
     ensures finds { FindsRoomy S.ByteSource source.old count.old source.new
-        count.new result (λ b _. IsTokenizedEncoding b) (Corrupt ErrorInTokenized) }
+        count.new result (λ b _. IsTokenized b) (Corrupt ErrorInTokenized) }
 {
     skip_text(source, count, scratch)?;
     skip_counted_tokens(source, count, scratch)

@@ -58,13 +58,13 @@ refused_at place schemas.Memory = Other schemas.Memory
 refused_at place error = Refused place error
 
 -- the schema with the entry behind the others, unless it is refused
-abbrev pub accepted_entry : List Entry → Entry → Option SchemaError → Result (List Entry) SchemaJsonError
-accepted_entry schema entry None = Ok (schema ++ entry ∷ [])
-accepted_entry schema entry (Some error) = Err (refused_at (length schema) error)
+abbrev pub accepted : List Entry → Entry → Option SchemaError → Result (List Entry) SchemaJsonError
+accepted schema entry None = Ok (schema ++ entry ∷ [])
+accepted schema entry (Some error) = Err (refused_at (length schema) error)
 
 -- the schema with the entry that was read
 abbrev pub with_read : List Entry → Result Entry EntryFault → Result (List Entry) SchemaJsonError
-with_read schema (Ok entry) = accepted_entry schema entry (refusal schema entry.name)
+with_read schema (Ok entry) = accepted schema entry (refusal schema entry.name)
 with_read schema (Err fault) = Err (at_entry (length schema) fault)
 
 -- the schema with the next entry
@@ -106,11 +106,11 @@ schema_of description = plain (schema_by_key description)
 -- ---- what is returned
 
 -- the options are these, or the key is at fault, unless memory was refused
-abbrev pub ReadsOptions : {A : Type 0} → Result A SchemaKey → Result A EntryFault → Type 0
-ReadsOptions outcome (Ok found) = outcome ≡ Ok found
-ReadsOptions outcome (Err (Key key)) = outcome ≡ Err key
-ReadsOptions outcome (Err Memory) = ⊤
-ReadsOptions outcome (Err fault) = ⊥
+abbrev pub Reads : {A : Type 0} → Result A SchemaKey → Result A EntryFault → Type 0
+Reads outcome (Ok found) = outcome ≡ Ok found
+Reads outcome (Err (Key key)) = outcome ≡ Err key
+Reads outcome (Err Memory) = ⊤
+Reads outcome (Err fault) = ⊥
 
 -- the same of an entry, its parts seen through the view
 abbrev pub Describes : {A : Type 0} → (A → Entry) → Result Entry EntryFault → Result A EntryFault → Type 0
@@ -119,7 +119,7 @@ Describes view outcome (Err Memory) = ⊤
 Describes view outcome (Err fault) = outcome ≡ Err fault
 
 -- the same of a schema
-abbrev pub GivesSchema : {A : Type 0} → (A → List Entry) → Result (List Entry) SchemaJsonError → Result A SchemaJsonError → Type 0
-GivesSchema view outcome (Ok found) = outcome ≡ Ok (view found)
-GivesSchema view outcome (Err (Other schemas.Memory)) = ⊤
-GivesSchema view outcome (Err error) = outcome ≡ Err error
+abbrev pub Gives : {A : Type 0} → (A → List Entry) → Result (List Entry) SchemaJsonError → Result A SchemaJsonError → Type 0
+Gives view outcome (Ok found) = outcome ≡ Ok (view found)
+Gives view outcome (Err (Other schemas.Memory)) = ⊤
+Gives view outcome (Err error) = outcome ≡ Err error

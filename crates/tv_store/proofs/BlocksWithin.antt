@@ -20,8 +20,8 @@ use Rattle.tv_reader.specs.Error.{store_stop}
 use Rattle.tv_reader.specs.Finds.{GivesStop}
 use Rattle.tv_reader.specs.declared.error.DeserializeError.TheVariants as errors
 use Rattle.tv_store.specs.Blocks.{as_read_within, SaysEndWithin}
-use Rattle.tv_store.specs.Documents.{BeginsWithDocument, NoDocument, in_place}
-use Rattle.tv_store.specs.Limits.{IsPast, PassesDepth, ReadsByLimits, StopsWithin, limited_stop}
+use Rattle.tv_store.specs.Documents.{BeginsWith, NoDocument, in_place}
+use Rattle.tv_store.specs.Limits.{IsPast, PassesDepth, Comes, StopsWithin, limited_stop}
 use Rattle.tv_store.specs.declared.limits.LimitedReadError.{LimitedReadError}
 use Rattle.tv_store.specs.declared.limits.LimitedReadError.TheVariants as limited
 use Rattle.tv_store.specs.declared.limits.ReadLimit.TheVariants as limit
@@ -36,8 +36,8 @@ abbrev IsSaid : Result (Unit {0}) LimitedReadError → Result Bool LimitedReadEr
 IsSaid read next = (d : CompactDoc) → as_read_within next d ≡ in_place read d
 
 pub said_comes : (v : Version) (limits : ReadLimits) (old new : List ℕ) (read : Result (Unit {0}) LimitedReadError) (next : Result Bool LimitedReadError) (document : CompactDoc) → IsSaid read next
-    → ReadsByLimits v limits old new (in_place read document) → ReadsByLimits v limits old new (as_read_within next document)
-said_comes v limits old new read next document same h = subst (λ (r : Result CompactDoc LimitedReadError). ReadsByLimits v limits old new r) (sym (same document)) h
+    → Comes v limits old new (in_place read document) → Comes v limits old new (as_read_within next document)
+said_comes v limits old new read next document same h = subst (λ (r : Result CompactDoc LimitedReadError). Comes v limits old new r) (sym (same document)) h
 
 pub said_errors_as : (P : LimitedReadError → Type 0) (read : Result (Unit {0}) LimitedReadError) (next : Result Bool LimitedReadError) (document : CompactDoc) → IsSaid read next → IfErr read P → IfErr (as_read_within next document) P
 said_errors_as P (Ok x) next document same h = subst (λ (r : Result CompactDoc LimitedReadError). IfErr r P) (sym (same document)) tt
@@ -68,8 +68,8 @@ said_stops source v limits next document h = record {
   most = h.most;
 }
 
-pub said_found : (v : Version) (limits : ReadLimits) (old new : List ℕ) (next : Result Bool LimitedReadError) (document : CompactDoc) → ReadsByLimits v limits old new (as_read_within next document) → next ≡ Ok true → BeginsWithDocument v old new (document_of document)
-said_found v limits old new next document h is = found_in v limits old new (Ok document) (subst (λ z. ReadsByLimits v limits old new (as_read_within z document)) is h)
+pub said_found : (v : Version) (limits : ReadLimits) (old new : List ℕ) (next : Result Bool LimitedReadError) (document : CompactDoc) → Comes v limits old new (as_read_within next document) → next ≡ Ok true → BeginsWith v old new (document_of document)
+said_found v limits old new next document h is = found_in v limits old new (Ok document) (subst (λ z. Comes v limits old new (as_read_within z document)) is h)
 
 -- ---- the end
 
@@ -77,9 +77,9 @@ no_bytes : (old prefix new : List ℕ) → old ≡ prefix ++ new → new ≡ [] 
 no_bytes old [] new joined none few = joined ∙ none
 no_bytes old (b ∷ prefix) new joined none few = absurd (omega (arith, few))
 
-pub said_end : (v : Version) (limits : ReadLimits) (old new : List ℕ) (count : ℕ) (next : Result Bool LimitedReadError) (document : CompactDoc) → ReadsByLimits v limits old new (as_read_within next document) → Taken old new 0 count → count ≡ 0 → next ≡ Ok false → old ≡ []
+pub said_end : (v : Version) (limits : ReadLimits) (old new : List ℕ) (count : ℕ) (next : Result Bool LimitedReadError) (document : CompactDoc) → Comes v limits old new (as_read_within next document) → Taken old new 0 count → count ≡ 0 → next ≡ Ok false → old ≡ []
 said_end v limits old new count next document comes t none is =
-    let h = subst (λ z. ReadsByLimits v limits old new (as_read_within z document)) is comes in
+    let h = subst (λ z. Comes v limits old new (as_read_within z document)) is comes in
     let few : length h.taken ≡ 0 = omega (arith, t.counted, none, ap length h.joined, ap length t.joined, length-append h.taken new, length-append t.prefix new) in
     no_bytes old h.taken new h.joined ((told_cause (NoDocument v) UnexpectedEnd old new (length h.taken) (omega (arith, few)) h.outcome.stop).shows.all refl) few
 
@@ -93,7 +93,7 @@ never_deep : (v : Version) (most : Option ℕ) (taken : List ℕ) → taken ≡ 
 never_deep v most taken none (inl deep) = no_number v taken deep.announced _ none deep.encoded
 never_deep v most taken none (inr deeper) = no_document v taken deeper.document none deeper.encoded
 
-pub said_at_end : (v : Version) (limits : ReadLimits) (old new : List ℕ) (count : ℕ) (next : Result Bool LimitedReadError) (document : CompactDoc) → ReadsByLimits v limits old new (as_read_within next document)
+pub said_at_end : (v : Version) (limits : ReadLimits) (old new : List ℕ) (count : ℕ) (next : Result Bool LimitedReadError) (document : CompactDoc) → Comes v limits old new (as_read_within next document)
     → (IsErrOf next (limited.Read (errors.CorruptedValue UnexpectedEnd)) → 0 < count) → Taken old new 0 count → old ≡ [] → SaysEndWithin limits next
 said_at_end v limits old new count (Ok true) document h cut t none = no_document v h.taken (document_of document) (none_before h.taken new (sym h.joined ∙ none)) h.outcome
 said_at_end v limits old new count (Ok false) document h cut t none = tt

@@ -7,7 +7,7 @@ use Rattle.tv_base.specs.Stop.{CountsStop}
 use Rattle.tv_builder.specs.declared.add_error.AddError.{AddError}
 use Rattle.tv_builder.specs.declared.add_error.AddError.TheVariants as adds
 use Rattle.tv_doc.specs.declared.document.CompactDoc.{CompactDoc}
-use Rattle.tv_doc.specs.Document.{document_of, heap_of, RefusesAddition}
+use Rattle.tv_doc.specs.Document.{document_of, heap_of, Refuses}
 use Rattle.tv_heap.specs.Room.{room, document_room}
 use Rattle.tv_format.specs.Tree.{Tree, Document}
 use Rattle.tv_format.specs.Version.{Version}
@@ -30,13 +30,13 @@ gives_push gives first mid last [] pair p g = (last, subst (λ z. gives z pair l
 gives_push gives first mid last (q ∷ pairs) pair p g = (p.0, p.1, gives_push gives p.0 mid last pairs pair p.2 g)
 
 refused_by : {D : Type 0} (gives : D → ℕ × Tree → D → Type 0) (refuses : D → (Version → ValueType → List ℕ → DeserializeError → Type 0) → DeserializeError → Type 0) (first mid last : D) (doc : CompactDoc) (field : ℕ) (t : Tree) (error : AddError)
-    → GivesAll gives first (document_of doc) mid → gives mid (field, t) last → length (heap_of doc) ≤ document_room (document_of doc) → RefusesAddition doc t error → PairsRefused gives refuses first (add_error error)
+    → GivesAll gives first (document_of doc) mid → gives mid (field, t) last → length (heap_of doc) ≤ document_room (document_of doc) → Refuses doc t error → PairsRefused gives refuses first (add_error error)
 refused_by gives refuses first mid last doc field t adds.HeapFull p g within h =
     no_room (document_of doc ++ (field, t) ∷ []) last (gives_push gives first mid last (document_of doc) (field, t) p g) (omega (arith, document_room-push (document_of doc) (field, t), within, h))
 refused_by gives refuses first mid last doc field t adds.Memory p g within h = no_memory
 
 pub addition_refused : {D : Type 0} (gives : D → ℕ × Tree → D → Type 0) (refuses : D → (Version → ValueType → List ℕ → DeserializeError → Type 0) → DeserializeError → Type 0) (first mid last : D) (doc : CompactDoc) (field : ℕ) (t : Tree) (error : AddError) (e : DeserializeError)
-    → e ≡ add_error error → GivesAll gives first (document_of doc) mid → gives mid (field, t) last → length (heap_of doc) ≤ document_room (document_of doc) → RefusesAddition doc t error → PairsRefused gives refuses first e
+    → e ≡ add_error error → GivesAll gives first (document_of doc) mid → gives mid (field, t) last → length (heap_of doc) ≤ document_room (document_of doc) → Refuses doc t error → PairsRefused gives refuses first e
 addition_refused gives refuses first mid last doc field t error e is p g within h = subst (PairsRefused gives refuses first) (sym is) (refused_by gives refuses first mid last doc field t error p g within h)
 
 -- ---- the next pair

@@ -21,7 +21,7 @@ use Rattle.tv_legacy.specs.Legacy.{Legacy}
 use Rattle.tv_reader.specs.Error.{store_stop}
 use Rattle.tv_reader.specs.declared.error.DeserializeError.{DeserializeError}
 use Rattle.tv_reader.specs.declared.error.DeserializeError.TheVariants as errors
-use Rattle.tv_store.specs.Documents.{BeginsWithDocument, SaysNothing}
+use Rattle.tv_store.specs.Documents.{BeginsWith, SaysNothing}
 use Rattle.tv_store.specs.Migrate.{IsMemory, Migrates, Rewrites, sink_stop}
 use Rattle.tv_store.specs.Reading.{ReadsDocument}
 use Rattle.tv_store.specs.declared.migration.MigrateError.{MigrateError}
@@ -46,7 +46,7 @@ unwritten h = record { appends = h.appends; stays_known = h.stays_known; counts 
 -- text is its shortest.
 pub record Transcribes (from to : Version) (bytes rest text : List ℕ) : Type 0 where
   pub document : Document
-  pub read : BeginsWithDocument from bytes rest document
+  pub read : BeginsWith from bytes rest document
   pub valid : IsDocument document
   pub written : text ≡ short_document to document
 

@@ -20,7 +20,7 @@ use Rattle.tv_heap.specs.declared.encoded.Encoded.{Encoded}
 use Rattle.tv_heap.specs.declared.encoded.Encoded.TheVariants as held
 use Rattle.tv_heap.specs.declared.value.CompactDocValue.{CompactDocValue}
 use Rattle.tv_heap.specs.Encoded.{encoded_bytes}
-use Rattle.tv_heap.specs.Reads.{ReadsTree, ReadsElements, ReadsEntries}
+use Rattle.tv_heap.specs.Reads.{Reads, ReadsElements, ReadsEntries}
 use Rattle.tv_heap.specs.Value.{tree_of}
 use Rattle.tv_store.specs.Nested.{HeldNestsWithin}
 use Rattle.tv_value.specs.Nesting.{NestsWithin}
@@ -79,7 +79,7 @@ elements_valid : (heap : List ℕ) (parent : ℕ) (whole : List ℕ) (ts : Eleme
 elements_valid heap parent whole no_elements p = tt
 elements_valid heap parent whole (element t ts) p = (reads_valid heap p.code p.at t p.reads, elements_valid heap parent p.rest ts p.others)
 
-text_valid : (heap : List ℕ) (at : ℕ) (k : List ℕ) → ReadsTree heap 1 at (leaf (text k)) → IsText k
+text_valid : (heap : List ℕ) (at : ℕ) (k : List ℕ) → Reads heap 1 at (leaf (text k)) → IsText k
 text_valid heap at k r = reads_valid heap 1 at (leaf (text k)) r
 
 entries_valid : (heap : List ℕ) (parent : ℕ) (whole : List ℕ) (es : Entries) → ReadsEntries heap parent whole es → AreEntries es

@@ -27,14 +27,14 @@ use Rattle.tv_legacy.specs.Legacy.{Legacy, ErrorInLegacy}
 use Rattle.tv_legacy.proofs.Unique.{one_legacy, legacy_excludes}
 use Rattle.tv_reader.specs.Error.{key_stop, store_stop, StoreMayStopRoomy, IsRefusal}
 use Rattle.tv_reader.specs.Error.IsRefusal.{is_corrupted, is_no_text}
-use Rattle.tv_reader.specs.ValueType.{value_type_code}
-use Rattle.tv_reader.specs.Finds.{ShowsRefusal, GivesStop, Found, FindsIf}
+use Rattle.tv_reader.specs.ValueType.{type_code}
+use Rattle.tv_reader.specs.Finds.{Refuses, GivesStop, Found, FindsIf}
 use Rattle.tv_reader.specs.Trees.{NoValue}
 use Rattle.tv_reader.specs.declared.error.DeserializeError.{DeserializeError}
 use Rattle.tv_reader.specs.declared.error.DeserializeError.TheVariants as errors
 use Rattle.tv_reader.specs.declared.value_type.ValueType.{ValueType}
 use Rattle.tv_reader.specs.declared.value_type.ValueType.TheVariants as types
-use Rattle.tv_reading.specs.Skip.{IsDocumentEncoding, IsValueEncoding}
+use Rattle.tv_reading.specs.Skip.{IsDocument, IsValue}
 use Rattle.tv_store.specs.Documents.{IsReadingError, NoDocument, SaysNothing, in_place}
 use Rattle.tv_store.specs.Reading.{reading, documents, chosen_pairs, passed}
 use Rattle.tv_value.specs.declared.field.Field.{Field}
@@ -45,7 +45,7 @@ end = corrupted UnexpectedEnd
 -- ---- refusals
 
 -- more can be counted
-pub told_cause : (P : List ℕ → Refusal → Type 0) (c : Cause) (old new : List ℕ) (count : ℕ) → count < 2 ^ 64 - 1 → GivesStop end P old new count (store_stop (errors.CorruptedValue c)) → ShowsRefusal end P old new (corrupted c)
+pub told_cause : (P : List ℕ → Refusal → Type 0) (c : Cause) (old new : List ℕ) (count : ℕ) → count < 2 ^ 64 - 1 → GivesStop end P old new count (store_stop (errors.CorruptedValue c)) → Refuses end P old new (corrupted c)
 told_cause P TooLong old new count few h = absurd (omega (arith, few, h.0))
 told_cause P c old new count few h = h
 
@@ -100,14 +100,14 @@ single_chosen v fields old = record {
   fits = λ a x m joined p full small. chosen_has_room v fields old a x p.0 joined p.1 full (subst (λ (z : Document). document_room z ≤ 4294967295) p.2 small);
 }
 
-pub single_passed : (v : Version) (old : List ℕ) → IsSingle (passed (IsDocumentEncoding v) (NoDocument v)) old
+pub single_passed : (v : Version) (old : List ℕ) → IsSingle (passed (IsDocument v) (NoDocument v)) old
 single_passed v old = record {
   same = λ a b x y m n p q e. ((one_document Legacy v one_legacy a b x y p.0 q.0 p.1 q.1 e).0, refl);
   excludes = λ a x m r joined p f. excluded v old a x p.0 r joined p.1 f;
   fits = λ a x m joined p full small. full;
 }
 
-pub single_values : (v : Version) (old : List ℕ) → IsSingle (passed (IsValueEncoding v) (NoValue v)) old
+pub single_values : (v : Version) (old : List ℕ) → IsSingle (passed (IsValue v) (NoValue v)) old
 single_values v old = record {
   same = λ a b x y m n p q e. ((one_tree Legacy v one_legacy a b x y p.0 q.0 p.1 q.1 e).0, refl);
   excludes = λ a x m r joined p f. value_excludes Legacy ErrorInLegacy v one_legacy legacy_excludes f p.0 a x p.1 joined;
@@ -176,7 +176,7 @@ refused_cause known h c is = h.error known.0 (errors.CorruptedValue c) (corrupte
 
 pub refusal_is_true : {Y S X : Type 0} {grammar : Grammar Refusal Y} {source : Ghosts S} {old new : S} {view : X → Y} {result : Result X DeserializeError} → Known source old → Reads reading grammar source old new view result → (e : DeserializeError) (r : Refusal) → IsErrOf result e → IsRefusal e r → grammar.HasError (source.left old) r
 refusal_is_true known h _ _ is (is_corrupted {c = c}) = refused_cause known h c is
-refusal_is_true known h _ _ is (is_no_text {actual = actual}) = h.error known.0 (errors.TypeMismatch types.String actual) (no_text_key (value_type_code actual)) is refl
+refusal_is_true known h _ _ is (is_no_text {actual = actual}) = h.error known.0 (errors.TypeMismatch types.String actual) (no_text_key (type_code actual)) is refl
 
 -- ---- in place of what is there
 

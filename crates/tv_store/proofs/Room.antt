@@ -4,7 +4,7 @@ use Rattle.std.specs.Prelude.{IsErrOf}
 use Rattle.tv_builder.specs.declared.add_error.AddError.{AddError}
 use Rattle.tv_builder.specs.declared.add_error.AddError.TheVariants as adds
 use Rattle.tv_doc.specs.declared.document.CompactDoc.{CompactDoc}
-use Rattle.tv_doc.specs.Document.{IsFull, RefusesAddition}
+use Rattle.tv_doc.specs.Document.{IsFull, Refuses}
 use Rattle.tv_reader.specs.declared.error.DeserializeError.{DeserializeError}
 use Rattle.tv_reader.specs.declared.error.DeserializeError.TheVariants as errors
 use Rattle.tv_format.specs.Tree.{Tree}
@@ -13,9 +13,9 @@ use Rattle.tv_store.specs.Error.{add_error}
 told_is : {T : Type 0} (result : Result T DeserializeError) (d e : DeserializeError) → result ≡ Err d → IsErrOf result e → e ≡ d
 told_is result d e p q = cc
 
-heap_is_full : (e : AddError) (doc : CompactDoc) (t : Tree) → errors.HeapFull ≡ add_error e → RefusesAddition doc t e → IsFull doc t
+heap_is_full : (e : AddError) (doc : CompactDoc) (t : Tree) → errors.HeapFull ≡ add_error e → Refuses doc t e → IsFull doc t
 heap_is_full adds.HeapFull doc t p h = h
 heap_is_full adds.Memory doc t p h = absurd (cc)
 
-pub is_full : {T : Type 0} (result : Result T DeserializeError) (d : DeserializeError) (e : AddError) (doc : CompactDoc) (t : Tree) → result ≡ Err d → d ≡ add_error e → IsErrOf result errors.HeapFull → RefusesAddition doc t e → IsFull doc t
+pub is_full : {T : Type 0} (result : Result T DeserializeError) (d : DeserializeError) (e : AddError) (doc : CompactDoc) (t : Tree) → result ≡ Err d → d ≡ add_error e → IsErrOf result errors.HeapFull → Refuses doc t e → IsFull doc t
 is_full result d e doc t p q full h = heap_is_full e doc t (told_is result d errors.HeapFull p full ∙ q) h

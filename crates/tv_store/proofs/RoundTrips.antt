@@ -8,7 +8,7 @@ use Rattle.tv_base.specs.Source.{Failures}
 use Rattle.tv_base.specs.declared.cause.Cause.TheVariants.{UnexpectedEnd, TooLong}
 use Rattle.tv_base.specs.Stop.{CountsStop}
 use Rattle.tv_base.specs.Stop.Stop.{InputError, Uncounted}
-use Rattle.tv_doc.specs.Additions.{Addition, Runs, accepted_pairs, pair_of, IsEmpty}
+use Rattle.tv_doc.specs.Additions.{Addition, Runs, accepted, pair_of, IsEmpty}
 use Rattle.tv_doc.specs.Belongs.{Belongs}
 use Rattle.tv_doc.specs.Document.{document_of, places_of, Adds, IsUnchanged, ReadsAt}
 use Rattle.tv_builder.specs.declared.add_error.AddError.{AddError}
@@ -20,12 +20,12 @@ use Rattle.tv_builder.proofs.Documents.{read_at, none_at, place_at, no_place}
 use Rattle.tv_field.specs.Entry.{Entry}
 use Rattle.tv_heap.specs.Room.{room, document_room}
 use Rattle.tv_reader.specs.Error.{store_stop}
-use Rattle.tv_reader.specs.ValueType.{value_type_code}
+use Rattle.tv_reader.specs.ValueType.{type_code}
 use Rattle.tv_reader.specs.declared.error.DeserializeError.{DeserializeError}
 use Rattle.tv_reader.specs.declared.error.DeserializeError.TheVariants as errors
 use Rattle.tv_reader.specs.declared.value_type.ValueType.TheVariants as types
 use Rattle.tv_store.specs.Documents.{IsReadingError, SaysNothing}
-use Rattle.tv_store.specs.RoundTrip.{asked, pair_of_value, IsCalled, IsKept}
+use Rattle.tv_store.specs.RoundTrip.{asked, given, IsCalled, IsKept}
 use Rattle.tv_format.specs.InputError.{Refusal, corrupted, no_text_key}
 use Rattle.tv_format.specs.Tree.{Tree, Document}
 use Rattle.tv_value.specs.declared.field.Field.{Field}
@@ -45,18 +45,18 @@ runs_push (b ∷ bs) a old mid new run h = (run.0, run.1, runs_push bs a run.0 m
 -- some values were added, and the rest are to come
 pub record CalledSoFar (values rest : List (Field × OwnedValue)) (old now : CompactDoc) : Type 0 where
   pub additions : List Addition
-  pub asked_for : map asked additions ++ map pair_of_value rest ≡ map pair_of_value values
+  pub asked_for : map asked additions ++ map given rest ≡ map given values
   pub runs : Runs additions old now
 
 pub one_called : (values rest others : List (Field × OwnedValue)) (value : Field × OwnedValue) (old now next : CompactDoc) (answer : Result (Unit {0}) AddError) → CalledSoFar values rest old now → rest ≡ value ∷ others
-    → Adds now next value.0.id (pair_of_value value).1 answer → CalledSoFar values others old next
+    → Adds now next value.0.id (given value).1 answer → CalledSoFar values others old next
 one_called values rest others value old now next answer s parted h =
-    let a : Addition = record { field = (pair_of_value value).0; tree = (pair_of_value value).1; answer = answer } in
+    let a : Addition = record { field = (given value).0; tree = (given value).1; answer = answer } in
     record {
       additions = s.additions ++ a ∷ [];
       asked_for =
-          ap (λ l. l ++ map pair_of_value others) (map-append asked s.additions (a ∷ [])) ∙ append_assoc (map asked s.additions) (pair_of_value value ∷ []) (map pair_of_value others)
-          ∙ ap (λ l. map asked s.additions ++ map pair_of_value l) (sym parted) ∙ s.asked_for;
+          ap (λ l. l ++ map given others) (map-append asked s.additions (a ∷ [])) ∙ append_assoc (map asked s.additions) (given value ∷ []) (map given others)
+          ∙ ap (λ l. map asked s.additions ++ map given l) (sym parted) ∙ s.asked_for;
       runs = runs_push s.additions a old now next s.runs h;
     }
 
@@ -67,7 +67,7 @@ kept_of values start new none h = record {
   start = start;
   empty = none;
   runs = h.2;
-  document = (runs_keep h.0 start new h.2).document ∙ ap (λ d. d ++ accepted_pairs h.0) none.document;
+  document = (runs_keep h.0 start new h.2).document ∙ ap (λ d. d ++ accepted h.0) none.document;
 }
 
 -- ---- each pair is read at its place
@@ -86,7 +86,7 @@ each_read d i = by_pair (slice_get d.values.pairs.items i) refl
         let past = none_within d.values.pairs.items i e in
         subst (ReadsAt d i) (sym (no_place d.values.pairs.items i past)) (none_at d.values i past)
 
--- ---- the accepted_pairs pairs are some of those that were asked for
+-- ---- the accepted pairs are some of those that were asked for
 
 room-cons : (p : ℕ × Tree) (d : Document) → document_room (p ∷ d) ≡ room p.1 + document_room d
 room-cons p d = sum_by-cons (λ (pair : ℕ × Tree). room pair.1) p d
@@ -95,22 +95,22 @@ pair_room : (answer : Result (Unit {0}) AddError) (field : ℕ) (t : Tree) (d : 
 pair_room (Ok x) field t d = omega (arith, room-cons (field, t) d)
 pair_room (Err e) field t d = omega arith
 
-accepted_room : (additions : List Addition) → document_room (accepted_pairs additions) ≤ document_room (map asked additions)
+accepted_room : (additions : List Addition) → document_room (accepted additions) ≤ document_room (map asked additions)
 accepted_room [] = omega arith
-accepted_room (a ∷ rest) = omega (arith, pair_room a.answer a.field a.tree (accepted_pairs rest), accepted_room rest, room-cons (asked a) (map asked rest))
+accepted_room (a ∷ rest) = omega (arith, pair_room a.answer a.field a.tree (accepted rest), accepted_room rest, room-cons (asked a) (map asked rest))
 
-pub kept_room : (values : List (Field × OwnedValue)) (new : CompactDoc) → IsKept values new → document_room (document_of new) ≤ document_room (map pair_of_value values)
+pub kept_room : (values : List (Field × OwnedValue)) (new : CompactDoc) → IsKept values new → document_room (document_of new) ≤ document_room (map given values)
 kept_room values new k = omega (arith, accepted_room k.additions, ap document_room k.document, ap document_room k.called)
 
 pair_belongs : (schema : List Entry) (answer : Result (Unit {0}) AddError) (field : ℕ) (t : Tree) (d : Document) → field < length schema → Belongs schema d → Belongs schema (pair_of answer field t ++ d)
 pair_belongs schema (Ok x) field t d within h = (within, h)
 pair_belongs schema (Err e) field t d within h = h
 
-accepted_belongs : (schema : List Entry) (additions : List Addition) → Belongs schema (map asked additions) → Belongs schema (accepted_pairs additions)
+accepted_belongs : (schema : List Entry) (additions : List Addition) → Belongs schema (map asked additions) → Belongs schema (accepted additions)
 accepted_belongs schema [] h = tt
-accepted_belongs schema (a ∷ rest) h = pair_belongs schema a.answer a.field a.tree (accepted_pairs rest) h.0 (accepted_belongs schema rest h.1)
+accepted_belongs schema (a ∷ rest) h = pair_belongs schema a.answer a.field a.tree (accepted rest) h.0 (accepted_belongs schema rest h.1)
 
-given_belong : (schema : List Entry) (values : List (Field × OwnedValue)) → AllByRecursion (λ value. value.0.id < length schema) values → Belongs schema (map pair_of_value values)
+given_belong : (schema : List Entry) (values : List (Field × OwnedValue)) → AllByRecursion (λ value. value.0.id < length schema) values → Belongs schema (map given values)
 given_belong schema [] h = tt
 given_belong schema (v ∷ vs) h = (h.0, given_belong schema vs h.1)
 
@@ -125,7 +125,7 @@ pub only_short : (e : DeserializeError) (f g : Failures) → ((r : Refusal) → 
     → (e ≡ errors.Memory) ⊎ (e ≡ errors.HeapFull)
 only_short (errors.CorruptedValue TooLong) f g error long reading last counts = absurd (long (corrupted UnexpectedEnd) refl)
 only_short (errors.CorruptedValue c) f g error long reading last counts = absurd (error (corrupted c) refl)
-only_short (errors.TypeMismatch types.String actual) f g error long reading last counts = absurd (error (no_text_key (value_type_code actual)) refl)
+only_short (errors.TypeMismatch types.String actual) f g error long reading last counts = absurd (error (no_text_key (type_code actual)) refl)
 only_short errors.HeapFull f g error long reading last counts = inr refl
 only_short (errors.Io k) f g error long reading last counts = absurd (none_is (sym last ∙ counts.kept))
   where

@@ -13,7 +13,7 @@ use Rattle.tv_reader.specs.Error.{StoreMayStopRoomy}
 use Rattle.tv_reader.specs.Finds.{FindsIf}
 use Rattle.tv_reader.specs.declared.error.DeserializeError.{DeserializeError}
 use Rattle.tv_reader.specs.declared.error.DeserializeError.TheVariants as errors
-use Rattle.tv_reading.specs.Skip.{IsDocumentEncoding}
+use Rattle.tv_reading.specs.Skip.{IsDocument}
 use Rattle.tv_store.specs.Blocks.{as_passed, SaysEnd}
 use Rattle.tv_store.specs.Documents.{NoDocument}
 use Rattle.tv_store.specs.Reading.{passed}
@@ -22,15 +22,15 @@ use Rattle.tv_store.proofs.Promises.{end, FoundAs, stopped_by}
 
 -- what was passed over is what the call says of it
 pub of_pass : {S : Type 0} {is_known : S → Type 0} {left : S → List ℕ} {failures : S → Failures} {old new : S} {count : ℕ} (v : Version) (read : Result (Unit {0}) DeserializeError) (result : Result Bool DeserializeError) → as_passed result ≡ read
-    → FindsIf StoreMayStopRoomy is_known left failures old 0 new count read (λ b _. IsDocumentEncoding v b) (NoDocument v) → FindsIf StoreMayStopRoomy is_known left failures old 0 new count (as_passed result) (λ b _. IsDocumentEncoding v b) (NoDocument v)
+    → FindsIf StoreMayStopRoomy is_known left failures old 0 new count read (λ b _. IsDocument v b) (NoDocument v) → FindsIf StoreMayStopRoomy is_known left failures old 0 new count (as_passed result) (λ b _. IsDocument v b) (NoDocument v)
 of_pass {is_known = is_known} {left = left} {failures = failures} {old = old} {new = new} {count = count} v read result same h =
-    subst (λ (r : Result (Unit {0}) DeserializeError). FindsIf StoreMayStopRoomy is_known left failures old 0 new count r (λ b _. IsDocumentEncoding v b) (NoDocument v)) (sym same) h
+    subst (λ (r : Result (Unit {0}) DeserializeError). FindsIf StoreMayStopRoomy is_known left failures old 0 new count r (λ b _. IsDocument v b) (NoDocument v)) (sym same) h
 
 abbrev FoundPassed : Version → Result (Unit {0}) DeserializeError → List ℕ → List ℕ → ℕ → Type 0
-FoundPassed v result old new count = FoundAs (passed (IsDocumentEncoding v) (NoDocument v)) (λ (x : Unit {0}). x) result old new count
+FoundPassed v result old new count = FoundAs (passed (IsDocument v) (NoDocument v)) (λ (x : Unit {0}). x) result old new count
 
 -- a document has a byte at least
-pub next_fewer : (v : Version) (old new : List ℕ) → Begins (IsDocumentEncoding v) old new → length new < length old
+pub next_fewer : (v : Version) (old new : List ℕ) → Begins (IsDocument v) old new → length new < length old
 next_fewer v old new h =
     let p = h.encoded.1 in
     omega (arith, ap length h.joined, length-append h.prefix new, ap length p.joined, length-append p.prefix p.rest, some_groups p.first.groups)
@@ -39,12 +39,12 @@ next_fewer v old new h =
     some_groups (last lt) = omega arith
     some_groups (more lt groups) = omega arith
 
-pub next_found : (v : Version) (result : Result Bool DeserializeError) (old new : List ℕ) (count : ℕ) → FoundPassed v (as_passed result) old new count → result ≡ Ok true → Begins (IsDocumentEncoding v) old new
+pub next_found : (v : Version) (result : Result Bool DeserializeError) (old new : List ℕ) (count : ℕ) → FoundPassed v (as_passed result) old new count → result ≡ Ok true → Begins (IsDocument v) old new
 next_found v result old new count h is = subst (λ z. FoundPassed v (as_passed z) old new count) is h
 
 pub next_end : (v : Version) (result : Result Bool DeserializeError) (old new : List ℕ) (count : ℕ) → FoundPassed v (as_passed result) old new count → Taken old new 0 count → count ≡ 0 → result ≡ Ok false → old ≡ []
 next_end v result old new count h t none is =
-    let r = stopped_by (passed (IsDocumentEncoding v) (NoDocument v)) (λ (x : Unit {0}). x) (as_passed result) old new count (errors.CorruptedValue UnexpectedEnd) {s = InputError end} h (ap (λ z. as_passed z) is) refl in
+    let r = stopped_by (passed (IsDocument v) (NoDocument v)) (λ (x : Unit {0}). x) (as_passed result) old new count (errors.CorruptedValue UnexpectedEnd) {s = InputError end} h (ap (λ z. as_passed z) is) refl in
     no_bytes old t.prefix new t.joined (r.shows.all refl) (omega (arith, t.counted, none))
   where
     no_bytes : (old prefix new : List ℕ) → old ≡ prefix ++ new → new ≡ [] → length prefix ≡ 0 → old ≡ []

@@ -28,7 +28,7 @@ use Rattle.tv_format.specs.Encoding.{EncodesDocument}
 use Rattle.tv_format.specs.Tree.{Document}
 use Rattle.tv_heap.specs.Room.{document_room}
 use Rattle.tv_format.specs.Version.{Version}
-use Rattle.tv_reading.specs.Prefix.{parts_at, parts_read, IsPlace, IsSound, AllFinished, IsDone, IsMalformedNext, NoRoomBehind}
+use Rattle.tv_reading.specs.Prefix.{parts_at, parts_read, IsPlace, IsSound, AllFinished, IsDone, NoPrefix, NoRoomBehind}
 use Rattle.tv_reading.specs.Steps.{Advances, Stepped}
 use Rattle.tv_reading.specs.declared.reading.Reading.{Reading}
 use Rattle.tv_reader.proofs.Lending.{none_buffered}
@@ -37,8 +37,8 @@ use Rattle.tv_builder.proofs.PairBuilding.{heap_weighs}
 use Rattle.tv_reading.proofs.WholeDocuments.{Goes, step_more, step_fails, step_takes, done_encodes, awaits_more}
 use Rattle.tv_store.proofs.Promises.{only_by, excluded, excused, single_documents}
 use Rattle.tv_store.specs.Reading.{documents}
-use Rattle.tv_store.specs.Documents.{BeginsWithDocument, NoDocument, HasNoRoom, IsReadingError}
-use Rattle.tv_store.specs.Limits.{IsPast, Checks, FindsWithinBy, IsDeep, PassesDepth, IsLarge, IsAll, Unread, ReadsByLimits, IsLimitedError, MayPass, ReadsWithin, StopsWithin, AllNestWithinLimit, TestsDepth}
+use Rattle.tv_store.specs.Documents.{BeginsWith, NoDocument, HasNoRoom, IsReadingError}
+use Rattle.tv_store.specs.Limits.{IsPast, Checks, FindsWithinBy, IsDeep, PassesDepth, IsLarge, IsAll, Unread, Comes, IsLimitedError, MayPass, ReadsWithin, StopsWithin, AllNestWithinLimit, TestsDepth}
 use Rattle.tv_store.specs.Limits.{first_count, limited_stop, FindsPartBy, Told}
 use Rattle.tv_store.specs.declared.limits.ReadLimits.{ReadLimits}
 use Rattle.tv_store.specs.declared.limits.ReadLimit.{ReadLimit}
@@ -62,16 +62,16 @@ module _ {S : Type 0} {is_known : S → Type 0} {left : S → List ℕ} {failure
 
 module _ {S : Type 0} {is_known : S → Type 0} {left : S → List ℕ} {failures : S → Failures} (v w : Version) (same : w ≡ v) (begun r : Reading) where
   pub goes_on : {old mid new : S} {i j k : ℕ} (step : Step) (legacy : Bool) (after : Reading) → FindsIf StoreMayStop is_known left failures old i mid j (Ok r) (Goes v begun) Nothing
-      → FindsIf StoreMayStop is_known left failures mid j new k (Ok step) (λ b _. Stepped w legacy r after b) (IsMalformedNext w r) → FindsIf StoreMayStop is_known left failures old i new k (Ok after) (Goes v begun) Nothing
+      → FindsIf StoreMayStop is_known left failures mid j new k (Ok step) (λ b _. Stepped w legacy r after b) (NoPrefix w r) → FindsIf StoreMayStop is_known left failures old i new k (Ok after) (Goes v begun) Nothing
   goes_on step legacy after p h =
-      step_more v begun r tt legacy after p (finds_as tt (λ b _. Stepped v legacy r after b) (IsMalformedNext v r) (λ a s. subst (λ z. Stepped z legacy r after a) same s) h)
+      step_more v begun r tt legacy after p (finds_as tt (λ b _. Stepped v legacy r after b) (NoPrefix v r) (λ a s. subst (λ z. Stepped z legacy r after a) same s) h)
 
-  pub takes_one : {mid new : S} {j k : ℕ} (step : Step) (legacy : Bool) (after : Reading) → FindsIf StoreMayStop is_known left failures mid j new k (Ok step) (λ b _. Stepped w legacy r after b) (IsMalformedNext w r) → is_known mid → j < k
-  takes_one step legacy after h told = step_takes w begun r tt legacy after (finds_as tt (λ b _. Stepped w legacy r after b) (IsMalformedNext w r) (λ a s. s) h) told
+  pub takes_one : {mid new : S} {j k : ℕ} (step : Step) (legacy : Bool) (after : Reading) → FindsIf StoreMayStop is_known left failures mid j new k (Ok step) (λ b _. Stepped w legacy r after b) (NoPrefix w r) → is_known mid → j < k
+  takes_one step legacy after h told = step_takes w begun r tt legacy after (finds_as tt (λ b _. Stepped w legacy r after b) (NoPrefix w r) (λ a s. s) h) told
 
   -- so many steps that no more can be counted
   pub too_many : {X : Type 0} {old mid : S} {i j : ℕ} (counter : ℕ) (B : List ℕ → X → Type 0) → IsSound r → ¬ IsDone r → j < 2 ^ 64 → 2 ^ 64 - 1 ≤ counter → (is_known old → counter + i ≤ j) → FindsIf StoreMayStop is_known left failures old i mid j (Ok r) (Goes v begun) Nothing
-      → FindsWithinBy is_known left failures old i mid j (Err (errors.CorruptedValue TooLong)) B (IsMalformedNext v begun)
+      → FindsWithinBy is_known left failures old i mid j (Err (errors.CorruptedValue TooLong)) B (NoPrefix v begun)
   too_many counter B sound more below many counts p = record {
     found = λ told. (omega (arith, below, many, counts told), awaits_more v begun r sound more p told);
     taken = p.taken;
@@ -82,10 +82,10 @@ module _ {S : Type 0} {is_known : S → Type 0} {left : S → List ℕ} {failure
   }
 
   pub fails : {old mid new : S} {i j k : ℕ} {X : Type 0} (e : DeserializeError) (legacy : Bool) (after : Reading) (B : List ℕ → X → Type 0) → IsSound r → ¬ IsDone r → FindsIf StoreMayStop is_known left failures old i mid j (Ok r) (Goes v begun) Nothing
-      → FindsIf {X = Step} StoreMayStop is_known left failures mid j new k (Err e) (λ b _. Stepped w legacy r after b) (IsMalformedNext w r) → FindsWithinBy is_known left failures old i new k (Err e) B (IsMalformedNext v begun)
+      → FindsIf {X = Step} StoreMayStop is_known left failures mid j new k (Err e) (λ b _. Stepped w legacy r after b) (NoPrefix w r) → FindsWithinBy is_known left failures old i new k (Err e) B (NoPrefix v begun)
   fails e legacy after B sound more p h =
-      finds_any (λ f n may. tt) (finds_fails B (IsMalformedNext v begun) (λ a f q. q)
-      (step_fails v begun r e legacy after sound more p (finds_fails (λ b _. Stepped v legacy r after b) (IsMalformedNext v r) (λ a f q. subst (λ z. IsMalformedNext z r a f) same q) h)))
+      finds_any (λ f n may. tt) (finds_fails B (NoPrefix v begun) (λ a f q. q)
+      (step_fails v begun r e legacy after sound more p (finds_fails (λ b _. Stepped v legacy r after b) (NoPrefix v r) (λ a f q. subst (λ z. NoPrefix z r a f) same q) h)))
 
 -- ---- how many bytes are taken
 
@@ -109,7 +109,7 @@ at_start : (v : Version) (r : Reading) → parts_read r ≡ [] → Encoded Legac
 at_start v r none = subst (λ ps. Encoded Legacy v [] ps) (sym none) refl
 
 pub ended : (v : Version) (limits : ReadLimits) (begun r : Reading) (d : CompactDoc) (old new : List ℕ) (count : ℕ) → parts_read begun ≡ [] → IsSound r → IsDone r → document_of d ≡ built r.builder
-    → Begins (λ b. Advances Legacy v begun r b) old new → Taken old new (first_count limits.bytes) count → count < 2 ^ 64 → ReadsByLimits v limits old new (Ok d)
+    → Begins (λ b. Advances Legacy v begun r b) old new → Taken old new (first_count limits.bytes) count → count < 2 ^ 64 → Comes v limits old new (Ok d)
 ended v limits begun r d old new count none sound done is f t below =
     record { taken = f.prefix; joined = f.joined; most = taken_within limits.bytes f.prefix old new count f.joined t below; outcome = done_encodes v r d.values f.prefix sound done is (f.encoded [] (at_start v begun none)) }
 
@@ -132,7 +132,7 @@ deep_at v most taken (Some n) (Some f) d s is place p past = record { announced 
 
 pub passed : (v : Version) (limits : ReadLimits) (begun r : Reading) (l : ReadLimit) (old new : List ℕ) (count : ℕ) → parts_read begun ≡ [] → IsSound r
     → Checks limits (length (heap_so_far r.builder)) (length (lists_of (state_of r.builder))) (Some l) → Begins (λ b. Advances Legacy v begun r b) old new
-    → Taken old new (first_count limits.bytes) count → count < 2 ^ 64 → ReadsByLimits v limits old new (Err (limited.Limit l))
+    → Taken old new (first_count limits.bytes) count → count < 2 ^ 64 → Comes v limits old new (Err (limited.Limit l))
 passed v limits begun r limit.Bytes old new count none sound check f t below = absurd check
 passed v limits begun r limit.Depth old new count none sound check f t below =
     record { taken = f.prefix; joined = f.joined; most = taken_within limits.bytes f.prefix old new count f.joined t below; outcome = inl (deep_at v limits.depth f.prefix r.announced r.field (built r.builder) (state_of r.builder) (is_state r.builder) sound.place (f.encoded [] (at_start v begun none)) check) }
@@ -156,18 +156,18 @@ early_of : (HasError : List ℕ → Refusal → Type 0) (e : DeserializeError) (
 early_of HasError e old new count is h = (subst (λ z. GivesStop (corrupted UnexpectedEnd) HasError old new count (store_stop z)) is h).1
 
 refused : (v : Version) (limits : ReadLimits) (begun : Reading) (e : DeserializeError) (old new : List ℕ) (count : ℕ) → parts_read begun ≡ []
-    → GivesStop (corrupted UnexpectedEnd) (IsMalformedNext v begun) old new count (store_stop e) → Taken old new (first_count limits.bytes) count → count < 2 ^ 64
-    → (e ≡ errors.CorruptedValue TooLong → ¬ (IsSome limits.bytes × (count ≡ 2 ^ 64 - 1))) → (e ≡ errors.HeapFull → NoRoomBehind v begun old) → ReadsByLimits v limits old new (Err (limited.Read e))
+    → GivesStop (corrupted UnexpectedEnd) (NoPrefix v begun) old new count (store_stop e) → Taken old new (first_count limits.bytes) count → count < 2 ^ 64
+    → (e ≡ errors.CorruptedValue TooLong → ¬ (IsSome limits.bytes × (count ≡ 2 ^ 64 - 1))) → (e ≡ errors.HeapFull → NoRoomBehind v begun old) → Comes v limits old new (Err (limited.Read e))
 refused v limits begun e old new count none stop t below told full =
     let unread : Unread v old new (length t.prefix) e = record {
-      stop = counted_again (NoDocument v) limits.bytes old new count (length t.prefix) e t.counted told (stop_map (corrupted UnexpectedEnd) (IsMalformedNext v begun) (NoDocument v) (store_stop e) old new count (λ w r h. h [] (at_start v begun none)) stop);
+      stop = counted_again (NoDocument v) limits.bytes old new count (length t.prefix) e t.counted told (stop_map (corrupted UnexpectedEnd) (NoPrefix v begun) (NoDocument v) (store_stop e) old new count (λ w r h. h [] (at_start v begun none)) stop);
       full = λ is. full is [] (at_start v begun none);
     } in
     record { taken = t.prefix; joined = t.joined; most = taken_within limits.bytes t.prefix old new count t.joined t below; outcome = unread }
 
 -- as many bytes were taken as may be, and a document needs more
-took_all : (v : Version) (limits : ReadLimits) (begun : Reading) (old new : List ℕ) (count : ℕ) → parts_read begun ≡ [] → EndsEarly (corrupted UnexpectedEnd) (IsMalformedNext v begun) old new → Taken old new (first_count limits.bytes) count → count < 2 ^ 64 → IsSome limits.bytes
-    → ((m : ℕ) → limits.bytes ≡ Some m → first_count limits.bytes + m ≡ 2 ^ 64 - 1) → count ≡ 2 ^ 64 - 1 → ReadsByLimits v limits old new (Err (limited.Limit limit.Bytes))
+took_all : (v : Version) (limits : ReadLimits) (begun : Reading) (old new : List ℕ) (count : ℕ) → parts_read begun ≡ [] → EndsEarly (corrupted UnexpectedEnd) (NoPrefix v begun) old new → Taken old new (first_count limits.bytes) count → count < 2 ^ 64 → IsSome limits.bytes
+    → ((m : ℕ) → limits.bytes ≡ Some m → first_count limits.bytes + m ≡ 2 ^ 64 - 1) → count ≡ 2 ^ 64 - 1 → Comes v limits old new (Err (limited.Limit limit.Bytes))
 took_all v limits begun old new count none h t below is sum all =
     let many : length h.taken ≡ length t.prefix = omega (arith, ap length h.joined, ap length t.joined, length-append h.taken new, length-append t.prefix new) in
     record {
@@ -179,14 +179,14 @@ took_all v limits begun old new count none h t below is sum all =
 
 -- an error is told where not all were taken, or as the limit
 pub told_of : (v : Version) (limits : ReadLimits) (begun : Reading) (e : DeserializeError) (old new : List ℕ) (count : ℕ) (all : Bool) (said : LimitedReadError) → Told all e said → parts_read begun ≡ []
-    → GivesStop (corrupted UnexpectedEnd) (IsMalformedNext v begun) old new count (store_stop e) → Taken old new (first_count limits.bytes) count → count < 2 ^ 64
+    → GivesStop (corrupted UnexpectedEnd) (NoPrefix v begun) old new count (store_stop e) → Taken old new (first_count limits.bytes) count → count < 2 ^ 64
     → IsTrue all ↔ (IsSome limits.bytes × (count ≡ 2 ^ 64 - 1)) → ((m : ℕ) → limits.bytes ≡ Some m → first_count limits.bytes + m ≡ 2 ^ 64 - 1)
-    → (e ≡ errors.HeapFull → NoRoomBehind v begun old) → ReadsByLimits v limits old new (Err said)
+    → (e ≡ errors.HeapFull → NoRoomBehind v begun old) → Comes v limits old new (Err said)
 told_of v limits begun e old new count all (limited.Read f) told none stop t below same sum full =
-    subst (λ z. ReadsByLimits v limits old new (Err (limited.Read z))) (sym told.0) (refused v limits begun e old new count none stop t below (λ uncounted both. told.1 uncounted (same.1 both)) full)
+    subst (λ z. Comes v limits old new (Err (limited.Read z))) (sym told.0) (refused v limits begun e old new count none stop t below (λ uncounted both. told.1 uncounted (same.1 both)) full)
 told_of v limits begun e old new count all (limited.Limit limit.Bytes) told none stop t below same sum full =
     let both = same.0 told.0 in
-    took_all v limits begun old new count none (early_of (IsMalformedNext v begun) e old new count told.1 stop) t below both.0 sum both.1
+    took_all v limits begun old new count none (early_of (NoPrefix v begun) e old new count told.1 stop) t below both.0 sum both.1
 told_of v limits begun e old new count all (limited.Limit limit.HeapBytes) told none stop t below same sum full = absurd told
 told_of v limits begun e old new count all (limited.Limit limit.Depth) told none stop t below same sum full = absurd told
 
@@ -199,8 +199,8 @@ told_counts e all (limited.Limit limit.Depth) s old new is told counts = absurd 
 
 -- ---- how deep what was read nests
 
-pub tested : (v : Version) (limits : ReadLimits) (old new : List ℕ) (d : CompactDoc) (result : Result CompactDoc LimitedReadError) → TestsDepth limits.depth d result → ReadsByLimits v limits old new (Ok d) → ReadsByLimits v limits old new result
-tested v limits old new d (Ok x) test h = subst (λ z. ReadsByLimits v limits old new (Ok z)) (sym test.0) h
+pub tested : (v : Version) (limits : ReadLimits) (old new : List ℕ) (d : CompactDoc) (result : Result CompactDoc LimitedReadError) → TestsDepth limits.depth d result → Comes v limits old new (Ok d) → Comes v limits old new result
+tested v limits old new d (Ok x) test h = subst (λ z. Comes v limits old new (Ok z)) (sym test.0) h
 tested v limits old new d (Err (limited.Read e)) test h =
     let unread : Unread v old new (length h.taken) e = record {
       stop = subst (λ z. GivesStop (corrupted UnexpectedEnd) (NoDocument v) old new (length h.taken) (store_stop z)) (sym test) tt;
@@ -297,32 +297,32 @@ kept_small most kept whole heap is within past = within (past_more most (length 
 
 -- ---- from what comes to what is promised
 
-pub found_in : (v : Version) (limits : ReadLimits) (old new : List ℕ) (result : Result CompactDoc LimitedReadError) → ReadsByLimits v limits old new result → IfOk result (λ d. BeginsWithDocument v old new (document_of d))
+pub found_in : (v : Version) (limits : ReadLimits) (old new : List ℕ) (result : Result CompactDoc LimitedReadError) → Comes v limits old new result → IfOk result (λ d. BeginsWith v old new (document_of d))
 found_in v limits old new (Ok d) h = record { prefix = h.taken; joined = h.joined; encoded = h.outcome }
 found_in v limits old new (Err e) h = tt
 
-deep_in : (v : Version) (limits : ReadLimits) (old new : List ℕ) (result : Result CompactDoc LimitedReadError) → ReadsByLimits v limits old new result → IsErrOf result (limited.Limit limit.Depth)
+deep_in : (v : Version) (limits : ReadLimits) (old new : List ℕ) (result : Result CompactDoc LimitedReadError) → Comes v limits old new result → IsErrOf result (limited.Limit limit.Depth)
     → Begins (PassesDepth v limits.depth) old new
 deep_in v limits old new result comes is =
-    let h = subst (λ z. ReadsByLimits v limits old new z) is comes in
+    let h = subst (λ z. Comes v limits old new z) is comes in
     record { prefix = h.taken; joined = h.joined; encoded = h.outcome }
 
-large_in : (v : Version) (limits : ReadLimits) (old new : List ℕ) (result : Result CompactDoc LimitedReadError) → ReadsByLimits v limits old new result → IsErrOf result (limited.Limit limit.HeapBytes)
+large_in : (v : Version) (limits : ReadLimits) (old new : List ℕ) (result : Result CompactDoc LimitedReadError) → Comes v limits old new result → IsErrOf result (limited.Limit limit.HeapBytes)
     → Begins (IsLarge v limits.heap_bytes) old new
 large_in v limits old new result comes is =
-    let h = subst (λ z. ReadsByLimits v limits old new z) is comes in
+    let h = subst (λ z. Comes v limits old new z) is comes in
     record { prefix = h.taken; joined = h.joined; encoded = h.outcome }
 
-early_in : (v : Version) (limits : ReadLimits) (old new : List ℕ) (result : Result CompactDoc LimitedReadError) → ReadsByLimits v limits old new result → IsErrOf result (limited.Limit limit.Bytes)
+early_in : (v : Version) (limits : ReadLimits) (old new : List ℕ) (result : Result CompactDoc LimitedReadError) → Comes v limits old new result → IsErrOf result (limited.Limit limit.Bytes)
     → EndsEarly (corrupted UnexpectedEnd) (NoDocument v) old new
 early_in v limits old new result comes is =
-    let h = subst (λ z. ReadsByLimits v limits old new z) is comes in
+    let h = subst (λ z. Comes v limits old new z) is comes in
     record { taken = h.taken; joined = h.joined; shown = h.outcome.1 }
 
-all_in : (v : Version) (limits : ReadLimits) (old new : List ℕ) (result : Result CompactDoc LimitedReadError) → ReadsByLimits v limits old new result → IsErrOf result (limited.Limit limit.Bytes)
+all_in : (v : Version) (limits : ReadLimits) (old new : List ℕ) (result : Result CompactDoc LimitedReadError) → Comes v limits old new result → IsErrOf result (limited.Limit limit.Bytes)
     → Begins (IsAll limits.bytes) old new
 all_in v limits old new result comes is =
-    let h = subst (λ z. ReadsByLimits v limits old new z) is comes in
+    let h = subst (λ z. Comes v limits old new z) is comes in
     record { prefix = h.taken; joined = h.joined; encoded = h.outcome.0 }
 
 -- of two prefixes of the same bytes the longer begins with the other
@@ -343,11 +343,11 @@ longer_in v most taken old new split all early d prefix rest joined encoded =
           absurd (excluded v taken prefix (drop (length prefix) taken) d (corrupted UnexpectedEnd) cut encoded early)
     ])
 
-full_in : (v : Version) (limits : ReadLimits) (old new : List ℕ) (result : Result CompactDoc LimitedReadError) → ReadsByLimits v limits old new result → IsErrOf result (limited.Read errors.HeapFull) → HasNoRoom v old
-full_in v limits old new result comes is = (subst (λ z. ReadsByLimits v limits old new z) is comes).outcome.full refl
+full_in : (v : Version) (limits : ReadLimits) (old new : List ℕ) (result : Result CompactDoc LimitedReadError) → Comes v limits old new result → IsErrOf result (limited.Read errors.HeapFull) → HasNoRoom v old
+full_in v limits old new result comes is = (subst (λ z. Comes v limits old new z) is comes).outcome.full refl
 
 -- why an error stopped the reader
-stopped_in : (v : Version) (limits : ReadLimits) (old new : List ℕ) (result : Result CompactDoc LimitedReadError) (comes : ReadsByLimits v limits old new result) (e : LimitedReadError) {s : Stop Refusal} → s ≢ Short → IsErrOf result e → limited_stop e ≡ s → GivesStop (corrupted UnexpectedEnd) (NoDocument v) old new (length comes.taken) s
+stopped_in : (v : Version) (limits : ReadLimits) (old new : List ℕ) (result : Result CompactDoc LimitedReadError) (comes : Comes v limits old new result) (e : LimitedReadError) {s : Stop Refusal} → s ≢ Short → IsErrOf result e → limited_stop e ≡ s → GivesStop (corrupted UnexpectedEnd) (NoDocument v) old new (length comes.taken) s
 stopped_in v limits old new (Ok d) comes e other is says = absurd (cc)
 stopped_in v limits old new (Err (limited.Read f)) comes e other is says =
     let same : limited.Read f ≡ e = cc in
@@ -356,7 +356,7 @@ stopped_in v limits old new (Err (limited.Limit l)) comes e other is says =
     let same : limited.Limit l ≡ e = cc in
     absurd (other (sym says ∙ sym (ap limited_stop same)))
 
-only_in : (v : Version) (limits : ReadLimits) (old new : List ℕ) (result : Result CompactDoc LimitedReadError) → length old < 2 ^ 64 - 1 → ReadsByLimits v limits old new result
+only_in : (v : Version) (limits : ReadLimits) (old new : List ℕ) (result : Result CompactDoc LimitedReadError) → length old < 2 ^ 64 - 1 → Comes v limits old new result
     → (d : Document) (prefix rest : List ℕ) → old ≡ prefix ++ rest → EncodesDocument Legacy v prefix d → document_room d ≤ 4294967295 → IsReadUnless (MayPass limits.bytes prefix) document_of result d rest new
 only_in v limits old new (Ok x) few h d prefix rest joined encoded small =
     only_by (documents v) document_of (Ok x) old new 0 (single_documents v old) (record { prefix = h.taken; joined = h.joined; encoded = h.outcome }) (λ is. absurd (cc)) (omega arith) d prefix rest joined encoded small
@@ -367,7 +367,7 @@ only_in v limits old new (Err (limited.Limit limit.Bytes)) few h d prefix rest j
 only_in v limits old new (Err (limited.Limit l)) few h d prefix rest joined encoded small = tt
 
 module _ {S : Type 0} (source : Ghosts S) (v : Version) (limits : ReadLimits) {old new : S} where
-  pub reads_within : (result : Result CompactDoc LimitedReadError) → (source.is_known old → ReadsByLimits v limits (source.left old) (source.left new) result) → IfErr result (IsLimitedError limits)
+  pub reads_within : (result : Result CompactDoc LimitedReadError) → (source.is_known old → Comes v limits (source.left old) (source.left new) result) → IfErr result (IsLimitedError limits)
       → Counts limited_stop result (source.failures old) (source.failures new) → (source.is_known old → source.is_known new) → ReadsWithin v limits source old new result
   reads_within result comes may counts stays = record {
     found = λ known. found_in v limits (source.left old) (source.left new) result (comes known);
@@ -386,7 +386,7 @@ module _ {S : Type 0} (source : Ghosts S) (v : Version) (limits : ReadLimits) {o
   }
 
   -- what was taken where a limit was passed
-  pub stops_within : (result : Result CompactDoc LimitedReadError) → (source.is_known old → ReadsByLimits v limits (source.left old) (source.left new) result) → StopsWithin v limits source old new result
+  pub stops_within : (result : Result CompactDoc LimitedReadError) → (source.is_known old → Comes v limits (source.left old) (source.left new) result) → StopsWithin v limits source old new result
   stops_within result comes = record {
     depth = λ known is. deep_in v limits (source.left old) (source.left new) result (comes known) is;
     heap = λ known is. large_in v limits (source.left old) (source.left new) result (comes known) is;

@@ -16,8 +16,8 @@ pub use Rattle.tv_reading.specs.Prefix.{HasNoRoom}
 pub use Rattle.tv_doc.specs.InPlace.{in_place}
 
 -- a prefix of the bytes encodes the document, and the rest is left
-abbrev pub BeginsWithDocument : Version → List ℕ → List ℕ → Document → Type 0
-BeginsWithDocument v bytes rest d = Begins (λ prefix. EncodesDocument Legacy v prefix d) bytes rest
+abbrev pub BeginsWith : Version → List ℕ → List ℕ → Document → Type 0
+BeginsWith v bytes rest d = Begins (λ prefix. EncodesDocument Legacy v prefix d) bytes rest
 
 -- these bytes encode the document
 abbrev pub EncodesRead : Version → List ℕ → CompactDoc → Type 0
@@ -30,8 +30,8 @@ SaysNothing errors.Memory = Unit {0}
 SaysNothing _ = ⊥
 
 -- this document is returned and this rest left, unless the source failed or memory was refused
-abbrev pub ReturnsDocument : Result CompactDoc DeserializeError → Document → List ℕ → List ℕ → Type 0
-ReturnsDocument result d rest left = IsReadUnless SaysNothing document_of result d rest left
+abbrev pub Answers : Result CompactDoc DeserializeError → Document → List ℕ → List ℕ → Type 0
+Answers result d rest left = IsReadUnless SaysNothing document_of result d rest left
 
 -- the errors that reading a document has
 abbrev pub IsReadingError : DeserializeError → Type 0

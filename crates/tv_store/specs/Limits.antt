@@ -12,7 +12,7 @@ use Rattle.tv_builder.specs.Builder.{built, state_of, heap_so_far}
 use Rattle.tv_builder.specs.Prefix.{Encoded}
 use Rattle.tv_builder.specs.State.{State, IsState, lists_of}
 use Rattle.tv_reading.specs.Kept.{Grows, KeepsPairs}
-use Rattle.tv_reading.specs.Prefix.{parts_read, IsDone, IsSound, HasNoRoom, IsMalformedNext}
+use Rattle.tv_reading.specs.Prefix.{parts_read, IsDone, IsSound, HasNoRoom, NoPrefix}
 use Rattle.tv_reading.specs.declared.reading.Reading.{Reading}
 use Rattle.tv_builder.specs.Weight.{state_weight}
 use Rattle.tv_heap.specs.Weight.{document_weight}
@@ -106,11 +106,11 @@ TestsLimits limits old new heap open_lists (Err (limited.Limit limit.Bytes)) = (
 TestsLimits limits old new heap open_lists (Err (limited.Limit l)) = Checks limits heap open_lists (Some l)
 
 -- what a part leaves of what had come: where it has come itself that grows, and else the finished pairs stay
-abbrev pub KeepsOrGrows : {X : Type 0} → Reading → Reading → Result X LimitedReadError → Type 0
-KeepsOrGrows old new (Ok x) = Grows old new
-KeepsOrGrows old new (Err (limited.Read e)) = KeepsPairs old new
-KeepsOrGrows old new (Err (limited.Limit limit.Bytes)) = KeepsPairs old new
-KeepsOrGrows old new (Err (limited.Limit l)) = Grows old new
+abbrev pub Leaves : {X : Type 0} → Reading → Reading → Result X LimitedReadError → Type 0
+Leaves old new (Ok x) = Grows old new
+Leaves old new (Err (limited.Read e)) = KeepsPairs old new
+Leaves old new (Err (limited.Limit limit.Bytes)) = KeepsPairs old new
+Leaves old new (Err (limited.Limit l)) = Grows old new
 
 -- ---- what comes of a document
 
@@ -165,18 +165,18 @@ pub record Unread (v : Version) (old new : List ℕ) (count : ℕ) (e : Deserial
   pub full : e ≡ errors.HeapFull → HasNoRoom v old
 
 -- by what was taken
-abbrev pub OutcomeWithin : Version → ReadLimits → List ℕ → List ℕ → List ℕ → Result CompactDoc LimitedReadError → Type 0
-OutcomeWithin v limits old new taken (Ok d) = EncodesDocument Legacy v taken (document_of d)
-OutcomeWithin v limits old new taken (Err (limited.Read e)) = Unread v old new (length taken) e
-OutcomeWithin v limits old new taken (Err (limited.Limit limit.HeapBytes)) = IsLarge v limits.heap_bytes taken
-OutcomeWithin v limits old new taken (Err (limited.Limit limit.Depth)) = PassesDepth v limits.depth taken
-OutcomeWithin v limits old new taken (Err (limited.Limit limit.Bytes)) = IsAll limits.bytes taken × NoDocument v taken (corrupted UnexpectedEnd)
+abbrev pub Outcome : Version → ReadLimits → List ℕ → List ℕ → List ℕ → Result CompactDoc LimitedReadError → Type 0
+Outcome v limits old new taken (Ok d) = EncodesDocument Legacy v taken (document_of d)
+Outcome v limits old new taken (Err (limited.Read e)) = Unread v old new (length taken) e
+Outcome v limits old new taken (Err (limited.Limit limit.HeapBytes)) = IsLarge v limits.heap_bytes taken
+Outcome v limits old new taken (Err (limited.Limit limit.Depth)) = PassesDepth v limits.depth taken
+Outcome v limits old new taken (Err (limited.Limit limit.Bytes)) = IsAll limits.bytes taken × NoDocument v taken (corrupted UnexpectedEnd)
 
-pub record ReadsByLimits (v : Version) (limits : ReadLimits) (old new : List ℕ) (result : Result CompactDoc LimitedReadError) : Type 0 where
+pub record Comes (v : Version) (limits : ReadLimits) (old new : List ℕ) (result : Result CompactDoc LimitedReadError) : Type 0 where
   pub taken : List ℕ
   pub joined : old ≡ taken ++ new
   pub most : ¬ IsPast limits.bytes (length taken)
-  pub outcome : OutcomeWithin v limits old new taken result
+  pub outcome : Outcome v limits old new taken result
 
 -- the errors that come: those of reading, and a limit that is set
 abbrev pub IsLimitedError : ReadLimits → LimitedReadError → Type 0
@@ -223,7 +223,7 @@ ReadsStepWithin limits source source_old source_new old new result = Steps (with
 abbrev pub EndsPart : ReadLimits → {S : Type 0} (source : Ghosts S) (source_old source_new : S) (old : DirectDecoder) (result : Result Step LimitedReadError) → Type 0
 EndsPart limits source source_old source_new old result =
     old.failed ≡ false → ¬ IsDone old.reading → ¬ IsPast limits.bytes old.count → source.is_known source_old → IsErrOf result (limited.Limit limit.Bytes)
-    → EndsEarly (corrupted UnexpectedEnd) (IsMalformedNext (version_of old.version) old.reading) (source.left source_old) (source.left source_new)
+    → EndsEarly (corrupted UnexpectedEnd) (NoPrefix (version_of old.version) old.reading) (source.left source_old) (source.left source_new)
 
 -- A part that has come is within the limits, or the limit that is told is passed.
 abbrev pub TestsPart : ReadLimits → DirectDecoder → DirectDecoder → Result Step LimitedReadError → Type 0
@@ -231,4 +231,4 @@ TestsPart limits old new result =
     old.failed ≡ false → ¬ IsDone old.reading → TestsLimits limits old.count new.count (length (heap_so_far new.reading.builder)) (length (lists_of (state_of new.reading.builder))) result
 
 abbrev pub LeavesPart : DirectDecoder → DirectDecoder → Result Step LimitedReadError → Type 0
-LeavesPart old new result = old.failed ≡ false → ¬ IsDone old.reading → KeepsOrGrows old.reading new.reading result
+LeavesPart old new result = old.failed ≡ false → ¬ IsDone old.reading → Leaves old.reading new.reading result

@@ -27,13 +27,13 @@ sink_stop (Read e) = Never
 sink_stop (Write e) = write_stop e
 
 -- the sink failed, or memory was refused in writing
-abbrev pub IsWriteError : MigrateError → Type 0
-IsWriteError (Read e) = ⊥
-IsWriteError (Write e) = IsIoOrMemory e
+abbrev pub IsUnwritten : MigrateError → Type 0
+IsUnwritten (Read e) = ⊥
+IsUnwritten (Write e) = IsIoOrMemory e
 
 -- what is written of what was read
 abbrev pub Rewrites : {K : Type 0} → Version → Sink K → K → K → Result CompactDoc DeserializeError → Result (Unit {0}) MigrateError → Type 0
-Rewrites to sink old new (Ok d) result = IsDocument (document_of d) × WritesBy sink_stop sink.is_known sink.held sink.failures old new result (Ok (short_document to (document_of d))) × IfErr result IsWriteError
+Rewrites to sink old new (Ok d) result = IsDocument (document_of d) × WritesBy sink_stop sink.is_known sink.held sink.failures old new result (Ok (short_document to (document_of d))) × IfErr result IsUnwritten
 Rewrites to sink old new (Err e) result = (result ≡ Err (Read e)) × (new ≡ old)
 
 pub record Migrates {S K : Type 0} (from to : Version) (source : Source S) (source_old source_new : S) (sink : Sink K) (sink_old sink_new : K) (result : Result (Unit {0}) MigrateError) : Type 0 where

@@ -18,7 +18,7 @@ use Rattle.tv_reader.specs.Trees.{NoValue}
 use Rattle.tv_reader.specs.Version.{version_of}
 use Rattle.tv_reader.specs.declared.error.DeserializeError.{DeserializeError}
 use Rattle.tv_reader.specs.declared.error.DeserializeError.TheVariants.{HeapFull, AlreadyFailed}
-use Rattle.tv_reading.specs.Skip.{IsDocumentEncoding, IsValueEncoding}
+use Rattle.tv_reading.specs.Skip.{IsDocument, IsValue}
 use Rattle.tv_store.specs.Blocks.{as_read, as_passed}
 use Rattle.tv_store.specs.Documents.{IsReadingError, NoDocument, SaysNothing}
 use Rattle.tv_store.specs.declared.block.BlockReader.{BlockReader}
@@ -65,10 +65,10 @@ abbrev pub passed : (List ℕ → Type 0) → (List ℕ → Refusal → Type 0) 
 passed IsOne HasError = record { Encodes = λ bytes _. IsOne bytes; HasError = HasError; HasRoom = λ _. Unit {0}; NoRoom = λ _. ⊥ }
 
 abbrev pub PassesDocument : Version → {S : Type 0} (source : Ghosts S) (old new : S) (result : Result (Unit {0}) DeserializeError) → Type 0
-PassesDocument v source old new result = Reads reading (passed (IsDocumentEncoding v) (NoDocument v)) source old new (λ x. x) result
+PassesDocument v source old new result = Reads reading (passed (IsDocument v) (NoDocument v)) source old new (λ x. x) result
 
 abbrev pub PassesValue : Version → {S : Type 0} (source : Ghosts S) (old new : S) (result : Result (Unit {0}) DeserializeError) → Type 0
-PassesValue v source old new result = Reads reading (passed (IsValueEncoding v) (NoValue v)) source old new (λ x. x) result
+PassesValue v source old new result = Reads reading (passed (IsValue v) (NoValue v)) source old new (λ x. x) result
 
 -- ---- the documents of a block, where the end of the block is read as a document that is cut off
 
@@ -78,4 +78,4 @@ ReadsNext source source_old source_new old new result = Reads (resumed old.faile
 
 -- it passed over the next document
 abbrev pub PassesNext : {S : Type 0} (source : Ghosts S) (source_old source_new : S) (old : BlockReader) (result : Result Bool DeserializeError) → Type 0
-PassesNext source source_old source_new old result = Reads (resumed old.failed AlreadyFailed reading) (passed (IsDocumentEncoding (version_of old.version)) (NoDocument (version_of old.version))) source source_old source_new (λ x. x) (as_passed result)
+PassesNext source source_old source_new old result = Reads (resumed old.failed AlreadyFailed reading) (passed (IsDocument (version_of old.version)) (NoDocument (version_of old.version))) source source_old source_new (λ x. x) (as_passed result)

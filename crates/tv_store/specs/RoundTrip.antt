@@ -1,6 +1,6 @@
 -- Values that are added to a document, one after the other, whatever is returned for each.
 use Rattle.std.specs.Prelude.{◌≡◌, ℕ, List, map}
-use Rattle.tv_doc.specs.Additions.{Addition, IsEmpty, Runs, accepted_pairs}
+use Rattle.tv_doc.specs.Additions.{Addition, IsEmpty, Runs, accepted}
 use Rattle.tv_doc.specs.Document.{document_of}
 use Rattle.tv_doc.specs.declared.document.CompactDoc.{CompactDoc}
 use Rattle.tv_format.specs.Tree.{Tree}
@@ -9,8 +9,8 @@ use Rattle.tv_value.specs.declared.field.Field.{Field}
 use Rattle.tv_value.specs.declared.owned_value.OwnedValue.{OwnedValue}
 
 -- a value's field and tree
-abbrev pub pair_of_value : Field × OwnedValue → ℕ × Tree
-pair_of_value value = (value.0.id, owned_tree value.1)
+abbrev pub given : Field × OwnedValue → ℕ × Tree
+given value = (value.0.id, owned_tree value.1)
 
 -- the pair of an addition
 abbrev pub asked : Addition → ℕ × Tree
@@ -18,13 +18,13 @@ asked addition = (addition.field, addition.tree)
 
 -- each of the values was added, and returned what it had to
 abbrev pub IsCalled : List (Field × OwnedValue) → CompactDoc → CompactDoc → Type 0
-IsCalled values old new = (additions : List Addition) × (map asked additions ≡ map pair_of_value values) × Runs additions old new
+IsCalled values old new = (additions : List Addition) × (map asked additions ≡ map given values) × Runs additions old new
 
--- the values were added to an empty document, which then has the pairs that were accepted_pairs
+-- the values were added to an empty document, which then has the pairs that were accepted
 pub record IsKept (values : List (Field × OwnedValue)) (new : CompactDoc) : Type 0 where
   pub additions : List Addition
-  pub called : map asked additions ≡ map pair_of_value values
+  pub called : map asked additions ≡ map given values
   pub start : CompactDoc
   pub empty : IsEmpty start
   pub runs : Runs additions start new
-  pub document : document_of new ≡ accepted_pairs additions
+  pub document : document_of new ≡ accepted additions

@@ -80,7 +80,7 @@ impl BlockReader {
     pub fn new(alloc: Global, version: DocStoreVersion) -> BlockReader
         ensures document { document_of result.document ≡ [] }
         ensures version { result.version ≡ version }
-        ensures not_failed { result.failed ≡ false }
+        ensures live { result.failed ≡ false }
     {
         BlockReader {
             alloc,
@@ -98,8 +98,8 @@ impl BlockReader {
         // after a refusal nothing happens
         ensures refused { self.old.failed ≡ true
             → Rests self.old self.new source.old source.new result (Err AlreadyFailed) }
-        ensures not_failed { OnOk result (self.new.failed ≡ false) }
-        ensures failed { OnErr result (self.new.failed ≡ true) }
+        ensures live { OnOk result (self.new.failed ≡ false) }
+        ensures mark { OnErr result (self.new.failed ≡ true) }
 
         // a document is read, where the end is read as one that is cut off
         ensures reads { ReadsNext S.ByteSource source.old source.new self.old self.new result }
@@ -162,8 +162,8 @@ impl BlockReader {
         // after a refusal nothing happens
         ensures refused { self.old.failed ≡ true
             → Rests self.old self.new source.old source.new result (Err (Read AlreadyFailed)) }
-        ensures not_failed { OnOk result (self.new.failed ≡ false) }
-        ensures failed { OnErr result (self.new.failed ≡ true) }
+        ensures live { OnOk result (self.new.failed ≡ false) }
+        ensures mark { OnErr result (self.new.failed ≡ true) }
 
         // a document is read, where the end is read as one that is cut off; each tree and the heap are within their limits
         ensures reads { ReadsNextWithin limits S.ByteSource source.old source.new self.old self.new
@@ -214,8 +214,8 @@ impl BlockReader {
         // after a refusal nothing happens
         ensures refused { self.old.failed ≡ true
             → Rests self.old self.new source.old source.new result (Err AlreadyFailed) }
-        ensures not_failed { OnOk result (self.new.failed ≡ false) }
-        ensures failed { OnErr result (self.new.failed ≡ true) }
+        ensures live { OnOk result (self.new.failed ≡ false) }
+        ensures mark { OnErr result (self.new.failed ≡ true) }
 
         // a document is passed over, where the end is read as one that is cut off
         ensures reads { PassesNext S.ByteSource source.old source.new self.old result }

@@ -66,7 +66,7 @@ impl DirectDecoder {
         ensures document { built result.reading.builder ≡ [] }
         ensures version { result.version ≡ version }
         ensures count { result.count ≡ 0 }
-        ensures not_failed { result.failed ≡ false }
+        ensures live { result.failed ≡ false }
         ensures none_seen { result.legacy_seen ≡ false }
     {
         DirectDecoder::counting_from(alloc, HeapPairs::new(alloc), version, 0)
@@ -84,7 +84,7 @@ impl DirectDecoder {
         ensures document { built result.reading.builder ≡ [] }
         ensures version { result.version ≡ version }
         ensures count { result.count ≡ count }
-        ensures not_failed { result.failed ≡ false }
+        ensures live { result.failed ≡ false }
         ensures none_seen { result.legacy_seen ≡ false }
     {
         DirectDecoder {
@@ -108,7 +108,7 @@ impl DirectDecoder {
         ensures steps { ReadsStep S.ByteSource source.old source.new self.old self.new result }
 
         // at most 4096 bytes were taken, also where they are refused, unless a value is taken whole
-        ensures at_most { S.is_known source.old
+        ensures few { S.is_known source.old
             → IsFew self.old.reading (S.left source.old) self.old.count self.new.count }
 
         // the heap grows at its end, and ends behind the finished pairs after a refusal; these are kept

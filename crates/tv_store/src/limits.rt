@@ -9,7 +9,7 @@ ghost use Rattle.tv_builder.specs.Builder.{state_of, heap_so_far};
 ghost use Rattle.tv_builder.specs.HeldPairs.{document_of as pairs_of};
 ghost use Rattle.tv_builder.specs.State.{lists_of};
 ghost use Rattle.tv_doc.specs.Document.{document_of, heap_of};
-ghost use Rattle.tv_reading.specs.Prefix.{IsDone, IsMalformedNext, NoRoomBehind};
+ghost use Rattle.tv_reading.specs.Prefix.{IsDone, NoPrefix, NoRoomBehind};
 ghost use Rattle.tv_reading.specs.Steps.{Advances, Stepped};
 ghost use Rattle.tv_legacy.specs.Legacy.{Legacy};
 ghost use Rattle.tv_reader.specs.declared.error.DeserializeError.{DeserializeError};
@@ -18,7 +18,7 @@ ghost use Rattle.tv_reader.specs.declared.error.DeserializeError.TheVariants.{Co
 ghost use Rattle.tv_format.specs.InputError.{corrupted};
 ghost use Rattle.tv_store.specs.Limits.{Checks, FindsWithin, IsPast};
 ghost use Rattle.tv_store.specs.Limits.{AllNestWithinLimit, TestsDepth};
-ghost use Rattle.tv_store.specs.Limits.{ReadsByLimits, IsLimitedError, limited_stop};
+ghost use Rattle.tv_store.specs.Limits.{Comes, IsLimitedError, limited_stop};
 ghost use Rattle.tv_store.specs.Limits.{first_count, FindsPart, IsCapped};
 ghost use Rattle.tv_store.specs.Limits.{ReadsWithin, StopsWithin, Told};
 ghost use Rattle.tv_store.specs.Limits.{EndsPart, LeavesPart, ReadsStepWithin, TestsPart};
@@ -174,16 +174,16 @@ fn step_capped<S: ByteSource>(
         decoder.new.count result
         (λ b _. Stepped (version_of decoder.old.version) decoder.new.legacy_seen
         decoder.old.reading decoder.new.reading b)
-        (IsMalformedNext (version_of decoder.old.version) decoder.old.reading) }
+        (NoPrefix (version_of decoder.old.version) decoder.old.reading) }
     ensures ends { S.is_known source.old → IsErrOf result (Limit ReadLimit.Bytes)
         → EndsEarly (corrupted UnexpectedEnd)
-        (IsMalformedNext (version_of decoder.old.version) decoder.old.reading) (S.left source.old)
+        (NoPrefix (version_of decoder.old.version) decoder.old.reading) (S.left source.old)
         (S.left source.new) }
     ensures full { S.is_known source.old → IsErrOf result (Read HeapFull)
         → NoRoomBehind (version_of decoder.old.version) decoder.old.reading (S.left source.old) }
     ensures done { IfOk result (λ step. SaysDone step ↔ IsDone decoder.new.reading) }
-    ensures not_failed { OnOk result (decoder.new.failed ≡ false) }
-    ensures failed { OnErr result (decoder.new.failed ≡ true) }
+    ensures live { OnOk result (decoder.new.failed ≡ false) }
+    ensures mark { OnErr result (decoder.new.failed ≡ true) }
     ensures limit { IfErr result (IsCapped most decoder.new.count) }
     ensures most { ¬ IsPast most decoder.new.count }
     ensures grows { OnOk result (Grows decoder.old.reading decoder.new.reading) }
@@ -213,14 +213,14 @@ fn take_within<S: ByteSource>(
     ensures finds { FindsWithin S.ByteSource source.old decoder.old.count source.new
         decoder.new.count result
         (λ b _. Advances Legacy (version_of decoder.old.version) decoder.old.reading
-        decoder.new.reading b) (IsMalformedNext (version_of decoder.old.version) decoder.old.reading) }
+        decoder.new.reading b) (NoPrefix (version_of decoder.old.version) decoder.old.reading) }
     ensures full { S.is_known source.old → IsErrOf result HeapFull
         → NoRoomBehind (version_of decoder.old.version) decoder.old.reading (S.left source.old) }
     ensures checked { IfOk result
         (Checks limits (length (heap_so_far decoder.new.reading.builder))
         (length (lists_of (state_of decoder.new.reading.builder)))) }
     ensures done { IfOk result (λ passed. passed ≡ None → IsDone decoder.new.reading) }
-    ensures not_failed { IfOk result (λ _. decoder.new.failed ≡ false) }
+    ensures live { IfOk result (λ _. decoder.new.failed ≡ false) }
     ensures version { decoder.new.version ≡ decoder.old.version }
 {
     // each part takes a byte at least
@@ -267,7 +267,7 @@ fn read_parts<S: ByteSource>(
 ) -> Result<CompactDoc, LimitedReadError>
     requires { pairs_of empty ≡ [] }
     ensures comes { S.is_known source.old
-        → ReadsByLimits (version_of version) limits (S.left source.old) (S.left source.new) result }
+        → Comes (version_of version) limits (S.left source.old) (S.left source.new) result }
     ensures shallow { IfOk result (λ d. AllNestWithinLimit limits.depth (document_of d)) }
     ensures small { IfOk result (λ d. ¬ IsPast limits.heap_bytes (length (heap_of d))) }
     ensures errors { IfErr result (IsLimitedError limits) }
@@ -301,7 +301,7 @@ pub(crate) fn read_parts_in_place<S: ByteSource>(
     limits: ReadLimits,
 ) -> Result<(), LimitedReadError>
     ensures comes { S.is_known source.old
-        → ReadsByLimits (version_of version) limits (S.left source.old) (S.left source.new)
+        → Comes (version_of version) limits (S.left source.old) (S.left source.new)
         (in_place result document.new) }
     ensures shallow { OnOk result (AllNestWithinLimit limits.depth (document_of document.new)) }
     ensures small { OnOk result (¬ IsPast limits.heap_bytes (length (heap_of document.new))) }

@@ -7,7 +7,7 @@ ghost use Rattle.tv_format.specs.Tree.{Document};
 ghost use Rattle.tv_format.specs.WriteVersion.{written_version};
 ghost use Rattle.tv_heap.specs.Room.{document_room};
 ghost use Rattle.tv_reader.specs.Version.{version_of};
-ghost use Rattle.tv_store.specs.Documents.{BeginsWithDocument};
+ghost use Rattle.tv_store.specs.Documents.{BeginsWith};
 ghost use Rattle.tv_store.specs.Migrate.{IsMemory};
 
 use crate::de::DocStoreVersion;
@@ -38,11 +38,11 @@ fn migrated_bytes(
     from: DocStoreVersion,
     to: WriteVersion,
 ) -> Result<Vec<u8>, RoundTripError>
-    requires { (d : Document) × ((rest : List ℕ) × (BeginsWithDocument (version_of from) bytes.now rest d
+    requires { (d : Document) × ((rest : List ℕ) × (BeginsWith (version_of from) bytes.now rest d
         × (document_room d ≤ 4294967295))) }
-    ensures valid { (d : Document) (rest : List ℕ) → BeginsWithDocument (version_of from) bytes.now rest d
+    ensures valid { (d : Document) (rest : List ℕ) → BeginsWith (version_of from) bytes.now rest d
         → IfOk result (λ _. IsDocument d) }
-    ensures written { (d : Document) (rest : List ℕ) → BeginsWithDocument (version_of from) bytes.now rest d
+    ensures written { (d : Document) (rest : List ℕ) → BeginsWith (version_of from) bytes.now rest d
         → document_room d ≤ 4294967295
         → IfOk result (λ written. written.items ≡ short_document (written_version to) d) }
     ensures memory { IfErr result (λ error. error ≡ RoundTripError.Memory) }
@@ -80,12 +80,12 @@ pub fn migrations_are_read_back(
     back: DocStoreVersion,
 ) -> Result<MigrationTrip, RoundTripError>
     requires begins { (d : Document) × ((rest : List ℕ)
-        × (BeginsWithDocument (version_of from) bytes.now rest d × (document_room d ≤ 4294967295))) }
+        × (BeginsWith (version_of from) bytes.now rest d × (document_room d ≤ 4294967295))) }
     requires new_version { version_of back ≡ written_version to }
-    ensures written { (d : Document) (rest : List ℕ) → BeginsWithDocument (version_of from) bytes.now rest d
+    ensures written { (d : Document) (rest : List ℕ) → BeginsWith (version_of from) bytes.now rest d
         → document_room d ≤ 4294967295
         → IfOk result (λ trip. trip.written.items ≡ short_document (written_version to) d) }
-    ensures back { (d : Document) (rest : List ℕ) → BeginsWithDocument (version_of from) bytes.now rest d
+    ensures back { (d : Document) (rest : List ℕ) → BeginsWith (version_of from) bytes.now rest d
         → document_room d ≤ 4294967295 → IfOk result (λ trip. document_of trip.back ≡ d) }
     ensures left { IfOk result (λ trip. trip.left.items ≡ []) }
     ensures memory { IfErr result (λ error. error ≡ RoundTripError.Memory) }

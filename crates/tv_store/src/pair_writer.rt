@@ -79,10 +79,10 @@ fn write_field_encoded<K: ByteSink>(
     encoded: Encoded<'_>,
 ) -> Result<(), SerializeError>
     requires { HasFewEntries encoded }
-    ensures writes { store.WritesStore K.ByteSink sink.old sink.new result
+    ensures writes { store.Writes K.ByteSink sink.old sink.new result
         (Ok (four_bytes field.id ++ encoded_bytes (written_version version) encoded.entry)) }
     ensures errors { IfErr result IsIoOrMemory }
-    ensures only_io { HeldNestsWithin 64 encoded.entry → IfErr result IsIo }
+    ensures lean { HeldNestsWithin 64 encoded.entry → IfErr result IsIo }
 {
     write_u32(sink, field.field_id())?;
     write_encoded(sink, alloc, version, encoded, LEVELS)
@@ -98,10 +98,10 @@ pub(crate) fn write_pair<K: ByteSink>(
     encoded: Encoded<'_>,
 ) -> Result<(), SerializeError>
     requires { HasFewEntries encoded }
-    ensures writes { store.WritesStore K.ByteSink sink.old sink.new result
+    ensures writes { store.Writes K.ByteSink sink.old sink.new result
         (Ok (four_bytes field.id ++ encoded_bytes (written_version version) encoded.entry)) }
     ensures errors { IfErr result IsIoOrMemory }
-    ensures only_io { HeldNestsWithin 64 encoded.entry → IfErr result IsIo }
+    ensures lean { HeldNestsWithin 64 encoded.entry → IfErr result IsIo }
 {
     match encoded {
         Encoded::Number(code, number) => write_field_u64(sink, field, code, number)?,
@@ -152,10 +152,10 @@ pub(crate) fn write_stored_pair<K: ByteSink>(
     field: Field,
     value: CompactDocValue<'_>,
 ) -> Result<(), SerializeError>
-    ensures writes { store.WritesStore K.ByteSink sink.old sink.new result
+    ensures writes { store.Writes K.ByteSink sink.old sink.new result
         (Ok (short_pair (written_version version) (field.id, tree_written (tree_of value.entry)))) }
     ensures errors { IfErr result IsIoOrMemory }
-    ensures only_io { NestsWithin 64 (tree_of value.entry) → IfErr result IsIo }
+    ensures lean { NestsWithin 64 (tree_of value.entry) → IfErr result IsIo }
 {
     match value.encoded() {
         Encoded::Tokenized(_) => write_field_text(sink, field, value)?,
@@ -170,10 +170,10 @@ fn write_pairs<K: ByteSink>(
     version: WriteVersion,
     document: &CompactDoc,
 ) -> Result<(), SerializeError>
-    ensures writes { store.WritesStore K.ByteSink sink.old sink.new result
+    ensures writes { store.Writes K.ByteSink sink.old sink.new result
         (Ok (flat_map (short_pair (written_version version)) (document_of document.now))) }
     ensures errors { IfErr result IsIoOrMemory }
-    ensures only_io { AllNestWithin 64 (document_of document.now) → IfErr result IsIo }
+    ensures lean { AllNestWithin 64 (document_of document.now) → IfErr result IsIo }
 {
     let alloc = document.allocator();
     for (field, value) in document.field_values() {
@@ -188,10 +188,10 @@ pub(crate) fn write_document<K: ByteSink>(
     version: WriteVersion,
     document: &CompactDoc,
 ) -> Result<(), SerializeError>
-    ensures writes { store.WritesStore K.ByteSink sink.old sink.new result
+    ensures writes { store.Writes K.ByteSink sink.old sink.new result
         (Ok (short_document (written_version version) (document_of document.now))) }
     ensures errors { IfErr result IsIoOrMemory }
-    ensures only_io { AllNestWithin 64 (document_of document.now) → IfErr result IsIo }
+    ensures lean { AllNestWithin 64 (document_of document.now) → IfErr result IsIo }
 {
     write_vint(sink, document.len() as u64)?;
     write_pairs(sink, version, document)

@@ -31,7 +31,7 @@ pub trait DocumentDeserialize: Sized {
             → IfOk result
             (λ d. (pairs : Document) × holds d pairs
             × IsGiven D.gives D.remaining deserializer.old pairs deserializer.new) }
-        ensures marks_failure { D.has_failed deserializer.new ≡ is_err result }
+        ensures marks { D.has_failed deserializer.new ≡ is_err result }
         ensures counts { D.has_failed deserializer.old ≡ false
             → Counts document_stop result (D.failures deserializer.old)
             (D.failures deserializer.new) }
@@ -71,7 +71,7 @@ impl DocumentDeserialize for CompactDoc {
             × IsGiven D.gives D.remaining deserializer.old pairs deserializer.new) }
         ensures refused { D.is_known deserializer.old
             → IfErr result (PairsRefused D.gives D.refuses deserializer.old) }
-        ensures marks_failure { D.has_failed deserializer.new ≡ is_err result }
+        ensures marks { D.has_failed deserializer.new ≡ is_err result }
         ensures counts { D.has_failed deserializer.old ≡ false
             → Counts document_stop result (D.failures deserializer.old)
             (D.failures deserializer.new) }

@@ -7,7 +7,7 @@ ghost use Rattle.tv_doc.specs.Belongs.{Belongs};
 ghost use Rattle.tv_doc.specs.Document.{ReadsAt, document_of, places_of};
 ghost use Rattle.tv_heap.specs.Room.{document_room};
 ghost use Rattle.tv_reader.specs.Version.{version_of};
-ghost use Rattle.tv_store.specs.RoundTrip.{IsCalled, IsKept, pair_of_value};
+ghost use Rattle.tv_store.specs.RoundTrip.{IsCalled, IsKept, given};
 ghost use Rattle.tv_store.specs.Stored.{stored};
 ghost use Rattle.tv_format.specs.Short.{short_document, IsDocument};
 ghost use Rattle.tv_format.specs.Tree.{Document};
@@ -156,7 +156,7 @@ pub fn additions_are_stored_and_read_back(
         (λ trip. document_of trip.back ≡ stored schema.now (document_of trip.added)) }
     ensures left { IfOk result (λ trip. trip.left.items ≡ rest.now) }
     ensures full { IsErrOf result RoundTripError.HeapFull
-        → 4294967295 < document_room (map pair_of_value values.now) }
+        → 4294967295 < document_room (map given values.now) }
 {
     documents_are_valid();
     stored_pairs_are_valid();

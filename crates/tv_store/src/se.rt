@@ -52,11 +52,11 @@ fn write_if_stored<K: ByteSink>(
     value: CompactDocValue<'_>,
 ) -> Result<(), SerializeError>
     requires { field.id < length schema.now }
-    ensures writes { store.WritesStore K.ByteSink sink.old sink.new result
+    ensures writes { store.Writes K.ByteSink sink.old sink.new result
         (Ok (written_pairs (written_version version) schema.now
         ((field.id, tree_of value.entry) ∷ []))) }
     ensures errors { IfErr result IsIoOrMemory }
-    ensures only_io { NestsWithin 64 (tree_of value.entry) → IfErr result IsIo }
+    ensures lean { NestsWithin 64 (tree_of value.entry) → IfErr result IsIo }
 {
     if schema.get_field_entry(field).is_stored() {
         write_stored_pair(sink, alloc, version, field, value)
@@ -73,10 +73,10 @@ fn write_stored_pairs<K: ByteSink>(
     document: &CompactDoc,
 ) -> Result<(), SerializeError>
     requires { Belongs schema.now (document_of document.now) }
-    ensures writes { store.WritesStore K.ByteSink sink.old sink.new result
+    ensures writes { store.Writes K.ByteSink sink.old sink.new result
         (Ok (written_pairs (written_version version) schema.now (document_of document.now))) }
     ensures errors { IfErr result IsIoOrMemory }
-    ensures only_io { AllNestWithin 64 (document_of document.now) → IfErr result IsIo }
+    ensures lean { AllNestWithin 64 (document_of document.now) → IfErr result IsIo }
 {
     let alloc = document.allocator();
     for (field, value) in document.field_values() {
@@ -142,7 +142,7 @@ impl<'se, K: ByteSink> BinaryDocumentSerializer<'se, K> {
         ensures same_sink { self.new.sink.ghost_name ≡ self.old.sink.ghost_name }
         ensures schema { self.new.schema.now ≡ self.old.schema.now }
         ensures version { self.new.version ≡ self.old.version }
-        ensures writes { store.WritesStore K.ByteSink self.old.sink.now self.new.sink.now result
+        ensures writes { store.Writes K.ByteSink self.old.sink.now self.new.sink.now result
             (Ok (short_document (written_version self.old.version)
             (stored self.old.schema.now (document_of document.now)))) }
         ensures errors { IfErr result IsIoOrMemory }

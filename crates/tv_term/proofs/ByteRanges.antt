@@ -10,7 +10,7 @@ use Rattle.std.proofs.Math.Seq.{get_or-append_seam}
 use Rattle.std.specs.Global.{Vec}
 use Rattle.std.specs.List.{IsLastAndRest}
 use Rattle.tv_base.specs.Sink.{IsPrefix}
-use Rattle.tv_term.specs.Range.{EndsPrefix, IsFrom, IsInRange}
+use Rattle.tv_term.specs.Range.{EndsPrefix, IsFrom, IsWithin}
 
 -- the three tests, by recursion over both lists
 abbrev upto : List ℕ → List ℕ → Bool
@@ -189,7 +189,7 @@ false_is_true : false ≡ true → ⊥
 false_is_true e = cc
 
 -- those that begin with the bytes and are longer
-pub longer-within : (p : List ℕ) (end : Option (Vec ℕ)) (bytes : List ℕ) → (IsInRange p end bytes ↔ IsPrefix p bytes) → IsInRange (p ++ 0 ∷ []) end bytes ↔ (IsPrefix p bytes × (bytes ≢ p))
+pub longer-within : (p : List ℕ) (end : Option (Vec ℕ)) (bytes : List ℕ) → (IsWithin p end bytes ↔ IsPrefix p bytes) → IsWithin (p ++ 0 ∷ []) end bytes ↔ (IsPrefix p bytes × (bytes ≢ p))
 longer-within p end bytes ends =
     let from = is_upto p bytes (slice_cmp nat_cmp p bytes) refl in
     let next = is_upto (p ++ 0 ∷ []) bytes (slice_cmp nat_cmp (p ++ 0 ∷ []) bytes) refl ∙ next-upto p bytes in (

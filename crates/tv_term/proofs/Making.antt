@@ -1,7 +1,7 @@
 -- The promises of calls that make terms.
 use Rattle.std.specs.Prelude.{◌≡◌, ◌≢◌, ◌++◌, ◌∷◌, [], List, ℕ, Result, Ok, Err, OnErr, OnOk}
 use Rattle.std.proofs.Common.{sym, ◌∙◌}
-use Rattle.tv_term.specs.Key.{TermValue, AppendsCoded, payload, value_code}
+use Rattle.tv_term.specs.Key.{TermValue, Appends, payload, value_code}
 use Rattle.tv_term.specs.Making.{AppendsValue, NulOrMemory, OnlyMemory}
 use Rattle.tv_term.specs.declared.term_error.TermError.{TermError}
 
@@ -16,7 +16,7 @@ behind [] rest b e = cc
 behind (c ∷ old) rest b e = cc
 
 -- where a value was appended, there is a term
-pub appends_value : {E : Type 0} (r : Result (Unit {0}) E) (old new : List ℕ) (value : TermValue) → OnOk r (AppendsCoded old new value) → OnErr r (new ≡ old) → AppendsValue old new value r
+pub appends_value : {E : Type 0} (r : Result (Unit {0}) E) (old new : List ℕ) (value : TermValue) → OnOk r (Appends old new value) → OnErr r (new ≡ old) → AppendsValue old new value r
 appends_value (Ok done) old new value appended unchanged =
     record { appended = appended; has_term = λ none. behind old (payload value) (value_code value) (sym appended.bytes_are ∙ none); unchanged = unchanged }
 appends_value (Err error) old new value appended unchanged = record { appended = appended; has_term = tt; unchanged = unchanged }

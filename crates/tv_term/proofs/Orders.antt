@@ -15,7 +15,7 @@ use Rattle.std.specs.Ordering.{is_eq}
 use Rattle.std.proofs.lemmas.Bool.Decides.{nat_tests}
 use Rattle.std.proofs.lemmas.Int.{ints}
 use Rattle.tv_term.specs.FastValueLaws.{from_least-order, from_least-fits}
-use Rattle.tv_term.specs.Key.{TermValue, Text, Unsigned, Signed, Truth, Date, Facet, Bytes, Address, Json, from_least, payload, Fits, value_cmp, coded_value, term, HasNoZero}
+use Rattle.tv_term.specs.Key.{TermValue, Text, Unsigned, Signed, Truth, Date, Facet, Bytes, Address, Json, from_least, payload, Fits, value_cmp, coded, term, HasNoZero}
 
 then_assoc : (a b c : Ordering) → ordering_then (ordering_then a b) c ≡ ordering_then a (ordering_then b c)
 then_assoc Less b c = refl
@@ -91,7 +91,7 @@ both : (a b c d : Ordering) → a ≡ b → c ≡ d → ordering_then a c ≡ or
 both a b c d e f = rw (e, f) refl
 
 -- values are ordered by their codes and, where these agree, as values of one type
-pub coded-order : (a b : TermValue) → Fits a → Fits b → slice_cmp nat_cmp (coded_value a) (coded_value b) ≡ value_cmp a b
+pub coded-order : (a b : TermValue) → Fits a → Fits b → slice_cmp nat_cmp (coded a) (coded b) ≡ value_cmp a b
 coded-order (Text a) (Text b) h k = refl
 coded-order (Unsigned a) (Unsigned b) h k = number-order 8 a b h k
 coded-order (Signed a) (Signed b) h k = least-order a b h k
@@ -101,7 +101,7 @@ coded-order (Facet a) (Facet b) h k = refl
 coded-order (Bytes a) (Bytes b) h k = refl
 coded-order (Address a) (Address b) h k = number-order 16 a b h k
 coded-order (Json p a) (Json q b) h k =
-    slice_cmp-zero p q (coded_value a) (coded_value b) h.0 k.0 ∙ ap (ordering_then (slice_cmp nat_cmp p q)) (coded-order a b h.1 k.1)
+    slice_cmp-zero p q (coded a) (coded b) h.0 k.0 ∙ ap (ordering_then (slice_cmp nat_cmp p q)) (coded-order a b h.1 k.1)
 coded-order a b h k = refl
 
 pub field-order : (f g : ℕ) → f < 2 ^ 32 → g < 2 ^ 32 → (x y : List ℕ) → slice_cmp nat_cmp (to_be_bytes w32 f ++ x) (to_be_bytes w32 g ++ y) ≡ ordering_then (nat_cmp f g) (slice_cmp nat_cmp x y)
@@ -111,7 +111,7 @@ field-order f g h k x y =
 
 pub term-order : (f g : ℕ) (a b : TermValue) → f < 2 ^ 32 → g < 2 ^ 32 → Fits a → Fits b → slice_cmp nat_cmp (term f a) (term g b) ≡ ordering_then (nat_cmp f g) (value_cmp a b)
 term-order f g a b hf hg ha hb =
-    field-order f g hf hg (coded_value a) (coded_value b) ∙ ap (ordering_then (nat_cmp f g)) (coded-order a b ha hb)
+    field-order f g hf hg (coded a) (coded b) ∙ ap (ordering_then (nat_cmp f g)) (coded-order a b ha hb)
 
 nat_same : (a b : ℕ) → nat_cmp a b ≡ Equal → a ≡ b
 nat_same a b e = grind (arith, nat_tests)

@@ -10,7 +10,7 @@ use Rattle.std.specs.Option.{option_and_then, option_copied}
 use Rattle.std.specs.Str.{is_utf8, IsUtf8}
 use Rattle.std.specs.declared.fmt.Error.{Error}
 use Rattle.std.specs.declared.fmt.Formatter.{Formatter}
-use Rattle.tv_term.specs.Printed.{dot_or_byte, printed_or_nothing, text_if_utf8}
+use Rattle.tv_term.specs.Printed.{dot_or_byte, printed_or_nothing, text_in}
 use Rattle.tv_term.specs.Reading.{ReadsText}
 
 -- a text, and then what another call prints
@@ -25,16 +25,16 @@ pub prints_before : {W : Type 0} (took : W → List ℕ → W → Type 0) (f g h
 prints_before took f g h q r None b first done second = first
 prints_before took f g h q r (Some a) b first done second = λ plain ok. let one = first plain done in put_two took f g h a b (a ++ b) one (second one.plain ok) refl
 
-text_case : (b : Bool) (bytes : List ℕ) → is_utf8 bytes ≡ b → ¬ IsUtf8 bytes → None ≡ text_if_utf8 bytes
+text_case : (b : Bool) (bytes : List ℕ) → is_utf8 bytes ≡ b → ¬ IsUtf8 bytes → None ≡ text_in bytes
 text_case true bytes e never = absurd (never (IsUtf8-from_is_utf8 bytes e))
 text_case false bytes e never = rw e refl
 
 -- a text that is read of bytes is these, if they are one
-pub text_is : (bytes text : Option (List ℕ)) → ReadsText bytes text → text ≡ option_and_then text_if_utf8 bytes
+pub text_is : (bytes text : Option (List ℕ)) → ReadsText bytes text → text ≡ option_and_then text_in bytes
 text_is None None reads = refl
 text_is None (Some text) reads = sym reads.0
 text_is (Some bytes) None reads = text_case (is_utf8 bytes) bytes refl (reads bytes refl)
-text_is (Some bytes) (Some text) reads = sym (ap (option_and_then text_if_utf8) reads.0 ∙ (rw (is_utf8-from_IsUtf8 text reads.1) refl))
+text_is (Some bytes) (Some text) reads = sym (ap (option_and_then text_in) reads.0 ∙ (rw (is_utf8-from_IsUtf8 text reads.1) refl))
 
 pub copied_prints : (print : List ℕ → Option (List ℕ)) (found : Option (Bor (List ℕ))) → printed_or_nothing (λ lent. print lent.now) found ≡ printed_or_nothing print (option_copied found)
 copied_prints print None = refl

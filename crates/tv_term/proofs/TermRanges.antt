@@ -6,10 +6,10 @@ use Rattle.tv_base.specs.Sink.{IsPrefix}
 use Rattle.tv_options.specs.Types.{code, type_of_code}
 use Rattle.tv_options.specs.declared.types.TypeTag.{TypeTag}
 use Rattle.tv_options.specs.declared.types.TypeTag.TheVariants as tag
-use Rattle.tv_term.specs.Key.{TermValue, Text, Unsigned, Signed, Truth, Date, Facet, Bytes, Address, Json, Fits, HasNoZero, tag_of, payload, coded_value, term, json_term}
+use Rattle.tv_term.specs.Key.{TermValue, Text, Unsigned, Signed, Truth, Date, Facet, Bytes, Address, Json, Fits, HasNoZero, type_of, payload, coded, term, json_term}
 use Rattle.tv_base.specs.Facet.{Descends}
 use Rattle.tv_base.proofs.Steps.{Descends-rest, Descends-from_rest, Descends-from_root}
-use Rattle.tv_term.specs.Range.{HasPrefixed, HasLonger, HasTerms, IsIn, HasPayloadPrefix, IsOfField, IsOfType, HasTextPrefix, IsAtPath, IsBelowFacet}
+use Rattle.tv_term.specs.Range.{HasPrefixed, HasLonger, HasTerms, IsIn, BeginsWith, IsOfField, IsOfType, HasTextPrefix, IsAtPath, IsBelowFacet}
 use Rattle.tv_term.specs.declared.range.TermRange.{TermRange}
 use Rattle.tv_term.proofs.Written.{type_of_code-code}
 
@@ -49,10 +49,10 @@ code-prefix t u s x = (
 
 -- a term of which some bytes are a prefix
 pub term-prefix : (id f : ℕ) (t : TypeTag) (s : List ℕ) (value : TermValue) → id < 2 ^ 32 → f < 2 ^ 32
-    → IsPrefix (to_be_bytes w32 id ++ code t ∷ s) (term f value) ↔ HasPayloadPrefix id t s f value
+    → IsPrefix (to_be_bytes w32 id ++ code t ∷ s) (term f value) ↔ BeginsWith id t s f value
 term-prefix id f t s value h k =
-    let field = field-prefix id f (code t ∷ s) (coded_value value) h k in
-    let kind = code-prefix t (tag_of value) s (payload value) in (
+    let field = field-prefix id f (code t ∷ s) (coded value) h k in
+    let kind = code-prefix t (type_of value) s (payload value) in (
       (λ p. let a = field.0 p in let b = kind.0 a.1 in (a.0, b.0, b.1)),
       (λ p. field.1 (p.0, kind.1 (p.1, p.2))),
     )
@@ -80,16 +80,16 @@ terms-as range P Q has same bytes f value small is =
 
 pub of_field : (id f : ℕ) (value : TermValue) → id < 2 ^ 32 → f < 2 ^ 32 → IsPrefix (to_be_bytes w32 id) (term f value) ↔ IsOfField id f value
 of_field id f value h k =
-    let field = field-prefix id f [] (coded_value value) h k in (
+    let field = field-prefix id f [] (coded value) h k in (
       (λ p. let both = field.0 (p.0, p.1 ∙ sym (append_assoc (to_be_bytes w32 id) [] p.0)) in both.0),
-      (λ e. (coded_value value, ap (λ n. to_be_bytes w32 n ++ coded_value value) e)),
+      (λ e. (coded value, ap (λ n. to_be_bytes w32 n ++ coded value) e)),
     )
 
-pub of_type : (id f : ℕ) (t : TypeTag) (value : TermValue) → HasPayloadPrefix id t [] f value ↔ IsOfType id t f value
+pub of_type : (id f : ℕ) (t : TypeTag) (value : TermValue) → BeginsWith id t [] f value ↔ IsOfType id t f value
 of_type id f t value = ((λ p. (p.0, p.1)), (λ p. (p.0, p.1, (payload value, refl))))
 
 -- a text's payload is the text
-is_text : (value : TermValue) (s : List ℕ) → tag_of value ≡ tag.Str → IsPrefix s (payload value) → (text : List ℕ) × (value ≡ Text text) × IsPrefix s text
+is_text : (value : TermValue) (s : List ℕ) → type_of value ≡ tag.Str → IsPrefix s (payload value) → (text : List ℕ) × (value ≡ Text text) × IsPrefix s text
 is_text (Text bytes) s e p = (bytes, refl, p)
 is_text (Unsigned n) s e p = cc
 is_text (Signed z) s e p = cc
@@ -100,10 +100,10 @@ is_text (Bytes bytes) s e p = cc
 is_text (Address n) s e p = cc
 is_text (Json path value) s e p = cc
 
-pub of_text : (id f : ℕ) (s : List ℕ) (value : TermValue) → HasPayloadPrefix id tag.Str s f value ↔ HasTextPrefix id s f value
+pub of_text : (id f : ℕ) (s : List ℕ) (value : TermValue) → BeginsWith id tag.Str s f value ↔ HasTextPrefix id s f value
 of_text id f s value = (
   (λ p. let text = is_text value s p.1 p.2 in (p.0, text.0, text.1, text.2)),
-  (λ p. (p.0, ap tag_of p.2, (p.3.0, ap payload p.2 ∙ p.3.1))),
+  (λ p. (p.0, ap type_of p.2, (p.3.0, ap payload p.2 ∙ p.3.1))),
 )
 
 -- what stands before the first zero of both is the same
@@ -116,10 +116,10 @@ same_path (c ∷ p) (d ∷ q) x y h k e =
     let rest : p ++ 0 ∷ x ≡ q ++ 0 ∷ y = cc in
     ap (λ z. z ∷ p) first ∙ ap (λ z. d ∷ z) (same_path p q x y h.1 k.1 rest)
 
-at_path : (path : List ℕ) (value : TermValue) → HasNoZero path → Fits value → tag_of value ≡ tag.Json → IsPrefix (path ++ 0 ∷ []) (payload value)
+at_path : (path : List ℕ) (value : TermValue) → HasNoZero path → Fits value → type_of value ≡ tag.Json → IsPrefix (path ++ 0 ∷ []) (payload value)
     → (inner : TermValue) × (value ≡ Json path inner)
 at_path path (Json p v) h fits e prefix =
-    let same = same_path p path (coded_value v) prefix.0 fits.0 h (prefix.1 ∙ append_assoc path (0 ∷ []) prefix.0) in (v, ap (λ z. Json z v) same)
+    let same = same_path p path (coded v) prefix.0 fits.0 h (prefix.1 ∙ append_assoc path (0 ∷ []) prefix.0) in (v, ap (λ z. Json z v) same)
 at_path path (Text bytes) h fits e p = cc
 at_path path (Unsigned n) h fits e p = cc
 at_path path (Signed z) h fits e p = cc
@@ -135,11 +135,11 @@ pub of_path : (id f : ℕ) (path : List ℕ) (value : TermValue) → id < 2 ^ 32
 of_path id f path value small h k fits =
     let begins = term-prefix id f tag.Json (path ++ 0 ∷ []) value small k in (
       (λ p. let b = begins.0 p in let at = at_path path value h fits b.1 b.2 in (b.0, at.0, at.1)),
-      (λ p. begins.1 (p.0, ap tag_of p.2, (coded_value p.1, ap payload p.2 ∙ sym (append_assoc path (0 ∷ []) (coded_value p.1))))),
+      (λ p. begins.1 (p.0, ap type_of p.2, (coded p.1, ap payload p.2 ∙ sym (append_assoc path (0 ∷ []) (coded p.1))))),
     )
 
 -- a facet's payload is the facet
-is_facet : (value : TermValue) (s : List ℕ) → tag_of value ≡ tag.Facet → IsPrefix s (payload value) → (facet : List ℕ) × (value ≡ Facet facet) × IsPrefix s facet
+is_facet : (value : TermValue) (s : List ℕ) → type_of value ≡ tag.Facet → IsPrefix s (payload value) → (facet : List ℕ) × (value ≡ Facet facet) × IsPrefix s facet
 is_facet (Facet bytes) s e p = (bytes, refl, p)
 is_facet (Text bytes) s e p = cc
 is_facet (Unsigned n) s e p = cc
@@ -162,7 +162,7 @@ of_facet id f upper value h k some =
           let rest = below.1 ∙ append_assoc upper (0 ∷ []) below.0 in
           (b.0, facet.0, facet.1, subst (Descends upper) (sym rest) (Descends-from_rest upper below.0 some))),
       (λ p. let rest = Descends-rest upper p.1 some p.3 in
-          let b = begins.1 (p.0, ap tag_of p.2, (rest.0, ap payload p.2 ∙ rest.1 ∙ sym (append_assoc upper (0 ∷ []) rest.0))) in
+          let b = begins.1 (p.0, ap type_of p.2, (rest.0, ap payload p.2 ∙ rest.1 ∙ sym (append_assoc upper (0 ∷ []) rest.0))) in
           (b.0, b.1 ∙ ap (λ z. z ++ b.0) (sym start))),
     )
 
@@ -177,9 +177,9 @@ of_root id f upper value h k root =
           (b.0, facet.0, facet.1, (from_root facet.0).1 (λ none. p.1 (ap (λ n. term n value) b.0 ∙ ap (term id) (facet.1 ∙ ap Facet (none ∙ sym root)))))),
       (λ p. let some = (from_root p.1).0 p.3 in
           let prefix : IsPrefix upper (payload value) = (p.1, ap payload p.2 ∙ ap (λ u. u ++ p.1) (sym root)) in (
-            begins.1 (p.0, ap tag_of p.2, prefix),
-            (λ same_bytes. let both = split (to_be_bytes w32 f) (to_be_bytes w32 id) (coded_value value) (coded_value (Facet upper)) refl same_bytes in
-                let lists : code tag.Facet ∷ p.1 ≡ code tag.Facet ∷ upper = ap coded_value (sym p.2) ∙ both.1 in
+            begins.1 (p.0, ap type_of p.2, prefix),
+            (λ same_bytes. let both = split (to_be_bytes w32 f) (to_be_bytes w32 id) (coded value) (coded (Facet upper)) refl same_bytes in
+                let lists : code tag.Facet ∷ p.1 ≡ code tag.Facet ∷ upper = ap coded (sym p.2) ∙ both.1 in
                 let tails : p.1 ≡ upper = cc in some (tails ∙ root)),
           )),
     )

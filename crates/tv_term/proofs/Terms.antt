@@ -12,7 +12,7 @@ use Rattle.tv_options.specs.Types.{code}
 use Rattle.tv_options.specs.declared.types.TypeTag.{TypeTag}
 use Rattle.tv_options.specs.declared.types.TypeTag.TheVariants as tag
 use Rattle.tv_term.specs.FastValue.{StandsAs}
-use Rattle.tv_term.specs.Key.{TermValue, Json, Fits, HasNoZero, coded_value, payload, term, json_term, value_cmp, IsTerm, IsJsonTerm, AppendsCoded}
+use Rattle.tv_term.specs.Key.{TermValue, Json, Fits, HasNoZero, coded, payload, term, json_term, value_cmp, IsTerm, IsJsonTerm, Appends}
 use Rattle.tv_term.proofs.Orders.{term-order, coded-order, number-order}
 use Rattle.tv_term.specs.Reading.{json_parts, json_path, value_of, ReadsText}
 use Rattle.tv_term.proofs.Written.{cut_behind_zero-path, json_path_read}
@@ -29,13 +29,13 @@ nat_cmp-same n = grind (arith, nat_tests)
 pub values-order : (one other : List ℕ) (f : ℕ) (a b : TermValue) → IsTerm one f a → IsTerm other f b → slice_cmp nat_cmp one other ≡ value_cmp a b
 values-order one other f a b p q = terms-order one other f f a b p q ∙ ap (λ o. ordering_then o (value_cmp a b)) (nat_cmp-same f)
 
-joined : (f : ℕ) (path : List ℕ) (value : TermValue) → json_term f path ++ coded_value value ≡ term f (Json path value)
-joined f path value = ap (λ rest. to_be_bytes w32 f ++ code tag.Json ∷ rest) (append_assoc path (0 ∷ []) (coded_value value))
+joined : (f : ℕ) (path : List ℕ) (value : TermValue) → json_term f path ++ coded value ≡ term f (Json path value)
+joined f path value = ap (λ rest. to_be_bytes w32 f ++ code tag.Json ∷ rest) (append_assoc path (0 ∷ []) (coded value))
 
 -- a value that is appended to a JSON term makes the term of the path and the value
-pub completed : (old new : List ℕ) (f : ℕ) (path : List ℕ) (value : TermValue) → IsJsonTerm old f path → AppendsCoded old new value → IsTerm new f (Json path value)
+pub completed : (old new : List ℕ) (f : ℕ) (path : List ℕ) (value : TermValue) → IsJsonTerm old f path → Appends old new value → IsTerm new f (Json path value)
 completed old new f path value p q = record {
-  bytes_are = q.bytes_are ∙ ap (λ bytes. bytes ++ coded_value value) p.bytes_are ∙ joined f path value;
+  bytes_are = q.bytes_are ∙ ap (λ bytes. bytes ++ coded value) p.bytes_are ∙ joined f path value;
   field_fits = p.field_fits;
   value_fits = (p.path_has_no_zero, q.value_fits);
 }
@@ -45,20 +45,20 @@ pub json-values-order : (one other : List ℕ) (f : ℕ) (path : List ℕ) (a b 
 json-values-order one other f path a b p q =
     values-order one other f (Json path a) (Json path b) p q ∙ ap (λ o. ordering_then o (value_cmp a b)) (tied_itself nat_list_cmp_total path)
 
-coded-is : (a : TermValue) (t : TypeTag) (n : ℕ) → StandsAs a t n → coded_value a ≡ code t ∷ to_be_bytes w64 n
+coded-is : (a : TermValue) (t : TypeTag) (n : ℕ) → StandsAs a t n → coded a ≡ code t ∷ to_be_bytes w64 n
 coded-is a t n p = ap (λ k. code k ∷ payload a) p.type_is ∙ ap (λ bytes. code t ∷ bytes) p.payload_is
 
 -- values of one type of eight bytes are ordered as their numbers
 pub fast-order : (a b : TermValue) (t : TypeTag) (m n : ℕ) → Fits a → Fits b → StandsAs a t m → StandsAs b t n → m < 2 ^ 64 → n < 2 ^ 64 → value_cmp a b ≡ nat_cmp m n
 fast-order a b t m n a_fits b_fits p q m_small n_small =
-    sym (coded-order a b a_fits b_fits) ∙ ap (λ bytes. slice_cmp nat_cmp bytes (coded_value b)) (coded-is a t m p)
+    sym (coded-order a b a_fits b_fits) ∙ ap (λ bytes. slice_cmp nat_cmp bytes (coded b)) (coded-is a t m p)
     ∙ ap (slice_cmp nat_cmp (code t ∷ to_be_bytes w64 m)) (coded-is b t n q)
     ∙ ap (λ o. ordering_then o (slice_cmp nat_cmp (to_be_bytes w64 m) (to_be_bytes w64 n))) (nat_cmp-same (code t))
     ∙ number-order 8 m n m_small n_small
 
 -- the path and the value of a JSON term
-pub json_parts-term : (bytes : List ℕ) (f : ℕ) (path : List ℕ) (value : TermValue) → IsTerm bytes f (Json path value) → json_parts (value_of bytes) ≡ Some (path ++ 0 ∷ [], coded_value value)
-json_parts-term bytes f path value p = ap (λ b. json_parts (value_of b)) p.bytes_are ∙ cut_behind_zero-path path (coded_value value) p.value_fits.0
+pub json_parts-term : (bytes : List ℕ) (f : ℕ) (path : List ℕ) (value : TermValue) → IsTerm bytes f (Json path value) → json_parts (value_of bytes) ≡ Some (path ++ 0 ∷ [], coded value)
+json_parts-term bytes f path value p = ap (λ b. json_parts (value_of b)) p.bytes_are ∙ cut_behind_zero-path path (coded value) p.value_fits.0
 
 pub json_path-term : (bytes : List ℕ) (f : ℕ) (path : List ℕ) (value : TermValue) → IsTerm bytes f (Json path value) → json_path (value_of bytes) ≡ Some path
 json_path-term bytes f path value p = ap (λ b. json_path (value_of b)) p.bytes_are ∙ json_path_read path value p.value_fits.0

@@ -10,7 +10,7 @@ use Rattle.std.specs.declared.ops.Bound.TheVariants.{Included, Excluded, Unbound
 use Rattle.tv_base.specs.Sink.{IsPrefix}
 use Rattle.tv_options.specs.Types.{code}
 use Rattle.tv_options.specs.declared.types.TypeTag.{TypeTag}
-use Rattle.tv_term.specs.Key.{TermValue, payload, term, tag_of, IsTerm}
+use Rattle.tv_term.specs.Key.{TermValue, payload, term, type_of, IsTerm}
 use Rattle.tv_term.specs.Range.{EndsPrefix, HasTerms, IsFrom, IsBelow, IsFromBound, IsToBound, IsBetween, IsTypedTerm, IsBehindTerm, StartsAt, EndsAt, typed_start}
 use Rattle.tv_term.specs.declared.range.TermRange.{TermRange}
 use Rattle.tv_term.proofs.Terms.{values-order}
@@ -82,7 +82,7 @@ start-small id t Unbounded start s = s.1
 pub between : (range : TermRange) (id : ℕ) (t : TypeTag) (lo hi : Bound TermValue) → StartsAt id t lo range.start.items → EndsAt id t hi range.end → HasTerms (IsBetween id t lo hi) range
 between range id t lo hi s e bytes f value are is =
     let small = start-small id t lo range.start.items s in
-    let typed : IsPrefix (typed_start id t) (term f value) → (f ≡ id) × (tag_of value ≡ t) = λ p. let b = (term-prefix id f t [] value small is.field_fits).0 p in (b.0, b.1) in
+    let typed : IsPrefix (typed_start id t) (term f value) → (f ≡ id) × (type_of value ≡ t) = λ p. let b = (term-prefix id f t [] value small is.field_fits).0 p in (b.0, b.1) in
     let unlimited : EndsPrefix (typed_start id t) range.end → IsFrom (typed_start id t) bytes → IsBelow range.end bytes → IsPrefix (typed_start id t) bytes = λ ends from under. (ends bytes are).0 (from, under) in (
       (λ i. let p = end-within id t hi range.end bytes unlimited e (start-from id t lo range.start.items bytes s i.0) i.1 in
           let of = typed (p.0, sym is.bytes_are ∙ p.1) in

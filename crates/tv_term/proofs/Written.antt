@@ -16,7 +16,7 @@ use Rattle.tv_base.proofs.JsonPaths.{joined_path-is, and_false}
 use Rattle.tv_options.specs.Types.{code, type_of_code}
 use Rattle.tv_options.specs.declared.types.TypeTag.{TypeTag}
 use Rattle.tv_options.specs.declared.types.TypeTag.TheVariants as tag
-use Rattle.tv_term.specs.Key.{TermValue, Json, coded_value, tag_of, from_least, truth_number, HasNoZero}
+use Rattle.tv_term.specs.Key.{TermValue, Json, coded, type_of, from_least, truth_number, HasNoZero}
 use Rattle.tv_term.specs.Reading.{number_of_eight, signed_at, is_true, cut_behind_zero, type_at, json_type, json_path}
 use Rattle.tv_term.specs.FastValueLaws.{from_least-fits, signed_at-from_least, truth_number-fits, is_true-truth_number}
 
@@ -124,15 +124,15 @@ type_of_code-code tag.Bytes = refl
 type_of_code-code tag.Json = refl
 type_of_code-code tag.IpAddr = refl
 
-pub json_type_read : (path : List ℕ) (value : TermValue) → HasNoZero path → json_type (coded_value (Json path value)) ≡ Some (tag_of value)
+pub json_type_read : (path : List ℕ) (value : TermValue) → HasNoZero path → json_type (coded (Json path value)) ≡ Some (type_of value)
 json_type_read path value h =
-    ap (option_and_then (λ parts. type_at parts.1)) (cut_behind_zero-path path (coded_value value) h) ∙ type_of_code-code (tag_of value)
+    ap (option_and_then (λ parts. type_at parts.1)) (cut_behind_zero-path path (coded value) h) ∙ type_of_code-code (type_of value)
 
 json_prefix : (path : List ℕ) → take (length (path ++ 0 ∷ []) - 1) (path ++ 0 ∷ []) ≡ path
 json_prefix path =
     let shorter : length (path ++ 0 ∷ []) - 1 ≡ length path = omega (arith, length-append path (0 ∷ [])) in
     rw shorter (take-append_seam path (0 ∷ []))
 
-pub json_path_read : (path : List ℕ) (value : TermValue) → HasNoZero path → json_path (coded_value (Json path value)) ≡ Some path
+pub json_path_read : (path : List ℕ) (value : TermValue) → HasNoZero path → json_path (coded (Json path value)) ≡ Some path
 json_path_read path value h =
-    ap (option_map (λ parts. take (length parts.0 - 1) parts.0)) (cut_behind_zero-path path (coded_value value) h) ∙ ap Some (json_prefix path)
+    ap (option_map (λ parts. take (length parts.0 - 1) parts.0)) (cut_behind_zero-path path (coded value) h) ∙ ap Some (json_prefix path)

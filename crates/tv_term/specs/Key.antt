@@ -24,20 +24,20 @@ pub data TermValue : Type 0 where
   Address : ℕ → TermValue
   Json : List ℕ → TermValue → TermValue
 
-abbrev pub tag_of : TermValue → TypeTag
-tag_of (Text bytes) = tag.Str
-tag_of (Unsigned n) = tag.U64
-tag_of (Signed z) = tag.I64
-tag_of (Truth b) = tag.Bool
-tag_of (Date z) = tag.Date
-tag_of (Facet bytes) = tag.Facet
-tag_of (Bytes bytes) = tag.Bytes
-tag_of (Address n) = tag.IpAddr
-tag_of (Json path value) = tag.Json
+abbrev pub type_of : TermValue → TypeTag
+type_of (Text bytes) = tag.Str
+type_of (Unsigned n) = tag.U64
+type_of (Signed z) = tag.I64
+type_of (Truth b) = tag.Bool
+type_of (Date z) = tag.Date
+type_of (Facet bytes) = tag.Facet
+type_of (Bytes bytes) = tag.Bytes
+type_of (Address n) = tag.IpAddr
+type_of (Json path value) = tag.Json
 
 -- the letter of the value's type
 abbrev pub value_code : TermValue → ℕ
-value_code value = code (tag_of value)
+value_code value = code (type_of value)
 
 -- a signed number of 64 bits, counted from the least one
 abbrev pub from_least : ℤ → ℕ
@@ -91,12 +91,12 @@ value_cmp (Json p a) (Json q b) = ordering_then (slice_cmp nat_cmp p q) (value_c
 value_cmp a b = nat_cmp (value_code a) (value_code b)
 
 -- the bytes of a value
-abbrev pub coded_value : TermValue → List ℕ
-coded_value value = value_code value ∷ payload value
+abbrev pub coded : TermValue → List ℕ
+coded value = value_code value ∷ payload value
 
 -- the bytes of a term
 abbrev pub term : ℕ → TermValue → List ℕ
-term field value = to_be_bytes w32 field ++ coded_value value
+term field value = to_be_bytes w32 field ++ coded value
 
 -- the bytes of a term of a JSON field before a value is appended: the joined path, and the zero that ends it
 abbrev pub json_term : ℕ → List ℕ → List ℕ
@@ -116,6 +116,6 @@ pub record IsJsonTerm (bytes : List ℕ) (field : ℕ) (path : List ℕ) : Type 
   pub path_has_no_zero : HasNoZero path
 
 -- the value, which is within its width, was appended
-pub record AppendsCoded (old new : List ℕ) (value : TermValue) : Type 0 where
-  pub bytes_are : new ≡ old ++ coded_value value
+pub record Appends (old new : List ℕ) (value : TermValue) : Type 0 where
+  pub bytes_are : new ≡ old ++ coded value
   pub value_fits : Fits value

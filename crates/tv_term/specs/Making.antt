@@ -26,7 +26,7 @@ use Rattle.std.specs.declared.alloc.Global.{Global}
 use Rattle.tv_base.specs.JsonPath.{joined_path}
 use Rattle.tv_date.specs.DateTime.{truncated}
 use Rattle.tv_date.specs.declared.date_time.DateTimePrecision.TheVariants.{Seconds}
-use Rattle.tv_term.specs.Key.{TermValue, Date, Json, HasNoZero, IsTerm, IsJsonTerm, AppendsCoded}
+use Rattle.tv_term.specs.Key.{TermValue, Date, Json, HasNoZero, IsTerm, IsJsonTerm, Appends}
 use Rattle.tv_term.specs.Range.{HasTerms, IsAtPath}
 use Rattle.tv_term.specs.Segments.{HaveNoZero, joined_segments}
 use Rattle.tv_term.specs.declared.range.TermRange.{TermRange}
@@ -68,7 +68,7 @@ abbrev pub indexed_date : ℤ → TermValue
 indexed_date nanoseconds = Date (truncated Seconds nanoseconds)
 
 pub record AppendsValue {E : Type 0} (old new : List ℕ) (value : TermValue) (result : Result (Unit {0}) E) : Type 0 where
-  pub appended : OnOk result (AppendsCoded old new value)
+  pub appended : OnOk result (Appends old new value)
   pub has_term : OnOk result (new ≢ [])
   pub unchanged : OnErr result (new ≡ old)
 

@@ -20,8 +20,8 @@ printed_or_nothing print None = Some []
 printed_or_nothing print (Some found) = print found
 
 -- the bytes, if they are a text
-abbrev pub text_if_utf8 : List ℕ → Option (List ℕ)
-text_if_utf8 bytes = if is_utf8 bytes then Some bytes else None
+abbrev pub text_in : List ℕ → Option (List ℕ)
+text_in bytes = if is_utf8 bytes then Some bytes else None
 
 -- a truth value
 abbrev pub truth_printed : Bool → Option (List ℕ)
@@ -29,12 +29,12 @@ truth_printed truth = Some (if truth then codes "true" else codes "false")
 
 -- The value that the bytes of this type are, and nothing where they are none. How a text is printed that isn't ASCII is not said.
 abbrev pub value_printed : Option TypeTag → List ℕ → Option (List ℕ)
-value_printed (Some tag.Str) bytes = printed_or_nothing debug_str (option_and_then text_if_utf8 (payload_of tag.Str bytes))
+value_printed (Some tag.Str) bytes = printed_or_nothing debug_str (option_and_then text_in (payload_of tag.Str bytes))
 value_printed (Some tag.U64) bytes = printed_or_nothing (λ n. Some (decimal n)) (number_of tag.U64 bytes)
 value_printed (Some tag.I64) bytes = printed_or_nothing (λ z. Some (signed_decimal z)) (option_map signed_at (number_of tag.I64 bytes))
 value_printed (Some tag.Bool) bytes = printed_or_nothing truth_printed (option_map is_true (number_of tag.Bool bytes))
 value_printed (Some tag.Date) bytes = printed_or_nothing (λ z. Some (moment_text z)) (option_map signed_at (number_of tag.Date bytes))
-value_printed (Some tag.Facet) bytes = printed_or_nothing (λ text. Some (debug_printed text)) (option_and_then text_if_utf8 (payload_of tag.Facet bytes))
+value_printed (Some tag.Facet) bytes = printed_or_nothing (λ text. Some (debug_printed text)) (option_and_then text_in (payload_of tag.Facet bytes))
 value_printed (Some tag.Bytes) bytes = printed_or_nothing (debug_list (λ b. Some (decimal b))) (payload_of tag.Bytes bytes)
 value_printed (Some tag.IpAddr) bytes =
     printed_or_nothing (λ segments. Some (ipv6_text segments)) (option_map (λ n. segments_of (to_be_bytes w128 n)) (address_of bytes))
@@ -68,5 +68,5 @@ term_printed bytes =
     let value = value_of bytes in
     Some (codes "Term(field=" ++ decimal (field_of bytes) ++ codes ", ")
     ++? Some (type_printed (type_at value) (slice_index value 0))
-    ++? content_printed (option_and_then text_if_utf8 (json_path value)) value
+    ++? content_printed (option_and_then text_in (json_path value)) value
     ++? Some (codes ")")

@@ -11,7 +11,7 @@ use Rattle.tv_base.specs.Source.{AllBytes}
 use Rattle.std.specs.Int.{to_be_bytes, w32}
 use Rattle.tv_options.specs.Types.{code}
 use Rattle.tv_options.specs.declared.types.TypeTag.{TypeTag}
-use Rattle.tv_term.specs.Key.{TermValue, Text, Facet, Json, IsTerm, tag_of, payload, value_cmp}
+use Rattle.tv_term.specs.Key.{TermValue, Text, Facet, Json, IsTerm, type_of, payload, value_cmp}
 use Rattle.tv_term.specs.declared.range.TermRange.{TermRange}
 
 -- the bytes are those of the start, or above them
@@ -23,15 +23,15 @@ abbrev pub IsBelow : Option (Vec ℕ) → List ℕ → Type 0
 IsBelow None bytes = Unit {0}
 IsBelow (Some end) bytes = IsTrue (is_lt (slice_cmp nat_cmp bytes end.items))
 
-abbrev pub IsInRange : List ℕ → Option (Vec ℕ) → List ℕ → Type 0
-IsInRange start end bytes = IsFrom start bytes × IsBelow end bytes
+abbrev pub IsWithin : List ℕ → Option (Vec ℕ) → List ℕ → Type 0
+IsWithin start end bytes = IsFrom start bytes × IsBelow end bytes
 
 -- of all byte strings just those that begin with these are not below them and below the end
 abbrev pub EndsPrefix : List ℕ → Option (Vec ℕ) → Type 0
-EndsPrefix prefix end = (bytes : List ℕ) → AllBytes bytes → IsInRange prefix end bytes ↔ IsPrefix prefix bytes
+EndsPrefix prefix end = (bytes : List ℕ) → AllBytes bytes → IsWithin prefix end bytes ↔ IsPrefix prefix bytes
 
 abbrev pub IsIn : TermRange → List ℕ → Type 0
-IsIn range bytes = IsInRange range.start.items range.end bytes
+IsIn range bytes = IsWithin range.start.items range.end bytes
 
 -- of all byte strings just those that begin with these are in the range
 abbrev pub HasPrefixed : List ℕ → TermRange → Type 0
@@ -53,11 +53,11 @@ IsOfField id field value = field ≡ id
 
 -- of this field, whose value is of this type
 abbrev pub IsOfType : ℕ → TypeTag → ℕ → TermValue → Type 0
-IsOfType id type_tag field value = (field ≡ id) × (tag_of value ≡ type_tag)
+IsOfType id type_tag field value = (field ≡ id) × (type_of value ≡ type_tag)
 
 -- the same, and the value's payload begins with these bytes
-abbrev pub HasPayloadPrefix : ℕ → TypeTag → List ℕ → ℕ → TermValue → Type 0
-HasPayloadPrefix id type_tag prefix field value = (field ≡ id) × (tag_of value ≡ type_tag) × IsPrefix prefix (payload value)
+abbrev pub BeginsWith : ℕ → TypeTag → List ℕ → ℕ → TermValue → Type 0
+BeginsWith id type_tag prefix field value = (field ≡ id) × (type_of value ≡ type_tag) × IsPrefix prefix (payload value)
 
 -- of this field, whose value is a text that begins with this one
 abbrev pub HasTextPrefix : ℕ → List ℕ → ℕ → TermValue → Type 0
@@ -85,13 +85,13 @@ IsToBound Unbounded value = Unit {0}
 
 -- of this field, whose value is of this type and within both bounds
 abbrev pub IsBetween : ℕ → TypeTag → Bound TermValue → Bound TermValue → ℕ → TermValue → Type 0
-IsBetween id type_tag start end field value = (field ≡ id) × (tag_of value ≡ type_tag) × IsFromBound start value × IsToBound end value
+IsBetween id type_tag start end field value = (field ≡ id) × (type_of value ≡ type_tag) × IsFromBound start value × IsToBound end value
 
 -- ---- the bytes of bounds, for private clauses
 
 -- the bytes of the term of a value of this type
 abbrev pub IsTypedTerm : ℕ → TypeTag → TermValue → List ℕ → Type 0
-IsTypedTerm id type_tag value bytes = IsTerm bytes id value × (tag_of value ≡ type_tag)
+IsTypedTerm id type_tag value bytes = IsTerm bytes id value × (type_of value ≡ type_tag)
 
 -- the same, with a zero behind them
 abbrev pub IsBehindTerm : ℕ → TypeTag → TermValue → List ℕ → Type 0

@@ -13,9 +13,9 @@ ghost use Rattle.tv_base.specs.JsonPath.{joined_path};
 ghost use Rattle.tv_options.specs.declared.types.TypeTag.TheVariants as tag;
 ghost use Rattle.tv_term.specs.FastValue.{IsFastType};
 ghost use Rattle.tv_term.specs.Key.{TermValue, Text, Unsigned, Signed, Truth, Date, Facet, Bytes};
-ghost use Rattle.tv_term.specs.Key.{Address, Json, Fits, HasNoZero, IsTerm, IsJsonTerm, AppendsCoded};
+ghost use Rattle.tv_term.specs.Key.{Address, Json, Fits, HasNoZero, IsTerm, IsJsonTerm, Appends};
 ghost use Rattle.tv_term.specs.Making.{GivesExactly, GivesAtPath, GivesTermAtPath, GivesTextAtPath};
-ghost use Rattle.tv_term.specs.Key.{tag_of, coded_value, term, value_cmp};
+ghost use Rattle.tv_term.specs.Key.{type_of, coded, term, value_cmp};
 ghost use Rattle.tv_term.specs.Reading.{unsigned_of, signed_of, truth_of, date_of, bytes_of};
 ghost use Rattle.tv_term.specs.Reading.{address_of, payload_of};
 ghost use Rattle.tv_term.specs.Reading.{json_parts, json_type, json_path};
@@ -168,7 +168,7 @@ fn text_behind_path(term: &Term) -> Option<&str>
 // The value behind the path of a JSON term.
 fn value_behind_path(term: &Term) -> Option<ValueBytes<'_>>
     ensures { (f : ℕ) (path : List ℕ) (value : TermValue) → IsTerm term.now f (Json path value) →
-        option_map (λ found. found.serialized.now) result ≡ Some (coded_value value) }
+        option_map (λ found. found.serialized.now) result ≡ Some (coded value) }
 {
     let (_, value) = term.value().as_json()?;
     ValueBytes::wrap(value).ok()
@@ -224,7 +224,7 @@ pub fn comparisons_of_terms_agree()
 /// What a term of a JSON path becomes by an appended value is the term of the path and the value.
 pub fn appended_values_complete_json_terms()
     ensures { (old new : List ℕ) (f : ℕ) (path : List ℕ) (value : TermValue) → IsJsonTerm old f path
-        → AppendsCoded old new value → IsTerm new f (Json path value) }
+        → Appends old new value → IsTerm new f (Json path value) }
 {}
 
 /// A path is joined without U+0000 exactly where it has none: no backslash takes one away.
@@ -236,22 +236,22 @@ pub fn joined_paths_have_no_zero()
 /// What the readers of value bytes return for the bytes of a value of their type is that value. The path of a value of a JSON
 /// field has no U+0000 by its definition.
 pub fn written_values_are_read()
-    ensures unsigned { (n : ℕ) → n < 2 ^ 64 → unsigned_of (coded_value (Unsigned n)) ≡ Some n }
-    ensures signed { (z : ℤ) → FitsSigned w64 z → signed_of (coded_value (Signed z)) ≡ Some z }
-    ensures truth { (b : Bool) → truth_of (coded_value (Truth b)) ≡ Some b }
-    ensures date { (z : ℤ) → FitsSigned w64 z → date_of (coded_value (Date z)) ≡ Some z }
-    ensures text { (text : List ℕ) → payload_of tag.Str (coded_value (Text text)) ≡ Some text }
+    ensures unsigned { (n : ℕ) → n < 2 ^ 64 → unsigned_of (coded (Unsigned n)) ≡ Some n }
+    ensures signed { (z : ℤ) → FitsSigned w64 z → signed_of (coded (Signed z)) ≡ Some z }
+    ensures truth { (b : Bool) → truth_of (coded (Truth b)) ≡ Some b }
+    ensures date { (z : ℤ) → FitsSigned w64 z → date_of (coded (Date z)) ≡ Some z }
+    ensures text { (text : List ℕ) → payload_of tag.Str (coded (Text text)) ≡ Some text }
     ensures facet { (encoded : List ℕ)
-        → payload_of tag.Facet (coded_value (Facet encoded)) ≡ Some encoded }
-    ensures bytes { (bytes : List ℕ) → bytes_of (coded_value (Bytes bytes)) ≡ Some bytes }
+        → payload_of tag.Facet (coded (Facet encoded)) ≡ Some encoded }
+    ensures bytes { (bytes : List ℕ) → bytes_of (coded (Bytes bytes)) ≡ Some bytes }
     ensures address { (a : Ipv6Addr) → IsIpv6Addr a
         → option_map (λ n. segments_of (to_be_bytes w128 n))
-        (address_of (coded_value (Address (ipv6_bits a))))
+        (address_of (coded (Address (ipv6_bits a))))
         ≡ Some (ipv6_segments a) }
     ensures json { (path : List ℕ) (value : TermValue) → HasNoZero path
-        → json_parts (coded_value (Json path value)) ≡ Some (path ++ 0 ∷ [], coded_value value) }
+        → json_parts (coded (Json path value)) ≡ Some (path ++ 0 ∷ [], coded value) }
     ensures json_type { (path : List ℕ) (value : TermValue) → HasNoZero path
-        → json_type (coded_value (Json path value)) ≡ Some (tag_of value) }
+        → json_type (coded (Json path value)) ≡ Some (type_of value) }
     ensures json_path { (path : List ℕ) (value : TermValue) → HasNoZero path
-        → json_path (coded_value (Json path value)) ≡ Some path }
+        → json_path (coded (Json path value)) ≡ Some path }
 {}

@@ -3,7 +3,7 @@
 ghost use Rattle.std.specs.Prelude.{◌≡◌, ◌↔◌, ◌≤◌, ◌<◌, ◌+◌, ℕ, IsTrue, IfOk, length, option_map};
 ghost use Rattle.std.specs.Prelude.{slice_index};
 ghost use Rattle.tv_term.specs.Making.{GivesPathRange, GivesRange, GivesRangeIf};
-ghost use Rattle.tv_term.specs.Range.{EndsPrefix, HasPrefixed, HasTerms, IsIn, HasPayloadPrefix};
+ghost use Rattle.tv_term.specs.Range.{EndsPrefix, HasPrefixed, HasTerms, IsIn, BeginsWith};
 ghost use Rattle.tv_term.specs.Range.{IsOfField, IsOfType, HasTextPrefix, IsBelowFacet, HasLonger};
 ghost use Rattle.tv_term.specs.Range.{IsBetween, IsTypedTerm, IsBehindTerm, StartsAt, EndsAt};
 ghost use Rattle.std.specs.Range.Bound.{bound_map};
@@ -82,7 +82,7 @@ impl TermRange {
         value_type: Type,
         payload: &[u8],
     ) -> Result<TermRange, AllocError>
-        ensures { IfOk result (HasTerms (HasPayloadPrefix field.id value_type payload.now)) }
+        ensures { IfOk result (HasTerms (BeginsWith field.id value_type payload.now)) }
     {
         let least = Term::from_payload(alloc, field, value_type, payload)?;
         TermRange::of_prefix(alloc, least.serialized_term())

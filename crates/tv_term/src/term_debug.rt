@@ -7,7 +7,7 @@ ghost use Rattle.std.specs.Net.Text.{ipv6_text};
 ghost use Rattle.std.specs.Option.{option_and_then, option_copied};
 ghost use Rattle.tv_base.specs.Facet.{debug_printed};
 ghost use Rattle.tv_term.specs.Printed.{content_printed, path_printed, printed_or_nothing};
-ghost use Rattle.tv_term.specs.Printed.{term_printed, text_if_utf8, type_printed};
+ghost use Rattle.tv_term.specs.Printed.{term_printed, text_in, type_printed};
 ghost use Rattle.tv_term.specs.Printed.{typed_printed, value_printed};
 ghost use Rattle.tv_term.specs.Reading.{json_parts, json_path, type_at, value_behind};
 
@@ -50,7 +50,7 @@ fn print_type<W: fmt::Write>(value: ValueBytes<'_>, f: &mut fmt::Formatter<W>) -
 fn print_content<W: fmt::Write>(value: ValueBytes<'_>, f: &mut fmt::Formatter<W>) -> fmt::Result
     ensures { let bytes = value.entry.serialized.now in
         DisplaysOnOk W.write_str_gives f.old result
-        (content_printed (option_and_then text_if_utf8 (json_path bytes)) bytes) f.new }
+        (content_printed (option_and_then text_in (json_path bytes)) bytes) f.new }
 {
     match value.json_path() {
         Some(path) => print_value_at(path, value, f),

@@ -17,7 +17,7 @@ use Rattle.tv_value.specs.declared.owned_value.OwnedValue.{OwnedValue}
 use Rattle.tv_format.proofs.Trees.{one_tree}
 use Rattle.tv_reader.specs.Finds.{GivesStop, Found}
 use Rattle.tv_reader.specs.Trees.{EncodesBehind}
-use Rattle.tv_reader.specs.ValueType.{leaf_type as held_type, IsCoded, type_prefix, no_code, no_extension_code}
+use Rattle.tv_reader.specs.ValueType.{leaf_type as held_type, IsCoded, coded, no_code, no_extension_code}
 use Rattle.tv_reader.specs.Version.{version_of}
 use Rattle.tv_reader.specs.Error.{StoreMayStop}
 use Rattle.tv_reader.specs.declared.error.DeserializeError.{DeserializeError}
@@ -26,9 +26,9 @@ use Rattle.tv_reader.specs.declared.value_type.ValueType.{ValueType}
 use Rattle.tv_reader.proofs.BehindKinds.{kind_edge}
 use Rattle.tv_reader.proofs.Finding.{found_behind, stop_map}
 use Rattle.tv_typed.specs.Typed.{typed_stop, ReadsIf, DeserializesBy}
-use Rattle.tv_typed.specs.Excluding.{type_of_leaf, leaf_excludes, tree_excludes, next_excludes}
+use Rattle.tv_typed.specs.Excluding.{leaf_type, leaf_excludes, tree_excludes, next_excludes}
 use Rattle.tv_typed.specs.Excluding.{with_legacy}
-use Rattle.tv_typed.specs.Values.{EncodesAs, EncodedAs, IsFixed, ReadsLeafBy, IsLeafOf, IsTree, EncodesLeaf, LeafRefused, TreeRefused, CodeRefused, in_code, NextRefused, RefusalsExclude, SparesBytes, IsReadOf, OnlyBy}
+use Rattle.tv_typed.specs.Values.{EncodesAs, EncodedAs, IsFixed, ReadsLeafBy, IsLeaf, IsTree, EncodesLeaf, LeafRefused, TreeRefused, CodeRefused, in_code, NextRefused, RefusalsExclude, SparesBytes, IsReadOf, OnlyBy}
 use Rattle.tv_typed.specs.declared.store_reader.StoreReader.{StoreReader}
 
 abbrev pub end : DeserializeError
@@ -210,8 +210,8 @@ only_by {left = left} {old = old} {new = new} {result = result} is v code Q excl
 
 -- a leaf behind the code of its type
 pub leaf_deserializes : {S X : Type 0} {is_known : S → Type 0} {left : S → List ℕ} {failures : S → Failures} {old new : StoreReader S} {result : Result X DeserializeError} {Q : List ℕ → DeserializeError → Type 0} (make : X → Leaf) (v : Version) (kind : ValueType)
-    → ReadsIf StoreMayStop is_known left failures old new result (EncodesLeaf v kind make) Q → DeserializesBy is_known left failures old new result (EncodedAs (IsLeafOf make) v kind) Q
-leaf_deserializes make v kind h = deserializes (EncodedAs (IsLeafOf make) v kind) (λ b x p. (leaf (make x), p, refl)) h
+    → ReadsIf StoreMayStop is_known left failures old new result (EncodesLeaf v kind make) Q → DeserializesBy is_known left failures old new result (EncodedAs (IsLeaf make) v kind) Q
+leaf_deserializes make v kind h = deserializes (EncodedAs (IsLeaf make) v kind) (λ b x p. (leaf (make x), p, refl)) h
 
 closed_calm : {X : Type 0} (result : Result X DeserializeError) → IsErrOf result errors.AlreadyFailed → IsErrOf result errors.TooDeep → ⊥
 closed_calm result is deep = let same = sym is ∙ deep in absurd cc
@@ -227,13 +227,13 @@ pub reads_calm : {S X : Type 0} {is_known : S → Type 0} {left : S → List ℕ
 reads_calm {result = result} true failed h = closed_calm result (h.closed failed).0
 reads_calm {new = new} {result = result} false is_open h = may_calm result new.count (h.finds is_open).may_stop
 
-pub reads_leaf : {S X : Type 0} {is_known : S → Type 0} {left : S → List ℕ} {failures : S → Failures} {old new : StoreReader S} {result : Result X DeserializeError} (expected : ValueType) (make : X → Leaf) → ((x : X) → type_of_leaf (make x) ≡ expected) → (kind : ValueType)
+pub reads_leaf : {S X : Type 0} {is_known : S → Type 0} {left : S → List ℕ} {failures : S → Failures} {old new : StoreReader S} {result : Result X DeserializeError} (expected : ValueType) (make : X → Leaf) → ((x : X) → leaf_type (make x) ≡ expected) → (kind : ValueType)
     → ReadsIf StoreMayStop is_known left failures old new result (EncodesLeaf (version_of old.version) kind make) (LeafRefused expected (version_of old.version) kind) → (IsFixed (held_type expected) → ¬ IsErrOf result errors.Memory)
     → ReadsLeafBy is_known left failures expected make kind old new result
 reads_leaf {old = old} expected make typed kind h spares =
     let v = version_of old.version in
     let as_type = leaf_deserializes make v kind h in
-    record { reads = h; only = only_by (IsLeafOf make) v (type_prefix kind) (LeafRefused expected v kind) (leaf_excludes expected make typed v kind) as_type; deserializes = as_type; spares = spares; roomy = reads_calm _ refl h }
+    record { reads = h; only = only_by (IsLeaf make) v (coded kind) (LeafRefused expected v kind) (leaf_excludes expected make typed v kind) as_type; deserializes = as_type; spares = spares; roomy = reads_calm _ refl h }
 
 -- a value of any type behind its code
 pub tree_deserializes : {May : DeserializeError → ℕ → Type 0} {S : Type 0} {is_known : S → Type 0} {left : S → List ℕ} {failures : S → Failures} {old new : StoreReader S} {result : Result OwnedValue DeserializeError} {Q : List ℕ → DeserializeError → Type 0} (v : Version) (kind : ValueType)
@@ -241,8 +241,8 @@ pub tree_deserializes : {May : DeserializeError → ℕ → Type 0} {S : Type 0}
 tree_deserializes v kind h = deserializes (EncodedAs IsTree v kind) (λ b x p. (owned_tree x, p, refl)) h
 
 pub tree_only : {May : DeserializeError → ℕ → Type 0} {S : Type 0} {is_known : S → Type 0} {left : S → List ℕ} {failures : S → Failures} {old new : StoreReader S} {result : Result OwnedValue DeserializeError} (v : Version) (kind : ValueType)
-    → ReadsIf May is_known left failures old new result (EncodesBehind v kind) (TreeRefused v kind) → OnlyBy is_known left old new result IsTree v (type_prefix kind)
-tree_only v kind h = only_by IsTree v (type_prefix kind) (TreeRefused v kind) (tree_excludes IsTree v kind) (tree_deserializes v kind h)
+    → ReadsIf May is_known left failures old new result (EncodesBehind v kind) (TreeRefused v kind) → OnlyBy is_known left old new result IsTree v (coded kind)
+tree_only v kind h = only_by IsTree v (coded kind) (TreeRefused v kind) (tree_excludes IsTree v kind) (tree_deserializes v kind h)
 
 -- the next value
 pub next_code_fails : {S X : Type 0} {is_known : S → Type 0} {left : S → List ℕ} {failures : S → Failures} {old new : StoreReader S} {e : DeserializeError} (is : Tree → X → Type 0) (refused : Version → ValueType → List ℕ → DeserializeError → Type 0) (v : Version)

@@ -30,12 +30,12 @@ use Rattle.tv_reader.specs.Error.{StoreMayStopRoomy, StoreMayStop}
 -- ---- fields
 
 field_found : {S : Type 0} {is_known : S → Type 0} {left : S → List ℕ} {failures : S → Failures} {old new : S} {i k : ℕ} (result : Result ℕ DeserializeError) → ((source : S) → is_known source → AllBytes (left source))
-    → stores.StoreTakesIf stores.StoreMayStopLean is_known left failures old i new k (λ x. x) result field_at → FindsIf StoreMayStopRoomy is_known left failures old i new k result (Fixed 4) (Corrupt (ErrorInBytes 4))
+    → stores.TakesIf stores.StoreMayStopLean is_known left failures old i new k (λ x. x) result field_at → FindsIf StoreMayStopRoomy is_known left failures old i new k result (Fixed 4) (Corrupt (ErrorInBytes 4))
 field_found (Ok x) are_bytes h = finds_as x (Fixed 4) (Corrupt (ErrorInBytes 4)) (λ a p. p) (finds_read are_bytes field_agrees h)
 field_found (Err e) are_bytes h = finds_any (λ e n may. may.0) (finds_read_fails (Fixed 4) (Corrupt (ErrorInBytes 4)) are_bytes field_agrees (λ w r f. f) h)
 
 pub field_reads : {S : Type 0} {is_known : S → Type 0} {left : S → List ℕ} {failures : S → Failures} {s : S} {k : ℕ} (old new : StoreReader S) (result : Result ℕ DeserializeError) → ((source : S) → is_known source → AllBytes (left source))
-    → old.has_failed ≡ false → stores.StoreTakesIf stores.StoreMayStopLean is_known left failures old.source old.count s k (λ x. x) result field_at → new.source ≡ s → new.count ≡ k → new.version ≡ old.version → new.levels ≡ old.levels → new.has_failed ≡ is_err result
+    → old.has_failed ≡ false → stores.TakesIf stores.StoreMayStopLean is_known left failures old.source old.count s k (λ x. x) result field_at → new.source ≡ s → new.count ≡ k → new.version ≡ old.version → new.levels ≡ old.levels → new.has_failed ≡ is_err result
     → ReadsIf StoreMayStop is_known left failures old new result (Fixed 4) FieldEnds
 field_reads old new result are_bytes is_open h source count version levels marks = told_reads old new result (Fixed 4) (Corrupt (ErrorInBytes 4)) is_open (field_found result are_bytes h) source count version levels marks
 

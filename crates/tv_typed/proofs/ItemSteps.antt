@@ -14,7 +14,7 @@ use Rattle.tv_format.specs.Tree.{Tree, array, object, elements, element_count, e
 use Rattle.tv_format.specs.Version.{Version, entry_total}
 use Rattle.tv_format.proofs.Prefixes.{each_push}
 use Rattle.tv_format.proofs.Lists.{elements-length, entries-length}
-use Rattle.tv_reader.specs.ValueType.{type_prefix}
+use Rattle.tv_reader.specs.ValueType.{coded}
 use Rattle.tv_reader.specs.Version.{version_of}
 use Rattle.tv_reader.specs.declared.error.DeserializeError.{DeserializeError}
 use Rattle.tv_reader.specs.declared.error.DeserializeError.TheVariants as errors
@@ -107,7 +107,7 @@ array_made is v kind a b n c r s =
     let q = trees_of is v b s.0 s.3 in
     let many : n ≡ element_count (elements q.0) = sym s.2 ∙ sym q.2 ∙ sym (elements-length q.0) in (
       array (elements q.0),
-      subst (λ k. Encodes Legacy v (type_prefix k ++ (a ++ b)) (array (elements q.0))) (sym r.0) (record { body = a ++ b; joined = refl; encoded = record { prefix = a; rest = b; joined = refl; first = subst (VNum a) many r.1; second = q.3 } }),
+      subst (λ k. Encodes Legacy v (coded k ++ (a ++ b)) (array (elements q.0))) (sym r.0) (record { body = a ++ b; joined = refl; encoded = record { prefix = a; rest = b; joined = refl; first = subst (VNum a) many r.1; second = q.3 } }),
       record { trees = q.0; whole = refl; each = subst (AllZip is q.0) (sym s.1) q.1 },
     )
 
@@ -146,7 +146,7 @@ object_made is made_of Made make v kind a b n c r s =
     let q = entries_of is v b s.0 s.3 in
     let many : n ≡ entry_count (entries q.0) = sym s.2 ∙ sym q.2 ∙ sym (entries-length q.0) in (
       object (entries q.0),
-      subst (λ k. Encodes Legacy v (type_prefix k ++ (a ++ b)) (object (entries q.0))) (sym r.0)
+      subst (λ k. Encodes Legacy v (coded k ++ (a ++ b)) (object (entries q.0))) (sym r.0)
           (inl (record { body = a ++ b; joined = refl; encoded = record { prefix = a; rest = b; joined = refl; first = subst (λ m. VNum a (entry_total v m)) many r.1; second = q.3 } })),
       make (object (entries q.0)) c s.0 s.1 (record { trees = q.0; whole = refl; each = q.1 }),
     )

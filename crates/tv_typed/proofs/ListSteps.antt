@@ -18,7 +18,7 @@ use Rattle.tv_reader.specs.Counts.{entry_count_at}
 use Rattle.tv_reader.specs.Error.{IsRefusal, is_corrupted, is_no_text, StoreMayStopRoomy, StoreMayStop}
 use Rattle.tv_reader.specs.Finds.{FindsIf}
 use Rattle.tv_reader.specs.Trees.{ErrorInEntryCount, in_count_number, odd_count_number}
-use Rattle.tv_reader.specs.ValueType.{type_prefix, ErrorInCode, no_code, unknown_type, float_type, no_extension_code, unknown_extension}
+use Rattle.tv_reader.specs.ValueType.{coded, ErrorInCode, no_code, unknown_type, float_type, no_extension_code, unknown_extension}
 use Rattle.tv_reader.specs.Version.{version_of}
 use Rattle.tv_reader.specs.declared.error.DeserializeError.{DeserializeError}
 use Rattle.tv_reader.specs.declared.error.DeserializeError.TheVariants as errors
@@ -84,8 +84,8 @@ code_ended e float_type = absurd (no_cons e)
 code_ended e no_extension_code = absurd (no_cons e)
 code_ended e (unknown_extension h) = absurd (no_cons e)
 
-coded_some : (kind : ValueType) (b : List ℕ) → [] ≡ type_prefix kind ++ b → ⊥
-coded_some kind b e = no_last b 1 (sym (same_coded kind types.U64 (b ++ 1 ∷ []) [] (sym (append_assoc (type_prefix kind) b (1 ∷ [])) ∙ ap (λ l. l ++ 1 ∷ []) (sym e))).1)
+coded_some : (kind : ValueType) (b : List ℕ) → [] ≡ coded kind ++ b → ⊥
+coded_some kind b e = no_last b 1 (sym (same_coded kind types.U64 (b ++ 1 ∷ []) [] (sym (append_assoc (coded kind) b (1 ∷ [])) ∙ ap (λ l. l ++ 1 ∷ []) (sym e))).1)
 
 -- where there are no bytes, their end is the refusal
 pub next_ended : (refused : Version → ValueType → List ℕ → DeserializeError → Type 0) (v : Version) (e : DeserializeError) → NextRefused refused v [] e → e ≡ end

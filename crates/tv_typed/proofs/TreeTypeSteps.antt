@@ -16,7 +16,7 @@ use Rattle.tv_legacy.proofs.EarlyTrees.{early_value}
 use Rattle.tv_reader.specs.Error.{is_corrupted}
 use Rattle.tv_reader.specs.Finds.{GivesStop}
 use Rattle.tv_reader.specs.Trees.{EncodesBehind, NoneBehind}
-use Rattle.tv_reader.specs.ValueType.{type_prefix}
+use Rattle.tv_reader.specs.ValueType.{coded}
 use Rattle.tv_reader.specs.declared.error.DeserializeError.{DeserializeError}
 use Rattle.tv_reader.specs.declared.value_type.ValueType.{ValueType}
 use Rattle.tv_typed.specs.TreeTypes.{TreeTypeRefused}
@@ -28,10 +28,10 @@ use Rattle.tv_value.specs.declared.owned_value.OwnedValue.{OwnedValue}
 use Rattle.tv_typed.proofs.DeserializeSteps.{end, deserializes, goes_then, goes_fails}
 
 -- without its last byte a value behind its code ends too early
-pub early_behind : (v : Version) (kind : ValueType) (t : Tree) (a start : List ℕ) (byte : ℕ) → Encodes Legacy v (type_prefix kind ++ a) t → a ≡ start ++ byte ∷ [] → NoneBehind v kind start (corrupted UnexpectedEnd)
+pub early_behind : (v : Version) (kind : ValueType) (t : Tree) (a start : List ℕ) (byte : ℕ) → Encodes Legacy v (coded kind ++ a) t → a ≡ start ++ byte ∷ [] → NoneBehind v kind start (corrupted UnexpectedEnd)
 early_behind v kind t a start byte p last =
-    (early_value Legacy ErrorInLegacy v early_legacy t).early (type_prefix kind ++ a) (type_prefix kind ++ start) (byte ∷ []) p
-    (ap (λ (l : List ℕ). type_prefix kind ++ l) last ∙ sym (append_assoc (type_prefix kind) start (byte ∷ []))) (λ none. absurd cc)
+    (early_value Legacy ErrorInLegacy v early_legacy t).early (coded kind ++ a) (coded kind ++ start) (byte ∷ []) p
+    (ap (λ (l : List ℕ). coded kind ++ l) last ∙ sym (append_assoc (coded kind) start (byte ∷ []))) (λ none. absurd cc)
 
 -- nothing more is taken
 refused_here : (Q : List ℕ → DeserializeError → Type 0) (e : DeserializeError) (left : List ℕ) (count : ℕ) (s : Stop DeserializeError) → s ≡ InputError e → e ≢ end → Q left e → Q [] e → GivesStop end Q left left count s
@@ -55,7 +55,7 @@ tree_type_refuses {X = X} {left = left} {failures = failures} {new = new} {tree 
     (λ a b x r s. absurd s)
     (λ a w c r f. inr (t, record { prefix = a; rest = w; joined = refl; first = r; second = f }))
     (λ a f r _ _ start byte last. inl (record { refusal = corrupted UnexpectedEnd; told = is_corrupted; error = early_behind v kind t a start byte r last }))
-    (deserializes (λ b x. Encodes Legacy v (type_prefix kind ++ b) (owned_tree x)) (λ b x q. q) p)
+    (deserializes (λ b x. Encodes Legacy v (coded kind ++ b) (owned_tree x)) (λ b x q. q) p)
     (record {
       closed = λ failed. absurd (both (sym p.marks ∙ failed));
       unmarked = tt;

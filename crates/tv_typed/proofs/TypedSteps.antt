@@ -19,11 +19,11 @@ use Rattle.tv_format.specs.Encoding.{Encodes}
 use Rattle.tv_format.specs.Tree.{Leaf, leaf}
 use Rattle.tv_format.specs.Version.{Version}
 use Rattle.tv_reader.specs.Error.{key_stop, store_stop, tree_stop, StoreMayStop, StoreMayStopRoomy, StoreMayStopDeep, IsRefusal, is_corrupted, is_no_text}
-use Rattle.tv_reader.specs.Finds.{ShowsRefusal, GivesStop, Found, FindsBy, FindsIf, FindsDeepBy}
+use Rattle.tv_reader.specs.Finds.{Refuses, GivesStop, Found, FindsBy, FindsIf, FindsDeepBy}
 use Rattle.tv_reader.specs.LeafBodies.{LeafOf, ErrorInLeafOf}
 use Rattle.tv_reader.specs.Leaves.{is_leaf_type}
 use Rattle.tv_reader.specs.Trees.{NoneBehind}
-use Rattle.tv_reader.specs.ValueType.{type_prefix}
+use Rattle.tv_reader.specs.ValueType.{coded}
 use Rattle.tv_typed.specs.Typed.{typed_stop, ReadsIf, raised, IsMismatch, failed_before, mismatched}
 use Rattle.tv_typed.specs.Values.{EncodesLeaf, LeafRefused, other_type, in_body, GivesError}
 use Rattle.tv_reader.specs.declared.error.DeserializeError.{DeserializeError}
@@ -150,7 +150,7 @@ pub leaf_reads : {S X Y : Type 0} {is_known : S → Type 0} {left : S → List �
     → ReadsIf StoreMayStop is_known left failures old new result (EncodesLeaf v kind make) (LeafRefused expected v kind)
 leaf_reads {is_known = is_known} {left = left} {failures = failures} {s = s} {k = k} {view = view} {answer = answer} {reading = reading} old mid new result v kind expected make are_bytes agrees join map is_leaf is is_open source count version levels part source_new count_new version_new levels_new marks told =
     reads_then old mid new result (EncodesLeaf v kind make) (LeafRefused expected v kind) are_bytes agrees
-    (λ a x p. subst (λ z. Encodes Legacy v (type_prefix z ++ a) (leaf (make x))) (sym is) (leaf_encoded v expected a (leaf (make x)) (join a x p)))
+    (λ a x p. subst (λ z. Encodes Legacy v (coded z ++ a) (leaf (make x))) (sym is) (leaf_encoded v expected a (leaf (make x)) (join a x p)))
     (λ w c f. in_body is (subst (λ z. NoneBehind v z w (corrupted c)) (sym is) (leaf_refused v expected is_leaf w c (map w c f))))
     is_open source count version levels part source_new count_new version_new levels_new marks told
 
@@ -173,7 +173,7 @@ told_shows e r old new told s = record {
     ended _ _ is_corrupted is = cc
     ended _ _ is_no_text is = cc
 
-told_refuses : {F : List ℕ → Refusal → Type 0} (e : DeserializeError) (r : Refusal) (old new : List ℕ) → IsRefusal e r → ShowsRefusal (corrupted UnexpectedEnd) F old new r → ShowsRefusal end (GivesError F) old new e
+told_refuses : {F : List ℕ → Refusal → Type 0} (e : DeserializeError) (r : Refusal) (old new : List ℕ) → IsRefusal e r → Refuses (corrupted UnexpectedEnd) F old new r → Refuses end (GivesError F) old new e
 told_refuses e r old new told h = record { stands = record { refusal = r; told = told; error = h.stands }; shows = told_shows e r old new told h.shows }
 
 -- bytes that end too early
@@ -181,7 +181,7 @@ told_early : {F : List ℕ → Refusal → Type 0} (old new : List ℕ) → Ends
 told_early old new h = record { taken = h.taken; joined = h.joined; shown = record { refusal = corrupted UnexpectedEnd; told = is_corrupted; error = h.shown } }
 
 mismatch_found : {F : List ℕ → Refusal → Type 0} (expected actual : ValueType) (old new : List ℕ) (count : ℕ) → GivesStop (corrupted UnexpectedEnd) F old new count (key_stop expected actual)
-    → ShowsRefusal end (GivesError F) old new (errors.TypeMismatch expected actual)
+    → Refuses end (GivesError F) old new (errors.TypeMismatch expected actual)
 mismatch_found types.String actual old new count h = told_refuses _ _ old new is_no_text h
 mismatch_found _ actual old new count h = absurd h
 

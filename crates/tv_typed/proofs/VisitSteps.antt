@@ -15,7 +15,7 @@ use Rattle.tv_format.specs.Version.{Version, V2, entry_total}
 use Rattle.tv_value.specs.declared.owned_value.OwnedValue.{OwnedValue}
 use Rattle.tv_reader.specs.Leaves.{is_leaf_type, IsSingle, leaf_at}
 use Rattle.tv_reader.specs.Trees.{EncodesBehind}
-use Rattle.tv_reader.specs.ValueType.{type_prefix, IsCoded, no_code, no_extension_code}
+use Rattle.tv_reader.specs.ValueType.{coded, IsCoded, no_code, no_extension_code}
 use Rattle.tv_reader.specs.Version.{version_of}
 use Rattle.tv_reader.specs.declared.error.DeserializeError.{DeserializeError}
 use Rattle.tv_reader.specs.declared.value_type.ValueType.{ValueType}
@@ -26,7 +26,7 @@ use Rattle.tv_reader.proofs.BehindKinds.{kind_edge}
 use Rattle.tv_typed.specs.Excluding.{malformed_behind}
 use Rattle.tv_typed.specs.LegacyObjects.{OfEncoding}
 use Rattle.tv_typed.specs.Typed.{typed_stop, raised, ReadsIf, DeserializesBy}
-use Rattle.tv_typed.specs.Values.{CodeRefused, in_code, IsLeafOf, EncodesLeaf, LeafRefused, other_type, in_body, TreeRefused}
+use Rattle.tv_typed.specs.Values.{CodeRefused, in_code, IsLeaf, EncodesLeaf, LeafRefused, other_type, in_body, TreeRefused}
 use Rattle.tv_typed.specs.Lists.{Length, LengthRefused, in_length, element_total}
 use Rattle.tv_typed.specs.Visits.{single_leaf, Answered, VisitsBy, EncodesVisited, VisitRefused, Handed, VisitsItemsBy, EncodesNextVisited, NextVisitRefused, GivesEntries, TellsNoFailure, VisitsLegacyBy, VisitsKindBy}
 use Rattle.tv_typed.specs.declared.store_reader.StoreReader.{StoreReader}
@@ -38,7 +38,7 @@ use Rattle.tv_reader.specs.Error.{StoreMayStop}
 
 -- ---- leaves
 
-any_excluded : (v : Version) (kind : ValueType) (prefix rest : List ℕ) (e : DeserializeError) (t : Tree) → LeafRefused kind v kind (prefix ++ rest) e → Encodes NoLegacy v (type_prefix kind ++ prefix) t → ⊥
+any_excluded : (v : Version) (kind : ValueType) (prefix rest : List ℕ) (e : DeserializeError) (t : Tree) → LeafRefused kind v kind (prefix ++ rest) e → Encodes NoLegacy v (coded kind ++ prefix) t → ⊥
 any_excluded v kind prefix rest e t (other_type other) p = absurd (other refl)
 any_excluded v kind prefix rest e t (in_body {c} same f) p = malformed_behind v kind prefix rest _ t f p
 
@@ -50,7 +50,7 @@ visits old new kind answers result read h a =
     record {
       read = read;
       reads = h;
-      only = only_by (IsLeafOf (λ l. l)) v (type_prefix kind) (LeafRefused kind v kind) (λ prefix rest e t x r p same. any_excluded v kind prefix rest e t r p) (leaf_deserializes (λ l. l) v kind h);
+      only = only_by (IsLeaf (λ l. l)) v (coded kind) (LeafRefused kind v kind) (λ prefix rest e t x r p same. any_excluded v kind prefix rest e t r p) (leaf_deserializes (λ l. l) v kind h);
       answered = a;
     }
 

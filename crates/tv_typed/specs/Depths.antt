@@ -6,7 +6,7 @@ use Rattle.tv_format.specs.Tree.{Tree}
 use Rattle.tv_reader.specs.Depth.{EncodesWithin, Opens}
 use Rattle.tv_format.specs.Version.{Version, entry_total}
 use Rattle.tv_format.specs.Encoding.{Key}
-use Rattle.tv_reader.specs.ValueType.{type_prefix, IsCoded}
+use Rattle.tv_reader.specs.ValueType.{coded, IsCoded}
 use Rattle.tv_reader.specs.Version.{version_of}
 use Rattle.tv_reader.specs.declared.value_type.ValueType.{ValueType}
 use Rattle.tv_reader.specs.declared.error.DeserializeError.{DeserializeError}
@@ -20,7 +20,7 @@ use Rattle.tv_value.specs.declared.owned_value.OwnedValue.{OwnedValue}
 
 -- behind the code of a type the bytes that were taken end with the code of the first list that is one too many
 abbrev pub OpensBehind : Version → ℕ → ValueType → List ℕ → List ℕ → Type 0
-OpensBehind v levels kind old new = Begins (λ b. Opens v levels (type_prefix kind ++ b)) old new
+OpensBehind v levels kind old new = Begins (λ b. Opens v levels (coded kind ++ b)) old new
 
 -- the same of the next value, with its code, as its type says it
 abbrev pub NextTooDeep : (Version → ℕ → ValueType → List ℕ → List ℕ → Type 0) → Version → ℕ → List ℕ → List ℕ → Type 0
@@ -76,8 +76,8 @@ abbrev pub WhereTooDeep : {S X : Type 0} (source : Ghosts S) (old new : StoreRea
 WhereTooDeep source old new result shows =
     old.has_failed ≡ false → source.is_known old.source → IsErrOf result errors.TooDeep → shows (version_of old.version) old.levels (source.left old.source) (source.left new.source)
 
-abbrev pub ReadsWithinDepth : {S : Type 0} (source : Ghosts S) (old new : StoreReader S) (result : Result OwnedValue DeserializeError) (code : List ℕ) → Type 0
-ReadsWithinDepth source old new result code = IsWithinBy source.is_known source.left old new result code
+abbrev pub IsWithin : {S : Type 0} (source : Ghosts S) (old new : StoreReader S) (result : Result OwnedValue DeserializeError) (code : List ℕ) → Type 0
+IsWithin source old new result code = IsWithinBy source.is_known source.left old new result code
 
 abbrev pub IsTooDeep : {S X : Type 0} (source : Ghosts S) (old new : StoreReader S) (result : Result X DeserializeError) (code : List ℕ) → Type 0
 IsTooDeep source old new result code = IsTooDeepBy source.is_known source.left old new result code

@@ -7,7 +7,7 @@ use Rattle.tv_format.specs.LeavesLaws.{leaf_coded}
 use Rattle.tv_format.specs.Encoding.{Encodes, NoLegacy}
 use Rattle.tv_format.specs.Tree.{Tree, leaf, array, object}
 use Rattle.tv_format.specs.Version.{Version}
-use Rattle.tv_reader.specs.ValueType.{type_prefix}
+use Rattle.tv_reader.specs.ValueType.{coded}
 use Rattle.tv_reader.specs.declared.error.DeserializeError.{DeserializeError}
 use Rattle.tv_reader.specs.declared.value_type.ValueType.{ValueType}
 use Rattle.tv_typed.specs.ExcludingLists.{object_excludes}
@@ -23,9 +23,9 @@ no_other v a (object es) (inl p) = let e = p.joined in absurd cc
 no_other v a (object es) (inr p) = p.encoded
 
 pub members_exclude : (refused : Version → ValueType → List ℕ → DeserializeError → Type 0) (v : Version) (kind : ValueType) (prefix rest : List ℕ) (e : DeserializeError) (t : Tree) → (refused v kind (prefix ++ rest) e → ⊥)
-    → MembersRefused refused v kind (prefix ++ rest) e → Encodes NoLegacy v (type_prefix kind ++ prefix) t → ⊥
+    → MembersRefused refused v kind (prefix ++ rest) e → Encodes NoLegacy v (coded kind ++ prefix) t → ⊥
 members_exclude refused v kind prefix rest e t none (in_other other f) p = none f
-members_exclude refused v kind prefix rest e t none (in_legacy_object same f) p = no_other v prefix t (subst (λ k. Encodes NoLegacy v (type_prefix k ++ prefix) t) same p)
+members_exclude refused v kind prefix rest e t none (in_legacy_object same f) p = no_other v prefix t (subst (λ k. Encodes NoLegacy v (coded k ++ prefix) t) same p)
 
 -- what is read of the entries of such an object
 pub entries_exclude : {X C : Type 0} (is : Tree → X → Type 0) (refused : Version → ValueType → List ℕ → DeserializeError → Type 0) → RefusalsExclude is refused

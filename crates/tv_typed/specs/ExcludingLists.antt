@@ -18,7 +18,7 @@ use Rattle.tv_format.proofs.ExcludingLeaves.{key_excludes}
 use Rattle.tv_format.proofs.Leaves.{agree_key, total_same}
 use Rattle.tv_format.proofs.Lists.{elements-length, entries-length}
 use Rattle.tv_format.proofs.Trees.{one_tree, agree_tree}
-use Rattle.tv_reader.specs.ValueType.{type_prefix}
+use Rattle.tv_reader.specs.ValueType.{coded}
 use Rattle.tv_reader.specs.declared.error.DeserializeError.{DeserializeError}
 use Rattle.tv_reader.specs.declared.value_type.ValueType.{ValueType}
 use Rattle.tv_reader.specs.declared.value_type.ValueType.TheVariants as types
@@ -77,9 +77,9 @@ each_elements v [] b h = h
 each_elements v (t ∷ ts) b h = record { prefix = h.prefix; rest = h.rest; joined = h.joined; first = h.first; second = each_elements v ts h.rest h.second }
 
 pub array_excludes : {X : Type 0} (is : Tree → X → Type 0) (refused : Version → ValueType → List ℕ → DeserializeError → Type 0) → RefusalsExclude is refused
-    → (v : Version) (kind : ValueType) (prefix rest : List ℕ) (e : DeserializeError) (t : Tree) (xs : List X) → ArrayRefused is refused v kind (prefix ++ rest) e → Encodes NoLegacy v (type_prefix kind ++ prefix) t → ArrayOf is t xs → ⊥
+    → (v : Version) (kind : ValueType) (prefix rest : List ℕ) (e : DeserializeError) (t : Tree) (xs : List X) → ArrayRefused is refused v kind (prefix ++ rest) e → Encodes NoLegacy v (coded kind ++ prefix) t → ArrayOf is t xs → ⊥
 array_excludes is refused excludes v kind prefix rest e t xs r p o =
-    let q = subst (λ z. Encodes NoLegacy v (type_prefix kind ++ prefix) z) o.whole p in
+    let q = subst (λ z. Encodes NoLegacy v (coded kind ++ prefix) z) o.whole p in
     let behind = same_coded kind types.Array prefix q.body q.joined in
     let s = q.encoded in
     (items_exclude types.Array element_total kind (λ m n e. e) (Encodes Legacy v) (Encodes NoLegacy v) (EncodesAs is v) is (NextRefused refused v) (one_tree Legacy v one_legacy) (λ b x s. (s.0, s.1)) (λ b t. with_legacy v t b)
@@ -116,7 +116,7 @@ entry_excludes is refused excludes v whole prefix rest e i x (inr f) joined p h 
     next_excludes is refused excludes v k.rest p.rest rest e i.1 x.1 k.second (rests k.prefix k.rest p.prefix (p.rest ++ rest) same.0 both) p.second h.1
 
 object_excluded : {X : Type 0} (is : Tree → X → Type 0) (refused : Version → ValueType → List ℕ → DeserializeError → Type 0) → RefusalsExclude is refused
-    → (v : Version) (kind : ValueType) (prefix rest : List ℕ) (e : DeserializeError) (es : List (List ℕ × Tree)) (xs : List (String Global × X)) → ObjectRefused is refused v kind (prefix ++ rest) e → Encodes NoLegacy v (type_prefix kind ++ prefix) (object (entries es)) → AllZip (IsEntry is) es xs → ⊥
+    → (v : Version) (kind : ValueType) (prefix rest : List ℕ) (e : DeserializeError) (es : List (List ℕ × Tree)) (xs : List (String Global × X)) → ObjectRefused is refused v kind (prefix ++ rest) e → Encodes NoLegacy v (coded kind ++ prefix) (object (entries es)) → AllZip (IsEntry is) es xs → ⊥
 object_excluded is refused excludes v kind prefix rest e es xs r (inr q) each = q.encoded
 object_excluded is refused excludes v kind prefix rest e es xs r (inl q) each =
     let behind = same_coded kind types.Object prefix q.body q.joined in
@@ -128,5 +128,5 @@ object_excluded is refused excludes v kind prefix rest e es xs r (inl q) each =
     (record { prefix = s.prefix; rest = s.rest; joined = behind.1 ∙ s.joined; first = (behind.0, subst (λ n. VNum s.prefix (entry_total v n)) (entries-length es) s.first); second = each_entries v es s.rest s.second }) refl
 
 pub object_excludes : {X : Type 0} (is : Tree → X → Type 0) (refused : Version → ValueType → List ℕ → DeserializeError → Type 0) → RefusalsExclude is refused
-    → (v : Version) (kind : ValueType) (prefix rest : List ℕ) (e : DeserializeError) (t : Tree) (xs : List (String Global × X)) → ObjectRefused is refused v kind (prefix ++ rest) e → Encodes NoLegacy v (type_prefix kind ++ prefix) t → ObjectOf is t xs → ⊥
-object_excludes is refused excludes v kind prefix rest e t xs r p o = object_excluded is refused excludes v kind prefix rest e o.trees xs r (subst (λ z. Encodes NoLegacy v (type_prefix kind ++ prefix) z) o.whole p) o.each
+    → (v : Version) (kind : ValueType) (prefix rest : List ℕ) (e : DeserializeError) (t : Tree) (xs : List (String Global × X)) → ObjectRefused is refused v kind (prefix ++ rest) e → Encodes NoLegacy v (coded kind ++ prefix) t → ObjectOf is t xs → ⊥
+object_excludes is refused excludes v kind prefix rest e t xs r p o = object_excluded is refused excludes v kind prefix rest e o.trees xs r (subst (λ z. Encodes NoLegacy v (coded kind ++ prefix) z) o.whole p) o.each

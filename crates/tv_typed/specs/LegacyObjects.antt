@@ -10,7 +10,7 @@ use Rattle.tv_format.specs.Short.{short}
 use Rattle.tv_format.specs.Encoding.{Encodes}
 use Rattle.tv_format.specs.Tree.{Tree}
 use Rattle.tv_format.specs.Version.{Version, V2}
-use Rattle.tv_reader.specs.ValueType.{type_prefix}
+use Rattle.tv_reader.specs.ValueType.{coded}
 use Rattle.tv_reader.specs.declared.error.DeserializeError.{DeserializeError}
 use Rattle.tv_reader.specs.declared.error.DeserializeError.TheVariants as errors
 use Rattle.tv_reader.specs.declared.value_type.ValueType.{ValueType}
@@ -30,7 +30,7 @@ EncodingRefused Refused t told = (e : DeserializeError) × Refused (short V2 t) 
 -- behind its code a legacy object is malformed, or what its tree encodes is refused
 abbrev pub LegacyRefused : (Version → ValueType → List ℕ → DeserializeError → Type 0) → Version → List ℕ → DeserializeError → Type 0
 LegacyRefused refused v =
-    InThen (TreeRefused v types.JSONObject) (λ b t. Encodes Legacy v (type_prefix types.JSONObject ++ b) t) (λ t _. EncodingRefused (NextRefused refused V2) t)
+    InThen (TreeRefused v types.JSONObject) (λ b t. Encodes Legacy v (coded types.JSONObject ++ b) t) (λ t _. EncodingRefused (NextRefused refused V2) t)
 
 -- behind the code of a type, where legacy objects are read too
 pub data MembersRefused (refused : Version → ValueType → List ℕ → DeserializeError → Type 0) (v : Version) (kind : ValueType) (whole : List ℕ) (e : DeserializeError) : Type 0 where

@@ -18,7 +18,7 @@ use Rattle.tv_format.specs.declared.leaf_type.LeafType.{LeafType}
 use Rattle.tv_reader.specs.Error.{IsRefusal, StoreMayStop}
 use Rattle.tv_reader.specs.Heads.{HasWidth}
 use Rattle.tv_reader.specs.Trees.{NoneBehind}
-use Rattle.tv_reader.specs.ValueType.{leaf_type, type_prefix, IsCoded, ErrorInCode}
+use Rattle.tv_reader.specs.ValueType.{leaf_type, coded, IsCoded, ErrorInCode}
 use Rattle.tv_reader.specs.Version.{version_of}
 use Rattle.tv_reader.specs.declared.error.DeserializeError.{DeserializeError}
 use Rattle.tv_reader.specs.declared.error.DeserializeError.TheVariants as errors
@@ -34,7 +34,7 @@ EncodesAs is v b x = (t : Tree) × Encodes Legacy v b t × is t x
 
 -- the same behind the code of a type
 abbrev pub EncodedAs : {X : Type 0} → (Tree → X → Type 0) → Version → ValueType → List ℕ → X → Type 0
-EncodedAs is v kind b x = EncodesAs is v (type_prefix kind ++ b) x
+EncodedAs is v kind b x = EncodesAs is v (coded kind ++ b) x
 
 -- leaves of this type have a known width
 abbrev pub IsFixed : Option LeafType → Type 0
@@ -42,8 +42,8 @@ IsFixed (Some t) = HasWidth (form t)
 IsFixed None = ⊥
 
 -- of a leaf, what it holds
-abbrev pub IsLeafOf : {X : Type 0} → (X → Leaf) → Tree → X → Type 0
-IsLeafOf make t x = t ≡ leaf (make x)
+abbrev pub IsLeaf : {X : Type 0} → (X → Leaf) → Tree → X → Type 0
+IsLeaf make t x = t ≡ leaf (make x)
 
 -- the whole tree
 abbrev pub IsTree : Tree → OwnedValue → Type 0
@@ -51,7 +51,7 @@ IsTree t x = t ≡ owned_tree x
 
 -- a leaf behind the code of its type
 abbrev pub EncodesLeaf : {X : Type 0} → Version → ValueType → (X → Leaf) → List ℕ → X → Type 0
-EncodesLeaf v kind make b x = Encodes Legacy v (type_prefix kind ++ b) (leaf (make x))
+EncodesLeaf v kind make b x = Encodes Legacy v (coded kind ++ b) (leaf (make x))
 
 -- ---- refusals
 
@@ -83,7 +83,7 @@ NextRefused refused v = InThen CodeRefused IsCoded (λ kind. refused v kind)
 -- Where bytes behind a code are refused, no prefix of them encodes, without legacy objects, a tree of which a value is read.
 abbrev pub RefusalsExclude : {X : Type 0} → (Tree → X → Type 0) → (Version → ValueType → List ℕ → DeserializeError → Type 0) → Type 0
 RefusalsExclude {X} is refused =
-    (v : Version) (kind : ValueType) (prefix rest : List ℕ) (e : DeserializeError) (t : Tree) (x : X) → refused v kind (prefix ++ rest) e → Encodes NoLegacy v (type_prefix kind ++ prefix) t → is t x → ⊥
+    (v : Version) (kind : ValueType) (prefix rest : List ℕ) (e : DeserializeError) (t : Tree) (x : X) → refused v kind (prefix ++ rest) e → Encodes NoLegacy v (coded kind ++ prefix) t → is t x → ⊥
 
 -- the bytes are not malformed: the source failed, memory was refused, or a value of any type nests too deep for the reader
 abbrev pub SparesBytes : Stop DeserializeError → Type 0
@@ -116,8 +116,8 @@ DeserializesAsBy is_known left failures is refused kind old new result =
 -- where leaves of that type have no known width, and that no leaf is too deep. The code of the value, which is that of some type, was read before.
 pub record ReadsLeafBy {S X : Type 0} (is_known : S → Type 0) (left : S → List ℕ) (failures : S → Failures) (expected : ValueType) (make : X → Leaf) (kind : ValueType) (old new : StoreReader S) (result : Result X DeserializeError) : Type 0 where
   pub reads : ReadsIf StoreMayStop is_known left failures old new result (EncodesLeaf (version_of old.version) kind make) (LeafRefused expected (version_of old.version) kind)
-  pub only : OnlyBy is_known left old new result (IsLeafOf make) (version_of old.version) (type_prefix kind)
-  pub deserializes : DeserializesAsBy is_known left failures (IsLeafOf make) (LeafRefused expected) kind old new result
+  pub only : OnlyBy is_known left old new result (IsLeaf make) (version_of old.version) (coded kind)
+  pub deserializes : DeserializesAsBy is_known left failures (IsLeaf make) (LeafRefused expected) kind old new result
   pub spares : IsFixed (leaf_type expected) → ¬ IsErrOf result errors.Memory
   pub roomy : ¬ IsErrOf result errors.TooDeep
 

@@ -7,7 +7,7 @@ use Rattle.tv_base.specs.Source.{Failures}
 use Rattle.tv_base.specs.Stop.{Counts}
 use Rattle.tv_reader.specs.Leaves.{is_leaf_type}
 use Rattle.tv_reader.specs.Trees.{EncodesBehind}
-use Rattle.tv_reader.specs.ValueType.{type_prefix, IsCoded}
+use Rattle.tv_reader.specs.ValueType.{coded, IsCoded}
 use Rattle.tv_reader.specs.Version.{version_of}
 use Rattle.tv_reader.specs.declared.error.DeserializeError.{DeserializeError}
 use Rattle.tv_reader.specs.declared.value_type.ValueType.{ValueType}
@@ -20,7 +20,7 @@ use Rattle.tv_value.specs.declared.owned_value.OwnedValue.{OwnedValue}
 use Rattle.tv_typed.specs.LegacyObjects.{OfEncoding}
 use Rattle.tv_typed.specs.Lists.{Length, LengthRefused, element_total}
 use Rattle.tv_typed.specs.Typed.{typed_stop, ReadsIf, DeserializesBy}
-use Rattle.tv_typed.specs.Values.{CodeRefused, IsLeafOf, EncodesLeaf, LeafRefused, TreeRefused, OnlyBy}
+use Rattle.tv_typed.specs.Values.{CodeRefused, IsLeaf, EncodesLeaf, LeafRefused, TreeRefused, OnlyBy}
 use Rattle.tv_typed.specs.declared.store_reader.StoreReader.{StoreReader}
 use Rattle.tv_reader.specs.Error.{StoreMayStop}
 
@@ -46,7 +46,7 @@ Answered answers (Err e) result = result ≡ Err e
 pub record VisitsBy {S X : Type 0} (is_known : S → Type 0) (left : S → List ℕ) (failures : S → Failures) (old new : StoreReader S) (kind : ValueType) (answers : Leaf → Result X DeserializeError → Type 0) (result : Result X DeserializeError) : Type 0 where
   pub read : Result Leaf DeserializeError
   pub reads : ReadsIf StoreMayStop is_known left failures old (record new { has_failed = is_err read }) read (EncodesLeaf (version_of old.version) kind (λ l. l)) (LeafRefused kind (version_of old.version) kind)
-  pub only : OnlyBy is_known left old (record new { has_failed = is_err read }) read (IsLeafOf (λ l. l)) (version_of old.version) (type_prefix kind)
+  pub only : OnlyBy is_known left old (record new { has_failed = is_err read }) read (IsLeaf (λ l. l)) (version_of old.version) (coded kind)
   pub answered : Answered answers read result
 
 -- ---- arrays and objects

@@ -41,7 +41,7 @@ impl<T: ValueDeserialize> ValueDeserialize for Vec<T> {
         ensures deserializes { DeserializesAs S.ByteSource
             (λ t list. ArrayOf T.is t list.items) (ArrayRefused T.is T.refused)
             deserializer.entry.kind deserializer.entry.reader.now deserializer.exit.1.0.now result }
-        ensures marks_failure { OnErr result (deserializer.exit.1.0.now.has_failed ≡ true) }
+        ensures marks { OnErr result (deserializer.exit.1.0.now.has_failed ≡ true) }
         ensures deep { WhereTooDeep S.ByteSource deserializer.entry.reader.now
             deserializer.exit.1.0.now result
             (λ v levels. ArrayTooDeep T.is T.deep v levels deserializer.entry.kind) }
@@ -66,7 +66,7 @@ impl<'de, S: ByteSource> BinaryValueDeserializer<'de, S> {
         ensures deserializes { DeserializesAs S.ByteSource C.is
             (MembersRefused (ObjectRefused T.is T.refused)) self.entry.kind self.entry.reader.now
             self.exit.1.0.now result }
-        ensures marks_failure { OnErr result (self.exit.1.0.now.has_failed ≡ true) }
+        ensures marks { OnErr result (self.exit.1.0.now.has_failed ≡ true) }
         ensures deep { WhereTooDeep S.ByteSource self.entry.reader.now self.exit.1.0.now result
             (λ v levels. MembersTooDeep T.is T.deep v levels self.entry.kind) }
     {
@@ -91,7 +91,7 @@ impl<T: ValueDeserialize> ValueDeserialize for Vec<(String, T)> {
         ensures deserializes { DeserializesAs S.ByteSource
             (λ t list. ObjectOf T.is t list.items) (MembersRefused (ObjectRefused T.is T.refused))
             deserializer.entry.kind deserializer.entry.reader.now deserializer.exit.1.0.now result }
-        ensures marks_failure { OnErr result (deserializer.exit.1.0.now.has_failed ≡ true) }
+        ensures marks { OnErr result (deserializer.exit.1.0.now.has_failed ≡ true) }
         ensures deep { WhereTooDeep S.ByteSource deserializer.entry.reader.now
             deserializer.exit.1.0.now result
             (λ v levels. MembersTooDeep T.is T.deep v levels deserializer.entry.kind) }
@@ -118,7 +118,7 @@ impl<T: ValueDeserialize> ValueDeserialize for BTreeMap<String, T> {
             (λ t map. MapOf T.is t (λ key. tree.get_by_text map key))
             (MembersRefused (ObjectRefused T.is T.refused))
             deserializer.entry.kind deserializer.entry.reader.now deserializer.exit.1.0.now result }
-        ensures marks_failure { OnErr result (deserializer.exit.1.0.now.has_failed ≡ true) }
+        ensures marks { OnErr result (deserializer.exit.1.0.now.has_failed ≡ true) }
         ensures deep { WhereTooDeep S.ByteSource deserializer.entry.reader.now
             deserializer.exit.1.0.now result
             (λ v levels. MembersTooDeep T.is T.deep v levels deserializer.entry.kind) }
@@ -146,7 +146,7 @@ impl<T: ValueDeserialize> ValueDeserialize for HashMap<String, T> {
             (λ t map. MapOf T.is t (λ key. hash.get_by_text map key))
             (MembersRefused (ObjectRefused T.is T.refused))
             deserializer.entry.kind deserializer.entry.reader.now deserializer.exit.1.0.now result }
-        ensures marks_failure { OnErr result (deserializer.exit.1.0.now.has_failed ≡ true) }
+        ensures marks { OnErr result (deserializer.exit.1.0.now.has_failed ≡ true) }
         ensures deep { WhereTooDeep S.ByteSource deserializer.entry.reader.now
             deserializer.exit.1.0.now result
             (λ v levels. MembersTooDeep T.is T.deep v levels deserializer.entry.kind) }

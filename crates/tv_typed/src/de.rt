@@ -6,14 +6,14 @@ ghost use Rattle.std.specs.Borrow.{sem, RestsIfErr};
 ghost use Rattle.tv_format.specs.Tree.{Tree};
 ghost use Rattle.tv_format.specs.Version.{Version};
 ghost use Rattle.tv_reader.specs.Trees.{EncodesBehind};
-ghost use Rattle.tv_reader.specs.ValueType.{type_prefix, IsCoded};
+ghost use Rattle.tv_reader.specs.ValueType.{coded, IsCoded};
 ghost use Rattle.tv_reader.specs.Version.{version_of};
 ghost use Rattle.tv_reader.specs.declared.error.DeserializeError.{DeserializeError};
 ghost use Rattle.tv_reader.specs.declared.error.DeserializeError.TheVariants as errors;
 ghost use Rattle.tv_reader.specs.declared.value_type.ValueType.{ValueType};
 ghost use Rattle.tv_typed.specs.Excluding.{tree_excludes};
 ghost use Rattle.tv_typed.specs.Lists.{EncodesEntry, EntryRefused};
-ghost use Rattle.tv_typed.specs.Depths.{ReadsWithinDepth, IsTooDeep, HasDepth, NextTooDeep};
+ghost use Rattle.tv_typed.specs.Depths.{IsWithin, IsTooDeep, HasDepth, NextTooDeep};
 ghost use Rattle.tv_typed.specs.Depths.{EntryTooDeep, OpensBehind, WhereTooDeep};
 ghost use Rattle.tv_typed.specs.Typed.{ReadsThrough, ReadsDeep, Deserializes};
 ghost use Rattle.tv_typed.specs.Values.{CodeRefused, IsTree, TreeRefused, Only, EncodesAs};
@@ -56,7 +56,7 @@ impl<'de, S: ByteSource> BinaryValueDeserializer<'de, S> {
         ensures reads { IfOk result
             (λ d. ReadsThrough S.ByteSource reader.entry.now d.reader.now (Ok d.kind)
             IsCoded CodeRefused) }
-        ensures no_memory { ¬ IsErrOf result errors.Memory }
+        ensures spares { ¬ IsErrOf result errors.Memory }
     {
         let kind = reader.code()?;
         Ok(BinaryValueDeserializer { kind, reader })
@@ -72,12 +72,12 @@ impl<'de, S: ByteSource> BinaryValueDeserializer<'de, S> {
             result (EncodesBehind (version_of self.entry.reader.now.version) self.entry.kind)
             (TreeRefused (version_of self.entry.reader.now.version) self.entry.kind) }
         ensures only { Only S.ByteSource self.entry.reader.now self.exit.1.0.now result IsTree
-            (version_of self.entry.reader.now.version) (type_prefix self.entry.kind) }
-        ensures within { ReadsWithinDepth S.ByteSource self.entry.reader.now self.exit.1.0.now result
-            (type_prefix self.entry.kind) }
+            (version_of self.entry.reader.now.version) (coded self.entry.kind) }
+        ensures within { IsWithin S.ByteSource self.entry.reader.now self.exit.1.0.now result
+            (coded self.entry.kind) }
         ensures deep { IsTooDeep S.ByteSource self.entry.reader.now self.exit.1.0.now result
-            (type_prefix self.entry.kind) }
-        ensures no_heap_full { HasDepth S.ByteSource self.entry.reader.now result (type_prefix self.entry.kind) }
+            (coded self.entry.kind) }
+        ensures roomy { HasDepth S.ByteSource self.entry.reader.now result (coded self.entry.kind) }
     {
         let BinaryValueDeserializer { kind, reader } = self;
         reader.go_on()?;
@@ -131,7 +131,7 @@ impl<S: ByteSource> StoreReader<S> {
             (NextRefused V.refused (version_of self.old.version)) }
         ensures only { Only S.ByteSource self.old self.new result V.is
             (version_of self.old.version) [] }
-        ensures marks_failure { OnErr result (self.new.has_failed ≡ true) }
+        ensures marks { OnErr result (self.new.has_failed ≡ true) }
         ensures deep { WhereTooDeep S.ByteSource self.old self.new result (NextTooDeep V.deep) }
     {
         let kind = self.code()?;
@@ -152,7 +152,7 @@ impl<S: ByteSource> StoreReader<S> {
         ensures deserializes { Deserializes S.ByteSource self.old self.new result
             (EncodesEntry V.is (version_of self.old.version))
             (EntryRefused V.refused (version_of self.old.version)) }
-        ensures marks_failure { OnErr result (self.new.has_failed ≡ true) }
+        ensures marks { OnErr result (self.new.has_failed ≡ true) }
         ensures deep { WhereTooDeep S.ByteSource self.old self.new result (EntryTooDeep V.deep) }
     {
         let key = self.key(alloc)?;
@@ -179,12 +179,12 @@ impl ValueDeserialize for OwnedValue {
             (EncodesBehind (version_of deserializer.entry.reader.now.version)
             deserializer.entry.kind) (TreeRefused (version_of deserializer.entry.reader.now.version)
             deserializer.entry.kind) }
-        ensures within { ReadsWithinDepth S.ByteSource deserializer.entry.reader.now
-            deserializer.exit.1.0.now result (type_prefix deserializer.entry.kind) }
+        ensures within { IsWithin S.ByteSource deserializer.entry.reader.now
+            deserializer.exit.1.0.now result (coded deserializer.entry.kind) }
         ensures deep { IsTooDeep S.ByteSource deserializer.entry.reader.now
-            deserializer.exit.1.0.now result (type_prefix deserializer.entry.kind) }
-        ensures no_heap_full { HasDepth S.ByteSource deserializer.entry.reader.now result
-            (type_prefix deserializer.entry.kind) }
+            deserializer.exit.1.0.now result (coded deserializer.entry.kind) }
+        ensures roomy { HasDepth S.ByteSource deserializer.entry.reader.now result
+            (coded deserializer.entry.kind) }
     {
         deserializer.deserialize_tree(alloc)
     }

@@ -66,7 +66,7 @@ pub trait DocumentDeserializer: Drop {
     ) -> Result<Option<(Field, V)>, DeserializeError>
         ensures gives { IfOk result (NextField remaining is_known gives V.is self.old self.new) }
         ensures refuses { IfErr result (λ e. refuses self.old V.refused e) }
-        ensures marks_failure { has_failed self.new ≡ is_err result }
+        ensures marks { has_failed self.new ≡ is_err result }
         ensures counts { has_failed self.old ≡ false
             → Counts typed_stop result (failures self.old) (failures self.new) }
         ensures closed { has_failed self.old ≡ true
@@ -75,7 +75,7 @@ pub trait DocumentDeserializer: Drop {
 
     /// Marks what it reads from as refused: the pair that it gave last can't be kept.
     fn refuse(&mut self)
-        ensures marks_failure { has_failed self.new ≡ true }
+        ensures marks { has_failed self.new ≡ true }
         ensures counts { failures self.new ≡ failures self.old }
         ensures same_reader { borrow_name self.new ≡ borrow_name self.old };
 }
@@ -84,7 +84,7 @@ impl<S: ByteSource> StoreReader<S> {
     // Takes the number of a document's pairs.
     pub(crate) fn pair_count(&mut self) -> Result<u64, DeserializeError>
         ensures reads { ReadsThrough S.ByteSource self.old self.new result VNum NumberRefused }
-        ensures no_memory { ¬ IsErrOf result errors.Memory }
+        ensures spares { ¬ IsErrOf result errors.Memory }
     {
         self.go_on()?;
         let answer = take_vint(&mut self.source, &mut self.count);
@@ -94,7 +94,7 @@ impl<S: ByteSource> StoreReader<S> {
     // Takes the field of a pair.
     pub(crate) fn field(&mut self) -> Result<u32, DeserializeError>
         ensures reads { ReadsThrough S.ByteSource self.old self.new result (Fixed 4) FieldEnds }
-        ensures no_memory { ¬ IsErrOf result errors.Memory }
+        ensures spares { ¬ IsErrOf result errors.Memory }
     {
         self.go_on()?;
         let answer = take_field(&mut self.source, &mut self.count);
@@ -110,7 +110,7 @@ impl<S: ByteSource> StoreReader<S> {
         ensures deserializes { Deserializes S.ByteSource self.old self.new result
             (EncodesField V.is (version_of self.old.version))
             (FieldRefused V.refused (version_of self.old.version)) }
-        ensures marks_failure { OnErr result (self.new.has_failed ≡ true) }
+        ensures marks { OnErr result (self.new.has_failed ≡ true) }
     {
         let field = self.field()?;
         let value = self.read::<V>(alloc)?;
@@ -142,7 +142,7 @@ impl<'de, S: ByteSource> BinaryDocumentDeserializer<'de, S> {
             (λ d. ReadsThrough S.ByteSource reader.entry.now d.reader.now (Ok d.announced)
             VNum NumberRefused) }
         ensures first { IfOk result (λ d. d.position ≡ 0) }
-        ensures no_memory { ¬ IsErrOf result errors.Memory }
+        ensures spares { ¬ IsErrOf result errors.Memory }
     {
         let announced = reader.pair_count()?;
         Ok(BinaryDocumentDeserializer {
@@ -200,7 +200,7 @@ impl<'de, S: ByteSource> DocumentDeserializer for BinaryDocumentDeserializer<'de
             self.old.announced)
             (NextItemRefused (FieldRefused V.refused (version_of self.old.reader.now.version))
             self.old.position self.old.announced) }
-        ensures marks_failure { self.new.reader.now.has_failed ≡ is_err result }
+        ensures marks { self.new.reader.now.has_failed ≡ is_err result }
         ensures counts { self.old.reader.now.has_failed ≡ false
             → Counts typed_stop result (S.failures self.old.reader.now.source)
             (S.failures self.new.reader.now.source) }
@@ -222,7 +222,7 @@ impl<'de, S: ByteSource> DocumentDeserializer for BinaryDocumentDeserializer<'de
         ensures same_reader { self.new.reader.ghost_name ≡ self.old.reader.ghost_name }
         ensures announced { self.new.announced ≡ self.old.announced }
         ensures position { self.new.position ≡ self.old.position }
-        ensures marks_failure { self.new.reader.now.has_failed ≡ true }
+        ensures marks { self.new.reader.now.has_failed ≡ true }
         ensures counts { S.failures self.new.reader.now.source
             ≡ S.failures self.old.reader.now.source }
         ensures rest { self.new.reader.now ≡ record self.old.reader.now { has_failed = true } }

@@ -7,7 +7,7 @@ ghost use Rattle.tv_reader.specs.Leaves.{is_leaf_type, leaf_at};
 ghost use Rattle.tv_reader.specs.ValueType.{leaf_type as held_type};
 ghost use Rattle.tv_reader.specs.Version.{version_of};
 ghost use Rattle.tv_reader.specs.declared.value_type.ValueType.{ValueType};
-ghost use Rattle.tv_typed.specs.Excluding.{type_of_leaf};
+ghost use Rattle.tv_typed.specs.Excluding.{leaf_type};
 ghost use Rattle.tv_typed.specs.Values.{IsFixed, ReadsLeaf};
 
 use crate::de::BinaryValueDeserializer;
@@ -36,11 +36,11 @@ pub(crate) trait LeafValue: Sized + Drop {
             (leaf_at (version_of reader.old.version) expected) }
         ensures version { reader.new.version ≡ reader.old.version }
         ensures levels { reader.new.levels ≡ reader.old.levels }
-        ensures no_memory { IsFixed (held_type expected)
+        ensures spares { IsFixed (held_type expected)
             → IfErr result (λ e. MayStopLean e reader.new.count) };
 
     /// It is a type of leaves, and the leaf is of this type.
-    ghost typed: { (is_leaf_type expected ≡ true) × ((x : Self) → type_of_leaf (make x) ≡ expected) };
+    ghost typed: { (is_leaf_type expected ≡ true) × ((x : Self) → leaf_type (make x) ≡ expected) };
 }
 
 impl<'de, S: ByteSource> BinaryValueDeserializer<'de, S> {

@@ -14,7 +14,7 @@ ghost use Rattle.tv_reader.specs.declared.error.DeserializeError.{DeserializeErr
 ghost use Rattle.tv_reader.specs.declared.value_type.ValueType.TheVariants as types;
 ghost use Rattle.tv_typed.specs.Excluding.{leaf_excludes};
 ghost use Rattle.tv_typed.specs.Typed.{Deserializes};
-ghost use Rattle.tv_typed.specs.Values.{IsLeafOf, LeafRefused, ReadsLeaf};
+ghost use Rattle.tv_typed.specs.Values.{IsLeaf, LeafRefused, ReadsLeaf};
 ghost use Rattle.tv_typed.specs.Visits.{TellsNoFailure, single_leaf};
 ghost use Rattle.tv_value.specs.HeldTokens.{token_of};
 ghost use Rattle.tv_value.specs.Owned.{owned_tree};
@@ -271,7 +271,7 @@ impl<'de, S: ByteSource> BinaryValueDeserializer<'de, S> {
 }
 
 impl ValueDeserialize for u64 {
-    ghost is = { IsLeafOf (λ n. unsigned n) };
+    ghost is = { IsLeaf (λ n. unsigned n) };
 
     ghost refused = { LeafRefused types.U64 };
 
@@ -291,7 +291,7 @@ impl ValueDeserialize for u64 {
 }
 
 impl ValueDeserialize for i64 {
-    ghost is = { IsLeafOf (λ z. signed z) };
+    ghost is = { IsLeaf (λ z. signed z) };
 
     ghost refused = { LeafRefused types.I64 };
 
@@ -311,7 +311,7 @@ impl ValueDeserialize for i64 {
 }
 
 impl ValueDeserialize for bool {
-    ghost is = { IsLeafOf (λ b. boolean b) };
+    ghost is = { IsLeaf (λ b. boolean b) };
 
     ghost refused = { LeafRefused types.Bool };
 
@@ -331,7 +331,7 @@ impl ValueDeserialize for bool {
 }
 
 impl ValueDeserialize for String {
-    ghost is = { IsLeafOf (λ s. text (string_bytes s)) };
+    ghost is = { IsLeaf (λ s. text (string_bytes s)) };
 
     ghost refused = { LeafRefused types.String };
 
@@ -351,7 +351,7 @@ impl ValueDeserialize for String {
 }
 
 impl ValueDeserialize for Facet {
-    ghost is = { IsLeafOf (λ f. facet f) };
+    ghost is = { IsLeaf (λ f. facet f) };
 
     ghost refused = { LeafRefused types.Facet };
 
@@ -371,7 +371,7 @@ impl ValueDeserialize for Facet {
 }
 
 impl ValueDeserialize for Vec<u8> {
-    ghost is = { IsLeafOf (λ v. bytes v.items) };
+    ghost is = { IsLeaf (λ v. bytes v.items) };
 
     ghost refused = { LeafRefused types.Bytes };
 
@@ -391,7 +391,7 @@ impl ValueDeserialize for Vec<u8> {
 }
 
 impl ValueDeserialize for DateTime {
-    ghost is = { IsLeafOf (λ d. date d.nanoseconds) };
+    ghost is = { IsLeaf (λ d. date d.nanoseconds) };
 
     ghost refused = { LeafRefused types.DateTime };
 
@@ -411,7 +411,7 @@ impl ValueDeserialize for DateTime {
 }
 
 impl ValueDeserialize for Ipv6Addr {
-    ghost is = { IsLeafOf (λ a. ip_address (ipv6_bits a)) };
+    ghost is = { IsLeaf (λ a. ip_address (ipv6_bits a)) };
 
     ghost refused = { LeafRefused types.IpAddr };
 
@@ -432,7 +432,7 @@ impl ValueDeserialize for Ipv6Addr {
 }
 
 impl ValueDeserialize for PreTokenizedString {
-    ghost is = { IsLeafOf (λ s. tokenized (string_bytes s.text) (map token_of s.tokens.items)) };
+    ghost is = { IsLeaf (λ s. tokenized (string_bytes s.text) (map token_of s.tokens.items)) };
 
     ghost refused = { LeafRefused types.PreTokStr };
 

@@ -217,7 +217,7 @@ impl<'de, S: ByteSource> BinaryObjectDeserializer<'de, S> {
             self.old.announced)
             (NextItemRefused (EntryRefused V.refused (version_of self.old.reader.now.version))
             self.old.position self.old.announced) }
-        ensures marks_failure { OnErr result (self.new.reader.now.has_failed ≡ true) }
+        ensures marks { OnErr result (self.new.reader.now.has_failed ≡ true) }
     {
         self.reader.go_on()?;
         if self.position >= self.announced {

@@ -120,7 +120,7 @@ impl<S: ByteSource> StoreReader<S> {
         ensures version { self.new.version ≡ self.old.version }
         ensures levels { self.new.levels ≡ self.old.levels }
         ensures told { result ≡ raised answer }
-        ensures marks_failure { self.new.has_failed ≡ is_err result }
+        ensures marks { self.new.has_failed ≡ is_err result }
     {
         match answer {
             Ok(value) => {
@@ -149,7 +149,7 @@ impl<S: ByteSource> StoreReader<S> {
             ((self.old.has_failed ≡ false) × (self.new.has_failed ≡ false) × (kind ≡ expected)) }
         ensures err { IfErr result
             (IsMismatch self.old.has_failed kind expected refusal) }
-        ensures marks_failure { OnErr result (self.new.has_failed ≡ true) }
+        ensures marks { OnErr result (self.new.has_failed ≡ true) }
     {
         self.go_on()?;
         if kind != expected {
@@ -162,7 +162,7 @@ impl<S: ByteSource> StoreReader<S> {
     // Takes all that stands before the next value.
     pub(crate) fn code(&mut self) -> Result<ValueType, DeserializeError>
         ensures reads { ReadsThrough S.ByteSource self.old self.new result IsCoded CodeRefused }
-        ensures no_memory { ¬ IsErrOf result errors.Memory }
+        ensures spares { ¬ IsErrOf result errors.Memory }
     {
         self.go_on()?;
         let answer = take_kind(&mut self.source, &mut self.count);
@@ -173,7 +173,7 @@ impl<S: ByteSource> StoreReader<S> {
     pub(crate) fn array_length(&mut self, kind: ValueType) -> Result<u64, DeserializeError>
         ensures reads { ReadsThrough S.ByteSource self.old self.new result
             (Length types.Array element_total kind) (LengthRefused types.Array element_total kind) }
-        ensures no_memory { ¬ IsErrOf result errors.Memory }
+        ensures spares { ¬ IsErrOf result errors.Memory }
     {
         self.expect(
             kind,
@@ -189,7 +189,7 @@ impl<S: ByteSource> StoreReader<S> {
         ensures reads { ReadsThrough S.ByteSource self.old self.new result
             (Length types.Object (entry_total (version_of self.old.version)) kind)
             (LengthRefused types.Object (entry_total (version_of self.old.version)) kind) }
-        ensures no_memory { ¬ IsErrOf result errors.Memory }
+        ensures spares { ¬ IsErrOf result errors.Memory }
     {
         self.expect(
             kind,

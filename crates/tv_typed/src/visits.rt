@@ -171,7 +171,7 @@ impl<'de, S: ByteSource> BinaryValueDeserializer<'de, S> {
             (V.answers visitor.now) (V.of_array visitor.now) (V.array_refused visitor.now)
             (V.of_object visitor.now) (V.object_refused visitor.now) self.entry.reader.now
             self.exit.1.0.now result }
-        ensures marks_failure { self.exit.1.0.now.has_failed ≡ is_err result }
+        ensures marks { self.exit.1.0.now.has_failed ≡ is_err result }
     {
         let BinaryValueDeserializer { kind, reader } = self;
         let answer = reader.visit_kind(alloc, kind, visitor);

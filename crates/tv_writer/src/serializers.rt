@@ -6,7 +6,7 @@ ghost use Rattle.tv_base.specs.Number.{vnum};
 ghost use Rattle.tv_base.specs.Writing.{Writes};
 ghost use Rattle.tv_writer.specs.Error as store;
 ghost use Rattle.tv_writer.specs.Error.{IsIo};
-ghost use Rattle.tv_writer.specs.Serialized.{FailsToWrite, WritesNothing, WritesWithin, awaited_after};
+ghost use Rattle.tv_writer.specs.Serialized.{FailsToWrite, Refuses, WritesWithin, awaited_after};
 ghost use Rattle.tv_format.specs.Short.{short, short_key, IsValue};
 ghost use Rattle.tv_format.specs.Version.{entry_total};
 ghost use Rattle.tv_format.specs.WriteVersion.{written_version};
@@ -173,7 +173,7 @@ impl<'se, K: ByteSink> BinaryArraySerializer<'se, K> {
         sink: &'se mut K,
     ) -> Result<BinaryArraySerializer<'se, K>, SerializeError>
         ensures same_sink { IfOk result (λ made. made.sink.ghost_name ≡ sink.entry.ghost_name) }
-        ensures writes { IfOk result (λ made. store.WritesStore K.ByteSink sink.old made.sink.now result
+        ensures writes { IfOk result (λ made. store.Writes K.ByteSink sink.old made.sink.now result
             (Ok (vnum count))) }
         ensures awaited { IfOk result (λ made. made.awaited ≡ count) }
         ensures version { IfOk result (λ made. made.version ≡ WriteVersion.V2) }
@@ -191,7 +191,7 @@ impl<'se, K: ByteSink> BinaryArraySerializer<'se, K> {
         version: WriteVersion,
     ) -> Result<BinaryArraySerializer<'se, K>, SerializeError>
         ensures same_sink { IfOk result (λ made. made.sink.ghost_name ≡ sink.entry.ghost_name) }
-        ensures writes { IfOk result (λ made. store.WritesStore K.ByteSink sink.old made.sink.now result
+        ensures writes { IfOk result (λ made. store.Writes K.ByteSink sink.old made.sink.now result
             (Ok (vnum count))) }
         ensures awaited { IfOk result (λ made. made.awaited ≡ count) }
         ensures version { IfOk result (λ made. made.version ≡ version) }
@@ -227,7 +227,7 @@ impl<'se, K: ByteSink> BinaryArraySerializer<'se, K> {
     pub fn serialize_value<'a, V: Value<'a>>(&mut self, value: &V) -> Result<(), SerializeError>
         ensures same_sink { self.new.sink.ghost_name ≡ self.old.sink.ghost_name }
         ensures full { self.old.awaited ≡ 0
-            → WritesNothing SerializeError.WrongCount self.old.sink.now self.new.sink.now result }
+            → Refuses SerializeError.WrongCount self.old.sink.now self.new.sink.now result }
         ensures writes { 0 < self.old.awaited
             → WritesWithin self.old.depth (V.tree value.now) K.ByteSink
             self.old.sink.now self.new.sink.now result
@@ -275,7 +275,7 @@ impl<'se, K: ByteSink> BinaryObjectSerializer<'se, K> {
         sink: &'se mut K,
     ) -> Result<BinaryObjectSerializer<'se, K>, SerializeError>
         ensures same_sink { IfOk result (λ made. made.sink.ghost_name ≡ sink.entry.ghost_name) }
-        ensures writes { IfOk result (λ made. store.WritesStore K.ByteSink sink.old made.sink.now result
+        ensures writes { IfOk result (λ made. store.Writes K.ByteSink sink.old made.sink.now result
             (Ok (vnum (2 * count)))) }
         ensures awaited { IfOk result (λ made. made.awaited ≡ count) }
         ensures version { IfOk result (λ made. made.version ≡ WriteVersion.V2) }
@@ -299,7 +299,7 @@ impl<'se, K: ByteSink> BinaryObjectSerializer<'se, K> {
         version: WriteVersion,
     ) -> Result<BinaryObjectSerializer<'se, K>, SerializeError>
         ensures same_sink { IfOk result (λ made. made.sink.ghost_name ≡ sink.entry.ghost_name) }
-        ensures writes { IfOk result (λ made. store.WritesStore K.ByteSink sink.old made.sink.now result
+        ensures writes { IfOk result (λ made. store.Writes K.ByteSink sink.old made.sink.now result
             (Ok (vnum (entry_total (written_version version) count)))) }
         ensures awaited { IfOk result (λ made. made.awaited ≡ count) }
         ensures version { IfOk result (λ made. made.version ≡ version) }
@@ -346,7 +346,7 @@ impl<'se, K: ByteSink> BinaryObjectSerializer<'se, K> {
     ) -> Result<(), SerializeError>
         ensures same_sink { self.new.sink.ghost_name ≡ self.old.sink.ghost_name }
         ensures full { self.old.awaited ≡ 0
-            → WritesNothing SerializeError.WrongCount self.old.sink.now self.new.sink.now result }
+            → Refuses SerializeError.WrongCount self.old.sink.now self.new.sink.now result }
         ensures writes { 0 < self.old.awaited
             → WritesWithin self.old.depth (V.tree value.now) K.ByteSink
             self.old.sink.now self.new.sink.now result

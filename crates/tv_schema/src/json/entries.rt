@@ -5,7 +5,7 @@ ghost use Rattle.serde_json.specs.View.{view, items_view};
 ghost use Rattle.tv_field.specs.Entry.{Entry};
 ghost use Rattle.tv_schema.specs.SchemaJsonEarly.{fault_in, first_error, head_error, opened};
 ghost use Rattle.tv_schema.specs.Schema.{refusal};
-ghost use Rattle.tv_schema.specs.SchemaJsonReading.{Describes, GivesSchema, accepted_entry, entry_of};
+ghost use Rattle.tv_schema.specs.SchemaJsonReading.{Describes, Gives, accepted, entry_of};
 ghost use Rattle.tv_schema.specs.SchemaJsonReading.{with_entry, with_entries, type_named};
 
 use crate::json::error::{EntryFault, SchemaJsonError, refused_at};
@@ -22,7 +22,7 @@ use tv_options::Type;
 
 // A builder with the entries that the JSON values describe.
 pub(super) fn builder_of(alloc: Global, items: &[Value]) -> Result<SchemaBuilder, SchemaJsonError>
-    ensures built { GivesSchema (λ builder. builder) (with_entries [] (items_view items.now)) result }
+    ensures built { Gives (λ builder. builder) (with_entries [] (items_view items.now)) result }
     ensures early { IfSome (first_error (items_view items.now)) (λ error. result ≡ Err error) }
 {
     let mut builder = SchemaBuilder::new(alloc);
@@ -39,8 +39,8 @@ fn take_entry(
     entry: FieldEntry,
 ) -> Result<(), SchemaJsonError>
     requires { place ≡ length builder.old }
-    ensures added { GivesSchema (λ _. builder.new)
-        (accepted_entry builder.old entry (refusal builder.old entry.name)) result }
+    ensures added { Gives (λ _. builder.new)
+        (accepted builder.old entry (refusal builder.old entry.name)) result }
     ensures one_more { OnOk result (length builder.new ≡ place + 1) }
 {
     match builder.add_field(entry) {
@@ -58,7 +58,7 @@ fn add_entry(
     description: &Value,
 ) -> Result<(), SchemaJsonError>
     requires { place ≡ length builder.old }
-    ensures added { GivesSchema (λ _. builder.new) (with_entry builder.old (view description.now))
+    ensures added { Gives (λ _. builder.new) (with_entry builder.old (view description.now))
         result }
     ensures early { IfSome (head_error place (view description.now)) (λ error. result ≡ Err error) }
     ensures one_more { OnOk result (length builder.new ≡ place + 1) }

@@ -10,7 +10,7 @@ ghost use Rattle.tv_schema.specs.SchemaJsonOptions.{optional_indexing, indexing_
 ghost use Rattle.tv_schema.specs.SchemaJsonOptions.{fast_field_of, fast_field_or_none};
 ghost use Rattle.tv_schema.specs.SchemaJsonOptions.{required_fast_field, record_or_basic};
 ghost use Rattle.tv_schema.specs.SchemaJsonOptions.{precision_or_seconds};
-ghost use Rattle.tv_schema.specs.SchemaJsonReading.{ReadsOptions};
+ghost use Rattle.tv_schema.specs.SchemaJsonReading.{Reads};
 
 use crate::json::error::EntryFault;
 use crate::json::key::SchemaKey;
@@ -34,7 +34,7 @@ pub(super) fn options_of(
     value_type: Type,
     members: &Members,
 ) -> Result<FieldType, EntryFault>
-    ensures { ReadsOptions (options_of value_type (members_view members.now.entries)) result }
+    ensures { Reads (options_of value_type (members_view members.now.entries)) result }
 {
     match value_type {
         Type::Str => Ok(FieldType::Str(text_options_of(alloc, members)?)),
@@ -51,7 +51,7 @@ pub(super) fn options_of(
 
 #[tactic(auto, unfolding(crate::specs::SchemaJsonOptions::text_options_of))]
 fn text_options_of(alloc: Global, members: &Members) -> Result<TextOptions, EntryFault>
-    ensures { ReadsOptions (text_options_of (members_view members.now.entries)) result }
+    ensures { Reads (text_options_of (members_view members.now.entries)) result }
 {
     let indexing = optional_indexing(alloc, members)?;
     let stored = bool_or(members, SchemaKey::Stored, false)?;
@@ -105,7 +105,7 @@ fn bytes_options_of(members: &Members) -> Result<BytesOptions, SchemaKey>
 
 #[tactic(auto, unfolding(crate::specs::SchemaJsonOptions::json_object_options_of))]
 fn json_object_options_of(alloc: Global, members: &Members) -> Result<JsonObjectOptions, EntryFault>
-    ensures { ReadsOptions (json_object_options_of (members_view members.now.entries)) result }
+    ensures { Reads (json_object_options_of (members_view members.now.entries)) result }
 {
     let stored = required_bool(members, SchemaKey::Stored)?;
     let fast = required_fast_field(alloc, members)?;
@@ -142,7 +142,7 @@ fn optional_indexing(
     alloc: Global,
     members: &Members,
 ) -> Result<Option<TextFieldIndexing>, EntryFault>
-    ensures { ReadsOptions (optional_indexing (members_view members.now.entries)) result }
+    ensures { Reads (optional_indexing (members_view members.now.entries)) result }
 {
     match present(members, SchemaKey::Indexing) {
         Some(found) => {
@@ -155,7 +155,7 @@ fn optional_indexing(
 
 #[tactic(auto, unfolding(crate::specs::SchemaJsonOptions::indexing_of))]
 fn indexing_of(alloc: Global, members: &Members) -> Result<TextFieldIndexing, EntryFault>
-    ensures { ReadsOptions (indexing_of (members_view members.now.entries)) result }
+    ensures { Reads (indexing_of (members_view members.now.entries)) result }
 {
     let record = record_or_basic(members)?;
     let fieldnorms = bool_or(members, SchemaKey::IndexingFieldnorms, true)?;
@@ -170,7 +170,7 @@ fn indexing_of(alloc: Global, members: &Members) -> Result<TextFieldIndexing, En
 // The fast field at the key `fast`, none where the key isn't there.
 #[tactic(auto, unfolding(crate::specs::SchemaJsonOptions::fast_field_or_none))]
 fn fast_field_or_none(alloc: Global, members: &Members) -> Result<FastFieldTextOptions, EntryFault>
-    ensures { ReadsOptions (fast_field_or_none (members_view members.now.entries)) result }
+    ensures { Reads (fast_field_or_none (members_view members.now.entries)) result }
 {
     match member(members, SchemaKey::FastOfText) {
         Some(found) => fast_field_of(alloc, found),
@@ -181,7 +181,7 @@ fn fast_field_or_none(alloc: Global, members: &Members) -> Result<FastFieldTextO
 // The fast field at the key `fast`, which must be there.
 #[tactic(auto, unfolding(crate::specs::SchemaJsonOptions::required_fast_field))]
 fn required_fast_field(alloc: Global, members: &Members) -> Result<FastFieldTextOptions, EntryFault>
-    ensures { ReadsOptions (required_fast_field (members_view members.now.entries)) result }
+    ensures { Reads (required_fast_field (members_view members.now.entries)) result }
 {
     match member(members, SchemaKey::FastOfText) {
         Some(found) => fast_field_of(alloc, found),
@@ -191,7 +191,7 @@ fn required_fast_field(alloc: Global, members: &Members) -> Result<FastFieldText
 
 #[tactic(auto, unfolding(crate::specs::SchemaJsonOptions::fast_field_of))]
 fn fast_field_of(alloc: Global, found: &Value) -> Result<FastFieldTextOptions, EntryFault>
-    ensures { ReadsOptions (fast_field_of (view found.now)) result }
+    ensures { Reads (fast_field_of (view found.now)) result }
 {
     match found {
         Value::Bool(enabled) => Ok(FastFieldTextOptions::IsEnabled(*enabled)),

@@ -4,7 +4,7 @@ use Rattle.tv_doc.specs.Document.{document_of}
 use Rattle.tv_reader.specs.Version.{version_of}
 use Rattle.tv_reader.specs.declared.version.DocStoreVersion.{DocStoreVersion}
 use Rattle.tv_reader.specs.declared.error.DeserializeError.TheVariants.{AlreadyFailed}
-use Rattle.tv_store.specs.Documents.{BeginsWithDocument, NoDocument, HasNoRoom}
+use Rattle.tv_store.specs.Documents.{BeginsWith, NoDocument, HasNoRoom}
 use Rattle.tv_store.specs.Reading.{reading}
 use Rattle.tv_store.proofs.Promises.{refusal_is_true}
 use Rattle.tv_store.proofs.Resuming.{reads_live}
@@ -13,7 +13,7 @@ use Rattle.tv_blocks.proofs.export.append_documents.Goals as goal
 
 pub loop-reader-init : goal.loop-reader-init
 loop-reader-init c = record {
-  live = c.new-reader.ensures.not_failed;
+  live = c.new-reader.ensures.live;
   version = c.new-reader.ensures.version;
   so_far = subst (λ (l : List ℕ). PrintedSoFar c.args.schema.now (version_of c.args.version) c.args.block.now l c.args.text.now.items) (sym c.new-source.ensures)
       (printed_none c.args.schema.now (version_of c.args.version) c.args.block.now c.args.text.now.items c.requires);
@@ -24,9 +24,9 @@ loop-reader-preserved c =
     let i = c.loop-reader.invariant in
     let reads = reads_live reading AlreadyFailed i.live (rw c.in-Ok-true.field-0-test at c.in-Ok-true.ensures.reads) in
     record {
-      live = c.in-Ok-true.ensures.not_failed;
+      live = c.in-Ok-true.ensures.live;
       version = c.advance.ensures.version ∙ i.version;
-      so_far = printed_more i.so_far (subst (λ (w : DocStoreVersion). BeginsWithDocument (version_of w) c.loop-reader.source.rest.now c.advance.new.source.rest.now (document_of c.advance.new.self.document)) i.version (reads.found tt))
+      so_far = printed_more i.so_far (subst (λ (w : DocStoreVersion). BeginsWith (version_of w) c.loop-reader.source.rest.now c.advance.new.source.rest.now (document_of c.advance.new.self.document)) i.version (reads.found tt))
           (subst (λ d. AppendsLine c.args.schema.now (document_of d) c.loop-reader.text.items c.append_line.new.text.items) c.document.ensures c.in_ok-append_line-in-Ok-true.ensures);
     }
 

@@ -5,7 +5,7 @@ use Rattle.tv_doc.specs.Document.{document_of}
 use Rattle.tv_reader.specs.Version.{version_of}
 use Rattle.tv_reader.specs.declared.version.DocStoreVersion.{DocStoreVersion}
 use Rattle.tv_reader.specs.declared.error.DeserializeError.TheVariants.{AlreadyFailed}
-use Rattle.tv_store.specs.Documents.{BeginsWithDocument, NoDocument, HasNoRoom}
+use Rattle.tv_store.specs.Documents.{BeginsWith, NoDocument, HasNoRoom}
 use Rattle.tv_store.specs.Reading.{reading}
 use Rattle.tv_store.proofs.Promises.{refusal_is_true}
 use Rattle.tv_store.proofs.Resuming.{reads_live}
@@ -32,9 +32,9 @@ loop-writer-preserved c =
     let is = c.in-Ok-true.is ∙ ap Ok c.in-Ok-true.field-0-test in
     let reads = reads_live reading AlreadyFailed i.live (rw c.in-Ok-true.field-0-test at c.in-Ok-true.ensures.reads) in
     record {
-      live = c.in-Ok-true.ensures.not_failed;
+      live = c.in-Ok-true.ensures.live;
       version = c.advance.ensures.version ∙ i.version;
       few = omega (arith, i.few, c.advance.ensures.fewer tt is);
-      so_far = terms_more (document_of c.advance.new.self.document) i.so_far (subst (λ (w : DocStoreVersion). BeginsWithDocument (version_of w) c.loop-writer.source.rest.now c.advance.new.source.rest.now (document_of c.advance.new.self.document)) i.version (reads.found tt))
+      so_far = terms_more (document_of c.advance.new.self.document) i.so_far (subst (λ (w : DocStoreVersion). BeginsWith (version_of w) c.loop-writer.source.rest.now c.advance.new.source.rest.now (document_of c.advance.new.self.document)) i.version (reads.found tt))
           (subst (λ d. c.append_document.new.terms.items ≡ c.loop-writer.terms.items ++ document_records c.loop-writer.number c.args.field.id (document_of d)) c.document.ensures c.in_ok-append_document-in-Ok-true.ensures);
     }

@@ -5,7 +5,7 @@ use Rattle.json.specs.Token.{Token}
 use Rattle.json.proofs.Grammar.{read_key-shorter}
 use Rattle.serde_json.specs.Data.{item, put}
 use Rattle.serde_json.specs.Read.{of_json, converted}
-use Rattle.tv_borrowed.specs.Begun.{BeginsJson}
+use Rattle.tv_borrowed.specs.Begun.{Begins}
 use Rattle.tv_borrowed.specs.Found.{found_data}
 use Rattle.tv_borrowed.specs.BorrowedData.{data_of}
 use Rattle.tv_borrowed.proofs.Levels.{data_of-Array, data_of-Object}
@@ -17,13 +17,13 @@ use Rattle.tv_borrowed.proofs.read.+read.Goals as goal
 
 pub read-returns-in-Leaf-clause-found : goal.read-returns-in-Leaf-clause-found
 read-returns-in-Leaf-clause-found t c =
-    subst (λ b. BeginsJson b c.args.reader.now c.begin.new.reader) c.in-Leaf.is c.in_ok-json.ensures.begins c.args.depth
+    subst (λ b. Begins b c.args.reader.now c.begin.new.reader) c.in-Leaf.is c.in_ok-json.ensures.begins c.args.depth
 
 pub read-returns-in_ok-read_items-in-Array-clause-found : goal.read-returns-in_ok-read_items-in-Array-clause-found
 read-returns-in_ok-read_items-in-Array-clause-found t c =
     let v = c.in_ok-read_items-in-Array.field-0 in
     let found = c.in_ok-read_items-in-Array.ensures.found in
-    let first : c.args.reader.now ≡ Token.begin_array ∷ c.begin.new.reader = subst (λ b. BeginsJson b c.args.reader.now c.begin.new.reader) c.in-Array.is c.in_ok-json.ensures.begins in
+    let first : c.args.reader.now ≡ Token.begin_array ∷ c.begin.new.reader = subst (λ b. Begins b c.args.reader.now c.begin.new.reader) c.in-Array.is c.in_ok-json.ensures.begins in
     ap (λ ts. converted of_json (value c.args.depth ts)) first ∙ array-read c.args.depth c.begin.new.reader c.read_items.new.reader _ c.if-depth-gt0.true found
     ∙ ap (λ d. Some (d, c.read_items.new.reader)) (sym (data_of-Array v))
 
@@ -31,7 +31,7 @@ pub read-returns-in_ok-read_members-in-Object-clause-found : goal.read-returns-i
 read-returns-in_ok-read_members-in-Object-clause-found t c =
     let v = c.in_ok-read_members-in-Object.field-0 in
     let found = c.in_ok-read_members-in-Object.ensures.found in
-    let first : c.args.reader.now ≡ Token.begin_object ∷ c.begin.new.reader = subst (λ b. BeginsJson b c.args.reader.now c.begin.new.reader) c.in-Object.is c.in_ok-json.ensures.begins in
+    let first : c.args.reader.now ≡ Token.begin_object ∷ c.begin.new.reader = subst (λ b. Begins b c.args.reader.now c.begin.new.reader) c.in-Object.is c.in_ok-json.ensures.begins in
     ap (λ ts. converted of_json (value c.args.depth ts)) first ∙ object-read c.args.depth c.begin.new.reader c.read_members.new.reader _ c.if-depth-gt0-2.true found
     ∙ ap (λ d. Some (d, c.read_members.new.reader)) (sym (data_of-Object v))
 

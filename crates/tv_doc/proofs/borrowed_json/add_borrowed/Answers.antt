@@ -6,7 +6,7 @@ use Rattle.tv_borrowed.proofs.Levels.{data_of-Array}
 use Rattle.tv_borrowed.specs.BorrowedData.{data_of, items_data}
 use Rattle.tv_borrowed.specs.declared.borrowed.BorrowedJson.{BorrowedJson}
 use Rattle.tv_schema.specs.Schema.{field_named}
-use Rattle.tv_doc.specs.JsonObject.{FieldJson, AddsFieldValues, item_values}
+use Rattle.tv_doc.specs.JsonObject.{FieldJson, AddsPairs, item_values}
 use Rattle.tv_doc.proofs.PlainValues.{values_of_items}
 use Rattle.tv_doc.proofs.JsonDocuments.{more_so_far, all_so_far}
 use Rattle.tv_doc.proofs.borrowed_json.add_borrowed.Goals as goal
@@ -45,4 +45,4 @@ returns c =
     let says = ap data_of c.in-Array.is ∙ data_of-Array c.in-Array.items in
     let same = ap (item_values a.name.now c.in-Some.field.id c.field_type-field_type.result.now) (ap items_data c.deref-item-items.ensures.value) in
     let whole = same ∙ values_of_items a.schema.now a.name.now c.in-Some.field.id c.get_field_entry.result.now c.field_type-field_type.result.now _ (data_of a.json.now) _ named c.get_field_entry.ensures c.field_type-field_type.ensures says in
-    subst (λ vs. AddsFieldValues vs a.document.now l.document) whole all
+    subst (λ vs. AddsPairs vs a.document.now l.document) whole all

@@ -1,7 +1,7 @@
 use Rattle.std.proofs.Common.{◌≡◌, ◌∷◌, [], map, refl, ap, sym, subst, ◌∙◌, arith, rules}
 use Rattle.std.proofs.lemmas.List.{map-append, nil_from_length}
 use Rattle.std.specs.Vec.Iter.{into_iter_items}
-use Rattle.tv_doc.specs.Grouped.{IsGrouped, with_number, numbered_all}
+use Rattle.tv_doc.specs.Grouped.{IsGrouped, numbered, numbered_all}
 use Rattle.tv_doc.proofs.Grouping.{nothing_grouped, stage_start, stage_same, stage_next, stage_is, stage_done}
 use Rattle.tv_doc.proofs.grouped.group_sorted.Goals as goal
 
@@ -30,4 +30,4 @@ loop-next-preserved g c =
 pub returns : goal.returns
 returns g c =
     let none : into_iter_items c.loop-next.next-iterator ≡ [] = nil_from_length _ (omega (arith, c.in-None.ensures.steps.0, c.loop-next.next-iterator.rest.ok.0)) in
-    subst (IsGrouped (map with_number c.args.pairs.items)) (sym (map-append numbered_all _ _) ∙ sym (ap (map numbered_all) c.in_ok-push-3.ensures.items)) (stage_done _ _ _ _ _ none c.loop-next.invariant)
+    subst (IsGrouped (map numbered c.args.pairs.items)) (sym (map-append numbered_all _ _) ∙ sym (ap (map numbered_all) c.in_ok-push-3.ensures.items)) (stage_done _ _ _ _ _ none c.loop-next.invariant)

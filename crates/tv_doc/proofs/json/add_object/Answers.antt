@@ -4,7 +4,7 @@ use Rattle.serde_json.specs.View.{view as data_of, members_view}
 use Rattle.tv_schema.specs.Schema.{field_named}
 use Rattle.std.specs.declared.alloc.Global.{Global}
 use Rattle.serde_json.specs.declared.value.Value.{Value}
-use Rattle.tv_doc.specs.JsonObject.{FieldJson, AddsFieldValues, StopsAt, object_values, values_at}
+use Rattle.tv_doc.specs.JsonObject.{FieldJson, AddsPairs, StopsAt, object_values, values_at}
 use Rattle.tv_doc.proofs.JsonDocuments.{SoFar, none_so_far, more_so_far, all_so_far, stops_later}
 use Rattle.tv_doc.proofs.json.add_object.Goals as goal
 
@@ -21,7 +21,7 @@ loop-key-preserved c =
     let d = data_of c.in-Some.json in
     let at : List ℕ → List FieldJson = λ k. values_at schema k (field_named schema k) d in
     let all : List (String Global × Value) → List FieldJson = λ es. object_values schema (members_view es) in
-    let added = subst (λ k. AddsFieldValues (at k) c.loop-key.document c.add_member.new.document) c.as_str.ensures.value c.in_ok-add_member.ensures in
+    let added = subst (λ k. AddsPairs (at k) c.loop-key.document c.add_member.new.document) c.as_str.ensures.value c.in_ok-add_member.ensures in
     more_so_far _ (all c.loop-key.key-iterator) (at (string_bytes c.in-Some.key)) (all c.next.new.self) c.args.document.now c.loop-key.document
     c.add_member.new.document c.loop-key.invariant (ap all c.in-Some.ensures.steps) added
 

@@ -1,7 +1,7 @@
 use Rattle.std.proofs.Common.{◌≡◌, Some, sym, ◌∙◌, ap, subst, arith}
 use Rattle.std.proofs.Math.Logic.{∥∥₁_map}
 use Rattle.tv_heap.specs.declared.place.Place.{Place}
-use Rattle.tv_heap.specs.Reads.{ReadsTree}
+use Rattle.tv_heap.specs.Reads.{Reads}
 use Rattle.tv_heap.specs.TypeCode.{type_code}
 use Rattle.tv_builder.specs.Given.{Given}
 use Rattle.tv_builder.specs.Image.{held, image_of}
@@ -21,6 +21,6 @@ returns c = λ b. record {
       let drawn : held b.builder.building ≡ image_of base (complete t) = p.image ∙ ap (λ s. image_of base s) e in
       let whole : Some shown.at.at ≡ Some (tree_place base t) = sym shown.at.is ∙ ap (λ (g : Given). g.complete) drawn in
       let same : shown.at.at ≡ tree_place base t = cc in
-      subst (λ (q : Place). ReadsTree (heap_so_far b) (type_code q.value_type) q.address t) same shown.at.placed.reads);
+      subst (λ (q : Place). Reads (heap_so_far b) (type_code q.value_type) q.address t) same shown.at.placed.reads);
   room = omega (arith, heap_within b.builder, kept_room b.builder);
 }

@@ -2,7 +2,7 @@ use Rattle.std.proofs.Common.{◌-◌, length, ap, subst, refl, take, arith}
 use Rattle.tv_builder.proofs.Documents.{document_length}
 use Rattle.tv_format.specs.WriteVersion.{written_version}
 use Rattle.tv_reader.specs.Version.{version_of}
-use Rattle.tv_reading.specs.Buffered.{AddsBufferedPairs}
+use Rattle.tv_reading.specs.Buffered.{AddsPairs}
 use Rattle.tv_reading.proofs.BufferedPairs.{no_pairs, pairs_taken, stood_in, none_kept}
 use Rattle.tv_reader.proofs.Lending.{passed_over, not_passed, none_buffered}
 use Rattle.tv_reading.proofs.buffered.take_buffered_pairs.Goals as goal
@@ -10,7 +10,7 @@ use Rattle.tv_reading.proofs.buffered.take_buffered_pairs.Goals as goal
 pub returns-in_default-clause-finds : goal.returns-in_default-clause-finds
 returns-in_default-clause-finds g c =
     let v = version_of c.args.version in
-    none_buffered (λ b n. AddsBufferedPairs v c.args.document.now c.args.document.now b n) 0 (no_pairs v c.args.document.now)
+    none_buffered (λ b n. AddsPairs v c.args.document.now c.args.document.now b n) 0 (no_pairs v c.args.document.now)
 
 pub returns-then-taken-eq0-clause-finds : goal.returns-then-taken-eq0-clause-finds
 returns-then-taken-eq0-clause-finds g c =
@@ -22,8 +22,8 @@ returns-then-taken-eq0-clause-finds g c =
     let n = c.add_encoded-added.result.1 in
     let known = written_version c.in-Some.known in
     let pairs = pairs_taken known old new lent rest n c.add_encoded-added.ensures.added in
-    let here = subst (λ z. AddsBufferedPairs z old new (take (length lent - length rest) lent) n) c.in-Some.ensures pairs in
-    none_buffered (λ b m. AddsBufferedPairs v old new b m) n (subst (λ z. AddsBufferedPairs v old new (take z lent) n) c.if-taken-eq0.true here)
+    let here = subst (λ z. AddsPairs z old new (take (length lent - length rest) lent) n) c.in-Some.ensures pairs in
+    none_buffered (λ b m. AddsPairs v old new b m) n (subst (λ z. AddsPairs v old new (take z lent) n) c.if-taken-eq0.true here)
 
 pub take_back-requires : goal.take_back-requires
 take_back-requires g c = (c.args.document.now, stood_in c.args.document.now c.add_encoded-added.new.self _ _ c.add_encoded-added.ensures.added (omega (arith, c.len-pairs.ensures, c.args.document.now.pairs.ok.0, document_length c.args.document.now)) (omega (arith, c.len-heap.ensures, c.args.document.now.heap.ok.0)))
@@ -36,7 +36,7 @@ returns-then-not-pass-clause-finds g c =
     let stood = stood_in old c.add_encoded-added.new.self _ _ c.add_encoded-added.ensures.added (omega (arith, c.len-pairs.ensures, c.args.document.now.pairs.ok.0, document_length c.args.document.now)) (omega (arith, c.len-heap.ensures, c.args.document.now.heap.ok.0)) in
     let back = none_kept v old new (c.take_back.ensures old stood) in
     let pass = c.if-not-pass.ensures in
-    not_passed (λ b m. AddsBufferedPairs v old new b m) 0 back pass.bytes pass.is_known pass.failures
+    not_passed (λ b m. AddsPairs v old new b m) 0 back pass.bytes pass.is_known pass.failures
 
 pub returns-clause-finds : goal.returns-clause-finds
 returns-clause-finds g c =
@@ -48,9 +48,9 @@ returns-clause-finds g c =
     let n = c.add_encoded-added.result.1 in
     let known = written_version c.in-Some.known in
     let pairs = pairs_taken known old new lent rest n c.add_encoded-added.ensures.added in
-    let here = subst (λ z. AddsBufferedPairs z old new (take (length lent - length rest) lent) n) c.in-Some.ensures pairs in
+    let here = subst (λ z. AddsPairs z old new (take (length lent - length rest) lent) n) c.in-Some.ensures pairs in
     let pass = c.if-not-pass.ensures in
-    passed_over (λ b m. AddsBufferedPairs v old new b m) n lent (length lent - length rest) c.buffered-lent.ensures (omega arith) (λ a same many. subst (λ z. AddsBufferedPairs v old new z n) same here) pass.bytes pass.is_known pass.failures refl
+    passed_over (λ b m. AddsPairs v old new b m) n lent (length lent - length rest) c.buffered-lent.ensures (omega arith) (λ a same many. subst (λ z. AddsPairs v old new z n) same here) pass.bytes pass.is_known pass.failures refl
 
 pub returns-then-not-pass-clause-counted : goal.returns-then-not-pass-clause-counted
 returns-then-not-pass-clause-counted g c =

@@ -12,7 +12,7 @@ use Rattle.tv_reading.proofs.document.take_pair_value.Goals as goal
 pub returns-clause-finds : goal.returns-clause-finds
 returns-clause-finds g c =
     let v = version_of c.args.version in
-    let few = c.before_value-begun.ensures.at_most in
+    let few = c.before_value-begun.ensures.few in
     let field : c.args.field < 2 ^ 32 = omega (arith, c.ranges.field.fits) in
     let d = document_of c.args.document in
     let f = c.args.field in
@@ -25,7 +25,7 @@ returns-clause-finds g c =
 pub returns-clause-full : goal.returns-clause-full
 returns-clause-full g c = λ told full.
     let v = version_of c.args.version in
-    let few = c.before_value-begun.ensures.at_most in
+    let few = c.before_value-begun.ensures.few in
     let field : c.args.field < 2 ^ 32 = omega (arith, c.ranges.field.fits) in
     let d = document_of c.args.document in
     let none = c.take_rest.ensures.full told full in

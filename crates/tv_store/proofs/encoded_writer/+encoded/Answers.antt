@@ -54,14 +54,14 @@ write_encoded_items-returns-in_err-write_encoded-clause-writes g t c =
     let cut : l.item-iterator.held.0 ≡ tree_of c.in-Some.item ∷ c.next.new.self.held.0 = search rules in
     rw (p.1, p.2) (Written-fails _ _ (elements_next v cut (c.encoded.ensures.bytes v)) l.invariant.written c.in_err-write_encoded.ensures.writes)
 
-pub write_encoded_items-returns-in_err-write_encoded-clause-only_io : goal.write_encoded_items-returns-in_err-write_encoded-clause-only_io
-write_encoded_items-returns-in_err-write_encoded-clause-only_io g t c =
+pub write_encoded_items-returns-in_err-write_encoded-clause-lean : goal.write_encoded_items-returns-in_err-write_encoded-clause-lean
+write_encoded_items-returns-in_err-write_encoded-clause-lean g t c =
     let p = err_from_is_err_and c.from_residual.result c.from_residual.ensures.1 in
     let l = c.loop-item in
     let cut : l.item-iterator.held.0 ≡ tree_of c.in-Some.item ∷ c.next.new.self.held.0 = search rules in
     λ h.
     let child = (subst (λ ts. ElementsNestWithin (c.args.levels - 1) (elements ts)) cut (l.invariant.within h)).0 in
-    rw (p.1, p.2) (c.in_err-write_encoded.ensures.only_io (held_within (c.args.levels - 1) c.in-Some.item c.encoded.result c.encoded.ensures.bytes child))
+    rw (p.1, p.2) (c.in_err-write_encoded.ensures.lean (held_within (c.args.levels - 1) c.in-Some.item c.encoded.result c.encoded.ensures.bytes child))
 
 pub write_encoded_members-returns-in_err-write_key-clause-writes : goal.write_encoded_members-returns-in_err-write_key-clause-writes
 write_encoded_members-returns-in_err-write_key-clause-writes g t c =
@@ -96,11 +96,11 @@ write_encoded_members-returns-in_err-write_encoded-clause-writes g t c =
     let behind = Written-step _ _ (entries_parts v cut refl) l.invariant.written c.in_ok-write_key.ensures in
     rw (p.1, p.2) (Written-fails _ _ (ap (λ z. z ++ others) (sym (c.encoded.ensures.bytes v))) behind c.in_err-write_encoded.ensures.writes)
 
-pub write_encoded_members-returns-in_err-write_encoded-clause-only_io : goal.write_encoded_members-returns-in_err-write_encoded-clause-only_io
-write_encoded_members-returns-in_err-write_encoded-clause-only_io g t c =
+pub write_encoded_members-returns-in_err-write_encoded-clause-lean : goal.write_encoded_members-returns-in_err-write_encoded-clause-lean
+write_encoded_members-returns-in_err-write_encoded-clause-lean g t c =
     let p = err_from_is_err_and c.from_residual-in_err-write_encoded.result c.from_residual-in_err-write_encoded.ensures.1 in
     let l = c.loop-key in
     let cut : l.key-iterator.held.0 ≡ (c.in-Some.key.now, tree_of c.in-Some.item) ∷ c.next.new.self.held.0 = search rules in
     λ h.
     let child = (subst (λ es. EntriesNestWithin (c.args.levels - 1) (entries es)) cut (l.invariant.within h)).0 in
-    rw (p.1, p.2) (c.in_err-write_encoded.ensures.only_io (held_within (c.args.levels - 1) c.in-Some.item c.encoded.result c.encoded.ensures.bytes child))
+    rw (p.1, p.2) (c.in_err-write_encoded.ensures.lean (held_within (c.args.levels - 1) c.in-Some.item c.encoded.result c.encoded.ensures.bytes child))

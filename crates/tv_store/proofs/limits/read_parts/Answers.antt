@@ -4,7 +4,7 @@ use Rattle.tv_base.specs.Stop.{Taken}
 use Rattle.tv_reader.specs.Error.{store_stop}
 use Rattle.tv_reader.specs.Version.{version_of}
 use Rattle.tv_reader.specs.declared.error.DeserializeError.{DeserializeError}
-use Rattle.tv_store.specs.Limits.{ReadsByLimits}
+use Rattle.tv_store.specs.Limits.{Comes}
 use Rattle.tv_store.specs.declared.limits.LimitedReadError.TheVariants as limited
 use Rattle.tv_store.proofs.WithinLimits.{ended, passed, told_of, told_counts, tested, tested_shallow, tested_errors, tested_counts, counted_from}
 use Rattle.tv_store.proofs.limits.read_parts.Goals as goal
@@ -18,7 +18,7 @@ returns-in-None-clause-comes g c = λ told.
     let taken = subst (λ n. Taken (left c.args.source.now) (left c.take_within-taken.new.source) n decoder.count) (begun.ensures.count ∙ c.first_count-first.ensures.count) (h.finds.taken told) in
     let below : decoder.count < 2 ^ 64 = omega (arith, c.bytes_read-last.ensures, c.bytes_read-last.type_inv) in
     tested (version_of c.args.version) c.args.limits _ _ c.into_doc.result c.tested.result c.tested.ensures
-    (subst (λ z. ReadsByLimits (version_of z) c.args.limits (left c.args.source.now) (left c.take_within-taken.new.source) (Ok c.into_doc.result)) begun.ensures.version
+    (subst (λ z. Comes (version_of z) c.args.limits (left c.args.source.now) (left c.take_within-taken.new.source) (Ok c.into_doc.result)) begun.ensures.version
     (ended (version_of begun.result.version) c.args.limits begun.result.reading decoder.reading c.into_doc.result _ _ decoder.count begun.ensures.parts (decoder.sound h.live) (h.done c.in-None.is) c.into_doc.ensures.document (h.finds.found told) taken below))
 
 pub returns-in-Some-clause-comes : goal.returns-in-Some-clause-comes
@@ -30,7 +30,7 @@ returns-in-Some-clause-comes g c = λ told.
     let check = rw c.in-Some.is at h.checked in
     let taken = subst (λ n. Taken (left c.args.source.now) (left c.take_within-taken.new.source) n decoder.count) (begun.ensures.count ∙ c.first_count-first.ensures.count) (h.finds.taken told) in
     let below : decoder.count < 2 ^ 64 = omega (arith, c.bytes_read-last.ensures, c.bytes_read-last.type_inv) in
-    subst (λ z. ReadsByLimits (version_of z) c.args.limits (left c.args.source.now) (left c.take_within-taken.new.source) (Err (limited.Limit c.in-Some.limit))) begun.ensures.version
+    subst (λ z. Comes (version_of z) c.args.limits (left c.args.source.now) (left c.take_within-taken.new.source) (Err (limited.Limit c.in-Some.limit))) begun.ensures.version
     (passed (version_of begun.result.version) c.args.limits begun.result.reading decoder.reading _ _ _ decoder.count begun.ensures.parts (decoder.sound h.live) check (h.finds.found told) taken below)
 
 pub returns-in-Err-clause-comes : goal.returns-in-Err-clause-comes
@@ -41,7 +41,7 @@ returns-in-Err-clause-comes g c = λ told.
     let h = c.in-Err.ensures in
     let taken = subst (λ n. Taken (left c.args.source.now) (left c.take_within-taken.new.source) n decoder.count) (begun.ensures.count ∙ c.first_count-first.ensures.count) (h.finds.taken told) in
     let below : decoder.count < 2 ^ 64 = omega (arith, c.bytes_read-last.ensures, c.bytes_read-last.type_inv) in
-    subst (λ z. ReadsByLimits (version_of z) c.args.limits (left c.args.source.now) (left c.take_within-taken.new.source) (Err c.refused.result)) begun.ensures.version
+    subst (λ z. Comes (version_of z) c.args.limits (left c.args.source.now) (left c.take_within-taken.new.source) (Err c.refused.result)) begun.ensures.version
     (told_of (version_of begun.result.version) c.args.limits begun.result.reading c.in-Err.error _ _ decoder.count _ c.refused.result c.refused.ensures begun.ensures.parts (h.finds.found told) taken below (subst (λ n. IsTrue c.is_all.result ↔ (IsSome c.args.limits.bytes × (n ≡ 2 ^ 64 - 1))) c.bytes_read-last.ensures c.is_all.ensures) (λ m e. subst (λ z. z + m ≡ 2 ^ 64 - 1) c.first_count-first.ensures.count (c.first_count-first.ensures.sum m e)) (λ is. h.full told (ap (λ (z : DeserializeError). Err z) is)))
 
 pub returns-in-Err-clause-failures : goal.returns-in-Err-clause-failures

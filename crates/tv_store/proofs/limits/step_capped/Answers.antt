@@ -1,6 +1,6 @@
 use Rattle.std.proofs.Common.{◌≡◌, ◌+◌, ◌-◌, ◌^◌, ap, sym, subst, ◌∙◌}
 use Rattle.std.specs.Prelude.{◌↔◌, IsTrue, IsSome}
-use Rattle.tv_reading.specs.Prefix.{IsDone, IsMalformedNext}
+use Rattle.tv_reading.specs.Prefix.{IsDone, NoPrefix}
 use Rattle.tv_reading.specs.Steps.{Stepped}
 use Rattle.tv_reader.specs.Version.{version_of}
 use Rattle.tv_store.proofs.WithinLimits.{part_read, part_refused, part_early, stepped_as}
@@ -19,7 +19,7 @@ returns-in-Ok-clause-finds g c =
     let ended : new.count ≡ then.count - c.first_count-first.result = c.recount-2.ensures.count ∙ ap (λ n. n - c.first_count-first.result) c.bytes_read-count.ensures in
     let more = subst (λ r. ¬ IsDone r) (sym c.recount.ensures.reading) c.requires.more in
     let h = c.in-Ok.ensures.steps.finds (c.recount.ensures.failed ∙ c.requires.live) more in
-    part_read c.first_count-first.result begun ended c.in-Ok.step _ (λ b x. Stepped v new.legacy_seen d.reading new.reading b) _ (IsMalformedNext v d.reading)
+    part_read c.first_count-first.result begun ended c.in-Ok.step _ (λ b x. Stepped v new.legacy_seen d.reading new.reading b) _ (NoPrefix v d.reading)
     (λ b. stepped_as _ _ _ _ _ _ _ _ b (ap version_of c.recount.ensures.version) (sym c.recount-2.ensures.seen) c.recount.ensures.reading (sym c.recount-2.ensures.reading)) h
 
 pub returns-in-Err-clause-finds : goal.returns-in-Err-clause-finds
@@ -34,9 +34,9 @@ returns-in-Err-clause-finds g c =
     let more = subst (λ r. ¬ IsDone r) (sym c.recount.ensures.reading) c.requires.more in
     let h = c.in-Err.ensures.steps.finds (c.recount.ensures.failed ∙ c.requires.live) more in
     let same = subst (λ n. IsTrue c.is_all.result ↔ (IsSome c.args.most × (n ≡ 2 ^ 64 - 1))) c.bytes_read-count.ensures c.is_all.ensures in
-    part_refused c.first_count-first.result begun ended c.in-Err.error c.is_all.result c.refused.result c.args.most _ (λ b x. Stepped v new.legacy_seen d.reading new.reading b) _ (IsMalformedNext v d.reading)
+    part_refused c.first_count-first.result begun ended c.in-Err.error c.is_all.result c.refused.result c.args.most _ (λ b x. Stepped v new.legacy_seen d.reading new.reading b) _ (NoPrefix v d.reading)
     c.refused.ensures c.first_count-first.ensures.count same
-    (λ b f p. subst (λ r. IsMalformedNext v r b f) c.recount.ensures.reading (subst (λ z. IsMalformedNext (version_of z) at.reading b f) c.recount.ensures.version p)) h
+    (λ b f p. subst (λ r. NoPrefix v r b f) c.recount.ensures.reading (subst (λ z. NoPrefix (version_of z) at.reading b f) c.recount.ensures.version p)) h
 
 pub returns-in-Err-clause-ends : goal.returns-in-Err-clause-ends
 returns-in-Err-clause-ends g c = λ known is.
@@ -46,5 +46,5 @@ returns-in-Err-clause-ends g c = λ known is.
     let more = subst (λ r. ¬ IsDone r) (sym c.recount.ensures.reading) c.requires.more in
     let h = c.in-Err.ensures.steps.finds (c.recount.ensures.failed ∙ c.requires.live) more in
     let said : c.refused.result ≡ limited.Limit limit.Bytes = cc in
-    part_early c.in-Err.error c.is_all.result c.refused.result _ _ (IsMalformedNext v d.reading) c.refused.ensures said
-    (λ b f p. subst (λ r. IsMalformedNext v r b f) c.recount.ensures.reading (subst (λ z. IsMalformedNext (version_of z) at.reading b f) c.recount.ensures.version p)) h known
+    part_early c.in-Err.error c.is_all.result c.refused.result _ _ (NoPrefix v d.reading) c.refused.ensures said
+    (λ b f p. subst (λ r. NoPrefix v r b f) c.recount.ensures.reading (subst (λ z. NoPrefix (version_of z) at.reading b f) c.recount.ensures.version p)) h known

@@ -1,6 +1,6 @@
 use Rattle.std.proofs.Common.{Err, arith, rules, ap, refl, subst, ◌∙◌}
 use Rattle.std.proofs.lemmas.Result.{err_from_is_err_and}
-use Rattle.tv_reading.specs.Prefix.{IsMalformedNext, NoRoomBehind}
+use Rattle.tv_reading.specs.Prefix.{NoPrefix, NoRoomBehind}
 use Rattle.tv_reading.specs.Steps.{Advances}
 use Rattle.tv_legacy.specs.Legacy.{Legacy}
 use Rattle.tv_reader.specs.Version.{version_of}
@@ -31,14 +31,14 @@ pub returns-then-is_some-clause-finds : goal.returns-then-is_some-clause-finds
 returns-then-is_some-clause-finds g c =
     let v = version_of c.args.decoder.now.version in
     let l = c.loop in
-    finds_as _ (λ b x. Advances Legacy v c.args.decoder.now.reading c.step.new.self.reading b) (IsMalformedNext v c.args.decoder.now.reading) (λ a s. s)
+    finds_as _ (λ b x. Advances Legacy v c.args.decoder.now.reading c.step.new.self.reading b) (NoPrefix v c.args.decoder.now.reading) (λ a s. s)
     (goes_on v (version_of l.decoder.version) (ap version_of l.invariant.version) c.args.decoder.now.reading l.decoder.reading c.in_ok-step.step c.step.new.self.legacy_seen c.step.new.self.reading l.invariant.finds (c.in_ok-step.ensures.steps.finds l.invariant.live l.invariant.more))
 
 pub returns-in-Done-clause-finds : goal.returns-in-Done-clause-finds
 returns-in-Done-clause-finds g c =
     let v = version_of c.args.decoder.now.version in
     let l = c.loop in
-    finds_as _ (λ b x. Advances Legacy v c.args.decoder.now.reading c.step.new.self.reading b) (IsMalformedNext v c.args.decoder.now.reading) (λ a s. s)
+    finds_as _ (λ b x. Advances Legacy v c.args.decoder.now.reading c.step.new.self.reading b) (NoPrefix v c.args.decoder.now.reading) (λ a s. s)
     (goes_on v (version_of l.decoder.version) (ap version_of l.invariant.version) c.args.decoder.now.reading l.decoder.reading c.in_ok-step.step c.step.new.self.legacy_seen c.step.new.self.reading l.invariant.finds (c.in_ok-step.ensures.steps.finds l.invariant.live l.invariant.more))
 
 pub loop-preserved : goal.loop-preserved

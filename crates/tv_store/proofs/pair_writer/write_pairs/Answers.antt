@@ -35,9 +35,9 @@ returns-in_err-write_pair-clause-writes g c =
     let cut : pairs_left l.field-iterator ≡ (c.in-Some.field.id, tree_of c.in-Some.value) ∷ pairs_left c.next.new.self = search rules in
     rw (p.1, p.2) (Written-fails _ _ (pair_next v _ _ _ _ _ cut (c.encoded.ensures.bytes v)) l.invariant.written c.in_err-write_pair.ensures.writes)
 
-pub returns-in_err-write_pair-clause-only_io : goal.returns-in_err-write_pair-clause-only_io
-returns-in_err-write_pair-clause-only_io g c =
+pub returns-in_err-write_pair-clause-lean : goal.returns-in_err-write_pair-clause-lean
+returns-in_err-write_pair-clause-lean g c =
     let p = err_from_is_err_and c.from_residual.result c.from_residual.ensures.1 in
     let l = c.loop-field in
     let cut : pairs_left l.field-iterator ≡ (c.in-Some.field.id, tree_of c.in-Some.value) ∷ pairs_left c.next.new.self = search rules in
-    λ h. rw (p.1, p.2) (c.in_err-write_pair.ensures.only_io (held_within 64 c.in-Some.value c.encoded.result c.encoded.ensures.bytes (subst (AllNestWithin 64) cut (l.invariant.within h)).0))
+    λ h. rw (p.1, p.2) (c.in_err-write_pair.ensures.lean (held_within 64 c.in-Some.value c.encoded.result c.encoded.ensures.bytes (subst (AllNestWithin 64) cut (l.invariant.within h)).0))

@@ -29,10 +29,10 @@ returns-in_err-write_pair-in_default-clause-writes g c =
     let plain = plainly_written (tree_of c.args.value) (λ t. says_no_tokens c.encoded.result c.in_default.not-Tokenized (c.encoded.ensures.tokens.1 t)) in
     rw (p.1, p.2) (Writes_as c.in_err-write_pair-in_default.ensures.writes (ap (λ z. four_bytes c.args.field.id ++ z) (c.encoded.ensures.bytes v ∙ ap (short v) (sym plain))))
 
-pub returns-in_err-write_pair-in_default-clause-only_io : goal.returns-in_err-write_pair-in_default-clause-only_io
-returns-in_err-write_pair-in_default-clause-only_io g c =
+pub returns-in_err-write_pair-in_default-clause-lean : goal.returns-in_err-write_pair-in_default-clause-lean
+returns-in_err-write_pair-in_default-clause-lean g c =
     let p = err_from_is_err_and c.from_residual-in_err-write_pair-in_default.result c.from_residual-in_err-write_pair-in_default.ensures.1 in
-    λ h. rw (p.1, p.2) (c.in_err-write_pair-in_default.ensures.only_io (held_within 64 c.args.value c.encoded.result c.encoded.ensures.bytes h))
+    λ h. rw (p.1, p.2) (c.in_err-write_pair-in_default.ensures.lean (held_within 64 c.args.value c.encoded.result c.encoded.ensures.bytes h))
 
 pub returns-in_ok-write_pair-in_default-clause-writes : goal.returns-in_ok-write_pair-in_default-clause-writes
 returns-in_ok-write_pair-in_default-clause-writes g c =

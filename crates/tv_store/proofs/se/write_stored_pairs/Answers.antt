@@ -32,9 +32,9 @@ returns-in_err-write_if_stored-clause-writes g c =
     let cut : pairs_left l.field-iterator ≡ (c.in-Some.field.id, tree_of c.in-Some.value) ∷ pairs_left c.next.new.self = search rules in
     rw (p.1, p.2) (Written-fails _ _ (written_next _ _ _ _ _ cut) l.invariant.written c.in_err-write_if_stored.ensures.writes)
 
-pub returns-in_err-write_if_stored-clause-only_io : goal.returns-in_err-write_if_stored-clause-only_io
-returns-in_err-write_if_stored-clause-only_io g c =
+pub returns-in_err-write_if_stored-clause-lean : goal.returns-in_err-write_if_stored-clause-lean
+returns-in_err-write_if_stored-clause-lean g c =
     let p = err_from_is_err_and c.from_residual.result c.from_residual.ensures.1 in
     let l = c.loop-field in
     let cut : pairs_left l.field-iterator ≡ (c.in-Some.field.id, tree_of c.in-Some.value) ∷ pairs_left c.next.new.self = search rules in
-    λ h. rw (p.1, p.2) (c.in_err-write_if_stored.ensures.only_io (subst (AllNestWithin 64) cut (l.invariant.within h)).0)
+    λ h. rw (p.1, p.2) (c.in_err-write_if_stored.ensures.lean (subst (AllNestWithin 64) cut (l.invariant.within h)).0)

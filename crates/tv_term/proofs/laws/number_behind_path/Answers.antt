@@ -1,7 +1,7 @@
 use Rattle.std.proofs.Common.{◌≡◌, List, ℕ, Option, None, Some, ◌∙◌, ap}
 use Rattle.std.specs.Prelude.{option_map}
 use Rattle.tv_options.specs.declared.types.TypeTag.TheVariants as tag
-use Rattle.tv_term.specs.Key.{Signed, coded_value}
+use Rattle.tv_term.specs.Key.{Signed, coded}
 use Rattle.tv_term.specs.Reading.{number_of, signed_at}
 use Rattle.tv_term.proofs.Terms.{same_value}
 use Rattle.tv_term.proofs.Written.{signed_read}
@@ -9,7 +9,7 @@ use Rattle.tv_term.proofs.laws.number_behind_path.Goals as goal
 
 pub returns-in_err-value_behind_path : goal.returns-in_err-value_behind_path
 returns-in_err-value_behind_path c f path number p =
-    let clash : ◌≡◌ {A = Option (List ℕ)} None (Some (coded_value (Signed number))) = c.in_err-value_behind_path.ensures f path (Signed number) p in cc
+    let clash : ◌≡◌ {A = Option (List ℕ)} None (Some (coded (Signed number))) = c.in_err-value_behind_path.ensures f path (Signed number) p in cc
 
 pub returns : goal.returns
 returns c f path number p =

@@ -3,15 +3,15 @@ use Rattle.std.specs.Prelude.{MatchResult, option_map}
 use Rattle.std.specs.Result.{result_ok}
 use Rattle.tv_term.specs.declared.term_error.TermError.{TermError}
 use Rattle.tv_term.specs.declared.term_error.TermError.TheVariants.{TooShort}
-use Rattle.tv_term.specs.Key.{TermValue, coded_value}
+use Rattle.tv_term.specs.Key.{TermValue, coded}
 use Rattle.tv_term.proofs.Terms.{json_parts-term}
 use Rattle.tv_term.proofs.laws.value_behind_path.Goals as goal
 
 -- the bytes of a value are wrapped
-wrapped : {V : Type 0} (now : V → List ℕ) (r : Result V TermError) (bytes : List ℕ) (value : TermValue) → bytes ≡ coded_value value
-    → MatchResult r (λ v. (now v ≡ bytes) × (0 < length bytes)) (λ error. (error ≡ TooShort) × (bytes ≡ [])) → option_map now (result_ok r) ≡ Some (coded_value value)
+wrapped : {V : Type 0} (now : V → List ℕ) (r : Result V TermError) (bytes : List ℕ) (value : TermValue) → bytes ≡ coded value
+    → MatchResult r (λ v. (now v ≡ bytes) × (0 < length bytes)) (λ error. (error ≡ TooShort) × (bytes ≡ [])) → option_map now (result_ok r) ≡ Some (coded value)
 wrapped now (Ok v) bytes value e made = ap Some (made.0 ∙ e)
-wrapped now (Err error) bytes value e made = let clash : [] ≡ coded_value value = sym made.1 ∙ e in cc
+wrapped now (Err error) bytes value e made = let clash : [] ≡ coded value = sym made.1 ∙ e in cc
 
 abbrev rest_of : Option (List ℕ × List ℕ) → List ℕ
 rest_of None = []
@@ -21,7 +21,7 @@ pub returns-in_err-value : goal.returns-in_err-value
 returns-in_err-value c f path value p =
     let parts = json_parts-term c.args.term.now f path value p in
     let none = c.in_err-value.ensures in
-    let clash : ◌≡◌ {A = Option (List ℕ × List ℕ)} None (Some (path ++ 0 ∷ [], coded_value value)) = (rw c.value.ensures at none) ∙ parts in cc
+    let clash : ◌≡◌ {A = Option (List ℕ × List ℕ)} None (Some (path ++ 0 ∷ [], coded value)) = (rw c.value.ensures at none) ∙ parts in cc
 
 pub returns : goal.returns
 returns c f path value p =

@@ -1,7 +1,7 @@
 use Rattle.std.proofs.Common.{◌∙◌, ap, Some}
 use Rattle.std.specs.Int.{to_be_bytes, w128}
 use Rattle.std.specs.Net.Addr.{segments_of}
-use Rattle.tv_term.specs.Key.{coded_value}
+use Rattle.tv_term.specs.Key.{coded}
 use Rattle.tv_value.proofs.AddressBytes.{ipv6_bits-again, segments_of-ipv6_bits}
 use Rattle.tv_term.proofs.Written.{eight_again, signed_read, truth_read, cut_behind_zero-path, json_type_read, json_path_read}
 use Rattle.tv_term.proofs.laws.written_values_are_read.Goals as goal
@@ -24,7 +24,7 @@ returns-clause-address c a is_address =
     ∙ ap Some (segments_of-ipv6_bits a is_address.0 is_address.1)
 
 pub returns-clause-json : goal.returns-clause-json
-returns-clause-json c path value = cut_behind_zero-path path (coded_value value)
+returns-clause-json c path value = cut_behind_zero-path path (coded value)
 
 pub returns-clause-json_type : goal.returns-clause-json_type
 returns-clause-json_type c = json_type_read

@@ -22,7 +22,7 @@ refused : (c : goal.In-Err) → (cause : Cause) × (vint_at c.new-source.result.
 refused c =
     let takes = c.in-Err.ensures.takes in
     let t = takes.taken tt in
-    number_refused c.new-source.result.rest.now c.take_vint.new.source.rest.now c.take_vint.new.count c.in-Err.field-0 (record { number = 0; last = None }) refl (omega (arith, c.take_vint.ensures.at_most)) takes.may_stop t (takes.gives tt t.prefix t.joined) takes.counts
+    number_refused c.new-source.result.rest.now c.take_vint.new.source.rest.now c.take_vint.new.count c.in-Err.field-0 (record { number = 0; last = None }) refl (omega (arith, c.take_vint.ensures.few)) takes.may_stop t (takes.gives tt t.prefix t.joined) takes.counts
 
 pub returns-in-Err-clause-only : goal.returns-in-Err-clause-only
 returns-in-Err-clause-only c = λ m prefix tail joined encodes. no_number c.new-source.result.rest.now c.take_vint.new.source.rest.now (refused c) m prefix tail (c.new-source.ensures ∙ joined) encodes

@@ -1,5 +1,5 @@
 use Rattle.std.proofs.Common.{◌≡◌, length, arith}
-use Rattle.tv_builder.specs.HeldPairs.{heap_of, RefusesAddition}
+use Rattle.tv_builder.specs.HeldPairs.{heap_of, Refuses}
 use Rattle.tv_builder.specs.Whole.{WhyNotWithin}
 use Rattle.tv_builder.specs.declared.add_error.AddError.{AddError}
 use Rattle.tv_builder.specs.declared.add_error.AddError.TheVariants.{HeapFull, Memory}
@@ -8,7 +8,7 @@ use Rattle.tv_format.specs.Tree.{Tree}
 use Rattle.tv_builder.proofs.Kept.{Written, kept_fields, kept_adds, cut_fields, cut_unchanged}
 use Rattle.tv_builder.proofs.heap_pairs.HeapPairs.add_whole.Goals as goal
 
-refuses : (old : HeapPairs) (t : Tree) (e : AddError) → WhyNotWithin (heap_of old) t e → RefusesAddition old t e
+refuses : (old : HeapPairs) (t : Tree) (e : AddError) → WhyNotWithin (heap_of old) t e → Refuses old t e
 refuses old t HeapFull h = h
 refuses old t Memory h = h
 

@@ -14,7 +14,7 @@ returns-in-Err-clause-puts c =
     let r = c.args.self.now in
     let w = c.requires.awaiting in
     let refused = bytes_refused r (with_builder r c.chunk.new.self) c.chunk.new.self _ _ (λ s. and_bytes s c.args.bytes.now) c.args.bytes.now (some_bytes c.args.bytes.now ∷ []) c.in-Err.error w.sound.live
-    (takes_bytes (state_of r.builder) c.args.missing (length c.args.bytes.now) (is_state r.builder) w.next c.requires.few) c.in-Err.ensures.builds c.in-Err.ensures.no_heap_full in
+    (takes_bytes (state_of r.builder) c.args.missing (length c.args.bytes.now) (is_state r.builder) w.next c.requires.few) c.in-Err.ensures.builds c.in-Err.ensures.roomy in
     rw (c.store_error.ensures) refused
 
 pub returns-then-bytes-missing : goal.returns-then-bytes-missing

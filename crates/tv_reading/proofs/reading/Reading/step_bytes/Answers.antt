@@ -3,7 +3,7 @@ use Rattle.std.proofs.lemmas.Result.{err_from_is_err_and}
 use Rattle.tv_base.proofs.AgreeWidths.{more_agrees}
 use Rattle.tv_reader.specs.Error.{StoreMayStop}
 use Rattle.tv_reader.proofs.Finding.{finds_as, finds_part, finds_part_fails, raised_roomy}
-use Rattle.tv_reading.specs.Prefix.{IsMalformedNext}
+use Rattle.tv_reading.specs.Prefix.{NoPrefix}
 use Rattle.tv_reading.proofs.Wholes.{Piece, some_missing, piece_ends, bytes_found, bytes_full}
 use Rattle.tv_reading.proofs.reading.Reading.step_bytes.Goals as goal
 
@@ -12,7 +12,7 @@ returns-in_err-take_pieces-clause-finds g c = λ v.
     let p = err_from_is_err_and c.from_residual.result c.from_residual.ensures.1 in
     let old = c.args.self.now in
     rw (p.1, p.2)
-    (finds_part_fails _ (IsMalformedNext v old) (λ e n may. (raised_roomy e n may).0) g.met.S.ByteSource.are_bytes (more_agrees c.clear.new.self.items c.from.result)
+    (finds_part_fails _ (NoPrefix v old) (λ e n may. (raised_roomy e n may).0) g.met.S.ByteSource.are_bytes (more_agrees c.clear.new.self.items c.from.result)
     (λ w e f. piece_ends v old c.from.result c.args.missing w e c.requires.awaiting (omega (arith, c.from.ensures, c.min-len.ensures)) f) c.in_err-take_pieces.ensures.takes)
 
 pub returns-clause-finds : goal.returns-clause-finds

@@ -12,8 +12,8 @@ use Rattle.tv_reader.specs.EncodedTokens.{tokenized_tree}
 use Rattle.tv_value.specs.Owned.{owned_tree}
 use Rattle.tv_value.specs.PreTokenized.{tokenized_leaf}
 use Rattle.tv_format.specs.Tree.{leaf}
-use Rattle.tv_reading.specs.Prefix.{IsMalformedNext}
-use Rattle.tv_reading.specs.Puts.{PutsParts, head_parts}
+use Rattle.tv_reading.specs.Prefix.{NoPrefix}
+use Rattle.tv_reading.specs.Puts.{Puts, head_parts}
 use Rattle.tv_reading.proofs.WithErrors.{value_at_error}
 use Rattle.tv_reading.proofs.Stepping.{head_is_part, tokenized_part, legacy_part, puts_found, puts_full}
 use Rattle.tv_reading.proofs.Wholes.{whole_found, whole_fails, sound_of, grows_of, keeps_of, head_parts_are, lent_is}
@@ -23,7 +23,7 @@ pub returns-in_err-head-clause-finds : goal.returns-in_err-head-clause-finds
 returns-in_err-head-clause-finds g c =
     let p = err_from_is_err_and c.from_residual.result c.from_residual.ensures.1 in
     let v = version_of c.args.version in
-    rw (p.1, p.2) (finds_fails _ (IsMalformedNext v c.args.self.now) (λ w e f. value_at_error v c.args.self.now w e c.requires f) (finds_any (λ e n may. may.0.0) c.in_err-head.ensures.finds))
+    rw (p.1, p.2) (finds_fails _ (NoPrefix v c.args.self.now) (λ w e f. value_at_error v c.args.self.now w e c.requires f) (finds_any (λ e n may. may.0.0) c.in_err-head.ensures.finds))
 
 pub returns-in_err-text-in-Tokenized-clause-finds : goal.returns-in_err-text-in-Tokenized-clause-finds
 returns-in_err-text-in-Tokenized-clause-finds g c =
@@ -54,7 +54,7 @@ returns-in_ok-text-in-Tokenized-clause-finds g c =
     let t = tokenized_tree (x.text, x.tokens) in
     let lent = leaf (tokenized_leaf c.with_text.result) in
     let same : lent ≡ t = lent_is c.with_text.result x.text x.tokens (c.with_text.ensures.text ∙ c.as_str.ensures.value) c.with_text.ensures.tokens in
-    let puts = subst (λ z. PutsParts old new (value z ∷ []) c.put_leaf.result) same c.put_leaf.ensures.puts in
+    let puts = subst (λ z. Puts old new (value z ∷ []) c.put_leaf.result) same c.put_leaf.ensures.puts in
     let w = whole_found tokenized_tree v old PreTokStr c.requires (λ a h. subst (λ z. EncodesHead v a (head_part z)) c.in-Tokenized.is h) c.in_ok-head.ensures.finds x.ensures.finds in
     puts_found v c.args.legacy_seen.now old new (value t ∷ []) c.put_leaf.result (λ a h. tokenized_part v c.args.legacy_seen.now old t a (c.requires.field, c.requires.next) h.body h.joined h.encoded) w puts
 
@@ -67,7 +67,7 @@ returns-in_ok-text-in-Tokenized-clause-full g c = λ told is.
     let t = tokenized_tree (x.text, x.tokens) in
     let lent = leaf (tokenized_leaf c.with_text.result) in
     let same : lent ≡ t = lent_is c.with_text.result x.text x.tokens (c.with_text.ensures.text ∙ c.as_str.ensures.value) c.with_text.ensures.tokens in
-    let puts = subst (λ z. PutsParts old new (value z ∷ []) c.put_leaf.result) same c.put_leaf.ensures.puts in
+    let puts = subst (λ z. Puts old new (value z ∷ []) c.put_leaf.result) same c.put_leaf.ensures.puts in
     let w = whole_found tokenized_tree v old PreTokStr c.requires (λ a h. subst (λ z. EncodesHead v a (head_part z)) c.in-Tokenized.is h) c.in_ok-head.ensures.finds x.ensures.finds in
     puts_full v true old new (value t ∷ []) c.put_leaf.result (λ a h. tokenized_part v true old t a (c.requires.field, c.requires.next) h.body h.joined h.encoded) w puts told is
 
@@ -102,6 +102,6 @@ returns-in_default g c =
       left = keeps_of old new c.put_head.result c.put_head.ensures.left;
       finds = puts_found v legacy old new ps c.put_head.result (λ a h. head_is_part v legacy old head a are h) c.in_ok-head.ensures.finds c.put_head.ensures.puts;
       full = λ told is. puts_full v legacy old new ps c.put_head.result (λ a h. head_is_part v legacy old head a are h) c.in_ok-head.ensures.finds c.put_head.ensures.puts told is;
-      few = λ told. inl (omega (arith, c.in_ok-head.ensures.at_most));
+      few = λ told. inl (omega (arith, c.in_ok-head.ensures.few));
       seen = λ told. record { still = λ e. e; first = λ e f. absurd (let k : false ≡ true = sym e ∙ f in cc) };
     }

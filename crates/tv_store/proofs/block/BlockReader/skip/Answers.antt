@@ -1,6 +1,6 @@
 use Rattle.tv_reader.specs.Version.{version_of}
 use Rattle.tv_reader.specs.declared.error.DeserializeError.TheVariants.{AlreadyFailed}
-use Rattle.tv_reading.specs.Skip.{IsDocumentEncoding}
+use Rattle.tv_reading.specs.Skip.{IsDocument}
 use Rattle.tv_store.specs.Blocks.{as_passed}
 use Rattle.tv_store.specs.Documents.{NoDocument}
 use Rattle.tv_store.specs.Reading.{reading, passed}
@@ -33,7 +33,7 @@ pub returns-clause-reads : goal.returns-clause-reads
 returns-clause-reads g c =
     let v = version_of c.args.self.now.version in
     let h = of_pass v c.pass_document-passed.result c.next_of-next.result c.next_of-next.ensures.passed c.pass_document-passed.ensures.finds in
-    let documents = passed (IsDocumentEncoding v) (NoDocument v) in
+    let documents = passed (IsDocument v) (NoDocument v) in
     reads_on reading AlreadyFailed c.args.self.now.failed
     (reads_of documents (λ (x : Unit {0}). x) g.S.ByteSource (as_passed c.next_of-next.result) (single_passed v _) h (λ known. no_heap_full _ _ h.may_stop))
 

@@ -2,7 +2,7 @@ use Rattle.std.proofs.Common.{◌++◌, ◌∷◌, ◌∙◌}
 use Rattle.std.proofs.lemmas.Result.{IfOk-weaker}
 use Rattle.std.specs.Int.{to_be_bytes, w32}
 use Rattle.tv_options.specs.Types.{code}
-use Rattle.tv_term.specs.Range.{HasPayloadPrefix, HasPrefixed, HasTerms}
+use Rattle.tv_term.specs.Range.{BeginsWith, HasPrefixed, HasTerms}
 use Rattle.tv_term.proofs.TermRanges.{terms-from, term-prefix}
 use Rattle.tv_term.proofs.range.TermRange.of_payload.Goals as goal
 
@@ -10,7 +10,7 @@ pub returns : goal.returns
 returns c =
     let id = c.args.field.id in
     let least = c.serialized_term.result.now in
-    let begins = HasPayloadPrefix id c.args.value_type c.args.payload.now in
+    let begins = BeginsWith id c.args.value_type c.args.payload.now in
     IfOk-weaker c.of_prefix.result (HasPrefixed least) (HasTerms begins)
     (λ range has. terms-from range least (to_be_bytes w32 id ++ code c.args.value_type ∷ c.args.payload.now) begins (c.serialized_term.ensures ∙ c.in_ok-least.ensures.made) has
     (λ f value small fits. term-prefix id f c.args.value_type c.args.payload.now value c.in_ok-least.ensures.field small)) c.of_prefix.ensures

@@ -4,7 +4,7 @@ use Rattle.tv_reader.specs.Trees.{EncodesBehind, NoneBehind}
 use Rattle.tv_reader.specs.Version.{version_of}
 use Rattle.tv_typed.proofs.TypedSteps.{reads_closed, tree_reads}
 use Rattle.tv_typed.proofs.DeserializeSteps.{tree_only}
-use Rattle.tv_reader.specs.ValueType.{type_prefix}
+use Rattle.tv_reader.specs.ValueType.{coded}
 use Rattle.tv_typed.proofs.DepthSteps.{has_depth}
 use Rattle.tv_typed.proofs.de.BinaryValueDeserializer.deserialize_tree.Goals as goal
 
@@ -31,5 +31,5 @@ returns-clause-within g c = λ is_open told. c.take_behind-answer.ensures.within
 pub returns-clause-deep : goal.returns-clause-deep
 returns-clause-deep g c = λ is_open told is. c.take_behind-answer.ensures.deep told is
 
-pub returns-clause-no_heap_full : goal.returns-clause-no_heap_full
-returns-clause-no_heap_full g c = has_depth g.S.ByteSource.is_known g.S.ByteSource.left c.args.self.reader.now c.take_behind-answer.result (type_prefix c.args.self.kind) _ c.take_behind-answer.ensures.deep
+pub returns-clause-roomy : goal.returns-clause-roomy
+returns-clause-roomy g c = has_depth g.S.ByteSource.is_known g.S.ByteSource.left c.args.self.reader.now c.take_behind-answer.result (coded c.args.self.kind) _ c.take_behind-answer.ensures.deep

@@ -18,10 +18,10 @@ returns-clause-reads g c =
     let m = c.marked.ensures in
     elements_read c.args.self.now c.expect.new.self c.marked.new.self c.marked.result c.args.kind g.met.S.ByteSource.are_bytes e.ok.2 e.ok.0 e.source e.count e.version e.levels (lean c.take_vint-answer.ensures.takes) m.source m.count m.version m.levels m.marks m.told
 
-pub returns-in_err-expect-clause-no_memory : goal.returns-in_err-expect-clause-no_memory
-returns-in_err-expect-clause-no_memory g c =
+pub returns-in_err-expect-clause-spares : goal.returns-in_err-expect-clause-spares
+returns-in_err-expect-clause-spares g c =
     let p = err_from_is_err_and c.from_residual.result c.from_residual.ensures.1 in
     rw (p.1, p.2) (mismatch_spares (λ same. cc) c.in_err-expect.ensures.err)
 
-pub returns-clause-no_memory : goal.returns-clause-no_memory
-returns-clause-no_memory g c = raised_spares c.take_vint-answer.result c.marked.result _ c.marked.ensures.told c.take_vint-answer.ensures.takes.may_stop
+pub returns-clause-spares : goal.returns-clause-spares
+returns-clause-spares g c = raised_spares c.take_vint-answer.result c.marked.result _ c.marked.ensures.told c.take_vint-answer.ensures.takes.may_stop

@@ -15,7 +15,7 @@ returns-clause-reads g c =
     let t = c.take_field-answer.ensures in
     field_reads c.args.self.now _ c.take_field-answer.result g.met.S.ByteSource.are_bytes c.in_ok-go_on.ensures.ok t.takes refl refl refl refl c.is_err-self.ensures.value
 
-pub returns-in_err-go_on-clause-no_memory : goal.returns-in_err-go_on-clause-no_memory
-returns-in_err-go_on-clause-no_memory g c =
+pub returns-in_err-go_on-clause-spares : goal.returns-in_err-go_on-clause-spares
+returns-in_err-go_on-clause-spares g c =
     let p = err_from_is_err_and c.from_residual.result c.from_residual.ensures.1 in
     rw (p.1, p.2, c.in_err-go_on.ensures.err.0) (λ is. absurd cc)

@@ -18,10 +18,10 @@ returns-clause-reads g c =
     let m = c.marked.ensures in
     reads_part c.args.self.now c.marked.new.self c.marked.result VNum NumberRefused g.met.S.ByteSource.are_bytes vint_agrees (λ a x h. h) (λ w d f. in_pair_count f) c.in_ok-go_on.ensures.ok (lean c.take_vint-answer.ensures.takes) m.source m.count m.version m.levels m.marks m.told
 
-pub returns-in_err-go_on-clause-no_memory : goal.returns-in_err-go_on-clause-no_memory
-returns-in_err-go_on-clause-no_memory g c =
+pub returns-in_err-go_on-clause-spares : goal.returns-in_err-go_on-clause-spares
+returns-in_err-go_on-clause-spares g c =
     let p = err_from_is_err_and c.from_residual.result c.from_residual.ensures.1 in
     rw (p.1, p.2, c.in_err-go_on.ensures.err.0) (λ is. absurd cc)
 
-pub returns-clause-no_memory : goal.returns-clause-no_memory
-returns-clause-no_memory g c = raised_spares c.take_vint-answer.result c.marked.result _ c.marked.ensures.told c.take_vint-answer.ensures.takes.may_stop
+pub returns-clause-spares : goal.returns-clause-spares
+returns-clause-spares g c = raised_spares c.take_vint-answer.result c.marked.result _ c.marked.ensures.told c.take_vint-answer.ensures.takes.may_stop
