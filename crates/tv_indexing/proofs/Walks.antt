@@ -1,15 +1,12 @@
 -- The terms of a JSON value by the bytes of its keys are those by its keys; and what a step of the walk does.
-use Rattle.std.proofs.Common.{◌≡◌, ℕ, zero, suc, ◌+◌, ◌<◌, ◌≤◌, Bool, true, false, List, [], ◌∷◌, ◌++◌, length, take, drop, map, reverse, Some, None, Ok, Err, if◌then◌else◌, refl, sym, ap, subst, ◌∙◌, arith, append_assoc, append-nil, length-append}
-use Rattle.std.specs.List.{flat_map, join_with_byte}
+use Rattle.std.proofs.Common.{◌≡◌, ℕ, Bool, List, [], ◌∷◌, ◌++◌, drop, map, Some, Err, if◌then◌else◌, refl, sym, ap, ◌∙◌, append-nil}
 use Rattle.std.proofs.lemmas.Grind.{flat_map-append}
-use Rattle.std.proofs.lemmas.List.{reverse-append}
-use Rattle.std.proofs.Math.Seq.{take-append_seam, take-length}
 use Rattle.tv_base.specs.JsonPath.{expanded, joined}
-use Rattle.tv_format.specs.Size.{size, elements_size, entries_size}
-use Rattle.tv_format.specs.Tree.{Tree, leaf, array, object, Elements, no_elements, element, Entries, no_entries, entry, elements, entries}
-use Rattle.tv_indexing.specs.DocumentTerms.{AreAppended, Terms, followed_by, has_zero, json_leaf_terms, json_terms, json_elements_terms, json_entries_terms}
-use Rattle.tv_indexing.specs.JsonWalk.{separated, separated_keys, terms_at, elements_at, entries_at, Child, children_terms, children_size, value_alone, value_with_key, open_terms, open_size}
+use Rattle.tv_format.specs.Tree.{Tree, leaf, array, object, Elements, no_elements, element, Entries, no_entries, entry, element_list, entry_list}
+use Rattle.tv_indexing.specs.DocumentTerms.{Terms, followed_by, has_zero, json_leaf_terms, json_terms, json_elements_terms, json_entries_terms}
+use Rattle.tv_indexing.specs.JsonWalk.{separated, separated_keys, terms_at, elements_at, entries_at, child_terms, children_terms}
 use Rattle.tv_indexing.specs.declared.term_values_error.TermValuesError.TheVariants.{NulInPath}
+use Rattle.tv_value.specs.Children.{Child, IsListOf, with_key, without_key}
 use Rattle.tv_value.specs.declared.field.Field.{Field}
 
 -- ---- paths
@@ -46,19 +43,19 @@ mutual
 
 -- ---- the children of a list
 
-pub elements-children : (field : Field) (expand_dots : Bool) (path : List ℕ) (ts : List Tree) → elements_at field expand_dots path (elements ts) ≡ children_terms field expand_dots path (map value_alone ts)
-elements-children field expand_dots path [] = refl
-elements-children field expand_dots path (t ∷ ts) = ap (λ terms. followed_by (terms_at field expand_dots path t) terms) (elements-children field expand_dots path ts)
+elements-children : (field : Field) (expand_dots : Bool) (path : List ℕ) (ts : Elements) → elements_at field expand_dots path ts ≡ children_terms field expand_dots path (map without_key (element_list ts))
+elements-children field expand_dots path no_elements = refl
+elements-children field expand_dots path (element t ts) = ap (followed_by (terms_at field expand_dots path t)) (elements-children field expand_dots path ts)
 
-pub entries-children : (field : Field) (expand_dots : Bool) (path : List ℕ) (es : List (List ℕ × Tree)) → entries_at field expand_dots path (entries es) ≡ children_terms field expand_dots path (map value_with_key es)
-entries-children field expand_dots path [] = refl
-entries-children field expand_dots path (e ∷ es) =
-    ap (λ terms. followed_by (if has_zero e.0 then Err (NulInPath field) else terms_at field expand_dots (path ++ separated expand_dots e.0) e.1) terms) (entries-children field expand_dots path es)
+entries-children : (field : Field) (expand_dots : Bool) (path : List ℕ) (es : Entries) → entries_at field expand_dots path es ≡ children_terms field expand_dots path (map with_key (entry_list es))
+entries-children field expand_dots path no_entries = refl
+entries-children field expand_dots path (entry k t es) = ap (followed_by (child_terms field expand_dots path (Some k) t)) (entries-children field expand_dots path es)
 
-pub elements-size : (ts : List Tree) → elements_size (elements ts) ≡ children_size (map value_alone ts)
-elements-size [] = refl
-elements-size (t ∷ ts) = ap (λ n. suc (size t + n)) (elements-size ts)
+pub list_terms : (field : Field) (expand_dots : Bool) (path : List ℕ) (cs : List Child) (t : Tree) → IsListOf cs t → terms_at field expand_dots path t ≡ children_terms field expand_dots path cs
+list_terms field expand_dots path cs (leaf l) is = absurd is
+list_terms field expand_dots path cs (array ts) is = elements-children field expand_dots path ts ∙ ap (children_terms field expand_dots path) (sym is)
+list_terms field expand_dots path cs (object es) is = entries-children field expand_dots path es ∙ ap (children_terms field expand_dots path) (sym is)
 
-pub entries-size : (es : List (List ℕ × Tree)) → entries_size (entries es) ≡ children_size (map value_with_key es)
-entries-size [] = refl
-entries-size (e ∷ es) = ap (λ n. suc (size e.1 + n)) (entries-size es)
+-- below no key
+pub terms_at-top : (field : Field) (expand_dots : Bool) (path : List ℕ) (t : Tree) → path ≡ [] → json_terms field expand_dots [] t ≡ terms_at field expand_dots path t
+terms_at-top field expand_dots path t none = terms_at-keys field expand_dots [] t ∙ ap (λ p. terms_at field expand_dots p t) (sym none)

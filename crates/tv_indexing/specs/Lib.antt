@@ -4,4 +4,3 @@ pub mod DocumentTerms
 pub mod Payloads
 pub mod JsonLeaves
 pub mod JsonWalk
-pub mod Children

@@ -7,9 +7,8 @@ ghost use Rattle.tv_indexing.specs.DocumentTerms.{AreAppended, document_terms, p
 ghost use Rattle.tv_indexing.specs.JsonWalk.{Extends};
 ghost use Rattle.tv_indexing.specs.declared.term_values_error.TermValuesError.TheVariants.{Memory};
 
-use crate::json::push_json;
+use crate::json::{OpenList, push_json};
 use crate::key_path::JsonField;
-use crate::open_list::OpenList;
 use crate::plain::push_plain;
 use crate::term_list::TermList;
 use crate::term_values_error::TermValuesError;

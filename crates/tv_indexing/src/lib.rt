@@ -6,7 +6,6 @@ mod json;
 mod json_leaf;
 mod key_path;
 pub mod leaf;
-mod open_list;
 mod payload;
 mod plain;
 pub mod term_list;

@@ -1,65 +1,114 @@
 -- Writing lists that are open, one after the other, and what is left of them.
-use Rattle.std.proofs.Common.{◌≡◌, ℕ, ◌<◌, ◌+◌, ◌*◌, List, [], ◌∷◌, ◌++◌, length, Ok, Err, Option, Some, None, refl, sym, ap, subst, ◌∙◌, append_assoc, arith}
+use Rattle.std.proofs.Common.{◌≡◌, ℕ, ◌<◌, ◌+◌, ◌*◌, List, [], ◌∷◌, ◌++◌, length, map, Ok, Err, Option, Some, None, refl, sym, ap, ◌∙◌, append_assoc, arith}
 use Rattle.std.proofs.lemmas.List.{append-nil, length-append}
 use Rattle.tv_base.specs.Source.{Failures}
 use Rattle.tv_base.specs.Sink.{WritesBy}
-use Rattle.tv_base.specs.Writing.{io_stop}
-use Rattle.tv_base.proofs.Written.{Written, Written-step}
+use Rattle.tv_base.proofs.Written.{Written}
+use Rattle.tv_format.specs.Short.{short, short_elements, short_entries}
+use Rattle.tv_format.specs.Tree.{Tree, elements, entries}
 use Rattle.tv_format.specs.Version.{Version}
-use Rattle.tv_store.specs.Nested.{WritesBeforeBy, bytes_left, all_left, met_left, inner_left}
-use Rattle.tv_store.specs.declared.encoded_writer.Open.{Open}
+use Rattle.tv_heap.specs.Encoded.{encoded_bytes}
+use Rattle.tv_heap.specs.declared.encoded.Encoded.{Encoded}
+use Rattle.tv_heap.specs.declared.encoded.Encoded.TheVariants as held
+use Rattle.tv_store.specs.Nested.{DocumentList, bytes_left, child_key, head_bytes, inner_list, HoldsNoList}
+use Rattle.tv_value.specs.Children.{Child, children_left, with_key, without_key}
+use Rattle.tv_value.specs.declared.children.Children.TheVariants as lists
 use Rattle.tv_writer.specs.Error.{write_stop}
 use Rattle.tv_writer.specs.declared.error.SerializeError.TheVariants.{Memory}
 
+-- ---- the children of a list
+
+abbrev pub children_of : DocumentList → List Child
+children_of list = children_left (λ items. items.held.0) (λ members. members.held.0) list
+
+abbrev short_children : Version → List Child → List ℕ
+short_children v [] = []
+short_children v (child ∷ children) = child_key v child.0 ++ (short v child.1 ++ short_children v children)
+
+items_short : (v : Version) (ts : List Tree) → short_elements v (elements ts) ≡ short_children v (map without_key ts)
+items_short v [] = refl
+items_short v (t ∷ ts) = ap (λ (z : List ℕ). short v t ++ z) (items_short v ts)
+
+members_short : (v : Version) (es : List (List ℕ × Tree)) → short_entries v (entries es) ≡ short_children v (map with_key es)
+members_short v [] = refl
+members_short v (e ∷ es) = ap (λ (z : List ℕ). child_key v (Some e.0) ++ (short v e.1 ++ z)) (members_short v es)
+
+left_short : (v : Version) (list : DocumentList) → bytes_left v list ≡ short_children v (children_of list)
+left_short v (lists.Array items) = items_short v items.held.0
+left_short v (lists.Object members) = members_short v members.held.0
+
+pub none_left : (v : Version) (list : DocumentList) → children_of list ≡ [] → bytes_left v list ≡ []
+none_left v list none = left_short v list ∙ ap (short_children v) none
+
 -- ---- lists within one another
 
+-- what is left of lists that stand within one another, from the outermost
+abbrev pub all_left : Version → List DocumentList → List ℕ
+all_left v [] = []
+all_left v (outer ∷ inner) = all_left v inner ++ bytes_left v outer
+
 -- what is left of the innermost comes first
-pub innermost_left : (v : Version) (outer : List Open) (list : Open) → all_left v (outer ++ list ∷ []) ≡ bytes_left v list ++ all_left v outer
+pub innermost_left : (v : Version) (outer : List DocumentList) (list : DocumentList) → all_left v (outer ++ list ∷ []) ≡ bytes_left v list ++ all_left v outer
 innermost_left v [] list = sym (append-nil (bytes_left v list))
 innermost_left v (first ∷ others) list = ap (λ (l : List ℕ). l ++ bytes_left v first) (innermost_left v others list) ∙ append_assoc (bytes_left v list) (all_left v others) (bytes_left v first)
 
-pub two_left : (v : Version) (others : List Open) (outer inner : Open) → all_left v ((others ++ outer ∷ []) ++ inner ∷ []) ≡ (bytes_left v inner ++ bytes_left v outer) ++ all_left v others
-two_left v others outer inner =
-    innermost_left v (others ++ outer ∷ []) inner ∙ ap (λ (l : List ℕ). bytes_left v inner ++ l) (innermost_left v others outer) ∙ sym (append_assoc (bytes_left v inner) (bytes_left v outer) (all_left v others))
+-- those of a list that was met, if one was
+abbrev pub met_left : Version → Option DocumentList → List ℕ
+met_left v None = []
+met_left v (Some list) = bytes_left v list
 
--- no list was met
-pub none_met : (v : Version) (met : Option Open) → ((list : Open) → met ≡ Some list → ⊥) → met_left v met ≡ []
-none_met v None none = refl
-none_met v (Some list) none = absurd (none list refl)
+head_then : (v : Version) (e : Encoded) → encoded_bytes v e ≡ head_bytes v e ++ met_left v (inner_list e)
+head_then v (held.Array n items) = refl
+head_then v (held.Object n members) = refl
+head_then v single = sym (append-nil (encoded_bytes v single))
 
-pub none_inner : (v : Version) (met : Option (Open × Open)) → ((both : Open × Open) → met ≡ Some both → ⊥) → inner_left v met ≡ []
-none_inner v None none = refl
-none_inner v (Some both) none = absurd (none both refl)
+head_some : (v : Version) (e : Encoded) → 0 < length (head_bytes v e)
+head_some v held.Null = omega arith
+head_some v (held.Bool b) = omega arith
+head_some v (held.Number code n) = omega arith
+head_some v (held.Bytes code content) = omega arith
+head_some v (held.Tokenized content) = omega arith
+head_some v (held.Array n items) = omega arith
+head_some v (held.Object n members) = omega arith
+
+pub single_head : (v : Version) (e : Encoded) → HoldsNoList e → (head_bytes v e ≡ encoded_bytes v e) × (inner_list e ≡ None)
+single_head v (held.Array n items) is = absurd is
+single_head v (held.Object n members) is = absurd is
+single_head v _ is = (refl, refl)
+
+-- the first child: its key, of a list its head, and the children of that list before the others
+pub child_next : (v : Version) (list next : DocumentList) {key : Option (List ℕ)} {t : Tree} (e : Encoded) {met : Option DocumentList} (others : List ℕ) → children_of list ≡ (key, t) ∷ children_of next → encoded_bytes v e ≡ short v t
+    → inner_list e ≡ met → bytes_left v list ++ others ≡ child_key v key ++ (head_bytes v e ++ (met_left v met ++ (bytes_left v next ++ others)))
+child_next v list next {key} {t} e {met} others cut is inner =
+    let more = short_children v (children_of next) in
+    ap (λ (z : List ℕ). z ++ others) (left_short v list ∙ ap (short_children v) cut) ∙ append_assoc (child_key v key) (short v t ++ more) others
+    ∙ ap (λ (z : List ℕ). child_key v key ++ z) (append_assoc (short v t) more others ∙ ap (λ (z : List ℕ). z ++ (more ++ others)) (sym is ∙ head_then v e ∙ ap (λ (z : Option DocumentList). head_bytes v e ++ met_left v z) inner)
+    ∙ append_assoc (head_bytes v e) (met_left v met) (more ++ others) ∙ ap (λ (z : List ℕ). head_bytes v e ++ (met_left v met ++ (z ++ others))) (sym (left_short v next)))
 
 -- ---- what is left becomes less
 
-pub one_fewer : (v : Version) (all others : List Open) (list : Open) → all ≡ others ++ list ∷ [] → 2 * length (all_left v others) + length others < 2 * length (all_left v all) + length all
-one_fewer v all others list is =
-    omega (arith, ap length is, length-append others (list ∷ []), ap length (ap (all_left v) is ∙ innermost_left v others list), length-append (bytes_left v list) (all_left v others))
+child_fewer : (v : Version) (list next : DocumentList) {key : Option (List ℕ)} {t : Tree} (e : Encoded) {met : Option DocumentList} (others : List ℕ) → children_of list ≡ (key, t) ∷ children_of next → encoded_bytes v e ≡ short v t
+    → inner_list e ≡ met → length (met_left v met ++ (bytes_left v next ++ others)) < length (bytes_left v list ++ others)
+child_fewer v list next {key} e {met} others cut is inner =
+    let after = met_left v met ++ (bytes_left v next ++ others) in
+    omega (arith, ap length (child_next v list next e others cut is inner), length-append (child_key v key) (head_bytes v e ++ after), length-append (head_bytes v e) after, head_some v e)
 
-pub two_fewer : (v : Version) (all others after : List Open) (list outer inner : Open) → all ≡ others ++ list ∷ [] → after ≡ (others ++ outer ∷ []) ++ inner ∷ [] → length (bytes_left v inner ++ bytes_left v outer) < length (bytes_left v list)
-    → 2 * length (all_left v after) + length after < 2 * length (all_left v all) + length all
-two_fewer v all others after list outer inner is then fewer =
-    let now = ap length (ap (all_left v) then ∙ two_left v others outer inner) in
-    let whole = ap length (ap (all_left v) is ∙ innermost_left v others list) in
-    let lists = ap length then in
-    omega (arith, fewer, ap length is, length-append others (list ∷ []), whole, length-append (bytes_left v list) (all_left v others), lists, length-append (others ++ outer ∷ []) (inner ∷ []), length-append others (outer ∷ []), now, length-append (bytes_left v inner ++ bytes_left v outer) (all_left v others))
+pub less_on : (v : Version) (list next : DocumentList) {key : Option (List ℕ)} {t : Tree} (e : Encoded) (around : List DocumentList) → children_of list ≡ (key, t) ∷ children_of next → encoded_bytes v e ≡ short v t → inner_list e ≡ None
+    → 2 * length (bytes_left v next ++ all_left v around) + length around < 2 * length (bytes_left v list ++ all_left v around) + length around
+less_on v list next e around cut is single = omega (arith, child_fewer v list next e (all_left v around) cut is single)
 
--- ---- steps
+pub less_down : (v : Version) (list next inner : DocumentList) {key : Option (List ℕ)} {t : Tree} (e : Encoded) (around deeper : List DocumentList) → children_of list ≡ (key, t) ∷ children_of next → encoded_bytes v e ≡ short v t
+    → inner_list e ≡ Some inner → deeper ≡ around ++ next ∷ [] → 2 * length (bytes_left v inner ++ all_left v deeper) + length deeper < 2 * length (bytes_left v list ++ all_left v around) + length around
+less_down v list next inner e around deeper cut is met pushed =
+    let now = ap (λ (z : List ℕ). length (bytes_left v inner ++ z)) (ap (all_left v) pushed ∙ innermost_left v around next) in
+    omega (arith, child_fewer v list next e (all_left v around) cut is met, now, ap length pushed, length-append around (next ∷ []))
 
--- the next part was written but for what is left of it
-pub Written-before : {S T : Type 0} {is_known : S → Type 0} {held : S → List ℕ} {failures : S → Failures} {old mid new : S} {text rest : List ℕ} {x : T} {part : List ℕ} (left : T → List ℕ) (others after : List ℕ)
-    → rest ≡ part ++ after → left x ≡ others → Written is_known held failures old mid text rest → WritesBeforeBy is_known held failures mid new (Ok x) left part → Written is_known held failures old new text (others ++ after)
-Written-before {x = x} left others after cut same h w =
-    Written-step w.0 (others ++ after) (cut ∙ ap (λ (l : List ℕ). l ++ after) (w.1 ∙ ap (λ (l : List ℕ). w.0 ++ l) same) ∙ append_assoc w.0 others after) h w.2
+pub less_up : (v : Version) (list outer : DocumentList) (around less : List DocumentList) → children_of list ≡ [] → around ≡ less ++ outer ∷ [] → 2 * length (bytes_left v outer ++ all_left v less) + length less < 2 * length (bytes_left v list ++ all_left v around) + length around
+less_up v list outer around less none popped =
+    let whole = ap (λ (z : List ℕ). length (z ++ all_left v around)) (none_left v list none) ∙ ap length (ap (all_left v) popped ∙ innermost_left v less outer) in
+    omega (arith, whole, ap length popped, length-append less (outer ∷ []))
 
--- what is left, said otherwise
-pub Written-as : {S : Type 0} {is_known : S → Type 0} {held : S → List ℕ} {failures : S → Failures} {old now : S} {text a b : List ℕ} → Written is_known held failures old now text a → b ≡ a → Written is_known held failures old now text b
-Written-as {is_known = is_known} {held = held} {failures = failures} {old = old} {now = now} {text = text} h same = subst (λ (l : List ℕ). Written is_known held failures old now text l) (sym same) h
-
--- what was written so far is what comes before what is left
-pub prefix_of : {S : Type 0} {is_known : S → Type 0} {held : S → List ℕ} {failures : S → Failures} {old now : S} {text rest : List ℕ} → Written is_known held failures old now text rest → (prefix : List ℕ) × (text ≡ prefix ++ rest) × WritesBy {T = Unit {0}} io_stop is_known held failures old now (Ok tt) (Ok prefix)
-prefix_of h = (h.done, h.parts, record { appends = h.appended; stays_known = h.stays_known; counts = h.counts })
+-- ---- what was written in the end
 
 -- all was written
 pub Written-all : {S : Type 0} {is_known : S → Type 0} {held : S → List ℕ} {failures : S → Failures} {old now : S} {text : List ℕ} → Written is_known held failures old now text [] → WritesBy {T = Unit {0}} write_stop is_known held failures old now (Ok tt) (Ok text)

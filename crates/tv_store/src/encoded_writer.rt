@@ -3,15 +3,15 @@
 //! Each function hands on the error of a failed write, and of memory that was refused. The sink then holds what it held before,
 //! and a beginning of what was to be written.
 
-ghost use Rattle.std.specs.Prelude.{◌∷◌, ◌<◌, length, Ok, IfErr, IfOk, IfSome};
+ghost use Rattle.std.specs.Prelude.{◌≡◌, ◌∷◌, Ok, IfErr, IfOk, option_map};
 ghost use Rattle.tv_base.specs.Writing.{Writes};
 ghost use Rattle.tv_format.specs.Short.{short_elements, short_entries};
 ghost use Rattle.tv_format.specs.Tree.{array, object, elements, entries};
 ghost use Rattle.tv_format.specs.Version.{Version};
 ghost use Rattle.tv_format.specs.WriteVersion.{written_version};
 ghost use Rattle.tv_heap.specs.Encoded.{encoded_bytes, HasFewEntries};
-ghost use Rattle.tv_store.specs.Nested.{all_left, bytes_left, inner_left, met_left};
-ghost use Rattle.tv_store.specs.Nested.{HeldNestsWithin, HoldsNoList, WritesBefore};
+ghost use Rattle.tv_store.specs.Nested.{bytes_left, child_key, head_bytes, inner_list};
+ghost use Rattle.tv_store.specs.Nested.{HeldNestsWithin, HoldsNoList};
 ghost use Rattle.tv_writer.specs.Error as store;
 ghost use Rattle.tv_writer.specs.Error.{IsIo, IsIoOrMemory};
 ghost use Rattle.tv_value.specs.Nesting.{NestsWithin};
@@ -24,7 +24,8 @@ use tv_base::ByteSink;
 use tv_base::write::write_all;
 use tv_format::version::WriteVersion;
 use tv_heap::encoded::Encoded;
-use tv_heap::value::{CompactDocArrayIter, CompactDocObjectIter};
+use tv_heap::value::{CompactDocArrayIter, CompactDocObjectIter, CompactDocValue};
+use tv_value::children::Children;
 use tv_writer::leaf_writer::{write_code, write_coded_bool, write_coded_count, write_coded_u64};
 use tv_writer::value_writer::{write_key, write_object_head};
 
@@ -68,11 +69,20 @@ fn write_single<K: ByteSink>(sink: &mut K, encoded: Encoded<'_>) -> Result<(), i
     }
 }
 
-// The children of an open list that are left.
-#[derive(Clone, Copy)]
-enum Open<'a> {
-    Items(CompactDocArrayIter<'a>),
-    Members(CompactDocObjectIter<'a>),
+// The key of a child, if it has one.
+#[inline(always)]
+fn write_child_key<K: ByteSink>(
+    sink: &mut K,
+    version: WriteVersion,
+    key: Option<&str>,
+) -> Result<(), io::ErrorKind>
+    ensures { Writes K.ByteSink sink.old sink.new result
+        (child_key (written_version version) (option_map (λ k. k.now) key.entry)) }
+{
+    match key {
+        Some(key) => write_key(sink, version, key),
+        None => Ok(()),
+    }
 }
 
 // Writes a value, of a list its head alone. Gives the children of the list.
@@ -81,24 +91,20 @@ fn write_head<'a, K: ByteSink>(
     sink: &mut K,
     version: WriteVersion,
     encoded: Encoded<'a>,
-) -> Result<Option<Open<'a>>, io::ErrorKind>
+) -> Result<Option<Children<CompactDocValue<'a>>>, io::ErrorKind>
     requires { HasFewEntries encoded }
-    ensures writes { let v = written_version version in
-        WritesBefore K.ByteSink sink.old sink.new result (met_left v)
-        (encoded_bytes v encoded.entry) }
-    ensures fewer { let v = written_version version in
-        IfOk result
-        (λ met. IfSome met
-        (λ list. length (bytes_left v list) < length (encoded_bytes v encoded.entry))) }
+    ensures writes { Writes K.ByteSink sink.old sink.new result
+        (head_bytes (written_version version) encoded.entry) }
+    ensures inner { IfOk result (λ met. met ≡ inner_list encoded.entry) }
 {
     match encoded {
         Encoded::Array(count, items) => {
             write_coded_count(sink, ARRAY_CODE, count)?;
-            Ok(Some(Open::Items(items)))
+            Ok(Some(Children::Array(items)))
         }
         Encoded::Object(count, members) => {
             write_object_head(sink, version, count)?;
-            Ok(Some(Open::Members(members)))
+            Ok(Some(Children::Object(members)))
         }
         single => {
             write_single(sink, single)?;
@@ -107,96 +113,39 @@ fn write_head<'a, K: ByteSink>(
     }
 }
 
-// Writes the values that are left of an array up to one that is a list, and the head of that list. Gives what is left of the array,
-// and the children of the list; `None` where all values were written.
-fn write_items_to_list<'a, K: ByteSink>(
-    sink: &mut K,
-    version: WriteVersion,
-    items: CompactDocArrayIter<'a>,
-) -> Result<Option<(Open<'a>, Open<'a>)>, io::ErrorKind>
-    ensures writes { let v = written_version version in
-        WritesBefore K.ByteSink sink.old sink.new result (inner_left v)
-        (short_elements v (elements items.entry.held.0)) }
-    ensures fewer { let v = written_version version in
-        IfOk result
-        (λ met. IfSome met
-        (λ both. length (inner_left v met)
-        < length (short_elements v (elements items.entry.held.0)))) }
-{
-    let mut left = items;
-    while let Some(item) = left.next() {
-        if let Some(inner) = write_head(sink, version, item.encoded())? {
-            return Ok(Some((Open::Items(left), inner)));
-        }
-    }
-    Ok(None)
-}
-
-// The same of an object.
-fn write_members_to_list<'a, K: ByteSink>(
-    sink: &mut K,
-    version: WriteVersion,
-    members: CompactDocObjectIter<'a>,
-) -> Result<Option<(Open<'a>, Open<'a>)>, io::ErrorKind>
-    ensures writes { let v = written_version version in
-        WritesBefore K.ByteSink sink.old sink.new result (inner_left v)
-        (short_entries v (entries members.entry.held.0)) }
-    ensures fewer { let v = written_version version in
-        IfOk result
-        (λ met. IfSome met
-        (λ both. length (inner_left v met)
-        < length (short_entries v (entries members.entry.held.0)))) }
-{
-    let mut left = members;
-    while let Some((key, item)) = left.next() {
-        write_key(sink, version, key)?;
-        if let Some(inner) = write_head(sink, version, item.encoded())? {
-            return Ok(Some((Open::Members(left), inner)));
-        }
-    }
-    Ok(None)
-}
-
-// The same of either.
-fn write_to_list<'a, K: ByteSink>(
-    sink: &mut K,
-    version: WriteVersion,
-    list: Open<'a>,
-) -> Result<Option<(Open<'a>, Open<'a>)>, io::ErrorKind>
-    ensures writes { let v = written_version version in
-        WritesBefore K.ByteSink sink.old sink.new result (inner_left v) (bytes_left v list.entry) }
-    ensures fewer { let v = written_version version in
-        IfOk result
-        (λ met. IfSome met (λ both. length (inner_left v met) < length (bytes_left v list.entry))) }
-{
-    match list {
-        Open::Items(items) => write_items_to_list(sink, version, items),
-        Open::Members(members) => write_members_to_list(sink, version, members),
-    }
-}
-
-// The children that are left of a list, in order, however deep they nest. The open lists stand on a stack, the innermost last.
+// The children that are left of a list, in order, however deep they nest. The lists around the one that is gone through stand on a stack,
+// the innermost last.
 #[inline(never)]
 fn write_nested<K: ByteSink>(
     sink: &mut K,
     alloc: Global,
     version: WriteVersion,
-    first: Open<'_>,
+    first: Children<CompactDocValue<'_>>,
 ) -> Result<(), SerializeError>
     ensures writes { store.WritesStore K.ByteSink sink.old sink.new result
         (Ok (bytes_left (written_version version) first.entry)) }
     ensures errors { IfErr result IsIoOrMemory }
 {
-    let mut lists = Vec::new(alloc);
-    lists.push(first)?;
-    while let Some(list) = lists.pop() {
-        let Some((outer, inner)) = write_to_list(sink, version, list)? else {
-            continue;
+    let mut around = Vec::new(alloc);
+    let mut list = first;
+    'children: loop {
+        let Some((key, item)) = list.next() else {
+            let Some(outer) = around.pop() else {
+                return Ok(());
+            };
+            list = outer;
+            continue 'children;
         };
-        lists.push(outer)?;
-        lists.push(inner)?;
+        let encoded = item.encoded();
+        write_child_key(sink, version, key)?;
+        match write_head(sink, version, encoded)? {
+            None => {}
+            Some(inner) => {
+                around.push(list)?;
+                list = inner;
+            }
+        }
     }
-    Ok(())
 }
 
 // Writes what a version of the store has for a value of a document. `levels` is how deep its lists may nest for no memory to be taken.
@@ -250,7 +199,7 @@ fn write_encoded_items<K: ByteSink>(
     ensures only_io { NestsWithin levels (array (elements items.entry.held.0)) → IfErr result IsIo }
 {
     if levels == 0 {
-        return write_nested(sink, alloc, version, Open::Items(items));
+        return write_nested(sink, alloc, version, Children::Array(items));
     }
     for item in items {
         write_encoded(sink, alloc, version, item.encoded(), levels - 1)?;
@@ -274,7 +223,7 @@ fn write_encoded_members<K: ByteSink>(
     ensures only_io { NestsWithin levels (object (entries members.entry.held.0)) → IfErr result IsIo }
 {
     if levels == 0 {
-        return write_nested(sink, alloc, version, Open::Members(members));
+        return write_nested(sink, alloc, version, Children::Object(members));
     }
     for (key, item) in members {
         write_key(sink, version, key)?;

@@ -1,4 +1,4 @@
-use Rattle.std.proofs.Common.{◌≡◌, ◌≢◌, true, List, ℕ, Result, Ok, Err, Some, refl, sym, ap, subst, ◌∙◌, arith, rules}
+use Rattle.std.proofs.Common.{◌≡◌, ◌≢◌, true, List, ℕ, Result, Ok, Err, Some, refl, sym, ap, ◌∙◌}
 use Rattle.std.specs.Prelude.{OnErr, slice_get}
 use Rattle.tv_field.specs.Entry.{Entry, is_indexed_type, value_type}
 use Rattle.tv_field.specs.declared.field_type.FieldType.{FieldType}

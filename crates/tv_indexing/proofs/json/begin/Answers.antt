@@ -1,23 +1,13 @@
-use Rattle.std.proofs.Common.{suc, refl, sym, ap, ◌∙◌}
-use Rattle.tv_format.specs.Size.{size}
-use Rattle.tv_indexing.proofs.Walks.{elements-children, elements-size, entries-children, entries-size}
-use Rattle.tv_indexing.specs.JsonWalk.{terms_at}
+use Rattle.std.proofs.Common.{refl, subst, ◌∙◌}
+use Rattle.tv_heap.specs.Value.{tree_of}
+use Rattle.tv_indexing.proofs.Walks.{list_terms}
+use Rattle.tv_indexing.specs.JsonWalk.{children_of}
+use Rattle.tv_value.specs.Children.{IsListOf}
+use Rattle.tv_value.proofs.ListChildren.{list_size}
 use Rattle.tv_indexing.proofs.json.begin.Goals as goal
 
-pub returns-in-Array-clause-begun : goal.returns-in-Array-clause-begun
-returns-in-Array-clause-begun c =
-    let at = c.args.at in
-    let items = c.in-Array.items.held.0 in (
-      refl,
-      sym (ap (terms_at at.field at.expand_dots c.args.path.now) c.in-Array.ensures) ∙ elements-children at.field at.expand_dots c.args.path.now items,
-      sym (ap size c.in-Array.ensures) ∙ ap suc (elements-size items),
-    )
-
-pub returns-in-Object-clause-begun : goal.returns-in-Object-clause-begun
-returns-in-Object-clause-begun c =
-    let at = c.args.at in
-    let members = c.in-Object.members.held.0 in (
-      refl,
-      sym (ap (terms_at at.field at.expand_dots c.args.path.now) c.in-Object.ensures) ∙ entries-children at.field at.expand_dots c.args.path.now members,
-      sym (ap size c.in-Object.ensures) ∙ ap suc (entries-size members),
-    )
+pub returns-in-Ok-clause-begun : goal.returns-in-Ok-clause-begun
+returns-in-Ok-clause-begun c =
+    let tree = tree_of c.args.value in
+    let is = subst (IsListOf (children_of c.in-Ok.children)) c.as_nested.ensures c.in-Ok.ensures.list in
+    (refl, c.in_ok-enter.ensures.made tree ∙ list_terms c.args.at.field c.args.at.expand_dots _ _ tree is, list_size _ tree is)

@@ -1,4 +1,4 @@
-use Rattle.std.proofs.Common.{◌≡◌, subst, length}
+use Rattle.std.proofs.Common.{subst, length}
 use Rattle.tv_indexing.specs.TermPieces.{AreEnds}
 use Rattle.tv_indexing.proofs.Pieces.{within}
 use Rattle.tv_indexing.proofs.term_list.TermIterIterator.next.Goals as goal

@@ -1,4 +1,4 @@
-use Rattle.std.proofs.Common.{◌≡◌, arith, ap, length, ◌∙◌, sym, ◌↔◌, IsTrue}
+use Rattle.std.proofs.Common.{arith, ap, length, ◌∙◌, sym}
 use Rattle.tv_indexing.proofs.Pieces.{pieces-length}
 use Rattle.std.proofs.lemmas.Grind.{common_steps}
 use Rattle.tv_indexing.proofs.term_list.TermList.is_empty.Goals as goal

@@ -1,5 +1,5 @@
-use Rattle.std.proofs.Common.{◌≡◌, ◌≤◌, ◌++◌, ◌∷◌, [], length, ap, ◌∙◌, sym, subst, arith, length-append}
-use Rattle.tv_indexing.specs.TermPieces.{AreEnds, joined_parts, pieces}
+use Rattle.std.proofs.Common.{◌≤◌, ◌++◌, ◌∷◌, [], length, ap, ◌∙◌, arith, length-append}
+use Rattle.tv_indexing.specs.TermPieces.{joined_parts}
 use Rattle.tv_indexing.proofs.Pieces.{AreEnds-push, pieces-push}
 use Rattle.tv_indexing.proofs.term_list.TermList.push_parts.Goals as goal
 

@@ -1,5 +1,5 @@
-use Rattle.std.proofs.Common.{◌≡◌, arith, ap, length, ◌∙◌, sym, take}
-use Rattle.tv_indexing.specs.TermPieces.{pieces, AreEnds, start_at}
+use Rattle.std.proofs.Common.{◌≡◌, arith, ap, length, ◌∙◌, take}
+use Rattle.tv_indexing.specs.TermPieces.{start_at}
 use Rattle.tv_indexing.proofs.Pieces.{pieces-length, AreEnds-truncated, pieces-truncated}
 use Rattle.tv_indexing.proofs.term_list.TermList.truncate.Goals as goal
 
