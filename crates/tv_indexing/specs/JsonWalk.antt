@@ -8,6 +8,7 @@ use Rattle.tv_format.specs.Tree.{Tree, leaf, array, object, Elements, no_element
 use Rattle.tv_heap.specs.declared.value.CompactDocArrayIter.{CompactDocArrayIter}
 use Rattle.tv_heap.specs.declared.value.CompactDocObjectIter.{CompactDocObjectIter}
 use Rattle.tv_heap.specs.declared.value.CompactDocValue.{CompactDocValue}
+use Rattle.tv_heap.specs.Value.{HeldList, held_children}
 use Rattle.tv_indexing.specs.DocumentTerms.{AreAppended, Terms, followed_by, has_zero, json_leaf_terms}
 use Rattle.tv_indexing.specs.declared.json.OpenList.{OpenList}
 use Rattle.tv_indexing.specs.declared.term_values_error.TermValuesError.TheVariants.{NulInPath}
@@ -50,30 +51,24 @@ children_terms field expand_dots path (child ∷ children) = followed_by (child_
 
 -- ---- lists of which children are left
 
-abbrev pub DocumentList : Type 0
-DocumentList = Children CompactDocValue (Bor (List ℕ)) CompactDocArrayIter CompactDocObjectIter
-
-abbrev pub children_of : DocumentList → List Child
-children_of list = children_left (λ items. items.held.0) (λ members. members.held.0) list
-
 -- those of open lists, the innermost first, where this is the path to the innermost
 abbrev pub open_terms : Field → Bool → List ℕ → List OpenList → Terms
 open_terms field expand_dots path [] = Ok []
 open_terms field expand_dots path (list ∷ lists) =
-    followed_by (children_terms field expand_dots path (children_of list.children)) (open_terms field expand_dots (take list.path_len path) lists)
+    followed_by (children_terms field expand_dots path (held_children list.children)) (open_terms field expand_dots (take list.path_len path) lists)
 
 -- how many values are left in them, and how many they are
 abbrev pub open_size : List OpenList → ℕ
 open_size [] = 0
-open_size (list ∷ lists) = suc (children_size (children_of list.children)) + open_size lists
+open_size (list ∷ lists) = suc (children_size (held_children list.children)) + open_size lists
 
 -- ---- what a step does
 
 -- of a child that stands below this path, and what is in it below that one: its term was appended, if it has one, or it is a list with these children
-abbrev pub IsBegun : List (List ℕ) → List (List ℕ) → Field → Bool → List ℕ → List ℕ → Option (List ℕ) → Tree → Option DocumentList → Type 0
+abbrev pub IsBegun : List (List ℕ) → List (List ℕ) → Field → Bool → List ℕ → List ℕ → Option (List ℕ) → Tree → Option HeldList → Type 0
 IsBegun old new field expand_dots path below key tree None = AreAppended old new (child_terms field expand_dots path key tree)
 IsBegun old new field expand_dots path below key tree (Some list) =
-    (new ≡ old) × (child_terms field expand_dots path key tree ≡ children_terms field expand_dots below (children_of list)) × (size tree ≡ suc (children_size (children_of list)))
+    (new ≡ old) × (child_terms field expand_dots path key tree ≡ children_terms field expand_dots below (held_children list)) × (size tree ≡ suc (children_size (held_children list)))
 
 -- the list begins with what it was
 abbrev pub Extends : List (List ℕ) → List (List ℕ) → Type 0

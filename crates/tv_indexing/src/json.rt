@@ -2,11 +2,11 @@
 
 ghost use Rattle.std.specs.Prelude.{◌≡◌, ◌≢◌, ◌++◌, ◌∷◌, Err, IfErr, IfOk, length, option_map, OnErr, OnOk};
 ghost use Rattle.std.specs.Prelude.{[], take};
-ghost use Rattle.tv_heap.specs.Value.{tree_of};
+ghost use Rattle.tv_heap.specs.Value.{held_children, tree_of};
 ghost use Rattle.tv_indexing.specs.DocumentTerms.{AreAppended, json_terms};
 ghost use Rattle.tv_format.specs.Tree.{Tree};
 ghost use Rattle.tv_indexing.specs.JsonWalk.{Extends, IsBegun, child_terms};
-ghost use Rattle.tv_indexing.specs.JsonWalk.{children_of, children_terms, terms_at};
+ghost use Rattle.tv_indexing.specs.JsonWalk.{children_terms, terms_at};
 ghost use Rattle.tv_indexing.specs.declared.term_values_error.TermValuesError.TheVariants.{Memory};
 
 use crate::json_leaf::push_json_leaf;
@@ -90,10 +90,10 @@ fn push_children<'a>(
 ) -> Result<(), TermValuesError>
     ensures made { OnOk result
         (AreAppended terms.old terms.new
-        (children_terms at.field at.expand_dots path.old.items (children_of outermost.entry))) }
+        (children_terms at.field at.expand_dots path.old.items (held_children outermost.entry))) }
     ensures refused { IfErr result
         (λ e. e ≢ Memory
-        → children_terms at.field at.expand_dots path.old.items (children_of outermost.entry)
+        → children_terms at.field at.expand_dots path.old.items (held_children outermost.entry)
         ≡ Err e) }
     ensures kept { OnErr result (Extends terms.old terms.new) }
 {

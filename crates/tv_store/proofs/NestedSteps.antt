@@ -10,50 +10,38 @@ use Rattle.tv_format.specs.Version.{Version}
 use Rattle.tv_heap.specs.Encoded.{encoded_bytes}
 use Rattle.tv_heap.specs.declared.encoded.Encoded.{Encoded}
 use Rattle.tv_heap.specs.declared.encoded.Encoded.TheVariants as held
-use Rattle.tv_store.specs.Nested.{DocumentList, bytes_left, child_key, head_bytes, inner_list, HoldsNoList}
+use Rattle.tv_heap.specs.Value.{HeldList, held_children}
+use Rattle.tv_store.specs.Nested.{bytes_left, head_bytes, inner_list, HoldsNoList}
 use Rattle.tv_value.specs.Children.{Child, children_left, with_key, without_key}
 use Rattle.tv_value.specs.declared.children.Children.TheVariants as lists
 use Rattle.tv_writer.specs.Error.{write_stop}
 use Rattle.tv_writer.specs.declared.error.SerializeError.TheVariants.{Memory}
+use Rattle.tv_writer.specs.Children.{short_children, short_key_of}
+use Rattle.tv_writer.proofs.WriterSteps.{short_items, short_members}
 
 -- ---- the children of a list
 
-abbrev pub children_of : DocumentList → List Child
-children_of list = children_left (λ items. items.held.0) (λ members. members.held.0) list
+left_short : (v : Version) (list : HeldList) → bytes_left v list ≡ short_children v (held_children list)
+left_short v (lists.Array items) = short_items v items.held.0
+left_short v (lists.Object members) = short_members v members.held.0
 
-abbrev short_children : Version → List Child → List ℕ
-short_children v [] = []
-short_children v (child ∷ children) = child_key v child.0 ++ (short v child.1 ++ short_children v children)
-
-items_short : (v : Version) (ts : List Tree) → short_elements v (elements ts) ≡ short_children v (map without_key ts)
-items_short v [] = refl
-items_short v (t ∷ ts) = ap (λ (z : List ℕ). short v t ++ z) (items_short v ts)
-
-members_short : (v : Version) (es : List (List ℕ × Tree)) → short_entries v (entries es) ≡ short_children v (map with_key es)
-members_short v [] = refl
-members_short v (e ∷ es) = ap (λ (z : List ℕ). child_key v (Some e.0) ++ (short v e.1 ++ z)) (members_short v es)
-
-left_short : (v : Version) (list : DocumentList) → bytes_left v list ≡ short_children v (children_of list)
-left_short v (lists.Array items) = items_short v items.held.0
-left_short v (lists.Object members) = members_short v members.held.0
-
-pub none_left : (v : Version) (list : DocumentList) → children_of list ≡ [] → bytes_left v list ≡ []
+pub none_left : (v : Version) (list : HeldList) → held_children list ≡ [] → bytes_left v list ≡ []
 none_left v list none = left_short v list ∙ ap (short_children v) none
 
 -- ---- lists within one another
 
 -- what is left of lists that stand within one another, from the outermost
-abbrev pub all_left : Version → List DocumentList → List ℕ
+abbrev pub all_left : Version → List HeldList → List ℕ
 all_left v [] = []
 all_left v (outer ∷ inner) = all_left v inner ++ bytes_left v outer
 
 -- what is left of the innermost comes first
-pub innermost_left : (v : Version) (outer : List DocumentList) (list : DocumentList) → all_left v (outer ++ list ∷ []) ≡ bytes_left v list ++ all_left v outer
+pub innermost_left : (v : Version) (outer : List HeldList) (list : HeldList) → all_left v (outer ++ list ∷ []) ≡ bytes_left v list ++ all_left v outer
 innermost_left v [] list = sym (append-nil (bytes_left v list))
 innermost_left v (first ∷ others) list = ap (λ (l : List ℕ). l ++ bytes_left v first) (innermost_left v others list) ∙ append_assoc (bytes_left v list) (all_left v others) (bytes_left v first)
 
 -- those of a list that was met, if one was
-abbrev pub met_left : Version → Option DocumentList → List ℕ
+abbrev pub met_left : Version → Option HeldList → List ℕ
 met_left v None = []
 met_left v (Some list) = bytes_left v list
 
@@ -77,33 +65,33 @@ single_head v (held.Object n members) is = absurd is
 single_head v _ is = (refl, refl)
 
 -- the first child: its key, of a list its head, and the children of that list before the others
-pub child_next : (v : Version) (list next : DocumentList) {key : Option (List ℕ)} {t : Tree} (e : Encoded) {met : Option DocumentList} (others : List ℕ) → children_of list ≡ (key, t) ∷ children_of next → encoded_bytes v e ≡ short v t
-    → inner_list e ≡ met → bytes_left v list ++ others ≡ child_key v key ++ (head_bytes v e ++ (met_left v met ++ (bytes_left v next ++ others)))
+pub child_next : (v : Version) (list next : HeldList) {key : Option (List ℕ)} {t : Tree} (e : Encoded) {met : Option HeldList} (others : List ℕ) → held_children list ≡ (key, t) ∷ held_children next → encoded_bytes v e ≡ short v t
+    → inner_list e ≡ met → bytes_left v list ++ others ≡ short_key_of v key ++ (head_bytes v e ++ (met_left v met ++ (bytes_left v next ++ others)))
 child_next v list next {key} {t} e {met} others cut is inner =
-    let more = short_children v (children_of next) in
-    ap (λ (z : List ℕ). z ++ others) (left_short v list ∙ ap (short_children v) cut) ∙ append_assoc (child_key v key) (short v t ++ more) others
-    ∙ ap (λ (z : List ℕ). child_key v key ++ z) (append_assoc (short v t) more others ∙ ap (λ (z : List ℕ). z ++ (more ++ others)) (sym is ∙ head_then v e ∙ ap (λ (z : Option DocumentList). head_bytes v e ++ met_left v z) inner)
+    let more = short_children v (held_children next) in
+    ap (λ (z : List ℕ). z ++ others) (left_short v list ∙ ap (short_children v) cut) ∙ append_assoc (short_key_of v key) (short v t ++ more) others
+    ∙ ap (λ (z : List ℕ). short_key_of v key ++ z) (append_assoc (short v t) more others ∙ ap (λ (z : List ℕ). z ++ (more ++ others)) (sym is ∙ head_then v e ∙ ap (λ (z : Option HeldList). head_bytes v e ++ met_left v z) inner)
     ∙ append_assoc (head_bytes v e) (met_left v met) (more ++ others) ∙ ap (λ (z : List ℕ). head_bytes v e ++ (met_left v met ++ (z ++ others))) (sym (left_short v next)))
 
 -- ---- what is left becomes less
 
-child_fewer : (v : Version) (list next : DocumentList) {key : Option (List ℕ)} {t : Tree} (e : Encoded) {met : Option DocumentList} (others : List ℕ) → children_of list ≡ (key, t) ∷ children_of next → encoded_bytes v e ≡ short v t
+child_fewer : (v : Version) (list next : HeldList) {key : Option (List ℕ)} {t : Tree} (e : Encoded) {met : Option HeldList} (others : List ℕ) → held_children list ≡ (key, t) ∷ held_children next → encoded_bytes v e ≡ short v t
     → inner_list e ≡ met → length (met_left v met ++ (bytes_left v next ++ others)) < length (bytes_left v list ++ others)
 child_fewer v list next {key} e {met} others cut is inner =
     let after = met_left v met ++ (bytes_left v next ++ others) in
-    omega (arith, ap length (child_next v list next e others cut is inner), length-append (child_key v key) (head_bytes v e ++ after), length-append (head_bytes v e) after, head_some v e)
+    omega (arith, ap length (child_next v list next e others cut is inner), length-append (short_key_of v key) (head_bytes v e ++ after), length-append (head_bytes v e) after, head_some v e)
 
-pub less_on : (v : Version) (list next : DocumentList) {key : Option (List ℕ)} {t : Tree} (e : Encoded) (around : List DocumentList) → children_of list ≡ (key, t) ∷ children_of next → encoded_bytes v e ≡ short v t → inner_list e ≡ None
+pub less_on : (v : Version) (list next : HeldList) {key : Option (List ℕ)} {t : Tree} (e : Encoded) (around : List HeldList) → held_children list ≡ (key, t) ∷ held_children next → encoded_bytes v e ≡ short v t → inner_list e ≡ None
     → 2 * length (bytes_left v next ++ all_left v around) + length around < 2 * length (bytes_left v list ++ all_left v around) + length around
 less_on v list next e around cut is single = omega (arith, child_fewer v list next e (all_left v around) cut is single)
 
-pub less_down : (v : Version) (list next inner : DocumentList) {key : Option (List ℕ)} {t : Tree} (e : Encoded) (around deeper : List DocumentList) → children_of list ≡ (key, t) ∷ children_of next → encoded_bytes v e ≡ short v t
+pub less_down : (v : Version) (list next inner : HeldList) {key : Option (List ℕ)} {t : Tree} (e : Encoded) (around deeper : List HeldList) → held_children list ≡ (key, t) ∷ held_children next → encoded_bytes v e ≡ short v t
     → inner_list e ≡ Some inner → deeper ≡ around ++ next ∷ [] → 2 * length (bytes_left v inner ++ all_left v deeper) + length deeper < 2 * length (bytes_left v list ++ all_left v around) + length around
 less_down v list next inner e around deeper cut is met pushed =
     let now = ap (λ (z : List ℕ). length (bytes_left v inner ++ z)) (ap (all_left v) pushed ∙ innermost_left v around next) in
     omega (arith, child_fewer v list next e (all_left v around) cut is met, now, ap length pushed, length-append around (next ∷ []))
 
-pub less_up : (v : Version) (list outer : DocumentList) (around less : List DocumentList) → children_of list ≡ [] → around ≡ less ++ outer ∷ [] → 2 * length (bytes_left v outer ++ all_left v less) + length less < 2 * length (bytes_left v list ++ all_left v around) + length around
+pub less_up : (v : Version) (list outer : HeldList) (around less : List HeldList) → held_children list ≡ [] → around ≡ less ++ outer ∷ [] → 2 * length (bytes_left v outer ++ all_left v less) + length less < 2 * length (bytes_left v list ++ all_left v around) + length around
 less_up v list outer around less none popped =
     let whole = ap (λ (z : List ℕ). length (z ++ all_left v around)) (none_left v list none) ∙ ap length (ap (all_left v) popped ∙ innermost_left v less outer) in
     omega (arith, whole, ap length popped, length-append less (outer ∷ []))

@@ -11,23 +11,15 @@ use Rattle.tv_heap.specs.declared.encoded.Encoded.TheVariants as held
 use Rattle.tv_heap.specs.declared.value.CompactDocArrayIter.{CompactDocArrayIter}
 use Rattle.tv_heap.specs.declared.value.CompactDocObjectIter.{CompactDocObjectIter}
 use Rattle.tv_heap.specs.declared.value.CompactDocValue.{CompactDocValue}
+use Rattle.tv_heap.specs.Value.{HeldList}
 use Rattle.tv_value.specs.Nesting.{NestsWithin}
 use Rattle.tv_value.specs.declared.children.Children.{Children}
 use Rattle.tv_value.specs.declared.children.Children.TheVariants as lists
 
--- a list of a document
-abbrev pub DocumentList : Type 0
-DocumentList = Children CompactDocValue (Bor (List ℕ)) CompactDocArrayIter CompactDocObjectIter
-
 -- the bytes of the children that are left of a list
-abbrev pub bytes_left : Version → DocumentList → List ℕ
+abbrev pub bytes_left : Version → HeldList → List ℕ
 bytes_left v (lists.Array items) = short_elements v (elements items.held.0)
 bytes_left v (lists.Object members) = short_entries v (entries members.held.0)
-
--- of a child, its key, if it has one
-abbrev pub child_key : Version → Option (List ℕ) → List ℕ
-child_key v None = []
-child_key v (Some key) = short_key v key
 
 -- of a list, what stands before its children
 abbrev pub head_bytes : Version → Encoded → List ℕ
@@ -36,7 +28,7 @@ head_bytes v (held.Object n members) = 13 ∷ vnum (entry_total v n)
 head_bytes v single = encoded_bytes v single
 
 -- and these
-abbrev pub inner_list : Encoded → Option DocumentList
+abbrev pub inner_list : Encoded → Option HeldList
 inner_list (held.Array n items) = Some (lists.Array items)
 inner_list (held.Object n members) = Some (lists.Object members)
 inner_list _ = None

@@ -10,8 +10,9 @@ ghost use Rattle.tv_format.specs.Tree.{array, object, elements, entries};
 ghost use Rattle.tv_format.specs.Version.{Version};
 ghost use Rattle.tv_format.specs.WriteVersion.{written_version};
 ghost use Rattle.tv_heap.specs.Encoded.{encoded_bytes, HasFewEntries};
-ghost use Rattle.tv_store.specs.Nested.{bytes_left, child_key, head_bytes, inner_list};
+ghost use Rattle.tv_store.specs.Nested.{bytes_left, head_bytes, inner_list};
 ghost use Rattle.tv_store.specs.Nested.{HeldNestsWithin, HoldsNoList};
+ghost use Rattle.tv_writer.specs.Children.{short_key_of};
 ghost use Rattle.tv_writer.specs.Error as store;
 ghost use Rattle.tv_writer.specs.Error.{IsIo, IsIoOrMemory};
 ghost use Rattle.tv_value.specs.Nesting.{NestsWithin};
@@ -77,7 +78,7 @@ fn write_child_key<K: ByteSink>(
     key: Option<&str>,
 ) -> Result<(), io::ErrorKind>
     ensures { Writes K.ByteSink sink.old sink.new result
-        (child_key (written_version version) (option_map (λ k. k.now) key.entry)) }
+        (short_key_of (written_version version) (option_map (λ k. k.now) key.entry)) }
 {
     match key {
         Some(key) => write_key(sink, version, key),
