@@ -20,7 +20,7 @@ pub deep_behind : {S X : Type 0} {is_known : S → Type 0} {left : S → List �
     → old.has_failed ≡ false → is_known old.source → P → Begins (λ b. R b x) (left old.source) (left mid.source) × Next (version_of old.version) old.levels (left mid.source) behind
 deep_behind {left = left} {old = old} {mid = mid} behind Next p h = λ is_open told is.
     let f = p.finds is_open in
-    let there = h p.marks (f.stays_known told) is in (
+    let there = h p.marks_failure (f.stays_known told) is in (
       f.found told,
       subst (λ l. Next (version_of old.version) l (left mid.source) behind) p.same_levels (subst (λ z. Next (version_of z) mid.levels (left mid.source) behind) p.same_version there),
     )

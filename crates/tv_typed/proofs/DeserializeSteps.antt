@@ -50,7 +50,7 @@ pub deserializes : {May : DeserializeError → ℕ → Type 0} {S X : Type 0} {i
     → ((b : List ℕ) (x : X) → B b x → C b x) → ReadsIf May is_known left failures old new result B Q → DeserializesBy is_known left failures old new result C Q
 deserializes {left = left} {old = old} {new = new} {result = result} {B = B} {Q = Q} C map h = record {
   closed = h.closed;
-  unmarked = unmarked_by result _ h.marks;
+  unmarked = unmarked_by result _ h.marks_failure;
   found = λ is_open t. found_map B C Q result (left old.source) (left new.source) new.count map ((h.finds is_open).found t);
   taken = λ is_open. (h.finds is_open).taken;
   stays_known = λ is_open. (h.finds is_open).stays_known;

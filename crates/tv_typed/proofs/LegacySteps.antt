@@ -139,8 +139,8 @@ legacy_then {is_known = is_known} {left = left} {failures = failures} {new = new
     (λ a f r _ _ start byte last. inl (record { refusal = corrupted UnexpectedEnd; told = is_corrupted; error = early_behind v types.JSONObject t a start byte r last }))
     (deserializes (λ b x. Encodes Legacy v (8 ∷ b) (owned_tree x)) (λ b x q. q) p)
     (record {
-      closed = λ failed. absurd (both (sym p.marks ∙ failed));
-      unmarked = unmarked_still result new.has_failed p.marks;
+      closed = λ failed. absurd (both (sym p.marks_failure ∙ failed));
+      unmarked = unmarked_still result new.has_failed p.marks_failure;
       found = λ _ told. found_here is (NextRefused refused V2) t content (left new.source) new.count result same valid h;
       taken = λ _ told. Taken_none (left new.source) new.count;
       stays_known = λ _ told. told;

@@ -57,7 +57,7 @@ tree_type_refuses {X = X} {left = left} {failures = failures} {new = new} {tree 
     (λ a f r _ _ start byte last. inl (record { refusal = corrupted UnexpectedEnd; told = is_corrupted; error = early_behind v kind t a start byte r last }))
     (deserializes (λ b x. Encodes Legacy v (type_prefix kind ++ b) (owned_tree x)) (λ b x q. q) p)
     (record {
-      closed = λ failed. absurd (both (sym p.marks ∙ failed));
+      closed = λ failed. absurd (both (sym p.marks_failure ∙ failed));
       unmarked = tt;
       found = λ _ told. refused_here (λ w f. Refuses kind t f) e (left new.source) new.count (typed_stop e) stop other refused refused;
       taken = λ _ told. Taken_none (left new.source) new.count;

@@ -86,7 +86,7 @@ reads_part {is_known = is_known} {left = left} {failures = failures} {s = s} {k 
       (subst (λ z. FindsBy typed_stop StoreMayStop end is_known left failures old.source old.count z new.count (raised answer) B Q) (sym source)
       (subst (λ n. FindsBy typed_stop StoreMayStop end is_known left failures old.source old.count s n (raised answer) B Q) (sym count)
       (typed_part is_known left failures old.source s old.count k view answer B Q are_bytes agrees join map part)));
-  marks = marks;
+  marks_failure = marks;
   same_version = version;
   same_levels = levels;
 }
@@ -98,7 +98,7 @@ pub reads_mismatch : {S X Kind : Type 0} (is_known : S → Type 0) (left : S →
 reads_mismatch is_known left failures old new kind expected refusal _ B Q is may other shows (failed_before failed) source count version levels marks = record {
   closed = λ _. (refl, source, count);
   finds = λ is_open. absurd (both old.has_failed is_open failed);
-  marks = marks;
+  marks_failure = marks;
   same_version = version;
   same_levels = levels;
 }
@@ -107,7 +107,7 @@ reads_mismatch is_known left failures old new kind expected refusal _ B Q is may
   finds = λ _. subst (λ z. FindsBy typed_stop StoreMayStop end is_known left failures old.source old.count z new.count (Err refusal) B Q) (sym source)
       (subst (λ n. FindsBy typed_stop StoreMayStop end is_known left failures old.source old.count old.source n (Err refusal) B Q) (sym count)
       (finds_refused typed_stop end is_known left failures old.source old.count refusal refusal B Q is may other (shows apart)));
-  marks = marks;
+  marks_failure = marks;
   same_version = version;
   same_levels = levels;
 }
@@ -124,7 +124,7 @@ pub reads_closed : {May : DeserializeError → ℕ → Type 0} {S X : Type 0} (i
 reads_closed is_known left failures old new e B Q is failed source count version levels marks = record {
   closed = λ _. (ap (λ (d : DeserializeError). Err d) is, source, count);
   finds = λ is_open. absurd (both old.has_failed is_open failed);
-  marks = marks;
+  marks_failure = marks;
   same_version = version;
   same_levels = levels;
 }
@@ -225,7 +225,7 @@ told_reads {is_known = is_known} {left = left} {failures = failures} {s = s} {k 
         rises = h.rises;
         may_stop = IfErr-weaker result _ _ (λ e may. may.0) h.may_stop;
       }));
-  marks = marks;
+  marks_failure = marks;
   same_version = version;
   same_levels = levels;
 }
@@ -275,7 +275,7 @@ tree_reads {left = left} {failures = failures} old new result B F is_open h vers
     rises = h.rises;
     may_stop = h.may_stop;
   };
-  marks = marks;
+  marks_failure = marks;
   same_version = version;
   same_levels = levels;
 }

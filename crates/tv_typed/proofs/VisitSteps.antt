@@ -114,7 +114,7 @@ handed_marked {S} is_known left failures mid new Made Refused (Err d) result has
 pub items_marked : {S X : Type 0} {is_known : S → Type 0} {left : S → List ℕ} {failures : S → Failures} {old new : StoreReader S} {collection : ValueType} {total : ℕ → ℕ} {Made : ℕ → List ℕ → X → Type 0} {Refused : ℕ → List ℕ → DeserializeError → Type 0} {kind : ValueType} {result : Result X DeserializeError} (has_failed : Bool) → has_failed ≡ is_err result
     → VisitsItemsBy is_known left failures old new collection total Made Refused kind result → VisitsItemsBy is_known left failures old (record new { has_failed = has_failed }) collection total Made Refused kind result
 items_marked {is_known = is_known} {left = left} {failures = failures} {new = new} {Made = Made} {Refused = Refused} {result = result} has_failed told h =
-    record { behind_number = h.behind_number; announced = h.announced; reads = h.reads; handed = handed_marked is_known left failures h.behind_number new Made Refused h.announced result has_failed told h.reads.marks h.handed }
+    record { behind_number = h.behind_number; announced = h.announced; reads = h.reads; handed = handed_marked is_known left failures h.behind_number new Made Refused h.announced result has_failed told h.reads.marks_failure h.handed }
 
 -- the number, and what was made of the values, as one
 handed_deserialize : {S X : Type 0} (is_known : S → Type 0) (left : S → List ℕ) (failures : S → Failures) (old mid new : StoreReader S) (collection : ValueType) (total : ℕ → ℕ) (Made : ℕ → List ℕ → X → Type 0) (Refused : ℕ → List ℕ → DeserializeError → Type 0) (kind : ValueType) (announced : Result ℕ DeserializeError) (result : Result X DeserializeError)
@@ -192,7 +192,7 @@ handed_counts {S} is_known left failures old mid new Made Refused (Err e) result
 pub items_count : {S X : Type 0} {is_known : S → Type 0} {left : S → List ℕ} {failures : S → Failures} {old new : StoreReader S} {collection : ValueType} {total : ℕ → ℕ} {Made : ℕ → List ℕ → X → Type 0} {Refused : ℕ → List ℕ → DeserializeError → Type 0} {kind : ValueType} {result : Result X DeserializeError}
     → old.has_failed ≡ false → VisitsItemsBy is_known left failures old new collection total Made Refused kind result → Counts typed_stop result (failures old.source) (failures new.source)
 items_count {is_known = is_known} {left = left} {failures = failures} {old = old} {new = new} {Made = Made} {Refused = Refused} {result = result} is_open h =
-    handed_counts is_known left failures old h.behind_number new Made Refused h.announced result h.reads.marks (h.reads.finds is_open).counts h.handed
+    handed_counts is_known left failures old h.behind_number new Made Refused h.announced result h.reads.marks_failure (h.reads.finds is_open).counts h.handed
 
 legacy_counts : {X : Type 0} (Made : ℕ → List ℕ → X → Type 0) (Refused : ℕ → List ℕ → DeserializeError → Type 0) (read : Result OwnedValue DeserializeError) (result : Result X DeserializeError) (f g : Failures) → Counts typed_stop read f g → GivesEntries Made Refused read result → Counts typed_stop result f g
 legacy_counts Made Refused (Ok tree) result f g h made =

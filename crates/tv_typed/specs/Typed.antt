@@ -32,7 +32,7 @@ typed_stop errors.TooDeep = Short
 pub record ReadsIf {S X : Type 0} (May : DeserializeError → ℕ → Type 0) (is_known : S → Type 0) (left : S → List ℕ) (failures : S → Failures) (old new : StoreReader S) (result : Result X DeserializeError) (Encodes : List ℕ → X → Type 0) (HasError : List ℕ → DeserializeError → Type 0) : Type 0 where
   pub closed : old.has_failed ≡ true → IsErrOf result errors.AlreadyFailed × (new.source ≡ old.source) × (new.count ≡ old.count)
   pub finds : old.has_failed ≡ false → FindsBy typed_stop May (errors.CorruptedValue UnexpectedEnd) is_known left failures old.source old.count new.source new.count result Encodes HasError
-  pub marks : new.has_failed ≡ is_err result
+  pub marks_failure : new.has_failed ≡ is_err result
   pub same_version : new.version ≡ old.version
   pub same_levels : new.levels ≡ old.levels
 

@@ -74,7 +74,7 @@ loop-document-preserved g c =
             subst (λ pairs. GivesAll D.gives first pairs c.next_field.new.self) (sym c.in_default-add_value.ensures.1.document)
                 (gives_push D.gives first l.deserializer c.next_field.new.self (document_of l.document) (c.in-Some.field.id, owned_tree c.in-Some.value) so_far.1 given),
           )),
-      f.marks ∙ sym is_open ∙ l.invariant.1,
+      f.marks_failure ∙ sym is_open ∙ l.invariant.1,
       f.counts is_open ∙ l.invariant.2,
       f.same_reader ∙ l.invariant.3,
     )

@@ -16,7 +16,7 @@ returns-in_err-go_on-clause-reads g c =
 pub returns-clause-reads : goal.returns-clause-reads
 returns-clause-reads g c =
     let m = c.marked.ensures in
-    reads_part c.args.self.now c.marked.new.self c.marked.result IsCoded CodeRefused g.met.S.ByteSource.are_bytes kind_agrees (λ a x h. h) (λ w d f. in_code f) c.in_ok-go_on.ensures.ok (lean c.take_kind-answer.ensures.takes) m.source m.count m.version m.levels m.marks m.told
+    reads_part c.args.self.now c.marked.new.self c.marked.result IsCoded CodeRefused g.met.S.ByteSource.are_bytes kind_agrees (λ a x h. h) (λ w d f. in_code f) c.in_ok-go_on.ensures.ok (lean c.take_kind-answer.ensures.takes) m.source m.count m.version m.levels m.marks_failure m.told
 
 pub returns-in_err-go_on-clause-no_memory : goal.returns-in_err-go_on-clause-no_memory
 returns-in_err-go_on-clause-no_memory g c =

@@ -24,4 +24,4 @@ returns-clause-visits g c =
     legacy_visited _ _ c.in_ok-tree.ensures.reads (subst (λ bytes. OfEncoding (EncodesNextVisited (V.of_object visitor V2)) (NextVisitRefused (V.object_refused visitor V2)) bytes c.visit_encoding.result) c.in_ok-bytes.ensures.ok c.visit_encoding.ensures)
 
 pub returns-clause-unmarked : goal.returns-clause-unmarked
-returns-clause-unmarked g c = unmarked_still c.visit_encoding.result _ c.in_ok-tree.ensures.reads.marks
+returns-clause-unmarked g c = unmarked_still c.visit_encoding.result _ c.in_ok-tree.ensures.reads.marks_failure
