@@ -1,8 +1,9 @@
 -- The room of a list by that of its children.
-use Rattle.std.proofs.Common.{◌≡◌, ℕ, ◌+◌, List, map, length, refl, sym, ◌∙◌, ap, arith}
-use Rattle.tv_format.specs.Tree.{Tree, leaf, array, object, Elements, no_elements, element, Entries, no_entries, entry, element_list, entry_list}
+use Rattle.std.proofs.Common.{◌≡◌, ℕ, ◌+◌, List, ◌∷◌, map, length, refl, sym, ◌∙◌, ap, arith}
+use Rattle.std.proofs.lemmas.List.Sums.{sum_by-cons}
+use Rattle.tv_format.specs.Tree.{Document, Tree, leaf, array, object, Elements, no_elements, element, Entries, no_entries, entry, element_list, entry_list}
 use Rattle.tv_heap.specs.ChildrenRoom.{children_room}
-use Rattle.tv_heap.specs.Room.{room, elements_room, entries_room}
+use Rattle.tv_heap.specs.Room.{room, elements_room, entries_room, document_room}
 use Rattle.tv_value.specs.Children.{Child, IsListOf, without_key, with_key}
 
 elements_rooms : (ts : Elements) → elements_room ts ≡ children_room (map without_key (element_list ts))
@@ -19,4 +20,4 @@ list_room cs (array ts) is = ap (λ z. 5 + z) (elements_rooms ts ∙ ap children
 list_room cs (object es) is = ap (λ z. 5 + z) (entries_rooms es ∙ ap children_room (sym is))
 
 pub document_room-cons : (pair : ℕ × Tree) (d : Document) → document_room (pair ∷ d) ≡ room pair.1 + document_room d
-document_room-cons q d = omega (arith, sum_by-append (λ (pair : ℕ × Tree). room pair.1) (q ∷ []) d)
+document_room-cons pair d = sum_by-cons (λ (p : ℕ × Tree). room p.1) pair d
