@@ -7,7 +7,7 @@
 -- `belongs`: each of its pairs has a field of the schema.
 -- `ParsesInto`: the same in the place of a document. `parses` and `belongs`: where the call returns no error, what is left in the place is the
 -- document of the text. `none`: where it returns an error, no pair is left in the place.
-use Rattle.std.specs.Prelude.{◌≡◌, ℕ, List, [], ◌∷◌, ◌++◌, Option, Some, None, Result, Ok, Err, IfOk, OnOk, OnErr, slice_get, string_bytes}
+use Rattle.std.specs.Prelude.{◌≡◌, ◌≢◌, ℕ, List, [], ◌∷◌, ◌++◌, Option, Some, None, Result, Ok, Err, IfOk, OnOk, OnErr, slice_get, string_bytes}
 use Rattle.std.specs.Fmt.{take_chars}
 use Rattle.serde_json.specs.Data as json
 use Rattle.serde_json.specs.Data.{Data, Items, Members}
@@ -112,6 +112,12 @@ abbrev pub AddsValues : {T : Type 0} → List FieldJson → CompactDoc → Compa
 AddsValues values old new (Ok x) = AddsFieldValues values old new
 AddsValues values old new (Err e) = StopsAt values old e
 
+-- the same where memory may be refused at any value, and where the first refusal is told beside
+abbrev pub AddsOrTells : List FieldJson → CompactDoc → CompactDoc → Option (Unit {0}) → Option DocParsingError → Type 0
+AddsOrTells values old new (Some x) reason = AddsFieldValues values old new
+AddsOrTells values old new None (Some e) = e ≢ error.Memory → StopsAt values old e
+AddsOrTells values old new None None = ⊥
+
 -- the first refusal of these values by a document that was empty
 abbrev pub RefusesValues : List FieldJson → DocParsingError → Type 0
 RefusesValues values e = (start : CompactDoc) × IsEmpty start × StopsAt values start e
@@ -139,6 +145,12 @@ Parses schema text (Ok made) =
 Parses schema text (Err (error.InvalidJson start)) = IsNoObject text × (string_bytes start ≡ take_chars 20 text)
 Parses schema text (Err error.Memory) = Unit {0}
 Parses schema text (Err e) = (members : Members) × (read text ≡ Some (json.object members)) × RefusesValues (object_values schema members) e
+
+-- the same where the error is told beside; where none is, the text isn't read so
+abbrev pub ParsesOrTells : List Entry → List ℕ → CompactDoc → Option (Unit {0}) → Option DocParsingError → Type 0
+ParsesOrTells schema text new (Some x) reason = Parses schema text (Ok new)
+ParsesOrTells schema text new None (Some e) = Parses schema text (Err e)
+ParsesOrTells schema text new None None = Unit {0}
 
 -- ---- the words of the public contracts
 
