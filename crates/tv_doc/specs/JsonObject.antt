@@ -28,6 +28,7 @@ use Rattle.tv_builder.specs.declared.add_error.AddError.TheVariants as add_error
 use Rattle.tv_doc.specs.declared.doc_parsing_error.DocParsingError.{DocParsingError}
 use Rattle.tv_doc.specs.declared.doc_parsing_error.DocParsingError.TheVariants as error
 use Rattle.tv_doc.specs.declared.document.CompactDoc.{CompactDoc}
+use Rattle.tv_doc.specs.declared.named_field.NamedField.{NamedField}
 
 -- a JSON value for a field, with the field's name, number and type
 pub record FieldJson : Type 0 where
@@ -41,6 +42,13 @@ abbrev pub item_values : List ℕ → ℕ → FieldType → Items → List Field
 item_values name field field_type json.no_items = []
 item_values name field field_type (json.item d ds) =
     record { name = name; field = field; field_type = field_type; value = d } ∷ item_values name field field_type ds
+
+-- the values that a field of the schema is given, for private clauses
+abbrev pub value_for : NamedField → Data → FieldJson
+value_for to d = record { name = to.name.now; field = to.field.id; field_type = to.field_type.now; value = d }
+
+abbrev pub items_for : NamedField → Items → List FieldJson
+items_for to ds = item_values to.name.now to.field.id to.field_type.now ds
 
 abbrev pub values_for : List ℕ → ℕ → FieldType → Data → List FieldJson
 values_for name field field_type (json.array ds) = item_values name field field_type ds

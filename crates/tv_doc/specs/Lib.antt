@@ -8,7 +8,6 @@ pub mod Additions
 pub mod AdditionError
 pub mod AddsRow
 pub mod JsonObject
-pub mod NamedField
 pub mod Named
 pub mod NamedPairs
 pub mod SameTexts

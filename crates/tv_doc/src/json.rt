@@ -4,8 +4,7 @@ ghost use Rattle.std.specs.Prelude.{◌≡◌, ◌∷◌, [], None, IfOk, string
 ghost use Rattle.serde_json.specs.View.{view as data_of, items_view, members_view};
 ghost use Rattle.tv_schema.specs.Schema.{field_named};
 ghost use Rattle.tv_field.specs.JsonAnswer.{lent_tree};
-ghost use Rattle.tv_doc.specs.NamedField.{items_for, value_for};
-ghost use Rattle.tv_doc.specs.JsonObject.{object_values, values_at, AddsValues, IsInvalidJson, IsValueError};
+ghost use Rattle.tv_doc.specs.JsonObject.{object_values, values_at, AddsValues, IsInvalidJson, IsValueError, items_for, value_for};
 ghost use Rattle.tv_doc.specs.JsonObject.{MakesFromObject, Parses, ParsesDocument, ParsesInto, ParsesOrTells};
 ghost use Rattle.std.specs.Fmt.{take_chars};
 ghost use Rattle.tv_doc.specs.Document.{Adds};

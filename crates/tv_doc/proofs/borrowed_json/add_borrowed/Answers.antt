@@ -6,8 +6,7 @@ use Rattle.tv_borrowed.proofs.Levels.{data_of-Array}
 use Rattle.tv_borrowed.specs.BorrowedData.{data_of, items_data}
 use Rattle.tv_borrowed.specs.declared.borrowed.BorrowedJson.{BorrowedJson}
 use Rattle.tv_schema.specs.Schema.{field_named}
-use Rattle.tv_doc.specs.JsonObject.{FieldJson}
-use Rattle.tv_doc.specs.NamedField.{items_for, value_for}
+use Rattle.tv_doc.specs.JsonObject.{FieldJson, items_for, value_for}
 use Rattle.tv_doc.specs.declared.named_field.NamedField.{NamedField}
 use Rattle.tv_doc.proofs.PlainValues.{values_of_items}
 use Rattle.tv_doc.proofs.JsonDocuments.{SoFar, none_so_far, more_so_far, all_so_far, told_later}

@@ -1,8 +1,7 @@
 use Rattle.std.specs.Prelude.{drop}
 use Rattle.tv_borrowed.specs.BorrowedData.{data_of, items_data}
 use Rattle.tv_schema.specs.Schema.{field_named}
-use Rattle.tv_doc.specs.JsonObject.{values_at}
-use Rattle.tv_doc.specs.NamedField.{items_for}
+use Rattle.tv_doc.specs.JsonObject.{values_at, items_for}
 use Rattle.tv_doc.proofs.JsonDocuments.{SoFar}
 use Rattle.tv_doc.proofs.borrowed_json.add_borrowed.Given as goal
 

@@ -1,6 +1,5 @@
 use Rattle.std.proofs.Common.{[], ◌∷◌, subst}
-use Rattle.tv_doc.specs.JsonObject.{AddsFieldValues, StopsAt}
-use Rattle.tv_doc.specs.NamedField.{value_for}
+use Rattle.tv_doc.specs.JsonObject.{AddsFieldValues, StopsAt, value_for}
 use Rattle.tv_doc.proofs.borrowed_json.add_copy.Goals as goal
 
 pub returns-in-Ok : goal.returns-in-Ok

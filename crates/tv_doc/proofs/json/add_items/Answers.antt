@@ -3,8 +3,7 @@ use Rattle.std.proofs.lemmas.Result.{err_from_is_err_and}
 use Rattle.std.specs.Vec.Iter.{into_iter_items}
 use Rattle.serde_json.specs.View.{view as data_of, items_view}
 use Rattle.serde_json.specs.declared.value.Value.{Value}
-use Rattle.tv_doc.specs.JsonObject.{FieldJson}
-use Rattle.tv_doc.specs.NamedField.{items_for, value_for}
+use Rattle.tv_doc.specs.JsonObject.{FieldJson, items_for, value_for}
 use Rattle.tv_doc.proofs.JsonDocuments.{more_so_far, stops_later}
 use Rattle.tv_doc.proofs.json.add_items.Goals as goal
 
