@@ -1,6 +1,6 @@
 pub mod Levels
 mod Places
-mod Copies
+pub mod Copies
 mod Rising
 mod Mapped
 mod Turns

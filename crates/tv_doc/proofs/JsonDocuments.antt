@@ -1,7 +1,6 @@
 -- Values that are added one after the other.
 use Rattle.std.proofs.Common.{◌≡◌, ℕ, List, [], ◌∷◌, ◌++◌, Option, Some, None, Result, Ok, Err, subst, refl, sym, ap, ◌∙◌, append_assoc, append-nil}
-use Rattle.std.specs.Prelude.{OnSome}
-use Rattle.std.specs.Result.{result_ok}
+use Rattle.std.specs.Prelude.{◌≢◌}
 use Rattle.std.specs.Option.{IfSome}
 use Rattle.serde_json.specs.Data.{Members, object}
 use Rattle.serde_json.specs.Read.{read}
@@ -13,10 +12,9 @@ use Rattle.tv_field.specs.JsonTable.{Table}
 use Rattle.tv_format.specs.Tree.{Tree, Document}
 use Rattle.tv_doc.specs.AdditionError.{addition_error}
 use Rattle.tv_doc.specs.Additions.{Accepts, IsEmpty}
-use Rattle.tv_doc.specs.AddsRow.{AddsRow}
 use Rattle.tv_doc.specs.Document.{IsUnchanged, RefusesAddition}
 use Rattle.tv_doc.specs.InPlace.{in_place}
-use Rattle.tv_doc.specs.JsonObject.{FieldJson, Pairs, IsRefused, StopsAt, IsValueError, MakesDocument, Parses, AddsFieldValues, AddsValues, object_values}
+use Rattle.tv_doc.specs.JsonObject.{FieldJson, Pairs, IsRefused, StopsAt, IsValueError, MakesDocument, Parses, ParsesOrTells, AddsFieldValues, AddsOrTells, AddsValues, object_values}
 use Rattle.tv_doc.specs.JsonObject.IsShort.{for_pair, for_value, for_error}
 use Rattle.tv_builder.specs.declared.add_error.AddError.{AddError}
 use Rattle.tv_builder.specs.declared.add_error.AddError.TheVariants.{HeapFull, Memory}
@@ -60,9 +58,6 @@ pub one_added : (v : FieldJson) (old new : CompactDoc) (t : Tree) → Table v.fi
 one_added v old new t table adds =
     record { pairs = (v.field, t) ∷ []; by_table = (t, [], table, refl, refl); adds = each_one v.field t old new adds }
 
-pub one_pair : (v : FieldJson) (old new : CompactDoc) → AddsRow old new v.field v.field_type v.value → AddsFieldValues (v ∷ []) old new
-one_pair v old new h = one_added v old new h.0 h.1 h.2
-
 Pairs-append : (vs ws : List FieldJson) (ps qs : Document) → Pairs vs ps → Pairs ws qs → Pairs (vs ++ ws) (ps ++ qs)
 Pairs-append [] ws ps qs none h = subst (λ prefix. Pairs ws (prefix ++ qs)) (sym none) h
 Pairs-append (v ∷ vs) ws ps qs (tree, rest, table, joined, others) h =
@@ -75,13 +70,17 @@ both_added vs ws a b c h k = record {
   adds = each_append h.pairs k.pairs a b c h.adds k.adds;
 }
 
--- the additions that `ok` keeps, to what an unchanged document became
-pub ok_added : {T : Type 0} (vs ws : List FieldJson) (old mid new : CompactDoc) (r : Result T DocParsingError) (o : Option T) → o ≡ result_ok r → IsUnchanged old mid → vs ≡ ws → AddsValues vs mid new r
-    → OnSome o (AddsFieldValues ws old new)
-ok_added vs ws old mid new (Ok x) o e same is h =
-    let added : AddsFieldValues vs old new = record { pairs = h.pairs; by_table = h.by_table; adds = each_from h.pairs old mid new same h.adds } in
-    subst (λ z. OnSome z (AddsFieldValues ws old new)) (sym e) (subst (λ xs. AddsFieldValues xs old new) is added)
-ok_added vs ws old mid new (Err x) o e same is h = subst (λ z. OnSome z (AddsFieldValues ws old new)) (sym e) tt
+-- additions to what an unchanged document became
+
+added_from : (vs : List FieldJson) (old mid new : CompactDoc) → IsUnchanged old mid → AddsFieldValues vs mid new → AddsFieldValues vs old new
+added_from vs old mid new same h = record { pairs = h.pairs; by_table = h.by_table; adds = each_from h.pairs old mid new same h.adds }
+
+pub told_from : (vs : List FieldJson) (old mid new : CompactDoc) (r : Option (Unit {0})) (reason : Option DocParsingError) → IsUnchanged old mid → AddsOrTells vs mid new r reason → AddsOrTells vs old new r reason
+told_from vs old mid new (Some x) reason same h = added_from vs old mid new same h
+told_from vs old mid new None (Some e) same h = λ other.
+    let s = h other in
+    record { before = s.before; at = s.at; behind = s.behind; joined = s.joined; mid = s.mid; added = added_from s.before old mid s.mid same s.added; refused = s.refused }
+told_from vs old mid new None None same h = h
 
 -- the pairs of these values are added, and then come the rest
 pub record SoFar (all rest : List FieldJson) (old now : CompactDoc) : Type 0 where
@@ -116,26 +115,33 @@ stops_later all rest values others old now e s parted h = record {
   refused = h.refused;
 }
 
+pub told_later : (all rest values others : List FieldJson) (old now new : CompactDoc) (reason : Option DocParsingError) → SoFar all rest old now → rest ≡ values ++ others
+    → AddsOrTells values now new None reason → AddsOrTells all old new None reason
+told_later all rest values others old now new (Some e) s parted h = λ other. stops_later all rest values others old now e s parted (h other)
+told_later all rest values others old now new None s parted h = h
+
 -- ---- whole documents
 
 pub makes_document : (values : List FieldJson) (start made : CompactDoc) → IsEmpty start → AddsFieldValues values start made → MakesDocument values (Ok made)
 makes_document values start made none h =
     (subst (λ d. Pairs values d) (sym (from_empty h.pairs start made none h.adds)) h.by_table, made_of h.pairs start made none h.adds)
 
--- an object that is read, and the document that is made of it
-pub parses_object : (schema : List Entry) (text : List ℕ) (ms : Members) (r : Result CompactDoc DocParsingError) → read text ≡ Some (object ms) → MakesDocument (object_values schema ms) r
-    → Parses schema text r
-parses_object schema text ms (Ok made) is h = (ms, is, h)
-parses_object schema text ms (Err (error.InvalidJson start)) is h = absurd h.2.refused
-parses_object schema text ms (Err (error.ValueError name e)) is h = (ms, is, h)
-parses_object schema text ms (Err error.HeapFull) is h = (ms, is, h)
-parses_object schema text ms (Err error.Memory) is h = tt
+-- why no document is made of an object that is read
+stopped : (schema : List Entry) (text : List ℕ) (ms : Members) (start : CompactDoc) (e : DocParsingError) → read text ≡ Some (object ms) → IsEmpty start
+    → (e ≢ error.Memory → StopsAt (object_values schema ms) start e) → Parses schema text (Err e)
+stopped schema text ms start (error.InvalidJson from) is none h = absurd (h (λ same. cc)).refused
+stopped schema text ms start (error.ValueError name e) is none h = (ms, is, (start, none, h (λ same. cc)))
+stopped schema text ms start error.HeapFull is none h = (ms, is, (start, none, h (λ same. cc)))
+stopped schema text ms start error.Memory is none h = tt
 
--- the document that is left in a place, which was empty
-pub placed_document : (values : List FieldJson) (start made : CompactDoc) (r : Result (Unit {0}) DocParsingError) → IsEmpty start → AddsValues values start made r → MakesDocument values (in_place r made)
-placed_document values start made (Ok x) none h = makes_document values start made none h
-placed_document values start made (Err e) none h = (start, none, h)
+-- an object that is read, and the document that is made of it in an empty one
+pub parses_object : (schema : List Entry) (text : List ℕ) (ms : Members) (start made : CompactDoc) (r : Result (Unit {0}) DocParsingError) → read text ≡ Some (object ms) → IsEmpty start
+    → AddsValues (object_values schema ms) start made r → Parses schema text (in_place r made)
+parses_object schema text ms start made (Ok x) is none h = (ms, is, makes_document (object_values schema ms) start made none h)
+parses_object schema text ms start made (Err e) is none h = stopped schema text ms start e is none (λ other. h)
 
-pub some_maps : {T P Q : Type 0} (o : Option T) → (P → Q) → OnSome o P → OnSome o Q
-some_maps None f h = tt
-some_maps (Some x) f h = f h
+pub told_object : (schema : List Entry) (text : List ℕ) (ms : Members) (start made : CompactDoc) (r : Option (Unit {0})) (reason : Option DocParsingError) → read text ≡ Some (object ms) → IsEmpty start
+    → AddsOrTells (object_values schema ms) start made r reason → ParsesOrTells schema text made r reason
+told_object schema text ms start made (Some x) reason is none h = (ms, is, makes_document (object_values schema ms) start made none h)
+told_object schema text ms start made None (Some e) is none h = stopped schema text ms start e is none h
+told_object schema text ms start made None None is none h = absurd h

@@ -7,7 +7,7 @@
 -- `belongs`: each of its pairs has a field of the schema.
 -- `ParsesInto`: the same in the place of a document. `parses` and `belongs`: where the call returns no error, what is left in the place is the
 -- document of the text. `none`: where it returns an error, no pair is left in the place.
-use Rattle.std.specs.Prelude.{◌≡◌, ℕ, List, [], ◌∷◌, ◌++◌, Option, Some, None, Result, Ok, Err, IfOk, OnOk, OnErr, slice_get, string_bytes}
+use Rattle.std.specs.Prelude.{◌≡◌, ◌≢◌, ℕ, List, [], ◌∷◌, ◌++◌, Option, Some, None, Result, Ok, Err, IfOk, OnOk, OnErr, slice_get, string_bytes}
 use Rattle.std.specs.Fmt.{take_chars}
 use Rattle.serde_json.specs.Data as json
 use Rattle.serde_json.specs.Data.{Data, Items, Members}
@@ -28,6 +28,7 @@ use Rattle.tv_builder.specs.declared.add_error.AddError.TheVariants as add_error
 use Rattle.tv_doc.specs.declared.doc_parsing_error.DocParsingError.{DocParsingError}
 use Rattle.tv_doc.specs.declared.doc_parsing_error.DocParsingError.TheVariants as error
 use Rattle.tv_doc.specs.declared.document.CompactDoc.{CompactDoc}
+use Rattle.tv_doc.specs.declared.named_field.NamedField.{NamedField}
 
 -- a JSON value for a field, with the field's name, number and type
 pub record FieldJson : Type 0 where
@@ -41,6 +42,13 @@ abbrev pub item_values : List ℕ → ℕ → FieldType → Items → List Field
 item_values name field field_type json.no_items = []
 item_values name field field_type (json.item d ds) =
     record { name = name; field = field; field_type = field_type; value = d } ∷ item_values name field field_type ds
+
+-- the values that a field of the schema is given, for private clauses
+abbrev pub value_for : NamedField → Data → FieldJson
+value_for to d = record { name = to.name.now; field = to.field.id; field_type = to.field_type.now; value = d }
+
+abbrev pub items_for : NamedField → Items → List FieldJson
+items_for to ds = item_values to.name.now to.field.id to.field_type.now ds
 
 abbrev pub values_for : List ℕ → ℕ → FieldType → Data → List FieldJson
 values_for name field field_type (json.array ds) = item_values name field field_type ds
@@ -112,6 +120,12 @@ abbrev pub AddsValues : {T : Type 0} → List FieldJson → CompactDoc → Compa
 AddsValues values old new (Ok x) = AddsFieldValues values old new
 AddsValues values old new (Err e) = StopsAt values old e
 
+-- the same where memory may be refused at any value, and where the first refusal is told beside
+abbrev pub AddsOrTells : List FieldJson → CompactDoc → CompactDoc → Option (Unit {0}) → Option DocParsingError → Type 0
+AddsOrTells values old new (Some x) reason = AddsFieldValues values old new
+AddsOrTells values old new None (Some e) = e ≢ error.Memory → StopsAt values old e
+AddsOrTells values old new None None = ⊥
+
 -- the first refusal of these values by a document that was empty
 abbrev pub RefusesValues : List FieldJson → DocParsingError → Type 0
 RefusesValues values e = (start : CompactDoc) × IsEmpty start × StopsAt values start e
@@ -139,6 +153,12 @@ Parses schema text (Ok made) =
 Parses schema text (Err (error.InvalidJson start)) = IsNoObject text × (string_bytes start ≡ take_chars 20 text)
 Parses schema text (Err error.Memory) = Unit {0}
 Parses schema text (Err e) = (members : Members) × (read text ≡ Some (json.object members)) × RefusesValues (object_values schema members) e
+
+-- the same where the error is told beside; where none is, the text isn't read so
+abbrev pub ParsesOrTells : List Entry → List ℕ → CompactDoc → Option (Unit {0}) → Option DocParsingError → Type 0
+ParsesOrTells schema text new (Some x) reason = Parses schema text (Ok new)
+ParsesOrTells schema text new None (Some e) = Parses schema text (Err e)
+ParsesOrTells schema text new None None = Unit {0}
 
 -- ---- the words of the public contracts
 

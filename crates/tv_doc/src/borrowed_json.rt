@@ -1,23 +1,22 @@
 //! Documents from JSON objects whose values are added straight from the text that encodes them.
 
-ghost use Rattle.std.specs.Prelude.{◌≡◌, ◌↔◌, ◌<◌, ◌^◌, ◌∷◌, [], false, Some, Ok, IfNone, OnSome, IsOkAnd, IsTrue};
-ghost use Rattle.serde_json.specs.Data.{object};
+ghost use Rattle.std.specs.Prelude.{◌≡◌, ◌↔◌, ◌<◌, ◌^◌, ◌∷◌, [], false, IfNone, OnSome, IsOkAnd, IsTrue};
 ghost use Rattle.serde_json.specs.Written.{has_float, members_have_float};
 ghost use Rattle.tv_borrowed.specs.BorrowedData.{data_of, members_data};
 ghost use Rattle.tv_doc.specs.AddsRow.{AddsRow};
 ghost use Rattle.tv_doc.specs.Additions.{Accepts};
 ghost use Rattle.tv_doc.specs.Document.{IsUnchanged};
-ghost use Rattle.tv_doc.specs.JsonObject.{AddsFieldValues, Parses, object_values};
-ghost use Rattle.tv_doc.specs.JsonObject.{values_at};
+ghost use Rattle.tv_doc.specs.JsonObject.{AddsOrTells, ParsesOrTells, object_values, values_at, value_for};
 ghost use Rattle.tv_schema.specs.Schema.{field_named};
 ghost use Rattle.tv_value.specs.Lent.{leaf_of};
 ghost use Rattle.tv_format.specs.Tree.{leaf};
 
+use crate::doc_parsing_error::DocParsingError;
 use crate::document::CompactDoc;
-use crate::json::add_value;
+use crate::json::{add_value, invalid_json};
 use crate::lent_borrowed::LentBorrowed;
-use crate::parse_buffers::ParseBuffers;
-use crate::recent_fields::RecentFields;
+use crate::named_field::NamedField;
+use crate::parse_buffers::{Adding, ParseBuffers};
 use std::alloc::Global;
 use tv_borrowed::borrowed::BorrowedJson;
 use tv_borrowed::read::read_noting_floats;
@@ -28,6 +27,13 @@ use tv_field::json_value::{
 use tv_schema::Schema;
 use tv_value::field::Field;
 use tv_value::leaf::ReferenceValueLeaf;
+
+// What is the same for each member of an object: the schema, and whether a float was met as the text was read.
+#[derive(Clone, Copy)]
+struct Reading<'a> {
+    schema: &'a Schema,
+    met_float: bool,
+}
 
 // Adds the value that is found, if one is.
 #[inline(always)]
@@ -62,17 +68,17 @@ fn is_whole(json: &BorrowedJson<'_>, met_float: bool) -> bool
 fn add_plain(
     document: &mut CompactDoc,
     scratch: &mut JsonScratch,
-    field: Field,
-    field_type: &FieldType,
+    to: &NamedField<'_>,
     json: &BorrowedJson<'_>,
     met_float: bool,
 ) -> Option<()>
     requires { met_float ≡ false → has_float (data_of json.now) ≡ false }
     ensures added { OnSome result
-        (AddsRow document.old document.new field.id field_type.now (data_of json.now)) }
+        (AddsRow document.old document.new to.now.field.id to.now.field_type.now (data_of json.now)) }
     ensures none { IfNone result (IsUnchanged document.old document.new) }
 {
-    match (field_type, json) {
+    let field = to.field;
+    match (to.field_type, json) {
         (FieldType::Str(_), BorrowedJson::String(text)) => document.add_text(field, text).ok(),
         (FieldType::U64(_), BorrowedJson::Unsigned(number)) => {
             document.add_u64(field, *number).ok()
@@ -105,99 +111,100 @@ fn add_plain(
     }
 }
 
+// Adds a copy of a value to the field, as any value of the JSON library's.
+#[inline(never)]
+fn add_copy(
+    document: &mut CompactDoc,
+    adding: &mut Adding,
+    to: &NamedField<'_>,
+    json: &BorrowedJson<'_>,
+) -> Option<()>
+    ensures { AddsOrTells (value_for to.now (data_of json.now) ∷ []) document.old document.new
+        result adding.new.refused }
+{
+    let Some(copy) = json.to_value(document.allocator()) else {
+        return adding.refuse(DocParsingError::Memory);
+    };
+    match add_value(document, &mut adding.scratch, to, copy) {
+        Ok(()) => Some(()),
+        Err(error) => adding.refuse(error),
+    }
+}
+
 // Adds one value of the field.
 #[inline(always)]
 fn add_one(
-    alloc: Global,
     document: &mut CompactDoc,
-    scratch: &mut JsonScratch,
-    name: &str,
-    field: Field,
-    field_type: &FieldType,
+    adding: &mut Adding,
+    to: &NamedField<'_>,
     json: &BorrowedJson<'_>,
     met_float: bool,
 ) -> Option<()>
     requires { met_float ≡ false → has_float (data_of json.now) ≡ false }
-    ensures { OnSome result
-        (AddsFieldValues
-        (record {
-          name = name.now;
-          field = field.id;
-          field_type = field_type.now;
-          value =
-              data_of json.now;
-        }
-        ∷ [])
-        document.old document.new) }
+    ensures { AddsOrTells (value_for to.now (data_of json.now) ∷ []) document.old document.new
+        result adding.new.refused }
 {
-    if let Some(()) = add_plain(document, scratch, field, field_type, json, met_float) {
-        return Some(());
+    match add_plain(document, &mut adding.scratch, to, json, met_float) {
+        Some(()) => Some(()),
+        None => add_copy(document, adding, to, json),
     }
-    let copy = json.to_value(alloc)?;
-    add_value(alloc, document, scratch, name, field, field_type, copy).ok()
 }
 
 // Adds the values of the member at a place, if its key names a field.
 fn add_borrowed(
-    alloc: Global,
     document: &mut CompactDoc,
-    scratch: &mut JsonScratch,
-    recent: &mut RecentFields,
-    schema: &Schema,
+    adding: &mut Adding,
+    reading: &Reading<'_>,
     place: usize,
     name: &str,
     json: &BorrowedJson<'_>,
-    met_float: bool,
 ) -> Option<()>
     requires place { place < 2 ^ 63 }
-    requires floats { met_float ≡ false → has_float (data_of json.now) ≡ false }
-    ensures { OnSome result
-        (AddsFieldValues
-        (values_at schema.now name.now (field_named schema.now name.now) (data_of json.now))
-        document.old document.new) }
+    requires floats { reading.now.met_float ≡ false → has_float (data_of json.now) ≡ false }
+    ensures { AddsOrTells
+        (values_at reading.now.schema.now name.now (field_named reading.now.schema.now name.now)
+        (data_of json.now))
+        document.old document.new result adding.new.refused }
 {
-    let Some(field) = recent.field_named(schema, place, name) else {
+    let schema = reading.schema;
+    let Some(field) = adding.recent.field_named(schema, place, name) else {
         return Some(());
     };
     let field_type = schema.get_field_entry(field).field_type();
+    let to = NamedField {
+        field,
+        name,
+        field_type,
+    };
     let BorrowedJson::Array(items) = json else {
-        return add_one(
-            alloc, document, scratch, name, field, field_type, json, met_float,
-        );
+        return add_one(document, adding, &to, json, reading.met_float);
     };
     for item in items {
-        add_one(
-            alloc, document, scratch, name, field, field_type, item, met_float,
-        )?;
+        add_one(document, adding, &to, item, reading.met_float)?;
     }
     Some(())
 }
 
 // Adds the values of an object's members.
 fn add_members(
-    alloc: Global,
     document: &mut CompactDoc,
-    scratch: &mut JsonScratch,
-    recent: &mut RecentFields,
-    schema: &Schema,
+    adding: &mut Adding,
+    reading: &Reading<'_>,
     members: &[(&str, BorrowedJson<'_>)],
-    met_float: bool,
 ) -> Option<()>
-    requires { met_float ≡ false → members_have_float (members_data members.now) ≡ false }
-    ensures { OnSome result
-        (AddsFieldValues (object_values schema.now (members_data members.now)) document.old document.new) }
+    requires { reading.now.met_float ≡ false → members_have_float (members_data members.now) ≡ false }
+    ensures { AddsOrTells (object_values reading.now.schema.now (members_data members.now))
+        document.old document.new result adding.new.refused }
 {
     for (place, (key, json)) in members.iter().enumerate() {
-        add_borrowed(
-            alloc, document, scratch, recent, schema, place, key, json, met_float,
-        )?;
+        add_borrowed(document, adding, reading, place, key, json)?;
     }
     Some(())
 }
 
 impl CompactDoc {
-    // Puts the document of the JSON object that the text encodes, whose texts aren't copied on the way to the heap, in place of this one. `None`
-    // where the text isn't read so (see `read_borrowed`) or is no object, where a value is refused, and where memory is.
+    // Puts the document of the JSON object that the text encodes, whose texts aren't copied on the way to the heap, in place of this one. After `None`
+    // some pairs may be left, and the buffers have why the text is refused, or no reason where it isn't read so, see `read_borrowed`.
     pub(crate) fn parse_borrowed(
         &mut self,
         alloc: Global,
@@ -205,21 +212,18 @@ impl CompactDoc {
         text: &str,
         buffers: &mut ParseBuffers,
     ) -> Option<()>
-        ensures { OnSome result (Parses schema.now text.now (Ok self.new)) }
+        ensures { ParsesOrTells schema.now text.now self.new result buffers.new.adding.refused }
     {
         self.clear();
+        let adding = &mut buffers.adding;
+        adding.refused = None;
         let mut met_float = false;
         match read_noting_floats(alloc, text, &mut buffers.texts, &mut met_float)? {
-            BorrowedJson::Object(members) => add_members(
-                alloc,
-                self,
-                &mut buffers.values,
-                &mut buffers.fields,
-                schema,
-                members.as_slice(),
-                met_float,
-            ),
-            _ => None,
+            BorrowedJson::Object(members) => {
+                let reading = Reading { schema, met_float };
+                add_members(self, adding, &reading, members.as_slice())
+            }
+            _ => adding.refuse(invalid_json(alloc, text)),
         }
     }
 }

@@ -1,12 +1,11 @@
 //! Documents from JSON objects.
 
-ghost use Rattle.std.specs.Prelude.{◌≡◌, ◌∷◌, [], IfOk, string_bytes};
+ghost use Rattle.std.specs.Prelude.{◌≡◌, ◌∷◌, [], None, IfOk, string_bytes};
 ghost use Rattle.serde_json.specs.View.{view as data_of, items_view, members_view};
 ghost use Rattle.tv_schema.specs.Schema.{field_named};
 ghost use Rattle.tv_field.specs.JsonAnswer.{lent_tree};
-ghost use Rattle.tv_doc.specs.JsonObject.{item_values, values_at};
-ghost use Rattle.tv_doc.specs.JsonObject.{object_values, AddsValues, IsInvalidJson, IsValueError};
-ghost use Rattle.tv_doc.specs.JsonObject.{MakesFromObject, Parses, ParsesDocument, ParsesInto};
+ghost use Rattle.tv_doc.specs.JsonObject.{object_values, values_at, AddsValues, IsInvalidJson, IsValueError, items_for, value_for};
+ghost use Rattle.tv_doc.specs.JsonObject.{MakesFromObject, Parses, ParsesDocument, ParsesInto, ParsesOrTells};
 ghost use Rattle.std.specs.Fmt.{take_chars};
 ghost use Rattle.tv_doc.specs.Document.{Adds};
 ghost use Rattle.tv_doc.specs.InPlace.{in_place};
@@ -14,10 +13,10 @@ ghost use Rattle.tv_doc.specs.InPlace.{in_place};
 use crate::add_error::AddError;
 use crate::doc_parsing_error::DocParsingError;
 use crate::document::CompactDoc;
-use crate::parse_buffers::ParseBuffers;
+use crate::named_field::NamedField;
+use crate::parse_buffers::{Adding, ParseBuffers};
 use serde_json::{Map, Value};
 use std::alloc::{AllocError, Global};
-use tv_field::FieldType;
 use tv_field::json_value::{JsonRefusal, JsonScratch, LentFieldValue};
 use tv_schema::Schema;
 use tv_value::field::Field;
@@ -51,56 +50,40 @@ fn value_error(alloc: Global, name: &str, refusal: JsonRefusal, json: Value) -> 
 
 // Adds one value of the field.
 pub(crate) fn add_value(
-    alloc: Global,
     document: &mut CompactDoc,
     scratch: &mut JsonScratch,
-    name: &str,
-    field: Field,
-    field_type: &FieldType,
+    to: &NamedField<'_>,
     json: Value,
 ) -> Result<(), DocParsingError>
-    ensures { AddsValues
-        (record {
-          name = name.now;
-          field = field.id;
-          field_type = field_type.now;
-          value = data_of
-              json;
-        }
-        ∷ [])
-        document.old document.new result }
+    ensures { AddsValues (value_for to.now (data_of json) ∷ []) document.old document.new result }
 {
-    match field_type.lend_json(&json, scratch) {
-        Ok(lent) => match add_lent(document, field, lent) {
+    match to.field_type.lend_json(&json, scratch) {
+        Ok(lent) => match add_lent(document, to.field, lent) {
             Ok(()) => Ok(()),
             Err(refused) => Err(DocParsingError::from(refused)),
         },
-        Err(refusal) => Err(value_error(alloc, name, refusal, json)),
+        Err(refusal) => Err(value_error(document.allocator(), to.name, refusal, json)),
     }
 }
 
 // Adds each item.
 fn add_items(
-    alloc: Global,
     document: &mut CompactDoc,
     scratch: &mut JsonScratch,
-    name: &str,
-    field: Field,
-    field_type: &FieldType,
+    to: &NamedField<'_>,
     items: Vec<Value>,
 ) -> Result<(), DocParsingError>
-    ensures { AddsValues (item_values name.now field.id field_type.now (items_view items.items))
-        document.old document.new result }
+    ensures { AddsValues (items_for to.now (items_view items.items)) document.old document.new
+        result }
 {
     for item in items {
-        add_value(alloc, document, scratch, name, field, field_type, item)?;
+        add_value(document, scratch, to, item)?;
     }
     Ok(())
 }
 
 // Adds the values of a member, if its key names a field.
 fn add_member(
-    alloc: Global,
     document: &mut CompactDoc,
     scratch: &mut JsonScratch,
     schema: &Schema,
@@ -115,11 +98,14 @@ fn add_member(
         return Ok(());
     };
     let field_type = schema.get_field_entry(field).field_type();
+    let to = NamedField {
+        field,
+        name,
+        field_type,
+    };
     match json {
-        Value::Array(items) => {
-            add_items(alloc, document, scratch, name, field, field_type, items)
-        }
-        single => add_value(alloc, document, scratch, name, field, field_type, single),
+        Value::Array(items) => add_items(document, scratch, &to, items),
+        single => add_value(document, scratch, &to, single),
     }
 }
 
@@ -131,7 +117,7 @@ fn start_of(alloc: Global, text: &str) -> Result<String, AllocError>
 }
 
 // The error for a text that is no JSON object.
-fn invalid_json(alloc: Global, text: &str) -> DocParsingError
+pub(crate) fn invalid_json(alloc: Global, text: &str) -> DocParsingError
     ensures { IsInvalidJson text.now result }
 {
     match start_of(alloc, text) {
@@ -142,7 +128,6 @@ fn invalid_json(alloc: Global, text: &str) -> DocParsingError
 
 // Adds the values of an object's members, by byte order of their keys.
 fn add_object(
-    alloc: Global,
     document: &mut CompactDoc,
     scratch: &mut JsonScratch,
     schema: &Schema,
@@ -152,25 +137,30 @@ fn add_object(
         document.new result }
 {
     for (key, json) in object {
-        add_member(alloc, document, scratch, schema, key.as_str(), json)?;
+        add_member(document, scratch, schema, key.as_str(), json)?;
     }
     Ok(())
 }
 
-// Puts the document of the JSON object that the text encodes in place of one, and reads the text as the JSON library's value.
+// Puts the document of the JSON object that the text encodes in place of one, and reads the text as the JSON library's value, unless it is refused
+// already.
 fn parse_value(
     alloc: Global,
     document: &mut CompactDoc,
-    scratch: &mut JsonScratch,
+    adding: &mut Adding,
     schema: &Schema,
     text: &str,
 ) -> Result<(), DocParsingError>
+    requires { ParsesOrTells schema.now text.now document.now None adding.now.refused }
     ensures { Parses schema.now text.now (in_place result document.new) }
 {
+    if let Some(error) = adding.refused.take() {
+        return Err(error);
+    }
     document.clear();
     match Value::from_str(alloc, text) {
         Ok(json) => match json {
-            Value::Object(object) => add_object(alloc, document, scratch, schema, object),
+            Value::Object(object) => add_object(document, &mut adding.scratch, schema, object),
             _ => Err(invalid_json(alloc, text)),
         },
         Err(error) => {
@@ -235,7 +225,7 @@ impl CompactDoc {
         if let Some(()) = self.parse_borrowed(alloc, schema, text, buffers) {
             return Ok(());
         }
-        match parse_value(alloc, self, &mut buffers.values, schema, text) {
+        match parse_value(alloc, self, &mut buffers.adding, schema, text) {
             Ok(()) => Ok(()),
             Err(error) => {
                 self.clear();
@@ -259,7 +249,7 @@ impl CompactDoc {
     {
         let mut document = CompactDoc::new(alloc);
         let mut scratch = JsonScratch::new(alloc);
-        match add_object(alloc, &mut document, &mut scratch, schema, object) {
+        match add_object(&mut document, &mut scratch, schema, object) {
             Ok(()) => Ok(document),
             Err(error) => Err(error),
         }

@@ -16,6 +16,7 @@ mod lent_names;
 mod map_value;
 pub mod named;
 pub mod named_back_error;
+mod named_field;
 pub mod parse_buffers;
 mod recent_fields;
 mod same;

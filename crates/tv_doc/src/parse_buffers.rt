@@ -1,5 +1,8 @@
 //! Memory for documents that are made of JSON, one after the other.
 
+ghost use Rattle.std.specs.Prelude.{◌≡◌, Some, None};
+
+use crate::doc_parsing_error::DocParsingError;
 use crate::recent_fields::RecentFields;
 use std::alloc::Global;
 use tv_borrowed::Scratch;
@@ -10,25 +13,49 @@ use tv_field::json_value::JsonScratch;
 #[derive(Drop)]
 pub struct ParseBuffers {
     pub(crate) texts: Scratch,
-    pub(crate) values: JsonScratch,
-    pub(crate) fields: RecentFields,
+    pub(crate) adding: Adding,
+}
+
+// What adding the values of an object needs, and why it ended where a value was refused.
+#[derive(Drop)]
+pub(crate) struct Adding {
+    pub(crate) scratch: JsonScratch,
+    pub(crate) recent: RecentFields,
+    pub(crate) refused: Option<DocParsingError>,
+}
+
+impl Adding {
+    // Keeps why nothing is returned.
+    #[inline(never)]
+    pub(crate) fn refuse(&mut self, error: DocParsingError) -> Option<()>
+        ensures none { result ≡ None }
+        ensures refused { self.new.refused ≡ Some error }
+    {
+        self.refused = Some(error);
+        None
+    }
 }
 
 impl ParseBuffers {
     /// Takes no memory.
     pub fn new(alloc: Global) -> ParseBuffers {
-        ParseBuffers {
-            texts: Scratch::new(alloc),
-            values: JsonScratch::new(alloc),
-            fields: RecentFields::new(alloc),
-        }
+        ParseBuffers::with_fields(alloc, RecentFields::new(alloc))
     }
+
     // For one document.
     pub(crate) fn for_one(alloc: Global) -> ParseBuffers {
+        ParseBuffers::with_fields(alloc, RecentFields::none(alloc))
+    }
+
+    fn with_fields(alloc: Global, recent: RecentFields) -> ParseBuffers {
+        let scratch = JsonScratch::new(alloc);
         ParseBuffers {
             texts: Scratch::new(alloc),
-            values: JsonScratch::new(alloc),
-            fields: RecentFields::none(alloc),
+            adding: Adding {
+                scratch,
+                recent,
+                refused: None,
+            },
         }
     }
 }
