@@ -102,6 +102,6 @@ returns-in_default g c =
       left = keeps_of old new c.put_head.result c.put_head.ensures.left;
       finds = puts_found v legacy old new ps c.put_head.result (λ a h. head_is_part v legacy old head a are h) c.in_ok-head.ensures.finds c.put_head.ensures.puts;
       full = λ told is. puts_full v legacy old new ps c.put_head.result (λ a h. head_is_part v legacy old head a are h) c.in_ok-head.ensures.finds c.put_head.ensures.puts told is;
-      few = λ told. inl (omega (arith, c.in_ok-head.ensures.at_most));
+      at_most = λ told. inl (omega (arith, c.in_ok-head.ensures.at_most));
       seen = λ told. record { still = λ e. e; first = λ e f. absurd (let k : false ≡ true = sym e ∙ f in cc) };
     }
