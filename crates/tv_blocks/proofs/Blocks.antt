@@ -2,7 +2,7 @@
 use Rattle.std.proofs.Common.{◌≡◌, ℕ, ◌-◌, ◌^◌, ◌<◌, List, [], ◌∷◌, ◌++◌, length, refl, sym, ap, subst, ◌∙◌, arith, append_assoc, append-nil, length-append}
 use Rattle.std.specs.List.{flat_map}
 use Rattle.tv_base.specs.Parts.{Each}
-use Rattle.tv_blocks.specs.Blocks.{AppendsLine, IsMigrated, ArePrintedLines, IsPrintedBlock, IsRefusedBlock, MigratedSoFar, PrintedSoFar}
+use Rattle.tv_blocks.specs.Blocks.{AppendsLine, ArePrintedLines, IsRefusedBlock, MigratedSoFar, PrintedSoFar}
 use Rattle.tv_blocks.specs.Blocks.IsPrinted.{no_lines, next_line}
 use Rattle.tv_blocks.specs.Refusals.{EncodesBlock, document_refusal, migration_refusal}
 use Rattle.tv_field.specs.Entry.{Entry}

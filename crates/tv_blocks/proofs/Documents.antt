@@ -1,22 +1,19 @@
 -- One document that bytes begin with, and the fields that a schema doesn't have.
-use Rattle.std.proofs.Common.{◌≡◌, ℕ, ◌-◌, ◌≤◌, ◌<◌, List, [], ◌∷◌, ◌++◌, length, take, refl, sym, ap, subst, ◌∙◌, arith, append_assoc, append-nil, length-append}
-use Rattle.std.proofs.Math.Seq.{take-append_seam}
-use Rattle.tv_blocks.specs.Documents.{BelongsSoFar, IsForeign, IsUnread, ReadsFirst}
+use Rattle.std.proofs.Common.{◌≡◌, ℕ, ◌-◌, ◌<◌, List, [], ◌∷◌, ◌++◌, length, refl, sym, ap, subst, ◌∙◌, append_assoc}
+use Rattle.tv_blocks.specs.Documents.{BelongsSoFar, IsUnread}
 use Rattle.tv_blocks.specs.Refusals.{document_refusal}
 use Rattle.tv_doc.specs.Belongs.{Belongs}
 use Rattle.tv_field.specs.Entry.{Entry}
-use Rattle.tv_format.specs.Encoding.{EncodesDocument}
 use Rattle.tv_format.specs.InputError.{Refusal, corrupted, no_text_key}
 use Rattle.tv_format.specs.Tree.{Document, Tree}
 use Rattle.tv_format.specs.Version.{Version}
-use Rattle.tv_legacy.specs.Legacy.{Legacy}
 use Rattle.tv_reader.specs.Error.{IsRefusal}
 use Rattle.tv_reader.specs.Error.IsRefusal.{is_corrupted, is_no_text}
 use Rattle.tv_reader.specs.ValueType.{value_type_code}
 use Rattle.tv_reader.specs.declared.error.DeserializeError.{DeserializeError}
 use Rattle.tv_reader.specs.declared.error.DeserializeError.TheVariants as errors
 use Rattle.tv_reader.specs.declared.value_type.ValueType.{ValueType}
-use Rattle.tv_store.specs.Documents.{BeginsWithDocument, HasNoRoom, IsReadingError, NoDocument}
+use Rattle.tv_store.specs.Documents.{HasNoRoom, IsReadingError, NoDocument}
 
 -- ---- reading
 

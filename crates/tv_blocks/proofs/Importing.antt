@@ -1,5 +1,5 @@
 -- What becomes of lines.
-use Rattle.std.proofs.Common.{◌≡◌, ◌≢◌, ◌==◌, ℕ, ◌<◌, arith, true, false, List, [], ◌∷◌, ◌++◌, length, Result, Ok, Err, refl, sym, ap, subst, ◌∙◌, append_assoc, append-nil, length-append}
+use Rattle.std.proofs.Common.{◌≡◌, ◌≢◌, ◌==◌, ℕ, arith, true, false, List, [], ◌∷◌, ◌++◌, length, Result, Ok, Err, refl, sym, subst, append_assoc, append-nil}
 use borrow.Author.Tests.{eqb-true}
 use Rattle.std.specs.Prelude.{IfOk}
 use Rattle.std.specs.declared.alloc.AllocError.{AllocError}
@@ -16,7 +16,6 @@ use Rattle.tv_format.specs.Short.{short_document}
 use Rattle.tv_format.specs.Tree.{Document}
 use Rattle.tv_format.specs.Version.{V2}
 use Rattle.tv_lines.specs.Lines.{FirstLine, Lines}
-use Rattle.tv_lines.specs.Lines.FirstLine.{ended, unended}
 use Rattle.tv_lines.specs.Lines.Lines.{no_lines, next_line}
 use Rattle.tv_store.specs.Stored.{stored}
 

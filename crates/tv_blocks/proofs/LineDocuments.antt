@@ -1,9 +1,8 @@
 -- Documents of lines, and why there is none.
-use Rattle.std.proofs.Common.{◌≡◌, ℕ, ◌<◌, arith, List, [], ◌∷◌, ◌++◌, Option, Some, None, Ok, Err, refl, sym, ap, subst, ◌∙◌, append_assoc}
+use Rattle.std.proofs.Common.{◌≡◌, ℕ, List, [], ◌∷◌, ◌++◌, Option, Some, None, Ok, Err, refl, sym, ap, subst, ◌∙◌, append_assoc}
 use Rattle.tv_lines.proofs.Refusing.{pairs-snoc, full_room}
 use Rattle.std.specs.List.{AllByRecursion}
 use Rattle.std.specs.Prelude.{IsUtf8, slice_get, string_bytes}
-use Rattle.std.proofs.lemmas.List.Sums.{sum_by_push}
 use Rattle.std.proofs.lemmas.Option.{same_Some}
 use Rattle.serde_json.specs.Data as json
 use Rattle.serde_json.specs.Data.{Data, Items, Members}
@@ -12,21 +11,17 @@ use Rattle.tv_blocks.specs.LineRefusals.RefusesLine.{bad_value, no_object, no_ro
 use Rattle.tv_blocks.specs.declared.block_error.BlockError.{BlockError}
 use Rattle.tv_blocks.specs.declared.block_error.BlockError.TheVariants as blocks
 use Rattle.tv_blocks.specs.declared.line_refusal.LineRefusal.TheVariants as lines
-use Rattle.tv_doc.proofs.Additions.{from_empty}
-use Rattle.tv_doc.specs.Additions.{AddsEach, IsEmpty}
-use Rattle.tv_doc.specs.Document.{document_of, IsFull}
-use Rattle.tv_doc.specs.JsonObject.{FieldJson, Pairs, Parses, item_values, object_values, values_at, values_for, values_of_entry}
+use Rattle.tv_doc.specs.Document.{document_of}
+use Rattle.tv_doc.specs.JsonObject.{FieldJson, Parses, item_values, object_values, values_at, values_for, values_of_entry}
 use Rattle.tv_doc.specs.declared.doc_parsing_error.DocParsingError.{DocParsingError}
 use Rattle.tv_doc.specs.declared.doc_parsing_error.DocParsingError.TheVariants as errors
 use Rattle.tv_doc.specs.declared.document.CompactDoc.{CompactDoc}
 use Rattle.tv_field.specs.Entry.{Entry}
 use Rattle.tv_field.specs.JsonAnswer.{error_of}
-use Rattle.tv_field.specs.JsonTable.{TableRefusal, Table}
+use Rattle.tv_field.specs.JsonTable.{TableRefusal}
 use Rattle.tv_field.specs.declared.field_type.FieldType.{FieldType}
 use Rattle.tv_field.specs.declared.value_parsing_error.ValueParsingError.{ValueParsingError}
 use Rattle.tv_field.specs.declared.value_parsing_error.ValueParsingError.TheVariants as values
-use Rattle.tv_format.specs.Tree.{Tree, Document}
-use Rattle.tv_heap.specs.Room.{room, document_room}
 use Rattle.tv_schema.specs.Schema.{field_named}
 
 -- ---- the field of a value is the one with its name

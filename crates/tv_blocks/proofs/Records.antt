@@ -1,11 +1,10 @@
 -- The records of terms, value by value and document by document.
-use Rattle.std.proofs.Common.{◌≡◌, ℕ, suc, ◌+◌, List, [], ◌∷◌, ◌++◌, length, Result, Ok, Err, if◌then◌else◌, refl, sym, ap, subst, ◌∙◌, arith, append_assoc, append-nil, length-append}
+use Rattle.std.proofs.Common.{◌≡◌, ℕ, suc, ◌+◌, List, [], ◌∷◌, ◌++◌, length, Result, Ok, Err, if◌then◌else◌, sym, ap, ◌∙◌, arith, append_assoc, append-nil, length-append}
 use Rattle.std.specs.Int.{to_le_bytes, w64}
 use Rattle.std.specs.List.{flat_map}
 use Rattle.std.specs.Prelude.{OnOk}
 use Rattle.std.specs.Result.{is_ok}
-use Rattle.tv_blocks.specs.Refusals.{EncodesBlock}
-use Rattle.tv_blocks.specs.Terms.{IsTermList, TermsSoFar, document_records, record_of, records_from, term_record}
+use Rattle.tv_blocks.specs.Terms.{TermsSoFar, document_records, record_of, records_from, term_record}
 use Rattle.tv_blocks.proofs.Blocks.{each-snoc, joined_more}
 use Rattle.tv_format.specs.Encoding.{EncodesDocument}
 use Rattle.tv_format.specs.Tree.{Tree, Document}

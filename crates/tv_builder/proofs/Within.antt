@@ -1,17 +1,17 @@
 -- What is written takes no more than its weight, and that no more than its room, as long as the heap is below 2 ^ 32 bytes.
-use Rattle.std.proofs.Common.{◌≡◌, ℕ, zero, suc, ◌+◌, ◌/◌, ◌^◌, ◌<◌, ◌≤◌, true, false, List, [], ◌∷◌, ◌++◌, length, length-append, arith, inl, inr}
+use Rattle.std.proofs.Common.{◌≡◌, ℕ, ◌+◌, ◌/◌, ◌^◌, ◌<◌, ◌≤◌, List, [], ◌∷◌, ◌++◌, length, length-append, arith, inl, inr}
 use Rattle.std.specs.List.{flat_map, sum_by}
 use Rattle.std.specs.Int.{w64, cast_unsigned}
 use Rattle.std.proofs.lemmas.Bool.{cases_lt}
 use Rattle.std.proofs.lemmas.List.Sums.{sum_by-cons}
-use Rattle.tv_base.specs.Number.{vnum, groups_of}
+use Rattle.tv_base.specs.Number.{vnum}
 use Rattle.tv_base.specs.Parts.{short_sized}
-use Rattle.tv_base.proofs.Numbers.{groups_small, groups_large, length_groups}
+use Rattle.tv_base.proofs.Numbers.{length_groups}
 use Rattle.tv_format.specs.Content.{Content, no_content, truth_content, unsigned_content, signed_content, wide_content, text_content, bytes_content, tokens_content}
 use Rattle.tv_format.specs.Leaves.{content}
 use Rattle.tv_format.specs.Short.{short_token}
 use Rattle.tv_format.specs.Tree.{Token, Tree, leaf, array, object, Elements, no_elements, element, Entries, no_entries, entry, elements, Document}
-use Rattle.tv_heap.specs.LeafBytes.{content_bytes, content_address, leaf_bytes}
+use Rattle.tv_heap.specs.LeafBytes.{content_bytes, leaf_bytes}
 use Rattle.tv_heap.specs.Room.{content_room, token_room, room, elements_room, entries_room, document_room}
 use Rattle.tv_heap.specs.Weight.{tree_weight, elements_weight, entries_weight, document_weight}
 use Rattle.tv_heap.proofs.Writes.{vnum_five, length_eight, length_sixteen, address_small}

@@ -1,5 +1,5 @@
 -- The room of a list by that of its children.
-use Rattle.std.proofs.Common.{◌≡◌, ℕ, ◌+◌, List, ◌∷◌, map, length, refl, sym, ◌∙◌, ap, arith}
+use Rattle.std.proofs.Common.{◌≡◌, ℕ, ◌+◌, List, ◌∷◌, map, refl, sym, ◌∙◌, ap, arith}
 use Rattle.std.proofs.lemmas.List.Sums.{sum_by-cons}
 use Rattle.tv_format.specs.Tree.{Document, Tree, leaf, array, object, Elements, no_elements, element, Entries, no_entries, entry, element_list, entry_list}
 use Rattle.tv_heap.specs.ChildrenRoom.{children_room}

@@ -1,19 +1,14 @@
 -- The terms of a JSON value by the bytes of the keys above it, for private clauses: each key stands behind a byte 1, the outermost too.
 use Rattle.std.specs.Prelude.{◌≡◌, ◌+◌, ℕ, suc, List, [], ◌∷◌, ◌++◌, Bool, Option, Some, None, Ok, Err, drop, take, map, if◌then◌else◌}
-use Rattle.std.specs.Borrow.{Bor}
 use Rattle.std.specs.List.{flat_map}
 use Rattle.tv_base.specs.JsonPath.{expanded}
 use Rattle.tv_format.specs.Size.{size}
 use Rattle.tv_format.specs.Tree.{Tree, leaf, array, object, Elements, no_elements, element, Entries, no_entries, entry}
-use Rattle.tv_heap.specs.declared.value.CompactDocArrayIter.{CompactDocArrayIter}
-use Rattle.tv_heap.specs.declared.value.CompactDocObjectIter.{CompactDocObjectIter}
-use Rattle.tv_heap.specs.declared.value.CompactDocValue.{CompactDocValue}
 use Rattle.tv_heap.specs.Value.{HeldList, held_children}
 use Rattle.tv_indexing.specs.DocumentTerms.{AreAppended, Terms, followed_by, has_zero, json_leaf_terms}
 use Rattle.tv_indexing.specs.declared.json.OpenList.{OpenList}
 use Rattle.tv_indexing.specs.declared.term_values_error.TermValuesError.TheVariants.{NulInPath}
-use Rattle.tv_value.specs.Children.{Child, children_left, children_size}
-use Rattle.tv_value.specs.declared.children.Children.{Children}
+use Rattle.tv_value.specs.Children.{Child, children_size}
 use Rattle.tv_value.specs.declared.field.Field.{Field}
 
 abbrev pub separated : Bool → List ℕ → List ℕ

@@ -1,5 +1,5 @@
 -- How a line is taken in pieces, and that any input has lines and answers.
-use Rattle.std.proofs.Common.{◌≡◌, ◌≢◌, ℕ, Bool, true, false, List, [], ◌∷◌, ◌++◌, length, refl, sym, ap, ◌∙◌, subst, arith, append_assoc}
+use Rattle.std.proofs.Common.{◌≡◌, ◌≢◌, ℕ, Bool, true, false, List, [], ◌∷◌, ◌++◌, refl, sym, ap, ◌∙◌, subst, append_assoc}
 use borrow.Author.Tests.{eqb-true, eqb-false}
 use Rattle.std.proofs.Math.Dec.{eqb}
 use Rattle.tv_lines.specs.Lines.{IsUnbroken, FirstLine, Lines}

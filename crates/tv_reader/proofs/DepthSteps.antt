@@ -2,7 +2,6 @@
 use Rattle.std.proofs.Common.{◌≡◌, ◌≢◌, ℕ, zero, suc, ◌<◌, List, [], ◌∷◌, ◌++◌, length, map, Vec, String, string_bytes, Result, Ok, Err, IfOk, IsErrOf, refl, sym, ap, subst, ◌∙◌, arith, inl, inr, append_assoc}
 use Rattle.std.specs.declared.alloc.Global.{Global}
 use Rattle.std.proofs.lemmas.List.{append-nil, length-map, map_push}
-use Rattle.tv_base.specs.declared.read_error.ReadError.{ReadError}
 use Rattle.tv_base.specs.declared.read_error.ReadError.TheVariants as reads_errors
 use Rattle.tv_base.specs.Number.{VNum}
 use Rattle.tv_base.specs.Parts.{Begins, Then}
@@ -21,7 +20,7 @@ use Rattle.tv_format.proofs.Lists.{elements-length, entries-length}
 use Rattle.tv_value.specs.declared.owned_value.OwnedValue.{OwnedValue, Array, Object}
 use Rattle.tv_reader.specs.Counts.{entry_count_at}
 use Rattle.tv_reader.specs.Depth.{EncodesWithin, ElementsWithin, EntriesWithin, BehindKey, AmongElements, AmongEntries, Opens}
-use Rattle.tv_reader.specs.Error.{read_error, StoreMayStopRoomy}
+use Rattle.tv_reader.specs.Error.{StoreMayStopRoomy}
 use Rattle.tv_reader.specs.Finds.{FindsIf, FindsDeepBy}
 use Rattle.tv_reader.specs.Kinds.{kind_at}
 use Rattle.tv_reader.specs.LeafBodies.{LeafOf}

@@ -9,12 +9,12 @@ use Rattle.tv_base.specs.declared.read_error.ReadError.TheVariants as reads
 use Rattle.tv_base.specs.Parts.{Begins}
 use Rattle.tv_base.specs.ReadsAs.{Shows, EndsEarly}
 use Rattle.tv_base.specs.Source.{Failures, AllBytes}
-use Rattle.tv_base.specs.Stop.{Stop, Stops, CountsStop, Counts}
+use Rattle.tv_base.specs.Stop.{Stop, Stops, CountsStop}
 use Rattle.tv_base.specs.Stop.Stop.{InputError, Uncounted, Failed, Short, Never}
 use Rattle.tv_base.specs.Take.{TakesIf, MayStop, MayStopLean, read_stop}
 use Rattle.tv_base.proofs.Agrees.{Agrees, empty, ends_in, ends, same_start, no_last}
 use Rattle.tv_base.proofs.ByGrammar.{shows_by, early_by}
-use Rattle.tv_base.proofs.TakeSteps.{Taken_none, Taken_then, CountsStop-from, read_ok, Counts-from}
+use Rattle.tv_base.proofs.TakeSteps.{Taken_none, Taken_then, read_ok, Counts-from}
 use Rattle.tv_format.specs.InputError.{Refusal, corrupted}
 use Rattle.tv_reader.specs.Error.{read_error, store_stop, tree_stop, StoreMayStop, StoreMayStopRoomy, StoreMayStopDeep, StoreMayStopLean}
 use Rattle.tv_reader.specs.Error as store

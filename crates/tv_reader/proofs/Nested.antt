@@ -1,6 +1,5 @@
 -- What nests within a depth as a tree is encoded within it, and without legacy objects only that.
-use Rattle.std.proofs.Common.{◌≡◌, ℕ, zero, suc, List, ◌∷◌, ◌++◌, sym, ap, subst, ◌∙◌, inl, inr}
-use Rattle.std.proofs.lemmas.List.{append_cancel_left}
+use Rattle.std.proofs.Common.{◌≡◌, ℕ, zero, suc, List, ◌∷◌, sym, subst, ◌∙◌, inl, inr}
 use Rattle.tv_base.proofs.Numbers.{one_number}
 use Rattle.tv_legacy.specs.Legacy.{Legacy}
 use Rattle.tv_legacy.proofs.Unique.{one_legacy}

@@ -1,21 +1,13 @@
 -- Whole pairs that a source has buffered.
-use Rattle.std.proofs.Common.{◌≡◌, ℕ, ◌+◌, ◌-◌, ◌≤◌, true, List, [], ◌∷◌, ◌++◌, length, take, Some, None, Ok, refl, sym, ◌∙◌, ap, subst, arith, length-append, take_at, inl, inr}
-use Rattle.std.proofs.lemmas.List.{append-nil, take-append-le}
-use Rattle.tv_base.specs.Lend.{Passes}
+use Rattle.std.proofs.Common.{◌≡◌, ℕ, ◌+◌, ◌-◌, List, [], ◌∷◌, ◌++◌, length, take, Some, None, refl, sym, ◌∙◌, ap, subst, arith, length-append, take_at, inl, inr}
+use Rattle.std.proofs.lemmas.List.{append-nil}
 use Rattle.tv_base.specs.Parts.{Each}
-use Rattle.tv_base.specs.Sink.{IsPrefix}
-use Rattle.tv_base.specs.Source.{Failures}
-use Rattle.tv_base.specs.declared.cause.Cause.TheVariants.{UnexpectedEnd}
 use Rattle.tv_builder.specs.Behind.{pairs_parts, document_parts}
 use Rattle.tv_builder.specs.Prefix.{EncodesPart, Encoded}
 use Rattle.tv_builder.specs.Parts.{Part, number, pair}
 use Rattle.tv_builder.proofs.Grammar.{each_append}
 use Rattle.tv_builder.specs.Builder.{built, state_of}
 use Rattle.tv_legacy.specs.Legacy.{Legacy}
-use Rattle.tv_reader.specs.Error.{store_stop, StoreMayStop}
-use Rattle.tv_reader.specs.Finds.{FindsIf, Nothing}
-use Rattle.tv_reader.proofs.Finding.{finds_nothing}
-use Rattle.tv_format.specs.InputError.{corrupted}
 use Rattle.tv_format.specs.Encoding.{Encodes, EncodesElements, EncodesEntries, EncodesPair, NoLegacy}
 use Rattle.tv_format.specs.Tree.{Tree, leaf, array, object, Elements, no_elements, element, Entries, no_entries, entry, Document}
 use Rattle.tv_format.specs.Version.{Version}

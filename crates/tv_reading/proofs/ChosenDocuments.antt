@@ -1,12 +1,12 @@
 -- Pairs that make a document, of which the chosen ones are kept.
-use Rattle.std.proofs.Common.{◌≡◌, ◌≢◌, ℕ, zero, suc, ◌+◌, ◌<◌, ◌≤◌, true, List, [], ◌∷◌, ◌++◌, length, Result, Ok, Err, refl, sym, ◌∙◌, ap, subst, append_assoc, length-append, arith, inl, inr}
+use Rattle.std.proofs.Common.{◌≡◌, ℕ, zero, suc, ◌+◌, ◌<◌, List, [], ◌∷◌, ◌++◌, length, Ok, Err, refl, sym, ◌∙◌, ap, subst, append_assoc, length-append, arith, inl, inr}
 use Rattle.std.proofs.lemmas.List.{append-nil}
 use Rattle.std.proofs.lemmas.List.Elements.{filter-append}
 use Rattle.tv_base.specs.ErrorInPart.{InEach, ErrorInNumber}
 use Rattle.tv_base.specs.Number.{VNum}
 use Rattle.tv_base.specs.Parts.{Then, Each}
 use Rattle.tv_base.specs.Source.{Failures}
-use Rattle.tv_builder.specs.Behind.{pairs_parts, document_parts, open_parts}
+use Rattle.tv_builder.specs.Behind.{document_parts}
 use Rattle.tv_builder.specs.Prefix.{EncodesPart, Encoded}
 use Rattle.tv_builder.specs.Parts.{field}
 use Rattle.tv_builder.specs.State.{parts_of}
@@ -29,7 +29,7 @@ use Rattle.tv_reading.specs.PairValue.{CanStand}
 use Rattle.tv_reading.proofs.PairValues.{pairs_are_parts}
 use Rattle.tv_reading.specs.ChosenFields.{is_among, chosen, EncodesChosen, HasNoRoomChosen}
 use Rattle.tv_reading.specs.ChosenPair.{FindsPair, FindsNoPair, PairHasNoRoom}
-use Rattle.tv_reading.proofs.ChosenPairs.{end, chosen_stand, pair_ended}
+use Rattle.tv_reading.proofs.ChosenPairs.{chosen_stand, pair_ended}
 use Rattle.tv_reader.specs.Error.{StoreMayStop, StoreMayStopLean}
 
 -- so many of the announced pairs were taken, and the chosen ones of these are kept

@@ -1,33 +1,25 @@
 -- One pair after the other, of which the chosen ones are kept.
-use Rattle.std.proofs.Common.{◌≡◌, ◌≢◌, ℕ, zero, suc, ◌+◌, ◌<◌, ◌≤◌, Bool, true, false, nat_eq, List, [], ◌∷◌, ◌++◌, length, Result, Ok, Err, refl, sym, ◌∙◌, ap, subst, append_assoc, length-append, arith, inl, inr}
-use Rattle.std.specs.Prelude.{filter, get_or, take, drop}
+use Rattle.std.proofs.Common.{◌≡◌, ℕ, zero, suc, ◌+◌, ◌<◌, ◌≤◌, Bool, true, false, nat_eq, List, [], ◌∷◌, ◌++◌, length, Result, Ok, Err, refl, sym, ◌∙◌, ap, subst, append_assoc, arith, inl, inr}
+use Rattle.std.specs.Prelude.{get_or, take, drop}
 use Rattle.std.specs.Int.{w32, from_le_bytes}
 use Rattle.std.proofs.lemmas.Bool.{cond-true, cond-false}
 use Rattle.std.proofs.lemmas.List.{append-nil, length-take-le}
-use Rattle.std.proofs.lemmas.List.Elements.{filter-append}
-use Rattle.tv_base.specs.ErrorInPart.{InEach, ErrorInNumber, ErrorInBytes}
-use Rattle.tv_base.specs.Number.{VNum, Fixed}
-use Rattle.tv_base.specs.Parts.{Begins, Then, Each}
-use Rattle.tv_base.specs.Sink.{IsPrefix}
+use Rattle.tv_base.specs.Number.{Fixed}
+use Rattle.tv_base.specs.Parts.{Each}
 use Rattle.tv_base.specs.Source.{Failures}
 use Rattle.tv_base.specs.declared.cause.Cause.TheVariants.{UnexpectedEnd}
 use Rattle.tv_base.proofs.Numbers.{one_fixed}
 use Rattle.tv_base.proofs.Widths.{fixed_4}
-use Rattle.tv_builder.specs.Behind.{pairs_parts, open_parts}
-use Rattle.tv_builder.specs.Prefix.{EncodesPart, Encoded}
-use Rattle.tv_builder.specs.State.{parts_of}
 use Rattle.tv_builder.specs.HeldPairs.{document_of}
 use Rattle.tv_builder.specs.declared.heap_pairs.HeapPairs.{HeapPairs}
-use Rattle.tv_builder.proofs.Grammar.{each_append}
-use Rattle.tv_heap.specs.Room.{document_room}
 use Rattle.tv_legacy.specs.Legacy.{Legacy, ErrorInLegacy}
-use Rattle.tv_format.specs.Encoding.{Encodes, EncodesPair, NoLegacy}
-use Rattle.tv_format.specs.InputError.{Refusal, corrupted, Corrupt, ErrorInPair}
+use Rattle.tv_format.specs.Encoding.{EncodesPair, NoLegacy}
+use Rattle.tv_format.specs.InputError.{Refusal, corrupted, ErrorInPair}
 use Rattle.tv_format.specs.Tree.{Tree, Document}
 use Rattle.tv_format.specs.Version.{Version}
-use Rattle.tv_format.proofs.Prefixes.{each_push, begins_cut, small_take}
-use Rattle.tv_reader.specs.Error.{store_stop, StoreMayStop, StoreMayStopRoomy}
-use Rattle.tv_reader.specs.Finds.{FindsBy, FindsLean, FindsIf, Nothing}
+use Rattle.tv_format.proofs.Prefixes.{begins_cut, small_take}
+use Rattle.tv_reader.specs.Error.{StoreMayStop, StoreMayStopRoomy}
+use Rattle.tv_reader.specs.Finds.{FindsIf, Nothing}
 use Rattle.tv_reader.specs.Trees.{NoValue}
 use Rattle.tv_reader.specs.declared.error.DeserializeError.{DeserializeError}
 use Rattle.tv_reader.proofs.BehindKinds.{value_ended}
@@ -37,11 +29,9 @@ use Rattle.tv_reading.specs.Skip.{IsValueEncoding}
 use Rattle.tv_reading.proofs.Passing.{bytes_ended}
 use Rattle.tv_value.specs.declared.field.Field.{Field}
 use Rattle.tv_reading.specs.Buffered.{AddsBufferedPairs}
-use Rattle.tv_reading.specs.Documents.{NoDocument}
-use Rattle.tv_reading.specs.PairValue.{CanStand, AddsValue, FindsValue, FindsNoValue, ValueHasNoRoom}
+use Rattle.tv_reading.specs.PairValue.{CanStand, FindsValue, FindsNoValue, ValueHasNoRoom}
 use Rattle.tv_reading.proofs.BufferedPairs.{pair_with_legacy}
-use Rattle.tv_reading.proofs.PairValues.{pairs_are_parts}
-use Rattle.tv_reading.specs.ChosenFields.{is_among, chosen, EncodesChosen, HasNoRoomChosen}
+use Rattle.tv_reading.specs.ChosenFields.{is_among, chosen}
 use Rattle.tv_reading.specs.ChosenPair.{BeginsAsPair, AddsChosen, AddsIf, FindsPair, FindsNoPair, PairHasNoRoom}
 
 abbrev pub end : Refusal

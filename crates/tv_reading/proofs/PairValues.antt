@@ -2,15 +2,15 @@
 use Rattle.std.proofs.Common.{◌≡◌, ℕ, suc, ◌+◌, ◌^◌, ◌<◌, ◌≤◌, List, [], ◌∷◌, ◌++◌, length, Result, Ok, Err, refl, sym, ◌∙◌, ap, subst, append_assoc, arith, inl, inr}
 use Rattle.std.proofs.lemmas.List.{append-nil}
 use Rattle.tv_base.specs.Number.{VNum, Fixed, vnum, four_bytes}
-use Rattle.tv_base.specs.Parts.{Then, Each}
-use Rattle.tv_base.specs.ErrorInPart.{InEach, ErrorInNumber, ErrorInBytes}
+use Rattle.tv_base.specs.Parts.{Each}
+use Rattle.tv_base.specs.ErrorInPart.{InEach}
 use Rattle.tv_base.specs.Source.{Failures}
 use Rattle.tv_base.proofs.Excluding.{excludes_number}
 use Rattle.tv_base.proofs.Numbers.{one_number, one_fixed, vnum_encodes}
 use Rattle.tv_base.proofs.Shortest.{four_bytes_encode}
 use Rattle.tv_builder.specs.Behind.{pairs_parts, open_parts}
 use Rattle.tv_builder.specs.Prefix.{EncodesPart, Encoded}
-use Rattle.tv_builder.specs.Parts.{Part, field}
+use Rattle.tv_builder.specs.Parts.{field}
 use Rattle.tv_builder.specs.State.{State, in_lists, IsState, parts_of, state_room}
 use Rattle.tv_builder.specs.HeldPairs.{document_of}
 use Rattle.tv_builder.specs.declared.heap_pairs.HeapPairs.{HeapPairs}
@@ -20,7 +20,7 @@ use Rattle.tv_heap.proofs.ListRooms.{document_room-cons}
 use Rattle.tv_legacy.specs.Legacy.{Legacy, ErrorInLegacy}
 use Rattle.tv_legacy.proofs.Unique.{one_legacy, legacy_excludes}
 use Rattle.tv_format.specs.Encoding.{Encodes, EncodesPair, EncodesDocument}
-use Rattle.tv_format.specs.InputError.{Refusal, Corrupt, ErrorInPair, ErrorInDocument}
+use Rattle.tv_format.specs.InputError.{Refusal, ErrorInPair, ErrorInDocument}
 use Rattle.tv_format.specs.Tree.{Tree, Document}
 use Rattle.tv_format.specs.Version.{Version}
 use Rattle.tv_format.proofs.ExcludingLeaves.{excludes_corrupt}

@@ -1,13 +1,10 @@
 -- How texts, bytes and keys are passed over.
-use Rattle.std.proofs.Common.{◌≡◌, ℕ, ◌+◌, ◌-◌, ◌≤◌, Bool, true, false, ◌⊎◌, List, [], ◌∷◌, ◌++◌, length, take, Result, Ok, Err, refl, sym, ap, subst, ◌∙◌, arith, inl, inr, append_assoc, length-append, take_at}
+use Rattle.std.proofs.Common.{◌≡◌, ℕ, ◌+◌, ◌-◌, ◌≤◌, Bool, true, false, ◌⊎◌, List, [], ◌∷◌, ◌++◌, length, Result, Ok, Err, refl, sym, ap, subst, ◌∙◌, arith, inl, inr, append_assoc, length-append}
 use Rattle.std.specs.Prelude.{IsUtf8, IsTrue, ◌↔◌}
-use Rattle.std.proofs.lemmas.List.{take-append-le}
 use Rattle.std.proofs.lemmas.Str.{IsUtf8-nil}
 use Rattle.tv_base.specs.declared.cause.Cause.TheVariants.{UnexpectedEnd, NotUtf8}
 use Rattle.tv_base.specs.ErrorInPart.{ErrorInBytes, bytes_end, ErrorInSized, ErrorInText, in_sized, no_text}
-use Rattle.tv_base.specs.Lend.{Passes}
 use Rattle.tv_base.specs.Number.{VNum}
-use Rattle.tv_base.specs.Sink.{IsPrefix}
 use Rattle.tv_base.specs.Reading.{vint_at}
 use Rattle.tv_base.specs.Source.{AllBytes, Failures}
 use Rattle.tv_base.specs.Take as reads

@@ -8,7 +8,7 @@ use Rattle.tv_builder.specs.Behind.{pairs_parts}
 use Rattle.tv_builder.specs.Prefix.{EncodesPart}
 use Rattle.tv_builder.specs.Parts.{field}
 use Rattle.tv_builder.specs.State.{State, IsState, parts_of, state_room}
-use Rattle.tv_heap.specs.Room.{room, document_room}
+use Rattle.tv_heap.specs.Room.{document_room}
 use Rattle.tv_heap.proofs.ListRooms.{document_room-cons}
 use Rattle.tv_legacy.specs.Legacy.{Legacy}
 use Rattle.tv_legacy.proofs.Unique.{one_legacy}

@@ -1,7 +1,7 @@
 -- What was taken of a source, and then what it does to what is read.
-use Rattle.std.proofs.Common.{◌≡◌, ℕ, ◌<◌, ◌≤◌, ◌⊎◌, Bool, true, false, ℤ, List, [], ◌∷◌, ◌++◌, length, Option, Some, None, Result, Ok, Err, IsErrOf, refl, sym, ◌∙◌, ap, subst, append_assoc, arith, inl, inr}
+use Rattle.std.proofs.Common.{◌≡◌, ℕ, ◌<◌, ◌≤◌, ◌⊎◌, Bool, true, false, List, [], ◌∷◌, ◌++◌, length, Option, Some, None, Result, Ok, Err, IsErrOf, refl, sym, ◌∙◌, ap, subst, append_assoc, arith, inl, inr}
 use Rattle.std.proofs.lemmas.List.{append-nil}
-use Rattle.tv_base.specs.Number.{Groups, VNum, last, more, Truth}
+use Rattle.tv_base.specs.Number.{VNum, Truth}
 use Rattle.tv_base.specs.Parts.{Each}
 use Rattle.tv_base.specs.Source.{Failures}
 use Rattle.tv_base.proofs.Numbers.{length-fixed}
@@ -28,7 +28,7 @@ use Rattle.tv_format.specs.Content.{Content, no_content, truth_content, unsigned
 use Rattle.tv_format.specs.Leaves.{type_of, content, scale}
 use Rattle.tv_format.specs.Encoding.{ContentBody, Encodes, NoLegacy}
 use Rattle.tv_format.specs.Tree.{Tree, leaf, array, object, Entries}
-use Rattle.tv_format.specs.Version.{Version, V1, V2, V3, Scale, Scaled}
+use Rattle.tv_format.specs.Version.{Version, V1, V2, V3, Scale}
 use Rattle.tv_format.specs.Version as scales
 use Rattle.tv_format.specs.declared.leaf_type.LeafType.TheVariants as leaves
 use Rattle.tv_reading.proofs.Putting.{same_grows}

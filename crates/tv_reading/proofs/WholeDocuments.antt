@@ -1,11 +1,10 @@
 -- Steps that make a document.
 use Rattle.std.proofs.Common.{◌≡◌, ◌≢◌, ℕ, ◌+◌, ◌-◌, ◌^◌, ◌%◌, ◌<◌, ◌≤◌, nat_eq, Bool, List, [], ◌∷◌, ◌++◌, length, Option, Some, None, Result, Ok, Err, refl, sym, ◌∙◌, ap, subst, append-nil, append_assoc, length-append, arith, inl, inr}
-use Rattle.std.specs.Prelude.{IsErrOf}
 use Rattle.std.proofs.lemmas.Bool.Decides.{eqb_tells}
 use Rattle.std.proofs.lemmas.Bool.{cond-true, cond-false}
 use Rattle.tv_base.specs.declared.cause.Cause.TheVariants as causes
 use Rattle.tv_base.specs.Number.{VNum}
-use Rattle.tv_base.specs.ErrorInPart.{ErrorInNumber, number_ends, bytes_end, in_sized}
+use Rattle.tv_base.specs.ErrorInPart.{ErrorInNumber, number_ends, bytes_end}
 use Rattle.tv_base.specs.Parts.{Each}
 use Rattle.tv_base.specs.ReadsAs.{EndsEarly}
 use Rattle.tv_base.specs.Source.{Failures}
@@ -24,10 +23,10 @@ use Rattle.tv_reader.specs.Finds.{FindsIf, Nothing}
 use Rattle.tv_reader.specs.declared.error.DeserializeError.{DeserializeError}
 use Rattle.tv_reader.specs.declared.error.DeserializeError.TheVariants as errors
 use Rattle.tv_reader.proofs.Finding.{finds_then, finds_as, finds_fails}
-use Rattle.tv_format.specs.InputError.{Refusal, corrupted, Corrupt, corrupt, ErrorInDocument, ErrorInKey, key_ends, value_ends}
+use Rattle.tv_format.specs.InputError.{Refusal, corrupted, Corrupt, corrupt, ErrorInDocument, value_ends}
 use Rattle.tv_format.specs.Encoding.{EncodesPair, EncodesDocument}
 use Rattle.tv_format.specs.Tree.{Document}
-use Rattle.tv_format.specs.Version.{Version, V1, V2, V3}
+use Rattle.tv_format.specs.Version.{Version}
 use Rattle.tv_format.proofs.SingleTrees.{single_document}
 use Rattle.tv_reading.specs.Buffered.{AddsBufferedPairs}
 use Rattle.tv_reading.specs.Documents.{EncodesRead, EncodesRest, NoDocument}
@@ -38,7 +37,6 @@ use Rattle.tv_reading.proofs.BufferedPairs.{pairs_as_parts}
 use Rattle.tv_reading.proofs.WithErrors.{number_at_error, field_at_error, value_at_error, key_at_error, end_at_error}
 use Rattle.tv_reader.specs.Error.{StoreMayStop, StoreMayStopLean}
 use Rattle.tv_reader.proofs.TreeSteps.{no_key}
-use Rattle.tv_reader.proofs.DepthSteps.{err_of}
 
 abbrev end : Refusal
 end = corrupted causes.UnexpectedEnd

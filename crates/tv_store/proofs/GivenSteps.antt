@@ -1,5 +1,5 @@
 -- Pairs that are given, one after the other.
-use Rattle.std.proofs.Common.{◌≡◌, ℕ, suc, Bool, true, false, Option, Some, None, Ok, Err, ◌+◌, ◌≤◌, List, [], ◌∷◌, ◌++◌, length, refl, sym, ◌∙◌, ap, subst, arith, zero-add}
+use Rattle.std.proofs.Common.{◌≡◌, ℕ, suc, Bool, true, false, Option, Some, None, Ok, ◌+◌, ◌≤◌, List, [], ◌∷◌, ◌++◌, length, refl, sym, ◌∙◌, ap, subst, arith, zero-add}
 use Rattle.std.proofs.lemmas.List.Sums.{sum_by-append}
 use Rattle.std.specs.Prelude.{IsErrOf}
 use Rattle.tv_base.specs.Source.{Failures}
@@ -14,7 +14,6 @@ use Rattle.tv_format.specs.Version.{Version}
 use Rattle.tv_reader.specs.declared.error.DeserializeError.{DeserializeError}
 use Rattle.tv_reader.specs.declared.error.DeserializeError.TheVariants as errors
 use Rattle.tv_reader.specs.declared.value_type.ValueType.{ValueType}
-use Rattle.tv_reader.proofs.DepthSteps.{err_of}
 use Rattle.tv_store.specs.Error.{add_error}
 use Rattle.tv_store.specs.PairsGiven.{IsGiven, document_stop, PairsRefused, no_room, no_memory}
 use Rattle.tv_value.specs.declared.field.Field.{Field}

@@ -1,18 +1,17 @@
 -- Writing lists that are open, one after the other, and what is left of them.
-use Rattle.std.proofs.Common.{◌≡◌, ℕ, ◌<◌, ◌+◌, ◌*◌, List, [], ◌∷◌, ◌++◌, length, map, Ok, Err, Option, Some, None, refl, sym, ap, ◌∙◌, append_assoc, arith}
+use Rattle.std.proofs.Common.{◌≡◌, ℕ, ◌<◌, ◌+◌, ◌*◌, List, [], ◌∷◌, ◌++◌, length, Ok, Err, Option, Some, None, refl, sym, ap, ◌∙◌, append_assoc, arith}
 use Rattle.std.proofs.lemmas.List.{append-nil, length-append}
 use Rattle.tv_base.specs.Source.{Failures}
 use Rattle.tv_base.specs.Sink.{WritesBy}
 use Rattle.tv_base.proofs.Written.{Written}
-use Rattle.tv_format.specs.Short.{short, short_elements, short_entries}
-use Rattle.tv_format.specs.Tree.{Tree, elements, entries}
+use Rattle.tv_format.specs.Short.{short}
+use Rattle.tv_format.specs.Tree.{Tree}
 use Rattle.tv_format.specs.Version.{Version}
 use Rattle.tv_heap.specs.Encoded.{encoded_bytes}
 use Rattle.tv_heap.specs.declared.encoded.Encoded.{Encoded}
 use Rattle.tv_heap.specs.declared.encoded.Encoded.TheVariants as held
 use Rattle.tv_heap.specs.Value.{HeldList, held_children}
 use Rattle.tv_store.specs.Nested.{bytes_left, head_bytes, inner_list, HoldsNoList}
-use Rattle.tv_value.specs.Children.{Child, children_left, with_key, without_key}
 use Rattle.tv_value.specs.declared.children.Children.TheVariants as lists
 use Rattle.tv_writer.specs.Error.{write_stop}
 use Rattle.tv_writer.specs.declared.error.SerializeError.TheVariants.{Memory}

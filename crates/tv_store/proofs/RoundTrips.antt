@@ -3,7 +3,6 @@ use Rattle.std.proofs.Common.{◌≡◌, ◌⊎◌, inl, inr, ℕ, zero, suc, �
 use Rattle.std.specs.Prelude.{slice_get}
 use Rattle.std.specs.List.{AllByRecursion}
 use Rattle.std.proofs.lemmas.List.{map-append}
-use Rattle.std.proofs.lemmas.List.Sums.{sum_by-cons}
 use Rattle.tv_base.specs.Source.{Failures}
 use Rattle.tv_base.specs.declared.cause.Cause.TheVariants.{UnexpectedEnd, TooLong}
 use Rattle.tv_base.specs.Stop.{CountsStop}
@@ -25,7 +24,6 @@ use Rattle.tv_reader.specs.ValueType.{value_type_code}
 use Rattle.tv_reader.specs.declared.error.DeserializeError.{DeserializeError}
 use Rattle.tv_reader.specs.declared.error.DeserializeError.TheVariants as errors
 use Rattle.tv_reader.specs.declared.value_type.ValueType.TheVariants as types
-use Rattle.tv_reader.proofs.Depths.{same_rest}
 use Rattle.tv_store.specs.Documents.{IsReadingError, SaysNothing}
 use Rattle.tv_store.specs.RoundTrip.{asked, pair_of_value, IsCalled, IsKept}
 use Rattle.tv_format.specs.InputError.{Refusal, corrupted, no_text_key}

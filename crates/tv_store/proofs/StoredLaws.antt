@@ -1,7 +1,6 @@
 -- What holds of the stored pairs where it holds of all.
-use Rattle.std.proofs.Common.{◌≡◌, ℕ, ◌+◌, ◌≤◌, Bool, true, false, cond, List, [], ◌∷◌, sym, ap, subst, arith}
+use Rattle.std.proofs.Common.{ℕ, ◌+◌, ◌≤◌, Bool, true, false, cond, List, [], ◌∷◌, sym, ap, subst, arith}
 use Rattle.std.specs.List.{AllByRecursion}
-use Rattle.std.proofs.lemmas.List.Sums.{sum_by-cons}
 use Rattle.tv_heap.specs.Room.{room, document_room}
 use Rattle.tv_heap.proofs.ListRooms.{document_room-cons}
 use Rattle.tv_field.specs.Entry.{Entry}

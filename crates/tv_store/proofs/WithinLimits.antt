@@ -2,7 +2,7 @@
 use Rattle.std.proofs.Common.{◌≡◌, ℕ, ◌+◌, ◌-◌, ◌^◌, ◌<◌, ◌≤◌, Bool, List, [], ◌++◌, length, take, drop, Option, Some, None, Result, Ok, Err, refl, sym, ◌∙◌, ap, subst, arith, rules, append-nil, take_at, length-append, inl, inr}
 use Rattle.std.specs.Prelude.{◌↔◌, ◌≢◌, IsTrue, IsSome, IfOk, IfErr, IsErrOf}
 use Rattle.std.proofs.lemmas.Bool.{cases_lt}
-use Rattle.std.proofs.lemmas.List.{length-take, take-append-drop}
+use Rattle.std.proofs.lemmas.List.{take-append-drop}
 use lib.Seq.{take-append-le}
 use Rattle.tv_base.specs.declared.cause.Cause.TheVariants.{UnexpectedEnd, TooLong}
 use Rattle.tv_base.specs.Parts.{Begins}
@@ -28,7 +28,7 @@ use Rattle.tv_format.specs.Encoding.{EncodesDocument}
 use Rattle.tv_format.specs.Tree.{Document}
 use Rattle.tv_heap.specs.Room.{document_room}
 use Rattle.tv_format.specs.Version.{Version}
-use Rattle.tv_reading.specs.Prefix.{parts_at, parts_read, IsPlace, IsSound, AllFinished, IsDone, IsMalformedNext, NoRoomBehind}
+use Rattle.tv_reading.specs.Prefix.{parts_at, parts_read, IsPlace, IsSound, IsDone, IsMalformedNext, NoRoomBehind}
 use Rattle.tv_reading.specs.Steps.{Advances, Stepped}
 use Rattle.tv_reading.specs.declared.reading.Reading.{Reading}
 use Rattle.tv_reader.proofs.Lending.{none_buffered}

@@ -1,19 +1,14 @@
 -- Values as they stand in a heap, and what is left to be written of lists that are open.
-use Rattle.std.specs.Prelude.{ℕ, List, [], ◌∷◌, Option, Some, None}
-use Rattle.std.specs.Borrow.{Bor}
+use Rattle.std.specs.Prelude.{ℕ, List, ◌∷◌, Option, Some, None}
 use Rattle.tv_base.specs.Number.{vnum}
-use Rattle.tv_format.specs.Short.{short_elements, short_entries, short_key}
+use Rattle.tv_format.specs.Short.{short_elements, short_entries}
 use Rattle.tv_format.specs.Tree.{array, object, elements, entries}
 use Rattle.tv_format.specs.Version.{Version, entry_total}
 use Rattle.tv_heap.specs.Encoded.{encoded_bytes}
 use Rattle.tv_heap.specs.declared.encoded.Encoded.{Encoded}
 use Rattle.tv_heap.specs.declared.encoded.Encoded.TheVariants as held
-use Rattle.tv_heap.specs.declared.value.CompactDocArrayIter.{CompactDocArrayIter}
-use Rattle.tv_heap.specs.declared.value.CompactDocObjectIter.{CompactDocObjectIter}
-use Rattle.tv_heap.specs.declared.value.CompactDocValue.{CompactDocValue}
 use Rattle.tv_heap.specs.Value.{HeldList}
 use Rattle.tv_value.specs.Nesting.{NestsWithin}
-use Rattle.tv_value.specs.declared.children.Children.{Children}
 use Rattle.tv_value.specs.declared.children.Children.TheVariants as lists
 
 -- the bytes of the children that are left of a list

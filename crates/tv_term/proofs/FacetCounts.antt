@@ -19,7 +19,7 @@ use Rattle.std.proofs.lemmas.Map.Lookups.{exact_bytes}
 use Rattle.std.proofs.lemmas.Slice.Eq.{bytes_eq-Decides}
 use Rattle.std.proofs.lemmas.Bool.{false_from_ne_true, and_parts}
 use Rattle.tv_base.specs.Facet.{path, steps, IsStep, Descends}
-use Rattle.tv_base.proofs.Steps.{path-not_nil, path-append, path-joined, Descends-rest, Descends-from_rest, Descends-itself, false_true, same_head, path-one}
+use Rattle.tv_base.proofs.Steps.{path-not_nil, path-append, Descends-rest, Descends-from_rest, Descends-itself, false_true, same_head, path-one}
 use Rattle.tv_term.specs.FacetCounting.{begins_with, is_within, count_within, IsChild, IsChildCount, AreChildCounts, AreRising, entry_of}
 use Rattle.tv_term.specs.ChildPlaces.{front, entries, HasNoChild, IsChildAbove, GoesOn, CountsOne}
 use Rattle.tv_term.specs.declared.facet_counts.FacetCount.{FacetCount}

@@ -1,10 +1,9 @@
 -- What is said of a list by its children.
-use Rattle.std.proofs.Common.{◌≡◌, ℕ, suc, ◌<◌, ◌^◌, List, [], ◌∷◌, ◌++◌, map, length, refl, sym, ap, subst, ◌∙◌, arith}
+use Rattle.std.proofs.Common.{◌≡◌, ℕ, suc, ◌<◌, ◌^◌, List, [], ◌∷◌, ◌++◌, map, length, refl, sym, ap, subst, ◌∙◌}
 use Rattle.tv_base.specs.Number.{vnum}
 use Rattle.tv_format.specs.Short.{short, short_elements, short_entries, short_key, IsValue, AreElements, AreEntries}
 use Rattle.tv_format.specs.Tree.{Tree, leaf, array, object, Elements, no_elements, element, Entries, no_entries, entry, elements, entries, element_count, entry_count, element_list, entry_list}
-use Rattle.tv_format.specs.Version.{Version, V1, V2, V3, entry_total}
-use Rattle.tv_format.proofs.ShortEncodings.{total_fits}
+use Rattle.tv_format.specs.Version.{Version, entry_total}
 use Rattle.tv_value.specs.Children.{Child, IsListOf, without_key, with_key}
 use Rattle.tv_writer.specs.Children.{AreKeys, AreValues, child_count, short_children}
 

@@ -1,4 +1,4 @@
-use Rattle.std.proofs.Common.{◌-◌, ◌^◌, ◌<◌, List, [], ℕ, length, Err, refl, sym, subst, ap, arith}
+use Rattle.std.proofs.Common.{◌-◌, ◌^◌, ◌<◌, List, [], ℕ, length, refl, sym, subst, arith}
 use Rattle.tv_blocks.specs.Documents.{IsUnread}
 use Rattle.tv_reader.specs.Version.{version_of}
 use Rattle.tv_store.specs.Documents.{HasNoRoom, NoDocument}

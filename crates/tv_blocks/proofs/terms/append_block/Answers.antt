@@ -1,4 +1,4 @@
-use Rattle.std.proofs.Common.{◌≡◌, ◌-◌, ◌^◌, ◌<◌, ◌++◌, length, Ok, Err, refl, sym, subst, ap, ◌∙◌, arith}
+use Rattle.std.proofs.Common.{◌≡◌, ◌-◌, ◌^◌, ◌<◌, ◌++◌, length, Ok, refl, sym, subst, ap, ◌∙◌, arith}
 use Rattle.tv_blocks.specs.Blocks.{IsRefusedBlock}
 use Rattle.tv_blocks.specs.Terms.{document_records}
 use Rattle.tv_doc.specs.Document.{document_of}

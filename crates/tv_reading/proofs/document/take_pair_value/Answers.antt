@@ -1,5 +1,4 @@
-use Rattle.std.proofs.Common.{◌<◌, ◌^◌, ◌≡◌, List, ◌+◌, length, subst, sym, ap, arith}
-use Rattle.tv_builder.specs.Behind.{open_parts}
+use Rattle.std.proofs.Common.{◌<◌, ◌^◌, List, subst, sym, arith}
 use Rattle.tv_builder.specs.Prefix.{Encoded}
 use Rattle.tv_builder.specs.Parts.{Part}
 use Rattle.tv_builder.specs.HeldPairs.{document_of}

@@ -1,4 +1,4 @@
-use Rattle.std.proofs.Common.{◌∷◌, [], ◌-◌, length, take, arith, subst}
+use Rattle.std.proofs.Common.{◌∷◌, [], ◌-◌, length, arith, subst}
 use Rattle.tv_reader.specs.Version.{version_of}
 use Rattle.tv_reading.specs.Skip.{Passed, BeginsItems}
 use Rattle.tv_reading.proofs.Left.{none_passed}
