@@ -8,8 +8,8 @@ use Rattle.tv_base.specs.Number.{vnum}
 use Rattle.tv_base.proofs.Numbers.{fixed_fits}
 use Rattle.tv_format.specs.Content.{Content, no_content, truth_content, unsigned_content, signed_content, wide_content, text_content, bytes_content, tokens_content}
 use Rattle.tv_format.specs.Leaves.{content}
-use Rattle.tv_format.specs.Short.{IsSized, IsText, IsToken, IsContent, IsValue, AreElements, AreEntries, IsPair, IsDocument}
-use Rattle.tv_format.specs.Tree.{Token, Tree, leaf, array, object, Elements, no_elements, element, Entries, no_entries, entry, element_count, entry_count, Document}
+use Rattle.tv_format.specs.Short.{IsSized, IsText, IsContent, IsValue, AreElements, AreEntries, IsPair, IsDocument}
+use Rattle.tv_format.specs.Tree.{Tree, leaf, array, object, Elements, no_elements, element, Entries, no_entries, entry, element_count, entry_count, Document}
 use Rattle.tv_format.specs.ShortLaws.{AreTokens-prop, IsText-prop}
 use Rattle.tv_doc.specs.declared.document.CompactDoc.{CompactDoc}
 use Rattle.tv_builder.specs.declared.heap_pair.HeapPair.{HeapPair}
@@ -23,9 +23,6 @@ use Rattle.tv_builder.proofs.Documents.{document_length}
 
 IsSized-prop : (t : List ℕ) → IsProp (IsSized t)
 IsSized-prop t = hlevel props
-
-IsToken-prop : (t : Token) → IsProp (IsToken t)
-IsToken-prop t = hlevel props
 
 all-prop : {A : Type 0} (P : A → Type 0) → ((x : A) → IsProp (P x)) → (xs : List A) → IsProp (AllByRecursion P xs)
 all-prop P one [] = hlevel props

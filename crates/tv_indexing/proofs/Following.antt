@@ -1,6 +1,5 @@
 -- Terms that are appended one thing after the other.
-use Rattle.std.proofs.Common.{◌≡◌, ℕ, ◌≤◌, List, [], ◌∷◌, ◌++◌, length, take, Ok, Err, refl, sym, ap, ◌∙◌, arith, append_assoc, append-nil, length-append}
-use Rattle.std.proofs.Math.Seq.{take-append_seam}
+use Rattle.std.proofs.Common.{◌≡◌, ℕ, List, [], ◌∷◌, ◌++◌, Ok, Err, refl, sym, ap, ◌∙◌, append_assoc, append-nil}
 use Rattle.std.proofs.lemmas.List.{reverse-append}
 use Rattle.std.specs.Prelude.{reverse}
 use Rattle.tv_indexing.specs.DocumentTerms.{AreAppended, Terms, followed_by}
@@ -37,13 +36,7 @@ pub is_refused : (old : List (List ℕ)) (wanted : Terms) (e : TermValuesError) 
 is_refused old (Ok made) e h = cc
 is_refused old (Err f) e h = h
 
-pub none_appended : (old : List (List ℕ)) → AreAppended old old (Ok [])
-none_appended old = sym (append-nil old)
-
 -- ---- the list begins with what it was
-
-pub extends_itself : (old : List (List ℕ)) → Extends old old
-extends_itself old = ([], sym (append-nil old))
 
 pub extends_as : (old new : List (List ℕ)) → new ≡ old → Extends old new
 extends_as old new e = ([], e ∙ sym (append-nil old))
@@ -54,12 +47,6 @@ extends_by old new (Err e) h = absurd h
 
 pub extends_on : (a b c : List (List ℕ)) → Extends a b → Extends b c → Extends a c
 extends_on a b c h k = (h.0 ++ k.0, k.1 ∙ ap (λ l. l ++ k.0) h.1 ∙ append_assoc a h.0 k.0)
-
-pub extends_longer : (old new : List (List ℕ)) → Extends old new → length old ≤ length new
-extends_longer old new h = omega (arith, ap length h.1, length-append old h.0)
-
-pub extends_cut : (old new : List (List ℕ)) → Extends old new → take (length old) new ≡ old
-extends_cut old new h = ap (take (length old)) h.1 ∙ take-append_seam old h.0
 
 -- ---- so far: the whole is what was appended, and then what is left
 

@@ -1,12 +1,12 @@
 -- What each step of the walk through a JSON value leaves to be done.
-use Rattle.std.proofs.Common.{◌≡◌, ℕ, suc, ◌<◌, Bool, true, false, List, [], ◌∷◌, ◌++◌, length, take, Option, Some, Ok, Err, refl, sym, ap, subst, ◌∙◌, arith}
+use Rattle.std.proofs.Common.{◌≡◌, ℕ, suc, ◌<◌, Bool, true, List, [], ◌∷◌, ◌++◌, length, take, Option, Some, Ok, Err, refl, sym, ap, subst, ◌∙◌, arith}
 use Rattle.tv_heap.specs.Value.{HeldList, held_children}
 use Rattle.std.specs.Prelude.{reverse}
 use Rattle.tv_format.specs.Size.{size}
 use Rattle.tv_format.specs.Tree.{Tree}
 use Rattle.tv_indexing.proofs.Following.{all_appended, is_refused, more_appended, first_refused, nothing_before, nothing_behind, regrouped, reverse-snoc}
 use Rattle.tv_indexing.specs.DocumentTerms.{AreAppended, Terms, followed_by, has_zero}
-use Rattle.tv_indexing.specs.JsonWalk.{child_terms, children_terms, open_size, open_terms, separated, terms_at}
+use Rattle.tv_indexing.specs.JsonWalk.{child_terms, children_terms, open_size, open_terms}
 use Rattle.tv_indexing.specs.declared.json.OpenList.{OpenList}
 use Rattle.tv_indexing.specs.declared.term_values_error.TermValuesError.{TermValuesError}
 use Rattle.tv_indexing.specs.declared.term_values_error.TermValuesError.TheVariants.{NulInPath}
@@ -14,9 +14,6 @@ use Rattle.tv_value.specs.Children.{Child, children_size}
 use Rattle.tv_value.specs.declared.field.Field.{Field}
 
 -- ---- below a key
-
-pub below_key : (field : Field) (expand_dots : Bool) (path key : List ℕ) (t : Tree) → has_zero key ≡ false → child_terms field expand_dots path (Some key) t ≡ terms_at field expand_dots (path ++ separated expand_dots key) t
-below_key field expand_dots path key t h = rw h refl
 
 pub key_refused : (field : Field) (expand_dots : Bool) (path key : List ℕ) (t : Tree) → has_zero key ≡ true → child_terms field expand_dots path (Some key) t ≡ Err (NulInPath field)
 key_refused field expand_dots path key t h = rw h refl
