@@ -19,7 +19,7 @@ returns-in-None-clause-comes g c = λ told.
     let below : decoder.count < 2 ^ 64 = omega (arith, c.bytes_read-last.ensures, c.bytes_read-last.type_inv) in
     tested (version_of c.args.version) c.args.limits _ _ c.into_doc.result c.tested.result c.tested.ensures
     (subst (λ z. ReadsByLimits (version_of z) c.args.limits (left c.args.source.now) (left c.take_within-taken.new.source) (Ok c.into_doc.result)) begun.ensures.version
-    (ended (version_of begun.result.version) c.args.limits begun.result.reading decoder.reading c.into_doc.result _ _ decoder.count begun.ensures.parts (decoder.sound h.live) (h.done c.in-None.is) c.into_doc.ensures.document (h.finds.found told) taken below))
+    (ended (version_of begun.result.version) c.args.limits begun.result.reading decoder.reading c.into_doc.result _ _ decoder.count begun.ensures.parts (decoder.sound h.not_failed) (h.done c.in-None.is) c.into_doc.ensures.document (h.finds.found told) taken below))
 
 pub returns-in-Some-clause-comes : goal.returns-in-Some-clause-comes
 returns-in-Some-clause-comes g c = λ told.
@@ -31,7 +31,7 @@ returns-in-Some-clause-comes g c = λ told.
     let taken = subst (λ n. Taken (left c.args.source.now) (left c.take_within-taken.new.source) n decoder.count) (begun.ensures.count ∙ c.first_count-first.ensures.count) (h.finds.taken told) in
     let below : decoder.count < 2 ^ 64 = omega (arith, c.bytes_read-last.ensures, c.bytes_read-last.type_inv) in
     subst (λ z. ReadsByLimits (version_of z) c.args.limits (left c.args.source.now) (left c.take_within-taken.new.source) (Err (limited.Limit c.in-Some.limit))) begun.ensures.version
-    (passed (version_of begun.result.version) c.args.limits begun.result.reading decoder.reading _ _ _ decoder.count begun.ensures.parts (decoder.sound h.live) check (h.finds.found told) taken below)
+    (passed (version_of begun.result.version) c.args.limits begun.result.reading decoder.reading _ _ _ decoder.count begun.ensures.parts (decoder.sound h.not_failed) check (h.finds.found told) taken below)
 
 pub returns-in-Err-clause-comes : goal.returns-in-Err-clause-comes
 returns-in-Err-clause-comes g c = λ told.
