@@ -3,7 +3,7 @@ use Rattle.std.proofs.Common.{◌≡◌, ℕ, ◌-◌, ◌^◌, ◌<◌, List, [
 use Rattle.std.specs.List.{flat_map}
 use Rattle.tv_base.specs.Parts.{Each}
 use Rattle.tv_blocks.specs.Blocks.{AppendsLine, ArePrintedLines, IsRefusedBlock, MigratedSoFar, PrintedSoFar}
-use Rattle.tv_blocks.specs.Blocks.IsPrinted.{no_lines, next_line}
+use Rattle.tv_blocks.specs.Blocks.ArePrintedLines.{no_lines, next_line}
 use Rattle.tv_blocks.specs.Refusals.{EncodesBlock, document_refusal, migration_refusal}
 use Rattle.tv_field.specs.Entry.{Entry}
 use Rattle.tv_format.specs.Encoding.{EncodesDocument}

@@ -4,7 +4,7 @@ use borrow.Author.Tests.{eqb-true}
 use Rattle.std.specs.Prelude.{IfOk}
 use Rattle.std.specs.declared.alloc.AllocError.{AllocError}
 use Rattle.tv_blocks.specs.Imports.{AppendsImported, ImportedSoFar, ImportsEach, ImportsLine, Outcomes, Stores, line_answer}
-use Rattle.tv_blocks.specs.Imports.Outcome.{refused, written}
+use Rattle.tv_blocks.specs.Imports.ImportsLine.{refused, written}
 use Rattle.tv_blocks.specs.Imports.Outcomes.{next_outcome, no_outcomes}
 use Rattle.tv_blocks.specs.LineRefusals.{IsLineDocument, RefusesLine}
 use Rattle.tv_blocks.specs.declared.import.LineAnswer.{LineAnswer}

@@ -6,7 +6,7 @@ use Rattle.std.proofs.lemmas.List.{append-nil}
 use Rattle.tv_base.specs.Sink.{IsPrefix}
 use Rattle.tv_lines.specs.Answers.{Answer, AreAnswers, ReadsSchema, SchemaRefusal}
 use Rattle.tv_lines.specs.Answers.Answer.{no_memory}
-use Rattle.tv_lines.specs.Answers.Answers.{no_answers, next_answer}
+use Rattle.tv_lines.specs.Answers.AreAnswers.{no_answers, next_answer}
 use Rattle.tv_lines.specs.Answers.SchemaRefusal.{no_memory as no_schema_memory}
 use Rattle.tv_lines.specs.Lines.{FirstLine}
 use Rattle.tv_lines.specs.Lines.Lines.{no_lines, next_line}
