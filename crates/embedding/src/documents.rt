@@ -5,7 +5,7 @@ ghost use Rattle.tantivy_schema.specs.Belongs.{Belongs};
 ghost use Rattle.tantivy_schema.specs.Document.{document_of};
 ghost use Rattle.tantivy_schema.specs.Short.{short_document};
 ghost use Rattle.tantivy_schema.specs.Stored.{stored};
-ghost use Rattle.tantivy_schema.specs.StoreError.{IsIo, IsIoOrMemory, Writes};
+ghost use Rattle.tantivy_schema.specs.StoreError.{IsIo, IsIoOrMemory, WritesStore};
 ghost use Rattle.tantivy_schema.specs.Nesting.{AllNestWithin};
 ghost use Rattle.tantivy_schema.specs.Reading.{ReadsDocument};
 ghost use Rattle.tantivy_schema.specs.Version.{V2};
@@ -28,7 +28,7 @@ pub fn store_document<K: ByteSink>(
     document: &TantivyDocument,
 ) -> Result<(), SerializeError>
     requires { Belongs schema.now (document_of document.now) }
-    ensures writes { Writes K.ByteSink sink.old sink.new result
+    ensures writes { WritesStore K.ByteSink sink.old sink.new result
         (Ok (short_document V2 (stored schema.now (document_of document.now)))) }
     ensures errors { IfErr result IsIoOrMemory }
     ensures io { AllNestWithin 64 (document_of document.now) → IfErr result IsIo }

@@ -3,7 +3,7 @@
 ghost use Rattle.std.specs.Prelude.{◌≡◌, ◌↔◌, Err, IfOk, OnErr, Ok, true, false};
 ghost use Rattle.tantivy_schema.specs.CodeTypes.DeserializeError.TheVariants.{AlreadyFailed};
 ghost use Rattle.tantivy_schema.specs.Decoder.{SaysDone, Rests};
-ghost use Rattle.tantivy_schema.specs.DecoderPrefix.{IsDone, NoPrefix};
+ghost use Rattle.tantivy_schema.specs.DecoderPrefix.{IsDone, IsMalformedNext};
 ghost use Rattle.tantivy_schema.specs.Finds.{Finds};
 ghost use Rattle.tantivy_schema.specs.DecoderKept.{KeepsPairs};
 ghost use Rattle.tantivy_schema.specs.Steps.{Stepped, IsFew};
@@ -35,7 +35,7 @@ pub fn steps_take_few_bytes<S: ByteSource>(
         Finds S.ByteSource source.old decoder.old.count source.new decoder.new.count result
         (λ b _. Stepped (version_of decoder.old.version) decoder.new.legacy_seen
         decoder.old.reading decoder.new.reading b)
-        (NoPrefix (version_of decoder.old.version) decoder.old.reading) }
+        (IsMalformedNext (version_of decoder.old.version) decoder.old.reading) }
     ensures at_most { S.is_known source.old →
         IsFew decoder.old.reading (S.left source.old) decoder.old.count decoder.new.count }
 {
