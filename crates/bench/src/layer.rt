@@ -23,7 +23,7 @@ use tantivy_schema::store::{
     skip_document, skip_value,
 };
 
-// So many bytes are read of a file at a time.
+// This many bytes are read of a file at a time.
 const PIECE: usize = 65536;
 
 /// From stored bytes to values that own what they hold.
@@ -89,7 +89,7 @@ pub fn read_buffered_each(alloc: Global, inputs: &Inputs, documents: usize) -> R
     read_each(alloc, &mut source, documents)
 }
 
-// So many documents of a source.
+// This many documents of a source.
 fn read_each<S: ByteSource>(alloc: Global, source: &mut S, documents: usize) -> Result<Round> {
     let mut round = Round::new();
     for _ in 0..documents {

@@ -58,7 +58,7 @@ fn rounds_wanted(rt: &(impl Env + AllocGlobal)) -> Result<Option<(u32, String)>>
     Ok(Some((rounds, name)))
 }
 
-// Makes the call for each document, in so many rounds, and says what a document takes.
+// Makes the call for each document, in this many rounds, and says what a document takes.
 fn measure(
     rt: &(impl Clock + Eprint + AllocGlobal),
     workload: &Workload,

@@ -32,7 +32,7 @@ fn address(digits: &str) -> Result<Ipv6Addr> {
     Ok(Ipv6Addr::from_bits(bits.ok().context("an address")?))
 }
 
-/// The date so many nanoseconds after 1970.
+/// The date this many nanoseconds after 1970.
 pub fn date(nanoseconds: &str) -> Result<DateTime> {
     Ok(DateTime::from_timestamp_nanos(crate::number(nanoseconds)?))
 }

@@ -27,7 +27,7 @@ fn read(alloc: Global, word: &str) -> Result<String> {
     }
 }
 
-// The date so many microseconds after 1970.
+// The date this many microseconds after 1970.
 fn of_microseconds(alloc: Global, microseconds: i64) -> Result<String> {
     match DateTime::from_timestamp_micros(microseconds) {
         Some(date) => words::plain(alloc, &date.into_timestamp_nanos()),

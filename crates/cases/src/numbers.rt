@@ -38,7 +38,7 @@ fn encoded(alloc: Global, number: u64) -> Result<String> {
     words::digits(alloc, bytes.get(..length).context("ten bytes at most")?)
 }
 
-// Gives so many of its bytes, and then fails with errors of this kind.
+// Gives this many of its bytes, and then fails with errors of this kind.
 #[derive(Drop)]
 struct FailingReader<'a> {
     rest: &'a [u8],
@@ -93,7 +93,7 @@ fn read_through(alloc: Global, kinds: &str, bytes: &[u8]) -> Result<String> {
     ended(alloc, values.as_str(), reader.into_inner())
 }
 
-// What is read through a reader that gives so many bytes, and then fails.
+// What is read through a reader that gives this many bytes, and then fails.
 fn read_failing(
     alloc: Global,
     kinds: &str,
@@ -185,7 +185,7 @@ fn write_to_writer(alloc: Global, values: &[&str]) -> Result<String> {
     written(alloc, sink.into_inner().as_slice(), failure)
 }
 
-// What is written through a writer of std that has room for so many bytes.
+// What is written through a writer of std that has room for this many bytes.
 fn write_to_room(alloc: Global, length: usize, values: &[&str]) -> Result<String> {
     let mut room = vec![in alloc; 0u8; length]?;
     let mut sink = WriteSink::new(room.as_mut_slice());

@@ -76,7 +76,7 @@ where
     }
 }
 
-// The bound of dates so many nanoseconds after 1970.
+// The bound of dates this many nanoseconds after 1970.
 fn date(bound: Bound<i64>) -> Bound<DateTime> {
     match bound {
         Bound::Included(nanoseconds) => {

@@ -21,7 +21,7 @@ pub struct BoundedSink {
 }
 
 impl BoundedSink {
-    /// A sink that holds no byte, and will hold at most so many. It takes no memory yet.
+    /// A sink that holds no byte, and will hold at most this many. It takes no memory yet.
     pub fn new(alloc: Global, most: usize) -> BoundedSink
         ensures bytes { ⟦<BoundedSink as ByteSink>⟧.held result ≡ [] }
         ensures failures { ⟦<BoundedSink as ByteSink>⟧.failures result

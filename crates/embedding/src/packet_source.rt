@@ -16,7 +16,7 @@ pub struct PacketSource<'a> {
 }
 
 impl<'a> PacketSource<'a> {
-    /// A source that has these bytes left, and gives at most so many of them at a time.
+    /// A source that has these bytes left, and gives at most this many of them at a time.
     pub fn new(bytes: &'a [u8], packet: usize) -> PacketSource<'a>
         requires { 0 < packet }
         ensures bytes { ⟦<PacketSource<'a> as ByteSource>⟧.left result ≡ bytes.now }

@@ -35,7 +35,7 @@ pub fn read_block(alloc: Global, workload: &Workload) -> Result<usize> {
     Ok(values)
 }
 
-/// Terms of so many numbers, put in order; how many there are.
+/// Terms of this many numbers, put in order; how many there are.
 pub fn order_terms(alloc: Global, workload: &Workload) -> Result<usize> {
     let mut terms = Vec::new(alloc);
     let field = Field::from_field_id(0);
@@ -60,7 +60,7 @@ fn is_rising(terms: &[Term]) -> Result<()> {
     Ok(())
 }
 
-/// So many facets; how many are below one of them.
+/// This many facets; how many are below one of them.
 pub fn count_facets(alloc: Global, workload: &Workload) -> Result<usize> {
     let upper = Facet::from_text(alloc, "/3")?;
     let mut below: usize = 0;

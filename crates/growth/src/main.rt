@@ -1,8 +1,8 @@
 //! Makes calls on documents of many values, members or levels, and on many lines, terms and facets.
 //!
 //! Each line of standard input has a shape's name and a number, as in `levels 1000000`. For each call that the shape has, standard output
-//! has the shape, the number, the call's name and how many bytes or fields its answer has, or that the values nest too deep for it. With the argument `time` standard error says
-//! how many nanoseconds the call took.
+//! has the shape, the number, the call's name and how many bytes or fields its answer has, or that the values nest too deep for it. With
+//! the argument `time` standard error says how many nanoseconds the call took.
 #![tactic(auto)]
 
 mod calls;

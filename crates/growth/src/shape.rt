@@ -262,7 +262,7 @@ fn push_levels(stored: &mut Vec<u8>, count: u32) -> Result<()> {
     Ok(())
 }
 
-// A path of so many steps; of other shapes of none.
+// A path of this many steps; of other shapes of none.
 fn path_of(alloc: Global, shape: Shape, count: u32) -> Result<String> {
     let mut path = String::from_str(alloc, "tree")?;
     if shape == Shape::Steps {

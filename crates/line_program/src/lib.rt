@@ -7,7 +7,7 @@ use std::io::{BufWriter, Read, Write};
 use tantivy_schema::common::{ReadSource, WriteSink};
 use tantivy_schema::{Halt, RunEnd, run};
 
-// So many bytes of answers are collected before they are written.
+// This many bytes of answers are collected before they are written.
 const BUFFERED: usize = 65536;
 
 /// Answers the lines of a reader on a writer, and gives the exit status of a program that does only that: `RunEnd::status` of how the

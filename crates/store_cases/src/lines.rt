@@ -34,7 +34,7 @@ fn over_source(alloc: Global, source: &str, room: &str, input: &[u8]) -> Result<
     ran(alloc, &mut failing, room)
 }
 
-// How a run over a document with a text of so many letters ends, and the digits of what is stored before these. It is checked that
+// How a run over a document with a text of this many letters ends, and the digits of what is stored before these. It is checked that
 // the letters follow, and that they are read back.
 fn long(alloc: Global, count: usize) -> Result<String> {
     let letters = "a".repeat(alloc, count)?;
@@ -59,7 +59,7 @@ fn bytes(alloc: Global, word: &str) -> Result<Vec<u8>> {
     words::bytes(alloc, word)
 }
 
-// The run over a source, into a sink that has room for all bytes or for so many.
+// The run over a source, into a sink that has room for all bytes or for this many.
 fn ran<S: ByteSource>(alloc: Global, source: &mut S, room: &str) -> Result<String> {
     let mut held = VecSink::new(alloc);
     if room == "all" {

@@ -53,7 +53,7 @@ pub fn once(alloc: Global, answers: &[String]) -> Result<String> {
     Ok(text)
 }
 
-// How the reading ends over a source that gives at most so many bytes at once.
+// How the reading ends over a source that gives at most this many bytes at once.
 fn in_packets<R: Reading>(alloc: Global, bytes: &[u8], packet: usize, reading: &R) -> Result<String>
     requires { 0 < packet }
 {

@@ -16,7 +16,7 @@ pub struct LimitedSource<'a> {
 }
 
 impl<'a> LimitedSource<'a> {
-    /// Lends at most so many of the bytes at once.
+    /// Lends at most this many of the bytes at once.
     pub fn lending(bytes: &'a [u8], window: usize) -> LimitedSource<'a> {
         LimitedSource {
             rest: bytes,

@@ -143,7 +143,7 @@ impl Reading for ChangesReading {
     }
 }
 
-// The document of the pairs that are finished after so many steps, and whether the last step says that there is more.
+// The document of the pairs that are finished after this many steps, and whether the last step says that there is more.
 fn after(alloc: Global, steps: usize, version: DocStoreVersion, bytes: &[u8]) -> Result<String> {
     let mut source = SliceSource::new(bytes);
     let mut decoder = DirectDecoder::new(alloc, version);

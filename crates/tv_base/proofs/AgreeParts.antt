@@ -67,7 +67,7 @@ unfolding text_at
 text_agrees = agrees_too (λ bytes. refl) text_to text_from text_errors
     (in_turn sized_agrees (λ content. chosen (is_utf8 content) (nothing_read UnexpectedEnd content) (nothing_stands NotUtf8 (λ e. cc))))
 
--- ---- so many items
+-- ---- this many items
 
 abbrev AreEach : {Y : Type 0} → (List ℕ → Y → Type 0) → ℕ → List ℕ → List Y → Type 0
 AreEach A n bytes ys = (length ys ≡ n) × Each A bytes ys

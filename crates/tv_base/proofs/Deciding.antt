@@ -10,7 +10,7 @@ pub data Decided {A C : Type 0} (R : List ℕ → A → Type 0) (F : List ℕ �
   begins : (x : A) (prefix rest : List ℕ) → bytes ≡ prefix ++ rest → R prefix x → Decided R F bytes
   malformed : (c : C) → F bytes c → Decided R F bytes
 
--- all bytes of which there are at most so many
+-- all bytes of which there are at most this many
 pub record Decides {A C : Type 0} (most : ℕ) (R : List ℕ → A → Type 0) (F : List ℕ → C → Type 0) : Type 0 where
   pub decides : (bytes : List ℕ) → AllBytes bytes → length bytes ≤ most → Decided R F bytes
 
@@ -59,7 +59,7 @@ decides_then {most} {A} {B} {C} F R S G first second = record { decides = λ byt
         then_second F R S G bytes x prefix rest joined r ((second x).decides rest (bytes_after bytes prefix rest joined small) (omega (arith, ap length joined, length-append prefix rest)))
     after bytes small le (malformed c f) = malformed c (inl f)
 
--- ---- so many items
+-- ---- this many items
 
 abbrev pub Items : {A : Type 0} → (List ℕ → A → Type 0) → ℕ → List ℕ → List A → Type 0
 Items R n whole xs = (length xs ≡ n) × Each R whole xs

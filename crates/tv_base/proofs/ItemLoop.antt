@@ -1,4 +1,4 @@
--- So many items, as a loop reads them.
+-- This many items, as a loop reads them.
 use Rattle.std.proofs.Common.{◌≡◌, ℕ, suc, ◌+◌, ◌-◌, ◌<◌, ◌≤◌, List, [], ◌∷◌, ◌++◌, Result, Ok, Err, refl, ap, ◌∙◌, arith}
 use Rattle.std.proofs.lemmas.List.{append-nil}
 use Rattle.tv_base.specs.Stop.{◌>>=◌}

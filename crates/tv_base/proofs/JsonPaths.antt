@@ -190,7 +190,7 @@ join-append (x ∷ []) (y ∷ m) h k = refl
 join-append (x ∷ y ∷ l) m h k =
     ap (λ t. x ++ 1 ∷ t) (join-append (y ∷ l) m (λ e. cc) k) ∙ sym (append_assoc x (1 ∷ join_with_byte 1 (y ∷ l)) (1 ∷ join_with_byte 1 m))
 
--- the first segment and so many others
+-- the first segment and this many others
 abbrev pub joined_with : {S : Type 0} → List ℕ → (S → List ℕ) → List S → ℕ → List ℕ
 joined_with first bytes others n = join_with_byte 1 (first ∷ map bytes (take n others))
 

@@ -35,7 +35,7 @@ groups_small k n h = cond-true (ltb n 128) _ _ (lt-ltb n 128 h)
 pub groups_large : (k n : ℕ) → 128 ≤ n → groups_of (suc k) n ≡ n % 128 ∷ groups_of k (n / 128)
 groups_large k n h = cond-false (ltb n 128) _ _ (le-ltb n 128 h)
 
--- so many groups hold each number below that power of 128
+-- this many groups hold each number below that power of 128
 groups_encode : (k n : ℕ) → n < 128 ^ suc k → Groups (groups_of (suc k) n) n
 groups_encode zero n h = rw (groups_small 0 n h) (last h)
 groups_encode (suc k) n h =
@@ -86,7 +86,7 @@ agree_number m n = agree_from {R = VNum} one_number m n
 pub agree_counted : {A : Type 0} {R : List ℕ → A → Type 0} → OneReading R → (xs ys : List A) → Agree (λ b. Counted R b xs) (λ b. Counted R b ys) (xs ≡ ys)
 agree_counted {R = R} r xs ys = agree_map (λ s. s.1) (agree_then (agree_number (length xs) (length ys)) (λ e. agree_each {R = R} r xs ys e))
 
--- numbers in so many bytes
+-- numbers in this many bytes
 
 fixed_reads : {k : ℕ} {a b : List ℕ} {m n : ℕ} (x y : List ℕ) → Fixed k a m → Fixed k b n → a ++ x ≡ b ++ y → (a ≡ b) × (m ≡ n)
 fixed_reads x y no_bytes no_bytes e = (refl, refl)

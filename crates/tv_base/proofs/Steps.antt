@@ -153,7 +153,7 @@ below_root (b ∷ bs) h = Descends-root b bs (b ∷ bs) refl
 pub Descends-from_root : (g : List ℕ) → Descends [] g ↔ (g ≢ [])
 Descends-from_root g = ((λ d e. Descends-itself [] g e d), below_root g)
 
--- the first step and so many others
+-- the first step and this many others
 abbrev pub joined : List ℕ → List (Bor (List ℕ)) → ℕ → List ℕ
 joined first others n = join_with_byte 0 (first ∷ map (λ (step : Bor (List ℕ)). step.now) (take n others))
 

@@ -14,7 +14,7 @@ ErrorGrammar C = List ℕ → C → Type 0
 abbrev pub InThen : {C A : Type 0} → (List ℕ → C → Type 0) → (List ℕ → A → Type 0) → (A → List ℕ → C → Type 0) → List ℕ → C → Type 0
 InThen {C} {A} F R G whole cause = F whole cause ⊎ ((x : A) × Then (λ b. R b x) (λ rest. G x rest cause) whole)
 
--- one of so many items is malformed, and those before it are encoded
+-- of a number of items one is malformed, and those before it are encoded
 abbrev pub InEach : {C A : Type 0} → (List ℕ → C → Type 0) → (List ℕ → A → Type 0) → ℕ → List ℕ → C → Type 0
 InEach F R zero whole cause = ⊥
 InEach F R (suc n) whole cause = InThen F R (λ _. InEach F R n) whole cause
@@ -25,7 +25,7 @@ pub data ErrorInNumber (whole : List ℕ) : Cause → Type 0 where
   number_large : (prefix rest : List ℕ) (b : ℕ) → whole ≡ prefix ++ (b ∷ rest) → length prefix ≡ 9 → AllByRecursion (λ b. b < 128) prefix → b ≢ 128 → b ≢ 129
       → ErrorInNumber whole BadNumber
 
--- of so many bytes: there are fewer
+-- of this many bytes: there are fewer
 pub data ErrorInBytes (n : ℕ) (whole : List ℕ) : Cause → Type 0 where
   bytes_end : length whole < n → ErrorInBytes n whole UnexpectedEnd
 

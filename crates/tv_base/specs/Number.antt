@@ -13,7 +13,7 @@ pub record VNum (bytes : List ℕ) (n : ℕ) : Type 0 where
   pub at_most_ten : length bytes ≤ 10
   pub fits : n < 2 ^ 64
 
--- n in so many groups at most
+-- n in this many groups at most
 abbrev pub groups_of : ℕ → ℕ → List ℕ
 groups_of zero n = []
 groups_of (suc k) n = if nat_lt n 128 then (n + 128) ∷ [] else n % 128 ∷ groups_of k (n / 128)
@@ -22,12 +22,12 @@ groups_of (suc k) n = if nat_lt n 128 then (n + 128) ∷ [] else n % 128 ∷ gro
 unfoldable pub vnum : ℕ → List ℕ
 vnum n = groups_of 10 n
 
--- a number in so many bytes, the lowest first
+-- a number in this many bytes, the lowest first
 pub data Fixed : ℕ → List ℕ → ℕ → Type 0 where
   no_bytes : Fixed 0 [] 0
   low_byte : {k b high : ℕ} {bytes : List ℕ} → b < 256 → Fixed k bytes high → Fixed (suc k) (b ∷ bytes) (b + 256 * high)
 
--- the lowest so many bytes of n
+-- the lowest this many bytes of n
 abbrev pub low_bytes : ℕ → ℕ → List ℕ
 low_bytes zero n = []
 low_bytes (suc k) n = n % 256 ∷ low_bytes k (n / 256)

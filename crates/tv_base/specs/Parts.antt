@@ -26,7 +26,7 @@ pub record Behind (code : ℕ) (P : List ℕ → Type 0) (whole : List ℕ) : Ty
   pub joined : whole ≡ code ∷ body
   pub encoded : P body
 
--- a length, and then so many bytes
+-- a length, and then this many bytes
 pub record Sized (whole content : List ℕ) : Type 0 where
   pub size : List ℕ
   pub joined : whole ≡ size ++ content

@@ -81,7 +81,7 @@ text_at bytes = do
 
 -- ---- items
 
--- so many items, one after the other
+-- this many items, one after the other
 unfoldable pub each_at : {F Y : Type 0} → (List ℕ → Result (Y × List ℕ) (F × List ℕ)) → ℕ → List ℕ → Result (List Y × List ℕ) (F × List ℕ)
 each_at item zero bytes = Ok ([], bytes)
 each_at item (suc n) bytes = do

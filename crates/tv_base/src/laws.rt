@@ -30,7 +30,7 @@ pub fn short_numbers_are_shortest()
     ensures { (n : ℕ) (bytes : List ℕ) → VNum bytes n → length (vnum n) ≤ length bytes }
 {}
 
-/// No encoding of a number in so many bytes begins another, and each encodes one number.
+/// No encoding of a number in this many bytes begins another, and each encodes one number.
 pub fn fixed_numbers_have_one_reading()
     ensures { (k : ℕ) → OneReading (Fixed k) }
 {}

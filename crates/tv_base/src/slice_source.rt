@@ -99,7 +99,7 @@ impl<'a> ByteSource for SliceSource<'a> {
         self.rest
     }
 
-    /// Takes so many bytes where there are as many.
+    /// Takes this many bytes where there are as many.
     fn pass(&mut self, len: usize) -> bool
         ensures passed { IsTrue result ↔ (len ≤ length self.old.rest.now) }
         ensures bytes { Passes self.old.rest.now self.new.rest.now len result }

@@ -78,7 +78,7 @@ pub trait ByteSource {
         &[]
     }
 
-    /// Takes so many of the buffered bytes without a read, and says whether it did. If it didn't, nothing has changed. (Not in tantivy.)
+    /// Takes this many of the buffered bytes without a read, and says whether it did. If it didn't, nothing has changed. (Not in tantivy.)
     fn pass(&mut self, len: usize) -> bool
         ensures bytes { is_known self.old → Passes (left self.old) (left self.new) len result }
         ensures is_known { is_known self.old → is_known self.new }

@@ -172,7 +172,7 @@ pub fn take_bool<S: ByteSource>(source: &mut S, count: &mut u64) -> Result<bool,
     }
 }
 
-// A number of variable length has at most so many bytes.
+// A number of variable length has at most this many bytes.
 const LONGEST_NUMBER: u64 = 10;
 
 /// Takes a number of variable length. No byte is taken behind the first error.

@@ -11,7 +11,7 @@ use crate::sink::ByteSink;
 use std::alloc::{AllocError, Global};
 use std::io;
 
-// The first write makes room for so many bytes: enough for a short document.
+// The first write makes room for this many bytes: enough for a short document.
 const FIRST_ROOM: usize = 256;
 
 // Puts the bytes behind those that are there.

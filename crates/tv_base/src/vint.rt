@@ -13,7 +13,7 @@ use crate::take::take_vint;
 pub struct VInt(pub u64);
 
 impl VInt {
-    /// The shortest encoding: so many bytes at the start of the array. What stands behind them is unspecified.
+    /// The shortest encoding: this many bytes at the start of the array. What stands behind them is unspecified.
     pub fn encoding(self) -> ([u8; 10], usize)
         ensures len { result.1 ≤ 10 }
         ensures bytes { take result.1 result.0 ≡ vnum self.0 }

@@ -8,7 +8,7 @@ use Rattle.tv_field.specs.Entry.{Entry}
 use Rattle.tv_schema.specs.Path.{is_splitting_dot, field_of_prefix, parted_at, last_given, find}
 use Rattle.tv_schema.specs.Schema.{field_named}
 
--- the text stands behind so many bytes of the path
+-- the text stands behind this many bytes of the path
 pub record IsSuffix (path text : List ℕ) : Type 0 where
   pub place : ℕ
   pub within : place ≤ length path

@@ -13,7 +13,7 @@ use Rattle.tv_format.specs.Version.{Version}
 use Rattle.tv_legacy.specs.Legacy.{Legacy}
 use Rattle.tv_store.specs.Stored.{stored}
 
--- The first bytes, so many, encode the document.
+-- The first bytes, this many, encode the document.
 pub record ReadsFirst (v : Version) (bytes : List ℕ) (document : Document) (taken : ℕ) : Type 0 where
   pub within : taken ≤ length bytes
   pub encoded : EncodesDocument Legacy v (take taken bytes) document

@@ -57,7 +57,7 @@ RefusesDocument v bytes (documents.Corrupted cause) = NoDocument v bytes (corrup
 RefusesDocument v bytes documents.KeyIsNoText = (code : ℕ) × NoDocument v bytes (no_text_key code)
 RefusesDocument v bytes documents.HeapFull = HasNoRoom v bytes
 
--- So many bytes encode documents, and the document that begins behind them is refused.
+-- This many bytes encode documents, and the document that begins behind them is refused.
 pub record Breaks (v : Version) (block : List ℕ) (start : ℕ) (refusal : DocumentRefusal) : Type 0 where
   pub before : List ℕ
   pub behind : List ℕ
@@ -71,7 +71,7 @@ abbrev pub IsBlockRefusal : Version → List ℕ → BlockError → Type 0
 IsBlockRefusal v block (errors.BadDocument start refusal) = Breaks v block start refusal
 IsBlockRefusal v block e = ⊥
 
--- what is said where reading a document behind so many bytes returns an error
+-- what is said where reading a document behind this many bytes returns an error
 abbrev pub document_refusal : ℕ → DeserializeError → BlockError
 document_refusal start (reads.CorruptedValue cause) = errors.BadDocument start (documents.Corrupted cause)
 document_refusal start (reads.TypeMismatch expected actual) = errors.BadDocument start documents.KeyIsNoText

@@ -6,7 +6,7 @@ ghost use Rattle.std.specs.Ordering.{nat_cmp};
 
 use std::cmp::Ordering;
 
-// So many bytes are compared one by one.
+// This many bytes are compared one by one.
 const FIRST_BYTES: usize = 8;
 
 /// How two keys compare by their bytes, as `cmp` says. Most keys differ in one of their first bytes, and this decides. (Not in tantivy.)

@@ -30,7 +30,7 @@ leaf_encoded version t c code bytes rest old new p is formed begins put =
 
 -- ---- lists
 
--- So many children, of a list that announces a total, were read behind that number, and written.
+-- This many children, of a list that announces a total, were read behind that number, and written.
 pub record ReadPut {T : Type 0} (Child : List ℕ → T → Type 0) (trees : List T → List Tree) (total count : ℕ) (bytes rest old before heap places : List ℕ) : Type 0 where
   pub behind : List ℕ
   pub number : Begins (λ b. VNum b total) bytes behind

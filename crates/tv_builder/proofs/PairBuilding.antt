@@ -273,7 +273,7 @@ HasContent-prop (in_bytes ls kinds.Key n bs) = hlevel props
 HasContent-prop (complete t) = λ x y. absurd x
 HasContent-prop (in_lists ls) = λ x y. absurd x
 
--- a call that belongs where so many bytes are missing
+-- a call that belongs where this many bytes are missing
 pub builds_chunk : (old new : PairBuilder) (mid : Building) (n : ℕ) (fits : Type 0) (after : State → State) (r t : Answer) → old.failed ≡ false
     → Does old.building mid (InState old.building (λ s. TakesBytes s n)) (Unit {0}) fits after r → Settled mid new.building old.kept old.failed new.failed r → new.kept ≡ old.kept → new.pairs.items ≡ old.pairs.items → t ≡ r
     → Builds old new (TakesBytes (state_of old) n) fits after t

@@ -168,11 +168,11 @@ module _ (Legacy : List ℕ → Entries → Type 0) (L : List ℕ → Cause → 
   content_is : (kind : BytesKind) (m : ℕ) (bs b : List ℕ) (p : Each R b (bytes_head kind m ∷ some_bytes bs ∷ [])) → p.rest ≡ bs
   content_is kind m bs b p = p.second.joined ∙ ap (λ z. p.second.prefix ++ z) p.second.second ∙ append-nil p.second.prefix ∙ p.second.first
 
-  -- the bytes end before so many have come
+  -- the bytes end before this many have come
   sized_ends : (m : ℕ) (body bs rest : List ℕ) → VNum body m → length bs + length rest < m → ErrorInSized (body ++ (bs ++ rest)) UnexpectedEnd
   sized_ends m body bs rest h less = inr (m, record { prefix = body; rest = bs ++ rest; joined = refl; first = h; second = bytes_end (omega (arith, less, length-append bs rest)) })
 
-  -- so many have come, and they are no text
+  -- this many have come, and they are no text
   text_is_none : (m : ℕ) (body bs piece rest : List ℕ) → VNum body m → length bs + length piece ≡ m → ¬ IsUtf8 (bs ++ piece) → ErrorInText (body ++ (bs ++ (piece ++ rest))) NotUtf8
   text_is_none m body bs piece rest h full none =
       no_text (bs ++ piece) (body ++ (bs ++ piece)) rest (ap (λ z. body ++ z) (sym (append_assoc bs piece rest)) ∙ sym (append_assoc body (bs ++ piece) rest))
@@ -227,7 +227,7 @@ module _ (Legacy : List ℕ → Entries → Type 0) (L : List ℕ → Cause → 
       in_head kind m bs b (piece ++ rest) NotUtf8 is p
       (λ body h. text_is_none m body p.rest piece rest h (omega (arith, full, ap length content)) (subst (λ z. ¬ IsUtf8 (z ++ piece)) (sym content) none))
 
-  -- the bytes end before so many have come
+  -- the bytes end before this many have come
   pub end_errors : (n : ℕ) (d : Document) (f : ℕ) (kind : BytesKind) (ls : List OpenList) (m : ℕ) (bs rest : List ℕ) → length d < n → AreLists ls → OthersAwait ls → HeadNext kind ls → length bs + length rest < m
       → ErrorsBehind Legacy L v (open_parts n d f (in_bytes ls kind m bs)) rest (corrupted UnexpectedEnd)
   end_errors n d f kind ls m bs rest less are others next short = bytes_error n d f kind ls m bs rest (corrupted UnexpectedEnd) less are others next (λ b p. head_ends kind m bs rest short b p)

@@ -32,7 +32,7 @@ pairs_so_far b = b.pairs.items
 abbrev pub kept_heap : PairBuilder → List ℕ
 kept_heap b = take b.kept (heap_so_far b)
 
--- bytes are open, and so many more are announced
+-- bytes are open, and this many more are announced
 abbrev pub TakesBytes : State → ℕ → Type 0
 TakesBytes (in_bytes ls kind n bs) more = length bs + more ≤ n
 TakesBytes _ more = ⊥

@@ -17,7 +17,7 @@ pub record IsStart (old now : HeapPairs) : Type 0 where
   pub later : List HeapPair
   pub pairs : now.pairs.items ≡ old.pairs.items ++ later
 
--- So many pairs are added. The new heap and the new pairs' places are those that writing the trees one after the other gives. The heap
+-- This many pairs are added. The new heap and the new pairs' places are those that writing the trees one after the other gives. The heap
 -- grows by at most the room of the trees. Where there is none, all is unchanged.
 pub record AddsEncoded (v : Version) (old new : HeapPairs) (whole rest : List ℕ) (count : ℕ) : Type 0 where
   pub pairs : Document
@@ -37,7 +37,7 @@ pub record AddsEncodedPair (v : Version) (old new : HeapPairs) (whole rest : Lis
   pub added : Added old new pair.0 pair.1
   pub start : IsStart old new
 
--- There were so many pairs and so long a heap, and nothing of them was changed since then but that more was added.
+-- There were this many pairs and so long a heap, and nothing of them was changed since then but that more was added.
 pub record StoodIn (old now : HeapPairs) (pairs heap : ℕ) : Type 0 where
   pub counted : length (document_of old) ≡ pairs
   pub heap_length : length (heap_of old) ≡ heap

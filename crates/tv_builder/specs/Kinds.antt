@@ -25,7 +25,7 @@ IsTextKind kinds.Facet = Unit {0}
 IsTextKind kinds.Bytes = ⊥
 IsTextKind kinds.Key = Unit {0}
 
--- how many children a list has, keys among them, of which so many elements or entries are announced
+-- how many children a list has, keys among them, of which this many elements or entries are announced
 abbrev pub total : ListKind → ℕ → ℕ
 total lists.Array n = n
 total lists.Object n = 2 * n

@@ -44,7 +44,7 @@ pub record GivesNot (old : Building) (p : Place) (new : Building) (e : BuildErro
 
 -- ---- the calls
 
--- whether a value of this room, which is known where 32 bits hold it, fits behind so many bytes
+-- whether a value of this room, which is known where 32 bits hold it, fits behind this many bytes
 abbrev pub FitsRoom : Option ℕ → ℕ → Bool → Type 0
 FitsRoom None len b = b ≡ false
 FitsRoom (Some n) len b = IsTrue b ↔ (len + n ≤ 4294967295)

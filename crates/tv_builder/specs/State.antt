@@ -29,7 +29,7 @@ pub data State : Type 0 where
 
 -- ---- what comes next
 
--- of a list with so many finished children
+-- of a list with this many finished children
 abbrev pub next_at : ListKind → ℕ → Awaits
 next_at lists.Array n = awaits.Value
 next_at lists.Object n = cond (nat_eq (n % 2) 0) awaits.Key awaits.Value

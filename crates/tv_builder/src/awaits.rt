@@ -7,7 +7,7 @@ pub enum Awaits {
     Value,
     /// A key of an object.
     Key,
-    /// So many more of the announced bytes, and then their end.
+    /// This many more of the announced bytes, and then their end.
     Bytes {
         /// How many have not come yet.
         missing: u32,

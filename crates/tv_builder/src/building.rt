@@ -136,7 +136,7 @@ impl Building {
         self.give(place)
     }
 
-    // A list has come, of which so many elements or entries are announced. One of none closes at once.
+    // A list has come, of which this many elements or entries are announced. One of none closes at once.
     pub(crate) fn open_list(&mut self, kind: ListKind, announced: u64) -> Result<(), BuildError>
         requires { HoldsSomeState self.old }
         ensures { Does self.old self.new (awaited_by self.old ≡ ValueNext) (Unit {0})
@@ -172,7 +172,7 @@ impl Building {
         self.give(place)
     }
 
-    // The bytes of a value or a key begin, of which so many are announced.
+    // The bytes of a value or a key begin, of which this many are announced.
     pub(crate) fn begin_bytes(&mut self, kind: BytesKind, announced: u64) -> Result<(), BuildError>
         requires { HoldsSomeState self.old }
         ensures { Does self.old self.new (awaited_by self.old ≡ head_awaits kind) (Unit {0})

@@ -75,7 +75,7 @@ fn put_encoded_leaf<'a>(code: u8, bytes: &'a [u8], heap: &mut Vec<u8>) -> Option
 /// Writes the value that these bytes begin with, as this version of the store encodes it, behind a heap: what the calls for its parts would
 /// write. Gives the bytes behind it, and its place. (Not in tantivy.)
 ///
-/// `None` where they begin with no value, or with an object as older stores hold it; where lists are nested deeper than so many levels; where
+/// `None` where they begin with no value, or with an object as older stores hold it; where lists are nested deeper than this many levels; where
 /// a part would end above 4294967295; and where memory is refused. The old heap is then still a prefix of the new, and what `places` holds is
 /// unspecified. Else `places`, at whose end the places of children stand until their list is written, is afterwards as it was.
 #[inline(always)]

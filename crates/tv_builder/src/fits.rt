@@ -10,7 +10,7 @@ use tv_heap::len::number_len;
 use tv_heap::room::{MAX_HEAP_LEN, room};
 use tv_value::value::Value;
 
-// Whether so many bytes behind their length fit behind a heap of this length.
+// Whether this many bytes behind their length fit behind a heap of this length.
 #[inline(always)]
 pub(crate) fn has_room(len: usize, content: u64) -> bool
     requires { len ≤ 4294967295 }

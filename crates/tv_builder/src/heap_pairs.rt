@@ -23,10 +23,10 @@ use tv_heap::write::write_leaf;
 use tv_value::leaf::ReferenceValueLeaf;
 use tv_value::value::{ReferenceValue, Value};
 
-// The first pair makes room for so many.
+// The first pair makes room for this many.
 const FIRST_PAIRS: usize = 16;
 
-// An encoded value with lists nested deeper than so many levels isn't added.
+// An encoded value with lists nested deeper than this many levels isn't added.
 const LEVELS: u32 = 64;
 
 /// Adds a pair behind those that are there. (Not in tantivy.) The only error is that memory was refused; the pairs are then as they were.
@@ -98,7 +98,7 @@ impl HeapPairs {
         }
     }
 
-    /// No pairs, with memory for so many bytes of values. The only error is that memory was refused.
+    /// No pairs, with memory for this many bytes of values. The only error is that memory was refused.
     pub fn with_capacity(alloc: Global, bytes: usize) -> Result<HeapPairs, AllocError>
         ensures document { IfOk result (λ made. document_of made ≡ []) }
         ensures heap { IfOk result (λ made. heap_of made ≡ []) }
@@ -194,7 +194,7 @@ impl HeapPairs {
         }
     }
 
-    /// Adds the pairs that these bytes begin with, as this version of the store encodes them, up to so many. Gives the bytes behind them,
+    /// Adds the pairs that these bytes begin with, as this version of the store encodes them, up to this many. Gives the bytes behind them,
     /// and how many they are. The old heap is a prefix of the new one, and the old pairs come first, at the same places.
     ///
     /// It stops before a pair that is malformed or not all there, before one that holds an object as older stores hold it or lists nested deeper
@@ -245,7 +245,7 @@ impl HeapPairs {
         }
     }
 
-    /// Takes back what was added since there were so many pairs and so long a heap. All is then as it was.
+    /// Takes back what was added since there were this many pairs and so long a heap. All is then as it was.
     pub fn take_back(&mut self, pairs: usize, heap: usize)
         requires { (old : HeapPairs) × StoodIn old self.old pairs heap }
         ensures { (old : HeapPairs) → StoodIn old self.old pairs heap → IsUnchanged old self.new }

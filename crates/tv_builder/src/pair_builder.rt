@@ -181,7 +181,7 @@ impl PairBuilder {
         settle(&mut self.building, &mut self.failed, self.kept, result)
     }
 
-    /// A list opens, of which so many elements or entries are announced. One of none closes at once. Nothing is reserved. `Memory` comes only
+    /// A list opens, of which this many elements or entries are announced. One of none closes at once. Nothing is reserved. `Memory` comes only
     /// where a list of none itself fits.
     pub fn open_list(&mut self, kind: ListKind, announced: u64) -> Result<(), BuildError>
         ensures { Builds self.old self.new (awaited (state_of self.old) ≡ ValueNext)
@@ -206,7 +206,7 @@ impl PairBuilder {
         settle(&mut self.building, &mut self.failed, self.kept, result)
     }
 
-    /// The bytes of a value or of a key begin, of which so many are announced. Nothing is reserved. `Memory` comes only where all of them fit.
+    /// The bytes of a value or of a key begin, of which this many are announced. Nothing is reserved. `Memory` comes only where all of them fit.
     pub fn begin_bytes(&mut self, kind: BytesKind, announced: u64) -> Result<(), BuildError>
         ensures { Builds self.old self.new (awaited (state_of self.old) ≡ head_awaits kind)
             (HeadFits (heap_so_far self.old) announced) (λ s. and_head s kind announced) result }

@@ -25,7 +25,7 @@ use tv_value::leaf::ReferenceValueLeaf;
 use tv_value::nested::{Nested, NestedValue, lend};
 use tv_value::value::Value;
 
-// Lists within fewer than so many others are written by recursion, and those further in by a loop, whose stack takes memory.
+// Lists within fewer than this many others are written by recursion, and those further in by a loop, whose stack takes memory.
 pub(crate) const LEVELS: u32 = 64;
 
 // Writes a value without children, and returns its place. After an error the old heap is still a prefix of the new.

@@ -12,7 +12,7 @@ IsPrinted z text = (shown : Civil) × (civil_nanos shown ≡ z) × (text ≡ dat
 
 -- ---- the same text as a function
 
--- how many years after -10000 the day's year is, of the first so many: the last one that has begun by then
+-- how many years after -10000 the day's year is, if it is at most the first number: the last one that has begun by then
 unfoldable pub year_index : ℕ → ℕ → ℕ
 year_index zero count = 0
 year_index (suc k) count = if nat_le (days_of_years (suc k)) count then suc k else year_index k count
@@ -34,11 +34,11 @@ clock_of z = unsigned_abs (int_rem_euclid z (pos 86_400_000_000_000))
 abbrev pub civil_text : ℤ → ℕ → ℕ → List ℕ
 civil_text y m d = year_text y ++ 45 ∷ [] ++ pad2 m ++ 45 ∷ [] ++ pad2 d
 
--- the date so many days after 1 January of the year
+-- the date this many days after 1 January of the year
 abbrev pub in_year : ℤ → ℕ → List ℕ
 in_year y left = let m = month_index y 11 left in civil_text y (m + 1) (left - days_of_months y m + 1)
 
--- the date so many days after 1 January of the year -10000
+-- the date this many days after 1 January of the year -10000
 abbrev pub date_text_of : ℕ → List ℕ
 date_text_of count = let k = year_index 20000 count in in_year (pos k -ℤ pos 10000) (count - days_of_years k)
 

@@ -54,14 +54,14 @@ pub struct DateTime {
 }
 
 impl DateTime {
-    /// The moment so many nanoseconds after 1970-01-01T00:00:00Z.
+    /// The moment this many nanoseconds after 1970-01-01T00:00:00Z.
     pub const fn from_timestamp_nanos(nanoseconds: i64) -> DateTime
         ensures { result.nanoseconds ≡ nanoseconds }
     {
         DateTime { nanoseconds }
     }
 
-    /// The moment so many microseconds after 1970-01-01T00:00:00Z, or `None` exactly where its nanoseconds don't fit 64 bits.
+    /// The moment this many microseconds after 1970-01-01T00:00:00Z, or `None` exactly where its nanoseconds don't fit 64 bits.
     pub const fn from_timestamp_micros(microseconds: i64) -> Option<DateTime>
         ensures { MatchOption result (¬ FitsSigned w64 (microseconds *ℤ pos 1000))
             (λ date. date.nanoseconds ≡ microseconds *ℤ pos 1000) }

@@ -22,7 +22,7 @@ use tv_value::value::Value;
 // Names, and the pairs whose values stand under each.
 type NamedPairs<'s, 'p, V> = Vec<(&'s str, &'p [(Field, V)])>;
 
-// So many names are kept in memory that is taken once.
+// This many names are kept in memory that is taken once.
 const FIRST_NAMES: usize = 16;
 
 // The field of the first pair, the pairs at the front that have it, and those behind them. `None` where there is no pair.

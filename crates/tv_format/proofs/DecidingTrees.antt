@@ -48,7 +48,7 @@ module _ (Legacy : List ℕ → Entries → Type 0) (ErrorInLegacy : List ℕ �
   abbrev InputError : List ℕ → Refusal → Type 0
   InputError = ErrorInValue Legacy ErrorInLegacy v
 
-  -- ---- so many elements
+  -- ---- this many elements
 
   abbrev ElementsOf : ℕ → List ℕ → Elements → Type 0
   ElementsOf n whole ts = (element_count ts ≡ n) × EncodesElements Legacy v whole ts
@@ -82,7 +82,7 @@ module _ (Legacy : List ℕ → Entries → Type 0) (ErrorInLegacy : List ℕ �
       (λ b p h. (ap suc h.second.0, record { prefix = h.prefix; rest = h.rest; joined = h.joined; first = h.first; second = h.second.1 })) (in_elements n)
       (decides_then InputError Value (λ _. ElementsOf n) (λ _. NoElements n) value (λ _. decides_elements most value n))
 
-  -- ---- so many entries
+  -- ---- this many entries
 
   abbrev EntriesOf : ℕ → List ℕ → Entries → Type 0
   EntriesOf n whole es = (entry_count es ≡ n) × EncodesEntries Legacy v whole es

@@ -34,7 +34,7 @@ begins_small byte rest high small =
 pub begins_length : {P : List ℕ → Type 0} (whole rest : List ℕ) → Begins P whole rest → length rest ≤ length whole
 begins_length whole rest p = omega (arith, ap length p.joined, length-append p.prefix rest)
 
--- bytes that are cut after so many
+-- bytes that are cut after this many
 pub begins_cut : (P : List ℕ → Type 0) (k : ℕ) (bytes prefix rest : List ℕ) → prefix ≡ take k bytes → rest ≡ drop k bytes → P prefix → Begins P bytes rest
 begins_cut P k bytes prefix rest p q s = record { prefix = prefix; joined = sym (take-append-drop k bytes) ∙ (λ i. sym p i ++ sym q i); encoded = s }
 
@@ -44,7 +44,7 @@ small_take (suc n) [] small i = omega arith
 small_take (suc n) (b ∷ bs) small zero = small 0
 small_take (suc n) (b ∷ bs) small (suc i) = small_take n bs (λ j. small (suc j)) i
 
--- so many bytes behind the number
+-- this many bytes behind the number
 pub sized_found : (bytes rest content behind : List ℕ) (n : ℕ) → Begins (λ b. VNum b n) bytes rest → n ≤ length rest → content ≡ take n rest → behind ≡ drop n rest
     → Begins (λ b. Sized b content) bytes behind
 sized_found bytes rest content behind n p l is after = record {

@@ -1,4 +1,4 @@
--- What is wrong with so many elements or entries: those before are encoded, and the next is malformed. `Legacy` and `L` say what encodes
+-- What is wrong with a number of elements or entries: some are encoded, and the next is malformed. `Legacy` and `L` say what encodes
 -- a legacy object, and what is wrong with bytes that encode none.
 use Rattle.std.specs.Prelude.{◌≡◌, ◌<◌, ℕ, List, ◌++◌}
 use Rattle.tv_base.specs.declared.cause.Cause.{Cause}

@@ -32,7 +32,7 @@ date_scale V3 = plain
 abbrev pub Date : Version → List ℕ → ℤ → Type 0
 Date v bytes nanoseconds = Scaled (date_scale v) bytes nanoseconds
 
--- the number that an object of so many entries announces: versions 1 and 2 count keys and values
+-- the number that an object of this many entries announces: versions 1 and 2 count keys and values
 abbrev pub entry_total : Version → ℕ → ℕ
 entry_total V1 n = 2 * n
 entry_total V2 n = 2 * n

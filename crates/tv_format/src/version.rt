@@ -16,7 +16,7 @@ pub enum WriteVersion {
 }
 
 impl WriteVersion {
-    /// The number that an object of so many entries announces. `None` where it is above 2^64 - 1, which it never is in version 3.
+    /// The number that an object of this many entries announces. `None` where it is above 2^64 - 1, which it never is in version 3.
     pub fn object_total(self, entries: u64) -> Option<u64>
         ensures { SomeIff result (entry_total (written_version self) entries < 2 ^ 64)
             (entry_total (written_version self) entries) }

@@ -28,7 +28,7 @@ use Rattle.tv_heap.specs.LeafBytes.{content_bytes, content_address, leaf_bytes, 
 use Rattle.tv_heap.specs.Room.{content_room, leaf_room, token_room}
 use Rattle.tv_heap.specs.Wrote.{Wrote}
 
--- a number below a power of 128 takes so many groups at most
+-- a number below a power of 128 takes this many groups at most
 vnum_short : (k n : ℕ) → n < 2 ^ 64 → n < 128 ^ suc k → length (vnum n) ≤ suc k
 vnum_short zero n h l = rw (vnum-small n (omega arith)) (omega arith)
 vnum_short (suc k) n h l =

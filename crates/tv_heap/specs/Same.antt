@@ -20,7 +20,7 @@ compared_eq Differ = false
 compared_eq Same = true
 compared_eq (Like p) = pair_eq p
 
--- the first value has fewer leaves and lists than so many
+-- the first value has fewer leaves and lists than this many
 abbrev pub Smaller : ℕ → Pair → Type 0
 Smaller n p = size (tree_of p.one) < n
 

@@ -20,7 +20,7 @@ use tv_value::value::Value;
 /// The most bytes that a heap has, so that 32 bits hold each address.
 pub const MAX_HEAP_LEN: u64 = 4294967295;
 
-// Lists within fewer than so many others are counted by recursion, and those further in by a loop, whose stack takes memory.
+// Lists within fewer than this many others are counted by recursion, and those further in by a loop, whose stack takes memory.
 const LEVELS: u32 = 64;
 
 // The room of a text or of bytes of this length.

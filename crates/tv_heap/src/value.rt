@@ -169,7 +169,7 @@ impl<'a> Value<'a> for CompactDocValue<'a> {
     }
 }
 
-/// The same, for walks over any value: its children are lent out of the document too.
+/// For walks over values of any kind. Its children are lent out of the document too, so they may outlive it.
 impl<'a> Nested for CompactDocValue<'a> {
     type Key = &'a str;
 

@@ -47,13 +47,13 @@ fn push_sixteen(heap: &mut Vec<u8>, number: u128) -> Result<(), AllocError>
     heap.extend_from_slice(&number.to_le_bytes())
 }
 
-/// For so many bytes a heap has memory at first: enough for the values of a short document.
+/// For this many bytes a heap has memory at first: enough for the values of a short document.
 pub const FIRST_ROOM: usize = 512;
 
-// The first place of a child makes room for so many bytes of places.
+// The first place of a child makes room for this many bytes of places.
 const FIRST_PLACES: usize = 128;
 
-// Makes room for so many bytes where there is none.
+// Makes room for this many bytes where there is none.
 #[inline(always)]
 fn make_room(bytes: &mut Vec<u8>, room: usize) -> Result<(), AllocError>
     ensures { bytes.new.items ≡ bytes.old.items }

@@ -64,7 +64,7 @@ impl TermList {
         self.ends.is_empty()
     }
 
-    /// The bytes of the term at this place, counted from 0, or `None` where there are no more than so many terms.
+    /// The bytes of the term at this place, counted from 0, or `None` where there are no more than this many terms.
     pub fn get(&self, index: usize) -> Option<&[u8]>
         ensures { option_copied result ≡ slice_get self.now index }
     {

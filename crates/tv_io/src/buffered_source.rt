@@ -18,7 +18,7 @@ use std::io;
 use std::io::{BufRead, BufReader, Read};
 use tv_base::{ByteSource, ReadError};
 
-// So many bytes are asked for in a read, unless the caller says how many.
+// This many bytes are asked for in a read, unless the caller says how many.
 const CAPACITY: usize = 65536;
 
 /// Gives what a reader gives, through a buffer, and lends what is buffered. So what is read from a file takes the same way as what is read
@@ -56,7 +56,7 @@ impl<R: Read> BufferedSource<R> {
         BufferedSource::with_capacity(alloc, CAPACITY, inner)
     }
 
-    /// A source over this reader, with a buffer of so many bytes. Nothing is read yet. With a capacity of 0 no more is read than is asked for: the
+    /// A source over this reader, with a buffer of this many bytes. Nothing is read yet. With a capacity of 0 no more is read than is asked for: the
     /// buffer then has one byte, for `next_byte`. The only error is that memory was refused; the reader is dropped then.
     pub fn with_capacity(
         alloc: Global,
@@ -81,7 +81,7 @@ impl<R: Read> BufferedSource<R> {
         }
     }
 
-    // Reads behind the bytes that are there, at most so many.
+    // Reads behind the bytes that are there, at most this many.
     fn read_behind(&mut self, bytes: &mut Vec<u8>, most: usize) -> Result<usize, ReadError>
         requires { most ≤ 4096 }
         ensures bound { IfOk result (λ n. n ≤ most) }
@@ -232,7 +232,7 @@ impl<R: Read> ByteSource for BufferedSource<R> {
         self.inner.buffer()
     }
 
-    /// Takes so many bytes where as many are buffered.
+    /// Takes this many bytes where as many are buffered.
     fn pass(&mut self, len: usize) -> bool
         // the trait's clauses
         ensures bytes { ⟦<BufferedSource<R> as ByteSource>⟧.is_known self.old

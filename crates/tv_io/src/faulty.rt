@@ -15,7 +15,7 @@ pub struct Faulty<T> {
     pub(crate) failures: CountedFailures,
 }
 
-/// Reads another source, at most one byte a call, and fails once: so many calls pass, the next one fails with an error of a chosen kind,
+/// Reads another source, at most one byte a call, and fails once: this many calls pass, the next one fails with an error of a chosen kind,
 /// and all later ones pass. So a test sees what a reader does where any one of its reads fails. (Not in tantivy.)
 ///
 /// A call whose buffer is empty passes, and isn't counted. No byte is shown as buffered, so that each byte takes a read.
@@ -29,7 +29,7 @@ pub struct Faulty<T> {
 /// ```
 pub type FaultSource<S> = Faulty<S>;
 
-/// Writes to another sink, at most one byte a call, and fails once: so many calls pass, the next one fails with an error of a chosen kind,
+/// Writes to another sink, at most one byte a call, and fails once: this many calls pass, the next one fails with an error of a chosen kind,
 /// and all later ones pass. So a test sees what a writer does where any one of its writes fails. (Not in tantivy.)
 ///
 /// A call whose buffer is empty passes, and isn't counted.

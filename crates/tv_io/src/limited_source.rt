@@ -11,7 +11,7 @@ ghost use Rattle.tv_io.specs.Limited.{TakesWithin, first_bytes};
 use std::io;
 use tv_base::{ByteSource, ReadError};
 
-/// The first bytes of another source, at most so many, as std's `Read::take` gives them. It is lent the other source, and takes of it just
+/// The first bytes of another source, at most this many, as std's `Read::take` gives them. It is lent the other source, and takes of it just
 /// the bytes that it gives. Where all of them were taken it is at its end, and the other source isn't read any more. (Not in tantivy.)
 ///
 /// ```
@@ -44,7 +44,7 @@ impl<'s, S: ByteSource> LimitedSource<'s, S> {
         self.limit
     }
 
-    // So many, or as many as may be taken.
+    // This many, or as many as may be taken.
     fn within(&self, most: usize) -> usize
         ensures at_most { result ≤ most }
         ensures limit { result ≤ self.now.limit }
@@ -155,7 +155,7 @@ impl<'s, S: ByteSource> ByteSource for LimitedSource<'s, S> {
         &buffered[..most]
     }
 
-    /// Takes so many of the bytes that the other source has buffered, if as many may be taken.
+    /// Takes this many of the bytes that the other source has buffered, if as many may be taken.
     fn pass(&mut self, len: usize) -> bool
         // the trait's clauses
         ensures bytes { S.is_known self.old.source.now

@@ -16,10 +16,10 @@ use std::mem::replace;
 use tv_value::nested::{Lent, Nested, NestedValue, lend};
 use tv_value::value::Value;
 
-// Lists within so many others are written by recursion, which is faster, and those further in by a loop.
+// Lists within this many others are written by recursion, which is faster, and those further in by a loop.
 const LEVELS: u32 = 64;
 
-// Writes a value. Lists within so many others are written by recursion.
+// Writes a value. Lists within this many others are written by recursion.
 #[cycle(write_value)]
 fn write_value<N: Nested>(json: &mut JsonWriter, value: &N, levels: u32) -> Result<(), AllocError>
     ensures ok { OnOk result

@@ -73,7 +73,7 @@ early_number n = record {
   early = λ whole start rest h joined some. number_ends (omega (arith, h.at_most_ten, fewer whole start rest joined some)) (groups_early h.groups start rest joined some);
 }
 
--- ---- so many bytes
+-- ---- this many bytes
 
 pub early_bytes : (k : ℕ) (P : List ℕ → Type 0) → ((b : List ℕ) → P b → length b ≡ k) → Early P (λ w. ErrorInBytes k w UnexpectedEnd)
 early_bytes k P many = record { early = λ whole start rest p joined some. bytes_end (omega (arith, many whole p, fewer whole start rest joined some)) }

@@ -44,7 +44,7 @@ unfolding rest_at u8_at
 rest_by_byte prefix [] = refl
 rest_by_byte prefix (b ∷ bytes) = refl
 
--- so many braces are open
+-- this many braces are open
 abbrev pub IsDepth : ℕ → List ℕ → Type 0
 IsDepth depth prefix = depth + closed prefix ≡ opened prefix
 

@@ -9,7 +9,7 @@ use std::alloc::{AllocError, Global};
 use std::io;
 use tv_base::ByteSource;
 
-// So many bytes are asked for in a read.
+// This many bytes are asked for in a read.
 const CHUNK: usize = 65536;
 
 // Reads a source in large pieces, and gives it line by line.
@@ -28,7 +28,7 @@ pub(crate) struct LineReader {
     ghost has_room: { 0 < vec_len chunk },
 }
 
-// Reads into the start of the piece, at most so many bytes.
+// Reads into the start of the piece, at most this many bytes.
 fn read_prefix<S: ByteSource>(
     source: &mut S,
     chunk: &mut Vec<u8>,

@@ -7,7 +7,7 @@ use Rattle.tv_format.specs.Encoding.{Key, Encodes}
 use Rattle.tv_format.specs.Tree.{Tree, leaf, array, object, Elements, no_elements, element, element_count, Entries, no_entries, entry, entry_count}
 use Rattle.tv_format.specs.Version.{Version, entry_total}
 
--- The bytes encode the tree, and no more than so many lists are open at once in them.
+-- The bytes encode the tree, and no more than this many lists are open at once in them.
 module _ (v : Version) where
   abbrev mutual
     pub EncodesWithin : ℕ → List ℕ → Tree → Type 0
@@ -31,7 +31,7 @@ module _ (v : Version) where
 abbrev pub BehindKey : Version → (List ℕ → Type 0) → List ℕ → Type 0
 BehindKey v P whole = (k : List ℕ) × Then (λ b. Key v b k) P whole
 
--- of so many elements some are whole and within a depth, and then bytes of some kind stand in the place of the next
+-- of a number of elements some are whole and within a depth, and then bytes of some kind stand in the place of the next
 pub record AmongElements (v : Version) (n : ℕ) (P : List ℕ → Type 0) (count : ℕ) (whole : List ℕ) : Type 0 where
   pub before : Elements
   pub fewer : element_count before < count
@@ -43,7 +43,7 @@ pub record AmongEntries (v : Version) (n : ℕ) (P : List ℕ → Type 0) (count
   pub fewer : entry_count before < count
   pub parts : Then (λ b. EntriesWithin v n b before) (BehindKey v P) whole
 
--- The bytes are the beginning of a value, up to the code that opens one list more than so many at once: at 0 such a code alone; else the
+-- The bytes are the beginning of a value, up to the code that opens one list more than this many at once: at 0 such a code alone; else the
 -- code and the number of a list, some of its children, and the same of the next child, in which one list fewer may be open.
 abbrev pub Opens : Version → ℕ → List ℕ → Type 0
 Opens v zero whole = (whole ≡ 12 ∷ []) ⊎ (whole ≡ 13 ∷ [])

@@ -46,7 +46,7 @@ abbrev pub tree_stop : DeserializeError → Stop Refusal
 tree_stop errors.TooDeep = Short
 tree_stop e = store_stop e
 
--- which of them may stop it after so many bytes
+-- which of them may stop it after this many bytes
 abbrev pub StoreMayStop : DeserializeError → ℕ → Type 0
 StoreMayStop (errors.CorruptedValue c) count = CauseMayStop c count
 StoreMayStop errors.TooDeep count = ⊥

@@ -44,7 +44,7 @@ token_at whole = do
   positions ← vint_at content.1
   Ok (record { offset_from = from.0; offset_to = to.0; position = position.0; text = content.0; position_length = positions.0 }, positions.1)
 
--- so many tokens
+-- this many tokens
 abbrev pub tokens_at : ℕ → List ℕ → Result (List Token × List ℕ) (Cause × List ℕ)
 tokens_at n whole = each_at token_at n whole
 

@@ -31,7 +31,7 @@ EncodesBehind v kind b x = EncodesValue v (type_prefix kind ++ b) x
 abbrev pub NoneBehind : Version → ValueType → List ℕ → Refusal → Type 0
 NoneBehind v kind b r = NoValue v (type_prefix kind ++ b) r
 
--- so many values, one after the other
+-- this many values, one after the other
 pub record EncodesItems (v : Version) (n : ℕ) (b : List ℕ) (items : Vec OwnedValue Global) : Type 0 where
   pub many : length items.items ≡ n
   pub encoded : EncodesElements Legacy v b (elements (map owned_tree items.items))
@@ -46,7 +46,7 @@ EncodesMember v b member = Then (λ w. Key v w (string_bytes member.0)) (λ w. E
 abbrev pub NoMember : Version → List ℕ → Refusal → Type 0
 NoMember v = InThen (ErrorInKey v) (Key v) (λ _. NoValue v)
 
--- so many keys with values
+-- this many keys with values
 pub record EncodesMembers (v : Version) (n : ℕ) (b : List ℕ) (members : Vec (String Global × OwnedValue) Global) : Type 0 where
   pub many : length members.items ≡ n
   pub encoded : EncodesEntries Legacy v b (entries (owned_entries members.items))
@@ -66,7 +66,7 @@ pub data ErrorInTwice (whole : List ℕ) : Cause → Type 0 where
   in_number : {c : Cause} → ErrorInNumber whole c → ErrorInTwice whole c
   odd_number : (n : ℕ) (prefix rest : List ℕ) → whole ≡ prefix ++ rest → VNum prefix n → ((m : ℕ) → 2 * m ≢ n) → ErrorInTwice whole OddObject
 
--- what an object of so many entries announces
+-- what an object of this many entries announces
 abbrev pub EncodesEntryCount : Version → List ℕ → ℕ → Type 0
 EncodesEntryCount v b n = VNum b (entry_total v n)
 

@@ -95,7 +95,7 @@ fn take_lent_token<'t, S: ByteSource>(
     })
 }
 
-// So many tokens. Nothing is reserved from their number.
+// This many tokens. Nothing is reserved from their number.
 fn gather_tokens<G: Gathers, S: ByteSource>(
     alloc: Global,
     source: &mut S,

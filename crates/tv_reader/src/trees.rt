@@ -209,7 +209,7 @@ pub fn take_behind<S: ByteSource>(
     }
 }
 
-// So many values.
+// This many values.
 #[cycle(trees)]
 fn take_items<S: ByteSource>(
     alloc: Global,
@@ -261,7 +261,7 @@ fn take_member<S: ByteSource>(
     Ok((key, value))
 }
 
-// So many keys with values.
+// This many keys with values.
 #[cycle(trees)]
 fn take_members<S: ByteSource>(
     alloc: Global,

@@ -32,14 +32,14 @@ use Rattle.tv_reading.specs.ChosenPair.{FindsPair, FindsNoPair, PairHasNoRoom}
 use Rattle.tv_reading.proofs.ChosenPairs.{chosen_stand, pair_ended}
 use Rattle.tv_reader.specs.Error.{StoreMayStop, StoreMayStopLean}
 
--- so many of the announced pairs were taken, and the chosen ones of these are kept
+-- this many of the announced pairs were taken, and the chosen ones of these are kept
 pub record TakenChosen (v : Version) (fields : List Field) (announced count : ℕ) (taken : List ℕ) (kept : HeapPairs) : Type 0 where
   pub pairs : Document
   pub counted : length pairs ≡ count
   pub encoded : Then (λ b. VNum b announced) (λ b. Each (EncodesPair Legacy v) b pairs) taken
   pub document : document_of kept ≡ chosen fields pairs
 
--- one of so many pairs is malformed
+-- of a number of pairs one is malformed
 in_pairs : (v : Version) (d : Document) (n : ℕ) (a w : List ℕ) (r : Refusal) → length d < n → Each (EncodesPair Legacy v) a d → ErrorInPair Legacy ErrorInLegacy v w r → InEach (ErrorInPair Legacy ErrorInLegacy v) (EncodesPair Legacy v) n (a ++ w) r
 in_pairs v d zero a w r less p f = absurd (omega (arith, less))
 in_pairs v [] (suc n) a w r less p f = inl (subst (λ z. ErrorInPair Legacy ErrorInLegacy v (z ++ w) r) (sym p) f)

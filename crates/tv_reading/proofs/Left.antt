@@ -45,7 +45,7 @@ opened_ended v r f = value_ended refl f
 
 -- ---- the items of an array
 
--- so many values, and what is behind them
+-- this many values, and what is behind them
 record Values (v : Version) (Rest : List ℕ → Type 0) (n : ℕ) (whole : List ℕ) : Type 0 where
   trees : Elements
   many : element_count trees ≡ n
@@ -164,7 +164,7 @@ entry_errors v E (suc n) whole r (inr p) = elim (entry_errors v E n p.rest r p.s
 
 -- ---- a list as one value
 
--- its head, and so many items behind it
+-- its head, and this many items behind it
 array_closes : (v : Version) (Rest : List ℕ → Type 0) (n : ℕ) (head rest : List ℕ) → OpensList v head kinds.Value n → Values v Rest n rest → Then (IsValueEncoding v) Rest (head ++ rest)
 array_closes v Rest n head rest h q = record {
   prefix = head ++ q.parts.prefix;
@@ -235,7 +235,7 @@ passed_then v first second third a b p q = record {
   refuses = λ rest r f. subst (λ l. ErrorInLeft v first l r) (sym (append_assoc a b rest)) (p.refuses (b ++ rest) r (q.refuses rest r f));
 }
 
--- so many items of a kind
+-- this many items of a kind
 abbrev pub so_many : ItemKind → ℕ → ItemsLeft
 so_many kind n = record { kind = kind; left = n }
 

@@ -79,7 +79,7 @@ text_ended n _ (text_is_none content rest joined many none) = absurd (none (subs
 
 -- ---- bytes
 
--- so many bytes lack, and more are no text
+-- this many bytes lack, and more are no text
 pub more_bytes : (n : ℕ) (a w : List ℕ) (r : Refusal) (missing most : ℕ) → length a + missing ≡ n → most ≤ missing → Corrupt (ErrorInBytes most) w r → Corrupt (ErrorInBytes n) (a ++ w) r
 more_bytes n a w _ missing most sum within (corrupt {c} f) =
     let p = bytes_error most w c f in

@@ -42,7 +42,7 @@ errors_then v kind E (suc n) a b r p f = inr (record {
   second = errors_then v kind E n p.rest b r p.second f;
 })
 
--- so many, and so many more
+-- one number of them, and then another
 items_joined : (v : Version) (kind : ItemKind) (Rest : List ℕ → Type 0) (n m : ℕ) (whole : List ℕ) → AreItems v kind (AreItems v kind Rest m) n whole → AreItems v kind Rest (n + m) whole
 items_joined v kind Rest zero m whole p = subst (λ k. AreItems v kind Rest k whole) {x = m} (omega arith) p
 items_joined v kind Rest (suc n) m whole p =

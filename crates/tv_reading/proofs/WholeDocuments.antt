@@ -149,7 +149,7 @@ module _ {S : Type 0} {is_known : S → Type 0} {left : S → List ℕ} {failure
       let early = refused_behind v begun r f.prefix [] end f.encoded (ended_at v r sound more r.announced r.field refl refl) in
       record { taken = f.prefix; joined = f.joined; shown = subst (λ z. IsMalformedNext v begun z end) (append-nil f.prefix) early }
 
-  -- so many steps that no more can be counted
+  -- this many steps that no more can be counted
   pub too_many : {old mid : S} {i j : ℕ} (counter : ℕ) → IsSound r → ¬ IsDone r → j < 2 ^ 64 → 2 ^ 64 - 1 ≤ counter → (is_known old → counter + i ≤ j) → FindsIf StoreMayStop is_known left failures old i mid j (Ok r) (Goes v begun) Nothing
       → FindsIf {X = HeapPairs} StoreMayStop is_known left failures old i mid 18446744073709551615 (Err (errors.CorruptedValue causes.TooLong)) (EncodesRest v begun) (IsMalformedNext v begun)
   too_many counter sound more second many counts p = record {

@@ -126,7 +126,7 @@ missing_at a None d s missing has h e = absurd has
 pub some_missing : (r : Reading) (missing : ℕ) → Awaiting r (awaits.Bytes missing) → 0 < missing
 some_missing r missing h = missing_at r.announced r.field (built r.builder) (state_of r.builder) missing h.field h.sound.place h.next
 
--- what was taken of so many bytes
+-- what was taken of this many bytes
 abbrev pub Piece : ℕ → List ℕ → List ℕ → Type 0
 Piece n bytes a = (content : List ℕ) × AreBytes n a content × (bytes ≡ [] ++ content)
 

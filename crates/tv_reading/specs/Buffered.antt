@@ -7,7 +7,7 @@ use Rattle.tv_format.specs.Encoding.{EncodesPair, NoLegacy}
 use Rattle.tv_format.specs.Tree.{Document}
 use Rattle.tv_format.specs.Version.{Version}
 
--- what was taken encodes so many pairs, and these are added
+-- what was taken encodes this many pairs, and these are added
 pub record AddsBufferedPairs (v : Version) (old new : HeapPairs) (taken : List ℕ) (count : ℕ) : Type 0 where
   pub pairs : Document
   pub counted : length pairs ≡ count

@@ -28,12 +28,12 @@ IsCodedText whole = (content : List ℕ) × Behind 0 (λ b. Text b content) whol
 abbrev pub IsSizedEncoding : List ℕ → Type 0
 IsSizedEncoding whole = (content : List ℕ) × Sized whole content
 
--- so many bytes, or none were taken
+-- this many bytes, or none were taken
 abbrev pub PassesBytes : ℕ → List ℕ → Bool → Type 0
 PassesBytes n taken true = length taken ≡ n
 PassesBytes n taken false = taken ≡ []
 
--- so many bytes, and whether they are UTF-8
+-- this many bytes, and whether they are UTF-8
 pub record Tested (n : ℕ) (taken : List ℕ) (is_text : Bool) : Type 0 where
   pub many : length taken ≡ n
   pub tested : IsTrue is_text ↔ IsUtf8 taken
@@ -66,7 +66,7 @@ ErrorInTextAndNumber = InThen ErrorInText Text (λ _. ErrorInNumber)
 abbrev pub IsTokenEncoding : List ℕ → Type 0
 IsTokenEncoding whole = (token : Token) × TokenEncoding whole token
 
--- so many tokens
+-- this many tokens
 pub record AreTokenEncodings (n : ℕ) (whole : List ℕ) : Type 0 where
   pub tokens : List Token
   pub many : length tokens ≡ n
@@ -126,7 +126,7 @@ ErrorInItem v kind whole r = ErrorBefore v kind whole r ⊎ Then (Before v kind)
 
 -- ---- all that is left
 
--- so many items, and then what else is left
+-- this many items, and then what else is left
 abbrev pub AreItems : Version → ItemKind → (List ℕ → Type 0) → ℕ → List ℕ → Type 0
 AreItems v kind Rest zero = Rest
 AreItems v kind Rest (suc n) = Then (IsItem v kind) (AreItems v kind Rest n)
@@ -143,7 +143,7 @@ abbrev pub ErrorInLeft : Version → List ItemsLeft → List ℕ → Refusal →
 ErrorInLeft v [] whole r = ⊥
 ErrorInLeft v (items ∷ outer) whole r = ErrorInItems v items.kind (ErrorInLeft v outer) items.left whole r
 
--- The bytes begin with so many items, and this is behind them.
+-- The bytes begin with this many items, and this is behind them.
 abbrev pub BeginsItems : Version → ItemKind → ℕ → List ℕ → List ℕ → Type 0
 BeginsItems v kind n whole rest = Begins (AreItems v kind (λ b. b ≡ []) n) whole rest
 

@@ -20,7 +20,7 @@ HasFirstByte code (b ∷ bytes) = b ≡ code
 abbrev pub IsTakenWhole : Reading → List ℕ → Type 0
 IsTakenWhole r bytes = ValueNext r × (HasFirstByte 7 bytes ⊎ HasFirstByte 8 bytes)
 
--- so many bytes of those that were left were taken, whatever came of them: at most 4096, unless a value is taken whole
+-- this many bytes of those that were left were taken, whatever came of them: at most 4096, unless a value is taken whole
 abbrev pub IsFew : Reading → List ℕ → ℕ → ℕ → Type 0
 IsFew old left before after = (after ≤ before + 4096) ⊎ IsTakenWhole old left
 

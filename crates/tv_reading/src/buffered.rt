@@ -10,7 +10,7 @@ use tv_base::ByteSource;
 use tv_builder::heap_pairs::HeapPairs;
 use tv_reader::DocStoreVersion;
 
-/// Adds the next pairs that the source has buffered whole, at once, up to so many, and says how many they are. It may add none: where the
+/// Adds the next pairs that the source has buffered whole, at once, up to this many, and says how many they are. It may add none: where the
 /// source doesn't give the bytes that it has buffered, the pairs are taken back, so that they are read part by part.
 pub fn take_buffered_pairs<S: ByteSource>(
     document: &mut HeapPairs,

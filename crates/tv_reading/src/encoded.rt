@@ -43,7 +43,7 @@ fn behind_before(kind: ItemKind, bytes: &[u8], version: WriteVersion) -> Option<
     }
 }
 
-// What follows the value at the start. None where there is none, or one as older stores hold it, or lists are nested deeper than so many levels.
+// What follows the value at the start. None where there is none, or one as older stores hold it, or lists are nested deeper than this many levels.
 #[inline(always)]
 #[cycle(encoded)]
 fn behind_value(bytes: &[u8], version: WriteVersion, levels: u32) -> Option<&[u8]>
@@ -64,7 +64,7 @@ fn behind_value(bytes: &[u8], version: WriteVersion, levels: u32) -> Option<&[u8
     }
 }
 
-// What follows so many items of a list at the start, which takes a level.
+// What follows this many items of a list at the start, which takes a level.
 #[inline(never)]
 #[cycle(encoded)]
 fn behind_items(
@@ -88,7 +88,7 @@ fn behind_items(
     Some(rest)
 }
 
-// What follows the items at the start, as many as there are, up to so many, and how many they are.
+// What follows the items at the start, as many as there are, up to this many, and how many they are.
 pub(crate) fn behind_as_many(
     kind: ItemKind,
     most: u64,

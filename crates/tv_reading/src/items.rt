@@ -40,7 +40,7 @@ pub(crate) struct ItemsLeft {
     left: u64,
 }
 
-// What is buffered is walked by a recursion of so many levels at most.
+// What is buffered is walked by a recursion of this many levels at most.
 const LEVELS: u32 = 64;
 
 // Passes over the items that the source has buffered whole, one behind the other, and gives those that are left. It may pass over none.
@@ -193,7 +193,7 @@ fn skip_item<S: ByteSource>(
     skip_head(alloc, source, count, version, scratch)
 }
 
-// Passes over so many items, to any depth.
+// Passes over this many items, to any depth.
 fn skip_items<S: ByteSource>(
     alloc: Global,
     source: &mut S,

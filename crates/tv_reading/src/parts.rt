@@ -14,7 +14,7 @@ use tv_base::{ByteSource, Cause};
 use tv_reader::kinds::take_kind;
 use tv_reader::{DeserializeError, DocStoreVersion, ValueType};
 
-// Passes over so many bytes if they are buffered and can be counted, and says whether it did.
+// Passes over this many bytes if they are buffered and can be counted, and says whether it did.
 fn pass_buffered<S: ByteSource>(source: &mut S, count: &mut u64, len: u64) -> bool
     ensures finds { FindsRoomy S.ByteSource source.old count.old source.new
         count.new (Ok result) (PassesBytes len) Nothing }
@@ -37,7 +37,7 @@ fn is_utf8(bytes: &[u8]) -> bool
     str::from_utf8(bytes).is_ok()
 }
 
-// Passes over so many bytes if they are buffered and can be counted, and says whether they are UTF-8. They are tested where they lie.
+// Passes over this many bytes if they are buffered and can be counted, and says whether they are UTF-8. They are tested where they lie.
 fn test_buffered<S: ByteSource>(source: &mut S, count: &mut u64, len: u64) -> Option<bool>
     ensures finds { FindsRoomy S.ByteSource source.old count.old source.new
         count.new (Ok result) (MayTest len) Nothing }
@@ -54,7 +54,7 @@ fn test_buffered<S: ByteSource>(source: &mut S, count: &mut u64, len: u64) -> Op
     Some(is_text)
 }
 
-// Passes over so many bytes, and says whether they are UTF-8. Bytes that aren't buffered are put in place of those of `scratch`.
+// Passes over this many bytes, and says whether they are UTF-8. Bytes that aren't buffered are put in place of those of `scratch`.
 fn test_bytes<S: ByteSource>(
     source: &mut S,
     count: &mut u64,
@@ -72,7 +72,7 @@ fn test_bytes<S: ByteSource>(
     Ok(is_utf8(scratch.as_slice()))
 }
 
-// Passes over a text of so many bytes.
+// Passes over a text of this many bytes.
 fn skip_text_of<S: ByteSource>(
     source: &mut S,
     count: &mut u64,
@@ -105,7 +105,7 @@ pub(crate) fn skip_text<S: ByteSource>(
 // No more than this is read at once of bytes that aren't buffered.
 const PIECE: u64 = 256;
 
-// Passes over so many bytes at once.
+// Passes over this many bytes at once.
 fn skip_piece<S: ByteSource>(
     source: &mut S,
     count: &mut u64,
@@ -120,7 +120,7 @@ fn skip_piece<S: ByteSource>(
     Ok(())
 }
 
-// Passes over so many bytes, by reads.
+// Passes over this many bytes, by reads.
 fn skip_by_reads<S: ByteSource>(
     source: &mut S,
     count: &mut u64,
@@ -138,7 +138,7 @@ fn skip_by_reads<S: ByteSource>(
     Ok(())
 }
 
-// Passes over so many bytes.
+// Passes over this many bytes.
 fn skip_bytes<S: ByteSource>(
     source: &mut S,
     count: &mut u64,

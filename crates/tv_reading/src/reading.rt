@@ -98,7 +98,7 @@ impl Reading {
         }
     }
 
-    // So many of the announced pairs are finished, and of the next one nothing has come.
+    // This many of the announced pairs are finished, and of the next one nothing has come.
     pub(crate) fn between_pairs(announced: u64, finished: u64, document: HeapPairs) -> Reading
         requires counted { finished ≡ length (document_of document) }
         requires within { finished ≤ announced }

@@ -50,7 +50,7 @@ fn skip_token<S: ByteSource>(
     skip_text_and_number(source, count, scratch)
 }
 
-// Passes over so many tokens.
+// Passes over this many tokens.
 fn skip_tokens<S: ByteSource>(
     source: &mut S,
     count: &mut u64,

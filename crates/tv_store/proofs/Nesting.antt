@@ -96,7 +96,7 @@ head_is e = cc
 body_is : {c d : ℕ} {a b : List ℕ} → c ∷ a ≡ d ∷ b → a ≡ b
 body_is e = cc
 
--- so many groups at most are told from what follows them
+-- this many groups at most are told from what follows them
 same_groups : (k m n : ℕ) (x y : List ℕ) → groups_of k m ++ x ≡ groups_of k n ++ y → groups_of k m ≡ groups_of k n
 same_groups zero m n x y e = refl
 same_groups (suc k) m n x y e =

@@ -8,7 +8,7 @@ use Rattle.tv_value.proofs.ListChildren.{list_size, list_nests, no_list_within_0
 use Rattle.tv_value.specs.Children.{Child, IsListOf, children_size, ChildrenNestWithin}
 use Rattle.tv_value.specs.Nesting.{NestsWithin, ElementsNestWithin, EntriesNestWithin}
 
--- ---- what nests within so many lists nests within more
+-- ---- what nests within this many lists nests within more
 
 mutual
   pub nests_more : (m n : ℕ) (t : Tree) → m ≤ n → NestsWithin m t → NestsWithin n t
@@ -31,7 +31,7 @@ mutual
 -- ---- open lists
 
 module _ {R : Type 0} (left : R → List Child) where
-  -- What is left of open lists nests within so many, the outermost first: each stands in the one before it.
+  -- What is left of open lists nests within this many, the outermost first: each stands in the one before it.
   abbrev pub OpenNestWithin : ℕ → List R → Type 0
   OpenNestWithin n [] = Unit {0}
   OpenNestWithin n (list ∷ inner) = ChildrenNestWithin n (left list) × OpenNestWithin (n - 1) inner

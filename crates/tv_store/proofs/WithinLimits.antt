@@ -60,7 +60,7 @@ module _ {S : Type 0} {is_known : S → Type 0} {left : S → List ℕ} {failure
   pub takes_one : {mid new : S} {j k : ℕ} (step : Step) (legacy : Bool) (after : Reading) → FindsIf StoreMayStop is_known left failures mid j new k (Ok step) (λ b _. Stepped w legacy r after b) (IsMalformedNext w r) → is_known mid → j < k
   takes_one step legacy after h told = step_takes w begun r tt legacy after (finds_as tt (λ b _. Stepped w legacy r after b) (IsMalformedNext w r) (λ a s. s) h) told
 
-  -- so many steps that no more can be counted
+  -- this many steps that no more can be counted
   pub too_many : {X : Type 0} {old mid : S} {i j : ℕ} (counter : ℕ) (B : List ℕ → X → Type 0) → IsSound r → ¬ IsDone r → j < 2 ^ 64 → 2 ^ 64 - 1 ≤ counter → (is_known old → counter + i ≤ j) → FindsIf StoreMayStop is_known left failures old i mid j (Ok r) (Goes v begun) Nothing
       → FindsWithinBy is_known left failures old i mid j (Err (errors.CorruptedValue TooLong)) B (IsMalformedNext v begun)
   too_many counter B sound more below many counts p = record {

@@ -48,7 +48,7 @@ abbrev pub IsPast : Option ℕ → ℕ → Type 0
 IsPast None n = ⊥
 IsPast (Some most) n = most < n
 
--- The limit that is passed where the heap has so many bytes and so many lists are open: that of the lists before that of the heap.
+-- The limit that is passed where the heap has this many bytes and this many lists are open: that of the lists before that of the heap.
 abbrev pub Checks : ReadLimits → ℕ → ℕ → Option ReadLimit → Type 0
 Checks limits heap open_lists (Some limit.Depth) = IsPast limits.depth open_lists
 Checks limits heap open_lists (Some limit.HeapBytes) = (¬ IsPast limits.depth open_lists) × IsPast limits.heap_bytes heap
@@ -57,7 +57,7 @@ Checks limits heap open_lists None = (¬ IsPast limits.depth open_lists) × (¬ 
 
 -- ---- how many bytes are taken
 
--- the count from which so many bytes can be counted, as 2 ^ 64 - 1 can be in all
+-- the count from which this many bytes can be counted, as 2 ^ 64 - 1 can be in all
 abbrev pub first_count : Option ℕ → ℕ
 first_count None = 0
 first_count (Some most) = 2 ^ 64 - 1 - most
@@ -114,7 +114,7 @@ KeepsOrGrows old new (Err (limited.Limit l)) = Grows old new
 
 -- ---- what comes of a document
 
--- each tree of the document nests within so many lists, if that is limited
+-- each tree of the document nests within this many lists, if that is limited
 abbrev pub AllNestWithinLimit : Option ℕ → Document → Type 0
 AllNestWithinLimit None d = Unit {0}
 AllNestWithinLimit (Some most) d = AllNestWithin most d
@@ -132,7 +132,7 @@ pub record NestsDeeper (v : Version) (most : Option ℕ) (taken : List ℕ) : Ty
   pub encoded : EncodesDocument Legacy v taken document
   pub deeper : ¬ AllNestWithinLimit most document
 
--- More than so many lists are open in what the bytes encode: the finished pairs, a field, and what has come of its value.
+-- More than this many lists are open in what the bytes encode: the finished pairs, a field, and what has come of its value.
 pub record IsDeep (v : Version) (most : Option ℕ) (taken : List ℕ) : Type 0 where
   pub announced : ℕ
   pub finished : Document
@@ -147,7 +147,7 @@ pub record IsDeep (v : Version) (most : Option ℕ) (taken : List ℕ) : Type 0 
 abbrev pub PassesDepth : Version → Option ℕ → List ℕ → Type 0
 PassesDepth v most taken = IsDeep v most taken ⊎ NestsDeeper v most taken
 
--- The heap takes more than so many bytes once these have come, and so what has come weighs more.
+-- The heap takes more than this many bytes once these have come, and so what has come weighs more.
 pub record IsLarge (v : Version) (most : Option ℕ) (taken : List ℕ) : Type 0 where
   pub reading : Reading
   pub sound : IsSound reading
@@ -159,7 +159,7 @@ pub record IsLarge (v : Version) (most : Option ℕ) (taken : List ℕ) : Type 0
 abbrev pub IsAll : Option ℕ → List ℕ → Type 0
 IsAll most taken = most ≡ Some (length taken)
 
--- What couldn't be read, of bytes of which so many were taken.
+-- What couldn't be read, of bytes of which this many were taken.
 pub record Unread (v : Version) (old new : List ℕ) (count : ℕ) (e : DeserializeError) : Type 0 where
   pub stop : GivesStop (corrupted UnexpectedEnd) (NoDocument v) old new count (store_stop e)
   pub full : e ≡ errors.HeapFull → HasNoRoom v old

@@ -3,7 +3,7 @@
 //! Each function hands on the error of a failed write, and of memory that was refused. The sink then holds what it held before,
 //! and a beginning of what was to be written.
 
-ghost use Rattle.std.specs.Prelude.{◌≡◌, ◌∷◌, Ok, IfErr, IfOk, option_map};
+ghost use Rattle.std.specs.Prelude.{◌≡◌, ◌∷◌, Ok, IfErr, IfOk};
 ghost use Rattle.tv_base.specs.Writing.{Writes};
 ghost use Rattle.tv_format.specs.Short.{short_elements, short_entries};
 ghost use Rattle.tv_format.specs.Tree.{array, object, elements, entries};
@@ -12,7 +12,6 @@ ghost use Rattle.tv_format.specs.WriteVersion.{written_version};
 ghost use Rattle.tv_heap.specs.Encoded.{encoded_bytes, HasFewEntries};
 ghost use Rattle.tv_store.specs.Nested.{bytes_left, head_bytes, inner_list};
 ghost use Rattle.tv_store.specs.Nested.{HeldNestsWithin, HoldsNoList};
-ghost use Rattle.tv_writer.specs.Children.{short_key_of};
 ghost use Rattle.tv_writer.specs.Error as store;
 ghost use Rattle.tv_writer.specs.Error.{IsIo, IsIoOrMemory};
 ghost use Rattle.tv_value.specs.Nesting.{NestsWithin};
@@ -28,9 +27,9 @@ use tv_heap::encoded::Encoded;
 use tv_heap::value::{CompactDocArrayIter, CompactDocObjectIter, CompactDocValue};
 use tv_value::children::Children;
 use tv_writer::leaf_writer::{write_code, write_coded_bool, write_coded_count, write_coded_u64};
-use tv_writer::value_writer::{write_key, write_object_head};
+use tv_writer::value_writer::{write_child_key, write_key, write_object_head};
 
-// Lists within fewer than so many others are written by recursion, and those further in by a loop, whose stack takes memory.
+// Lists within fewer than this many others are written by recursion, and those further in by a loop, whose stack takes memory.
 pub(crate) const LEVELS: u32 = 64;
 
 // A code, and the bytes behind it.
@@ -67,22 +66,6 @@ fn write_single<K: ByteSink>(sink: &mut K, encoded: Encoded<'_>) -> Result<(), i
         Encoded::Tokenized(content) => write_encoded_tokens(sink, content),
         Encoded::Array(_, _) => unreachable!(),
         Encoded::Object(_, _) => unreachable!(),
-    }
-}
-
-// The key of a child, if it has one.
-#[inline(always)]
-fn write_child_key<K: ByteSink>(
-    sink: &mut K,
-    version: WriteVersion,
-    key: Option<&str>,
-) -> Result<(), io::ErrorKind>
-    ensures { Writes K.ByteSink sink.old sink.new result
-        (short_key_of (written_version version) (option_map (λ k. k.now) key.entry)) }
-{
-    match key {
-        Some(key) => write_key(sink, version, key),
-        None => Ok(()),
     }
 }
 

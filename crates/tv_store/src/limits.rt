@@ -111,7 +111,7 @@ fn passed_limit(decoder: &DirectDecoder, limits: ReadLimits) -> Option<ReadLimit
     None
 }
 
-// The count from which so many bytes can be counted, as 2^64 - 1 can be in all.
+// The count from which this many bytes can be counted, as 2^64 - 1 can be in all.
 fn first_count(most: Option<u64>) -> u64
     ensures count { result ≡ first_count most }
     ensures room { (n : ℕ) → ¬ IsPast most n → n < 2 ^ 64 → result + n < 2 ^ 64 }

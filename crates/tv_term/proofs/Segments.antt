@@ -15,7 +15,7 @@ pub have-no-zero : (texts : List (Bor (List ℕ))) → ((k : ℕ) → k < length
 have-no-zero [] h = tt
 have-no-zero (text ∷ texts) h = (h 0 (omega arith), have-no-zero texts (λ k inside. h (suc k) (omega arith)))
 
--- the first segment and so many others
+-- the first segment and this many others
 abbrev pub joined : List ℕ → List (Bor (List ℕ)) → ℕ → List ℕ
 joined first others n = join_with_byte 1 (first ∷ map (λ (segment : Bor (List ℕ)). segment.now) (take n others))
 

@@ -93,7 +93,7 @@ pub items_refused : {S X : Type 0} {is_known : S → Type 0} {left : S → List 
     → ReadsIf {X = ℕ} StoreMayStop is_known left failures old new (Err e) (Length collection total kind) (LengthRefused collection total kind) → VisitsItemsBy is_known left failures old new collection total Made Refused kind (Err e)
 items_refused {new = new} e h = record { behind_number = new; announced = Err e; reads = h; handed = (refl, refl) }
 
--- it was read, and so many values were handed on
+-- it was read, and this many values were handed on
 pub items_visited : {S X : Type 0} {is_known : S → Type 0} {left : S → List ℕ} {failures : S → Failures} {old mid new : StoreReader S} {collection : ValueType} {total : ℕ → ℕ} {n : ℕ} {kind : ValueType} {result : Result X DeserializeError} (Made : Version → ℕ → List ℕ → X → Type 0) (Refused : Version → ℕ → List ℕ → DeserializeError → Type 0)
     → ReadsIf StoreMayStop is_known left failures old mid (Ok n) (Length collection total kind) (LengthRefused collection total kind) → DeserializesBy is_known left failures mid new result (Made (version_of mid.version) n) (Refused (version_of mid.version) n)
     → VisitsItemsBy is_known left failures old new collection total (Made (version_of old.version)) (Refused (version_of old.version)) kind result

@@ -26,7 +26,7 @@ OpensBehind v levels kind old new = Begins (λ b. Opens v levels (type_prefix ki
 abbrev pub NextTooDeep : (Version → ℕ → ValueType → List ℕ → List ℕ → Type 0) → Version → ℕ → List ℕ → List ℕ → Type 0
 NextTooDeep deep v levels old new = (kind : ValueType) × (mid : List ℕ) × Begins (λ b. IsCoded b kind) old mid × deep v levels kind mid new
 
--- some of so many items are read, and in the place of the next a value is too deep
+-- of a number of items some are read, and in the place of the next a value is too deep
 pub record AmongRead {X : Type 0} (Item : List ℕ → X → Type 0) (Next : List ℕ → List ℕ → Type 0) (count : ℕ) (old new : List ℕ) : Type 0 where
   pub before : List X
   pub fewer : length before < count

@@ -60,7 +60,7 @@ length_excluded collection total kind m whole a rest e (no_total n prefix after 
 length_reads : (collection : ValueType) (total : ℕ → ℕ) (kind : ValueType) → ((m n : ℕ) → total m ≡ total n → m ≡ n) → OneReading (Length collection total kind)
 length_reads collection total kind apart a b x y m n p q e = let s = one_number a b x y (total m) (total n) p.1 q.1 e in (s.0, apart m n s.1)
 
--- a number, and then so many items
+-- a number, and then this many items
 items_exclude : {A X : Type 0} (collection : ValueType) (total : ℕ → ℕ) (kind : ValueType) → ((m n : ℕ) → total m ≡ total n → m ≡ n)
     → (Item Plain : List ℕ → A → Type 0) (Encoded : List ℕ → X → Type 0) (Is : A → X → Type 0) (Refused : List ℕ → DeserializeError → Type 0) → OneReading Item → ((b : List ℕ) (x : X) → Encoded b x → (a : A) × Item b a) → ((b : List ℕ) (a : A) → Plain b a → Item b a)
     → ((whole prefix rest : List ℕ) (e : DeserializeError) (a : A) (x : X) → Refused whole e → whole ≡ prefix ++ rest → Plain prefix a → Is a x → ⊥)

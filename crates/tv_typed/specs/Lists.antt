@@ -51,7 +51,7 @@ pub record MapOf {X : Type 0} (is : Tree → X → Type 0) (t : Tree) (get : Lis
 
 -- ---- what bytes encode
 
--- How many values an array or an object has, behind the code of its type. So many are announced by `total`.
+-- How many values an array or an object has, behind the code of its type. This many are announced by `total`.
 abbrev pub Length : ValueType → (ℕ → ℕ) → ValueType → List ℕ → ℕ → Type 0
 Length collection total kind b n = (kind ≡ collection) × VNum b (total n)
 
@@ -59,7 +59,7 @@ Length collection total kind b n = (kind ≡ collection) × VNum b (total n)
 abbrev pub element_total : ℕ → ℕ
 element_total n = n
 
--- so many items, of which something is made
+-- this many items, of which something is made
 abbrev pub EncodesInto : {C X : Type 0} → (C → List X → Type 0) → (List ℕ → X → Type 0) → ℕ → List ℕ → C → Type 0
 EncodesInto {X = X} Made Item n b c = (xs : List X) × Made c xs × (length xs ≡ n) × Each Item b xs
 

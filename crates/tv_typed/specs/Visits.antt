@@ -51,7 +51,7 @@ pub record VisitsBy {S X : Type 0} (is_known : S → Type 0) (left : S → List 
 
 -- ---- arrays and objects
 
--- The number of the values, and so many of them, of which this is made.
+-- The number of the values, and this many of them, of which this is made.
 abbrev pub EncodesVisited : {X : Type 0} → ValueType → (ℕ → ℕ) → (ℕ → List ℕ → X → Type 0) → ValueType → List ℕ → X → Type 0
 EncodesVisited collection total Made kind b x = (n : ℕ) × Then (λ w. Length collection total kind w n) (λ w. Made n w x) b
 
@@ -59,7 +59,7 @@ EncodesVisited collection total Made kind b x = (n : ℕ) × Then (λ w. Length 
 abbrev pub VisitRefused : ValueType → (ℕ → ℕ) → (ℕ → List ℕ → DeserializeError → Type 0) → ValueType → List ℕ → DeserializeError → Type 0
 VisitRefused collection total Refused kind = InThen (LengthRefused collection total kind) (Length collection total kind) Refused
 
--- What was made of so many values, as it is said by who made it. Where no number was read, nothing was done, and its refusal is given.
+-- What was made of this many values, as it is said by who made it. Where no number was read, nothing was done, and its refusal is given.
 abbrev pub Handed : {S X : Type 0} (is_known : S → Type 0) (left : S → List ℕ) (failures : S → Failures) (mid new : StoreReader S) → (ℕ → List ℕ → X → Type 0) → (ℕ → List ℕ → DeserializeError → Type 0) → Result ℕ DeserializeError → Result X DeserializeError → Type 0
 Handed is_known left failures mid new Made Refused (Ok n) result = DeserializesBy is_known left failures mid new result (Made n) (Refused n)
 Handed is_known left failures mid new Made Refused (Err e) result = (result ≡ Err e) × (new ≡ mid)
@@ -73,7 +73,7 @@ pub record VisitsItemsBy {S X : Type 0} (is_known : S → Type 0) (left : S → 
 
 -- ---- legacy objects
 
--- An object behind its code, in version 2: so many entries, of which this is made.
+-- An object behind its code, in version 2: this many entries, of which this is made.
 abbrev pub EncodesNextVisited : {X : Type 0} → (ℕ → List ℕ → X → Type 0) → List ℕ → X → Type 0
 EncodesNextVisited Made b x = (kind : ValueType) × Then (λ w. IsCoded w kind) (λ w. EncodesVisited types.Object (entry_total V2) Made kind w x) b
 

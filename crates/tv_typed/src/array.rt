@@ -16,7 +16,7 @@ use std::alloc::Global;
 use tv_base::ByteSource;
 use tv_reader::{DeserializeError, ValueType};
 
-// Reads so many values. Nothing is reserved from their number. That memory was refused isn't marked yet.
+// Reads this many values. Nothing is reserved from their number. That memory was refused isn't marked yet.
 pub(crate) fn read_elements<T: ValueDeserialize, S: ByteSource>(
     alloc: Global,
     reader: &mut StoreReader<S>,

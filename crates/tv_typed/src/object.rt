@@ -113,7 +113,7 @@ impl<T: ValueDeserialize> Entries<T> for HashMap<String, T> {
     } };
 }
 
-// Reads so many keys with values, in order. Nothing is reserved from their number. That memory was refused isn't marked yet.
+// Reads this many keys with values, in order. Nothing is reserved from their number. That memory was refused isn't marked yet.
 pub(crate) fn read_entries<T: ValueDeserialize, C: Entries<T>, S: ByteSource>(
     alloc: Global,
     reader: &mut StoreReader<S>,

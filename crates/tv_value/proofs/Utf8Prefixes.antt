@@ -6,7 +6,7 @@ use Rattle.std.proofs.lemmas.List.{drop-append-le, drop-replicate, take-replicat
 use Rattle.std.proofs.Math.Seq.{take-append-add}
 use Rattle.std.specs.Int.Bits.{and_zero_r}
 
--- so many of these numbers
+-- this many of these numbers
 abbrev ones : ℕ → List ℕ
 ones n = replicate n 255
 

@@ -37,6 +37,6 @@ abbrev pub children_size : List Child → ℕ
 children_size [] = 0
 children_size (child ∷ children) = suc (size child.1 + children_size children)
 
--- each nests within so many lists
+-- each nests within this many lists
 abbrev pub ChildrenNestWithin : ℕ → List Child → Type 0
 ChildrenNestWithin n = AllByRecursion (λ child. NestsWithin n child.1)

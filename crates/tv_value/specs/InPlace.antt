@@ -1,4 +1,4 @@
--- Bytes of which no prefix is of some kind, or of which a prefix is so many tokens.
+-- Bytes of which no prefix is of some kind, or of which a prefix is this many tokens.
 use Rattle.std.specs.Prelude.{◌≡◌, ℕ, List, ◌++◌, length}
 use Rattle.tv_base.specs.Parts.{Begins, Each}
 use Rattle.tv_format.specs.Encoding.{TokenEncoding, Tokenized}
@@ -7,13 +7,13 @@ use Rattle.tv_format.specs.Tree.{Token}
 pub record NoPrefix (P : List ℕ → Type 0) (whole : List ℕ) : Type 0 where
   pub none : (prefix rest : List ℕ) → whole ≡ prefix ++ rest → P prefix → ⊥
 
--- so many tokens begin the bytes, and this is what follows them
+-- this many tokens begin the bytes, and this is what follows them
 pub record BeginsTokens (count : ℕ) (whole rest : List ℕ) : Type 0 where
   pub tokens : List Token
   pub counted : length tokens ≡ count
   pub begins : Begins (λ b. Each TokenEncoding b tokens) whole rest
 
--- no prefix of the bytes is so many tokens
+-- no prefix of the bytes is this many tokens
 abbrev pub NoTokens : ℕ → List ℕ → Type 0
 NoTokens count whole = (tokens : List Token) → length tokens ≡ count → NoPrefix (λ b. Each TokenEncoding b tokens) whole
 

@@ -78,7 +78,7 @@ pub(crate) fn token_at(bytes: &[u8]) -> Option<(TokenRef<'_>, &[u8])>
     Some((token, rest))
 }
 
-// What follows so many tokens at the start of the bytes. None where no prefix encodes so many.
+// What follows this many tokens at the start of the bytes. None where no prefix encodes this many.
 pub(crate) fn behind_tokens(count: u64, bytes: &[u8]) -> Option<&[u8]>
     ensures found { IfSome result (λ rest. BeginsTokens count bytes.now rest.now) }
     ensures none { IfNone result (NoTokens count bytes.now) }

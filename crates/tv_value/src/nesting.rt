@@ -19,7 +19,7 @@ pub const MAX_DEPTH: u32 = 128;
 #[error("a value nests too deep")]
 pub struct TooDeep;
 
-// Whether a value that is lent nests within so many lists.
+// Whether a value that is lent nests within this many lists.
 #[cycle(nests)]
 fn nested_within<N: Nested>(value: NestedValue<'_, N>, depth: u32) -> bool
     ensures { IsTrue result

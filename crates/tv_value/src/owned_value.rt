@@ -215,8 +215,8 @@ impl OwnedValue {
     }
 
     /// The value that a JSON value is: each kind as itself, a number as `I64` where it fits, else as `U64`, and an object by byte
-    /// order of its keys. Texts are taken over as they are. Errors: `FloatNumber` exactly where a number in it isn't whole or doesn't fit 64 bits, else `Memory`
-    /// where memory was refused.
+    /// order of its keys. Texts are taken over as they are. Errors: `FloatNumber` exactly where a number in it isn't whole or doesn't fit
+    /// 64 bits, else `Memory` where memory was refused.
     pub fn from_json(alloc: Global, json: JsonValue) -> Result<OwnedValue, JsonError>
         ensures { AnswersJson (data_of json) result }
     {

@@ -18,7 +18,7 @@ const PREFIXES: [u8; 128] = [
     0, 0, 0, 0, 0, 0, 0, 0, 0, 0, 0, 0,
 ];
 
-// So many bytes with every bit, and the others with none.
+// This many bytes with every bit, and the others with none.
 #[inline(always)]
 fn mask_of(len: usize) -> u8x64
     requires { len ≤ 64 }

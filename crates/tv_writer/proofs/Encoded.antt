@@ -6,7 +6,7 @@ use Rattle.tv_format.specs.Tree.{Tree}
 use Rattle.tv_value.specs.Children.{Child, children_size}
 use Rattle.tv_writer.specs.Children.{AreKeys, AreValues}
 
--- so many children have encodings, and the list has one where the others have and are few enough
+-- this many children have encodings, and the list has one where the others have and are few enough
 pub record ChildrenEncoded (count : ℕ) (rest : List Child) (tree : Tree) : Type 0 where
   pub fits : count < 2 ^ 63
   pub smaller : children_size rest < size tree

@@ -16,7 +16,7 @@ WritesNothing error old new result = (result ≡ Err error) × (new ≡ old)
 abbrev pub FailsToWrite : {S : Type 0} → Ghosts S → S → SerializeError → List ℕ → Type 0
 FailsToWrite {S} sink old error text = (new : S) × WritesStore {T = ℕ} sink old new (Err error) (Ok text)
 
--- The text of a value that has an encoding and nests within so many lists is written, unless the sink fails, and any other is refused:
+-- The text of a value that has an encoding and nests within this many lists is written, unless the sink fails, and any other is refused:
 -- that it nests too deep is told first.
 pub record WritesWithin {S T : Type 0} (depth : ℕ) (t : Tree) (sink : Ghosts S) (old new : S) (result : Result T SerializeError) (text : List ℕ) : Type 0 where
   pub writes : NestsWithin depth t → IsValue t → WritesStore sink old new result (Ok text)

@@ -21,7 +21,7 @@ use tv_format::version::WriteVersion;
 use tv_value::nesting::{MAX_DEPTH, nests_within};
 use tv_value::value::Value;
 
-// A value that has an encoding and nests within so many lists. Any other is refused before anything is written.
+// A value that has an encoding and nests within this many lists. Any other is refused before anything is written.
 fn write_shortest<'a, K: ByteSink, V: Value<'a>>(
     sink: &mut K,
     value: &V,
@@ -58,7 +58,7 @@ fn write_key_and_value<'a, K: ByteSink, V: Value<'a>>(
     write_value(sink, value, version)
 }
 
-// A key and a value, where the value has an encoding and nests within so many lists.
+// A key and a value, where the value has an encoding and nests within this many lists.
 fn write_entry<'a, K: ByteSink, V: Value<'a>>(
     sink: &mut K,
     key: &str,
@@ -139,8 +139,8 @@ impl<'se, K: ByteSink> BinaryValueSerializer<'se, K> {
     /// Appends a value. It takes no memory.
     ///
     /// Errors: `TooDeep` exactly where it nests in more lists than the serializer writes, else `TooMany` where an array or an object in it
-    /// has 2^63 children or more, or a text or bytes that length, and after both nothing is written; else `Io` where the sink failed. The sink then holds what it held before, and a beginning of the
-    /// value; a later call appends to that.
+    /// has 2^63 children or more, or a text or bytes that length, and after both nothing is written; else `Io` where the sink failed. The
+    /// sink then holds what it held before, and a beginning of the value; a later call appends to that.
     pub fn serialize_value<'a, V: Value<'a>>(&mut self, value: &V) -> Result<(), SerializeError>
         ensures same_sink { self.new.sink.ghost_name ≡ self.old.sink.ghost_name }
         ensures version { self.new.version ≡ self.old.version }
@@ -288,7 +288,7 @@ impl<'se, K: ByteSink> BinaryObjectSerializer<'se, K> {
         BinaryObjectSerializer::begin_with_version(count, sink, WriteVersion::V2)
     }
 
-    /// Appends the number that an object of so many entries announces in this version, all of which are then awaited, each as this
+    /// Appends the number that an object of this many entries announces in this version, all of which are then awaited, each as this
     /// version has it. It takes no memory. (Not in tantivy.)
     ///
     /// Errors: `TooMany` where the announced number is above 2^64 - 1, which it never is in version 3, and nothing is written; else

@@ -11,8 +11,7 @@ ghost use Rattle.tv_format.specs.Version.{entry_total};
 ghost use Rattle.tv_format.specs.WriteVersion.{written_version};
 ghost use Rattle.tv_value.specs.Children.{children_left};
 ghost use Rattle.tv_value.specs.Lent.{nested_tree};
-ghost use Rattle.tv_writer.specs.Children.{AreValues, child_count, short_children};
-ghost use Rattle.tv_writer.specs.Children.{short_key_of};
+ghost use Rattle.tv_writer.specs.Children.{AreValues, child_count, short_children, short_key_of};
 
 use crate::leaf_writer::{write_coded_count, write_coded_text, write_leaf};
 use std::convert::AsStr;
@@ -44,7 +43,7 @@ pub fn write_key<K: ByteSink>(
     }
 }
 
-/// Writes the code of an object, and the number that an object of so many entries announces in the version. It takes no memory.
+/// Writes the code of an object, and the number that an object of this many entries announces in the version. It takes no memory.
 ///
 /// The only error is the kind with which a write failed. The sink then holds what it held before, and a beginning of these bytes.
 /// (Not in tantivy.)
@@ -79,9 +78,13 @@ fn child_count<N: Nested>(value: NestedValue<'_, N>) -> u64
     count
 }
 
-// The key of a child, if it has one.
+/// Writes the key of a child, if it has one: its length and its text. A child of an array has none, and then nothing is written. It takes
+/// no memory of its own.
+///
+/// The only error is the kind with which a write failed. The sink then holds what it held before, and a beginning of the key.
+/// (Not in tantivy.)
 #[inline(always)]
-fn write_key_of<K: ByteSink, T: AsStr + Drop>(
+pub fn write_child_key<K: ByteSink, T: AsStr + Drop>(
     sink: &mut K,
     version: WriteVersion,
     key: Option<T>,
@@ -95,7 +98,7 @@ fn write_key_of<K: ByteSink, T: AsStr + Drop>(
     }
 }
 
-// A value of so many children: its code, and what it holds.
+// A value of this many children: its code, and what it holds.
 #[cycle(values)]
 #[tactic(auto, using(crate::proofs::WriterSteps::items_valid, crate::proofs::WriterSteps::members_valid, tv_value::proofs::ListChildren::items_size, tv_value::proofs::ListChildren::members_size))]
 fn write_nested<K: ByteSink, N: Nested>(
@@ -136,7 +139,7 @@ fn write_children<K: ByteSink, N: Nested>(
         (children_left N.array_rest N.object_rest children)) }
 {
     for (key, item) in children {
-        write_key_of(sink, version, key)?;
+        write_child_key(sink, version, key)?;
         let count = child_count(item.as_nested());
         write_nested(sink, item.as_nested(), count, version)?;
     }

@@ -65,7 +65,7 @@ pub fn values_of_block(alloc: Global, block: &[u8]) -> Result<usize> {
     Ok(values)
 }
 
-/// The document at a place of a block, if the block has so many.
+/// The document at a place of a block, if the block has that many.
 pub fn document_at(alloc: Global, block: &[u8], place: usize) -> Result<Option<TantivyDocument>> {
     let mut source = SliceSource::new(block);
     let mut reader = BlockReader::new(alloc, DocStoreVersion::V2);

@@ -7,7 +7,7 @@ use std::test::Fail;
 use tv_base::{ByteSource, ReadError};
 use tv_io::BufferedSource;
 
-// Gives a few bytes a call. One call fails, before which so many pass.
+// Gives a few bytes a call. One call fails, before which this many pass.
 #[derive(Drop)]
 struct SlowReader<'a> {
     rest: &'a [u8],

@@ -65,7 +65,7 @@ fn values_that_hold_others(rt: HostRuntime) -> Result<(), Fail> {
     Ok(())
 }
 
-// A number within so many arrays.
+// A number within this many arrays.
 fn within_arrays(alloc: Global, count: u32) -> Result<OwnedValue, AllocError> {
     let mut value = OwnedValue::U64(7);
     for _ in 0..count {

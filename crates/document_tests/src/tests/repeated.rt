@@ -12,7 +12,7 @@ use tv_value::field::Field;
 use tv_value::leaf::ReferenceValueLeaf;
 use tv_value::value::{ReferenceValue, Value};
 
-/// Bytes, or an array in which they are borrowed so many times.
+/// Bytes, or an array in which they are borrowed this many times.
 #[derive(Clone, Copy)]
 pub struct Repeated<'a> {
     content: &'a [u8],

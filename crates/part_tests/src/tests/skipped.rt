@@ -46,7 +46,7 @@ fn passes(alloc: Global, value: &[u8], version: DocStoreVersion) -> Result<bool,
     Ok(answer.is_ok() && source.rest().len() == 2)
 }
 
-// Whether the value is passed over also where the source has no more than so many bytes buffered, and the byte behind it comes next.
+// Whether the value is passed over also where the source has no more than this many bytes buffered, and the byte behind it comes next.
 fn passes_buffered(
     alloc: Global,
     value: &[u8],
@@ -175,7 +175,7 @@ fn documents_are_passed_over_as_they_are_read(rt: HostRuntime) -> Result<(), Fai
     Ok(())
 }
 
-// So many lists in each other.
+// This many lists in each other.
 const DEPTH: u32 = 1_000_000;
 
 // The bytes of a document of one pair: that many arrays of one element in each other, and then null.

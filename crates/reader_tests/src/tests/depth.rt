@@ -7,7 +7,7 @@ use tv_reader::{DeserializeError, DocStoreVersion};
 use tv_typed::StoreReader;
 use tv_value::owned_value::OwnedValue;
 
-// So many arrays of one element, each in the one before, and null in the last.
+// This many arrays of one element, each in the one before, and null in the last.
 fn nested(alloc: Global, levels: usize) -> Result<Vec<u8>, AllocError> {
     let mut bytes = Vec::new(alloc);
     for _ in 0..levels {

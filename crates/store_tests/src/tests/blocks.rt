@@ -63,7 +63,7 @@ fn a_block_is_read_to_its_end(rt: HostRuntime) -> Result<(), Fail> {
     Ok(())
 }
 
-// Reads a block that is cut off behind so many bytes, in which so many documents are whole.
+// Reads a block that is cut off behind this many bytes, in which this many documents are whole.
 fn ends_early<S: ByteSource>(alloc: Global, source: &mut S, whole: usize) -> bool {
     let mut reader = BlockReader::new(alloc, DocStoreVersion::V2);
     for _ in 0..whole {

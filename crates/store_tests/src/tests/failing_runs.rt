@@ -17,7 +17,7 @@ const ANSWERS: [&[u8]; 3] = [
     b"80 {}\n",
 ];
 
-// The first answers, so many of them.
+// The first answers, this many of them.
 fn answers(alloc: Global, count: usize) -> Result<Vec<u8>, AllocError> {
     let mut bytes = Vec::new(alloc);
     for answer in ANSWERS.iter().take(count) {
@@ -26,7 +26,7 @@ fn answers(alloc: Global, count: usize) -> Result<Vec<u8>, AllocError> {
     Ok(bytes)
 }
 
-// Behind so many calls none is made.
+// Behind this many calls none is made.
 const NEVER: u64 = u64::MAX;
 
 // The kinds of the errors.
@@ -36,7 +36,7 @@ const KINDS: [io::ErrorKind; 3] = [
     io::ErrorKind::Other,
 ];
 
-// How a run ends and what it has written, where the read behind so many fails, or the write.
+// How a run ends and what it has written, where the read behind this many fails, or the write.
 fn ran(
     alloc: Global,
     input: &[u8],
@@ -50,7 +50,7 @@ fn ran(
     (end, sink.into_inner())
 }
 
-// How many documents are answered where the read behind so many fails: those whose line has come whole. A first read at the end of the
+// How many documents are answered where the read behind this many fails: those whose line has come whole. A first read at the end of the
 // input finds the end of the last line, and a second one finds no line behind that.
 fn answered(place: usize) -> usize {
     let feeds = INPUT

@@ -13,7 +13,7 @@ use Rattle.tv_value.proofs.utf8.is_ascii_prefix.Goals as goal
 abbrev is_high : ℕ → Bool
 is_high byte = leb 128 byte
 
--- so many lanes are ASCII as zeros stand at the end of the mask
+-- as many lanes are ASCII as zeros stand at the end of the mask
 leads : (lanes : List ℕ) (len : ℕ) → length lanes ≡ 16 → len ≤ 16 → len ≤ count_trailing_zeros 64 (mask_l (map is_high lanes)) → len ≤ prefix_len (λ byte. not (is_high byte)) lanes
 leads lanes len sixteen few zeros = elim (cases_lt 0 (mask_l (map is_high lanes))) [
   | inl some ↦ omega (arith, zeros, trailing_mask_l is_high 64 lanes (omega (arith, sixteen)) some)

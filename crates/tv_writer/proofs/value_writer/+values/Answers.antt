@@ -12,15 +12,15 @@ use Rattle.tv_writer.proofs.value_writer.+values.Goals as goal
 pub write_children-loop-key-init : goal.write_children-loop-key-init
 write_children-loop-key-init g t c = rw c.into_iter-key-iterator.ensures.into_iter_gives (record { valid = c.requires; smaller = omega arith; written = Written-start _ _ _ _ _ })
 
-pub write_children-returns-in_err-write_key_of : goal.write_children-returns-in_err-write_key_of
-write_children-returns-in_err-write_key_of g t c =
+pub write_children-returns-in_err-write_child_key : goal.write_children-returns-in_err-write_child_key
+write_children-returns-in_err-write_child_key g t c =
     let p = err_from_is_err_and c.from_residual.result c.from_residual.ensures.1 in
-    rw (p.1, p.2) (Written-fails _ _ (ap (short_children (written_version c.args.version)) c.in-Some.ensures.steps) c.loop-key.invariant.written c.in_err-write_key_of.ensures)
+    rw (p.1, p.2) (Written-fails _ _ (ap (short_children (written_version c.args.version)) c.in-Some.ensures.steps) c.loop-key.invariant.written c.in_err-write_child_key.ensures)
 
 pub write_children-returns-in_err-write_nested : goal.write_children-returns-in_err-write_nested
 write_children-returns-in_err-write_nested g t c =
     let p = err_from_is_err_and c.from_residual-in_err-write_nested.result c.from_residual-in_err-write_nested.ensures.1 in
-    let behind = Written-step _ _ (ap (short_children (written_version c.args.version)) c.in-Some.ensures.steps) c.loop-key.invariant.written c.in_ok-write_key_of.ensures in
+    let behind = Written-step _ _ (ap (short_children (written_version c.args.version)) c.in-Some.ensures.steps) c.loop-key.invariant.written c.in_ok-write_child_key.ensures in
     let same = ap (λ t. short (written_version c.args.version) t ++ short_children (written_version c.args.version) (children_left g.N.Nested.array_rest g.N.Nested.object_rest c.next.new.self)) (sym c.as_nested-in-loop-key.ensures) in
     rw (p.1, p.2) (Written-fails _ _ same behind c.in_err-write_nested.ensures)
 
@@ -28,7 +28,7 @@ pub write_children-loop-key-preserved : goal.write_children-loop-key-preserved
 write_children-loop-key-preserved g t c =
     let i = c.loop-key.invariant in
     let step = c.in-Some.ensures.steps in
-    let behind = Written-step _ _ (ap (short_children (written_version c.args.version)) step) i.written c.in_ok-write_key_of.ensures in
+    let behind = Written-step _ _ (ap (short_children (written_version c.args.version)) step) i.written c.in_ok-write_child_key.ensures in
     let same = ap (λ t. short (written_version c.args.version) t ++ short_children (written_version c.args.version) (children_left g.N.Nested.array_rest g.N.Nested.object_rest c.next.new.self)) (sym c.as_nested-in-loop-key.ensures) in
     record {
       valid = (subst AreValues step i.valid).1;
