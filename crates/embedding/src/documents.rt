@@ -13,14 +13,14 @@ ghost use Rattle.tantivy_schema.specs.Version.{V2};
 use std::alloc::Global;
 use tantivy_schema::common::{ByteSink, ByteSource};
 use tantivy_schema::schema::document::{
-    BinaryDocumentSerializer, DeserializeError, SerializeError,
+    BinaryDocumentSerializer, DeserializeError, MAX_DEPTH, SerializeError,
 };
 use tantivy_schema::schema::{Schema, TantivyDocument};
 use tantivy_schema::store::{DocStoreVersion, read_document};
 
 /// Appends a document's stored pairs to a sink. The document's fields are the schema's, as `fits` tests.
 ///
-/// Errors: `Io` where the sink failed; `Memory` where memory was refused for a value that nests deeper than 64 levels. The sink
+/// Errors: `Io` where the sink failed; `Memory` where memory was refused for a value that nests deeper than `MAX_DEPTH` levels. The sink
 /// then holds a beginning of what was to be written, behind what it held.
 pub fn store_document<K: ByteSink>(
     sink: &mut K,
@@ -31,7 +31,7 @@ pub fn store_document<K: ByteSink>(
     ensures writes { WritesStore K.ByteSink sink.old sink.new result
         (Ok (short_document V2 (stored schema.now (document_of document.now)))) }
     ensures errors { IfErr result IsIoOrMemory }
-    ensures io { AllNestWithin 64 (document_of document.now) → IfErr result IsIo }
+    ensures io { AllNestWithin MAX_DEPTH (document_of document.now) → IfErr result IsIo }
 {
     BinaryDocumentSerializer::new(sink, schema).serialize_doc(document)
 }

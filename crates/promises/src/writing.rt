@@ -12,7 +12,7 @@ ghost use Rattle.tantivy_schema.specs.WriteVersion.{written_version};
 
 use std::alloc::Global;
 use tantivy_schema::common::VecSink;
-use tantivy_schema::schema::document::{BinaryDocumentSerializer, SerializeError};
+use tantivy_schema::schema::document::{BinaryDocumentSerializer, MAX_DEPTH, SerializeError};
 use tantivy_schema::schema::{Schema, TantivyDocument};
 use tantivy_schema::store::WriteVersion;
 
@@ -28,7 +28,7 @@ pub fn stored_pairs_are_written(
         (λ bytes. bytes.items ≡
         short_document V2 (stored schema.now (document_of document.now))) }
     ensures errors { IfErr result IsIoOrMemory }
-    ensures io { AllNestWithin 64 (document_of document.now) → IfErr result IsIo }
+    ensures io { AllNestWithin MAX_DEPTH (document_of document.now) → IfErr result IsIo }
 {
     let mut sink = VecSink::new(alloc);
     let used = if document.fits(other) { schema } else { schema };
@@ -48,7 +48,7 @@ pub fn stored_pairs_are_written_in_versions(
         (λ bytes. bytes.items ≡
         short_document (written_version version) (stored schema.now (document_of document.now))) }
     ensures errors { IfErr result IsIoOrMemory }
-    ensures io { AllNestWithin 64 (document_of document.now) → IfErr result IsIo }
+    ensures io { AllNestWithin MAX_DEPTH (document_of document.now) → IfErr result IsIo }
 {
     let mut sink = VecSink::new(alloc);
     let format = match version {

@@ -83,7 +83,7 @@ pub use tv_value::laws::comparisons_of_fields_agree;
 /// What `serialize_doc` writes of a document is its stored pairs in the shortest encoding: here, in memory.
 ///
 /// The fields are those of the schema, as `fits` tests. Errors: `Io` of the kind `OutOfMemory`, with which the sink in memory says that
-/// memory was refused, and `Memory` where it was refused for a value that nests deeper than 64 levels.
+/// memory was refused, and `Memory` where it was refused for a value that nests deeper than `MAX_DEPTH` levels.
 pub fn written_documents_are_shortest(
     alloc: Global,
     schema: &Schema,

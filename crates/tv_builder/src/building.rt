@@ -11,13 +11,14 @@ use crate::bytes_kind::BytesKind;
 use crate::fits::has_room;
 use crate::frame::Frame;
 use crate::list_kind::ListKind;
-use crate::whole::{LEVELS, put_leaf, put_list, put_tree};
+use crate::whole::{put_leaf, put_list, put_tree};
 use std::alloc::Global;
 use tv_heap::place::Place;
 use tv_heap::write::push_place;
 use tv_value::encode::push_number;
 use tv_value::leaf::ReferenceValueLeaf;
 use tv_value::nested::lend;
+use tv_value::nesting::MAX_DEPTH;
 use tv_value::value::Value;
 
 // The bytes of an open value.
@@ -132,7 +133,7 @@ impl Building {
         };
         let alloc = *self.heap.allocator();
         let (heap, places) = (&mut self.heap, &mut self.places);
-        let place = put_tree(alloc, heap, places, lend(value), LEVELS)?;
+        let place = put_tree(alloc, heap, places, lend(value), MAX_DEPTH)?;
         self.give(place)
     }
 

@@ -21,13 +21,11 @@ use tv_heap::place::Place;
 use tv_heap::room::leaf_room;
 use tv_heap::write::write_leaf;
 use tv_value::leaf::ReferenceValueLeaf;
+use tv_value::nesting::MAX_DEPTH;
 use tv_value::value::{ReferenceValue, Value};
 
 // The first pair makes room for this many.
 const FIRST_PAIRS: usize = 16;
-
-// An encoded value with lists nested deeper than this many levels isn't added.
-const LEVELS: u32 = 64;
 
 /// Adds a pair behind those that are there. (Not in tantivy.) The only error is that memory was refused; the pairs are then as they were.
 #[inline(always)]
@@ -198,7 +196,7 @@ impl HeapPairs {
     /// and how many they are. The old heap is a prefix of the new one, and the old pairs come first, at the same places.
     ///
     /// It stops before a pair that is malformed or not all there, before one that holds an object as older stores hold it or lists nested deeper
-    /// than 64 levels, and where the heap has no room or memory is refused: what it doesn't add may still be a pair.
+    /// than `MAX_DEPTH` levels, and where the heap has no room or memory is refused: what it doesn't add may still be a pair.
     pub fn add_encoded<'a>(
         &mut self,
         bytes: &'a [u8],
@@ -235,7 +233,8 @@ impl HeapPairs {
         let (prefix, value) = bytes.split_first_chunk::<4>()?;
         let field = u32::from_le_bytes(*prefix);
         let len = self.heap.len();
-        let Some((rest, place)) = put_encoded(value, version, LEVELS, &mut self.heap, places) else {
+        let Some((rest, place)) = put_encoded(value, version, MAX_DEPTH, &mut self.heap, places)
+        else {
             self.heap.truncate(len);
             return None;
         };

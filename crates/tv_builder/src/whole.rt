@@ -23,10 +23,8 @@ use tv_heap::write::{push_place, write_content, write_leaf, write_list};
 use tv_value::content::LeafContent;
 use tv_value::leaf::ReferenceValueLeaf;
 use tv_value::nested::{Nested, NestedValue, lend};
+use tv_value::nesting::MAX_DEPTH;
 use tv_value::value::Value;
-
-// Lists within fewer than this many others are written by recursion, and those further in by a loop, whose stack takes memory.
-pub(crate) const LEVELS: u32 = 64;
 
 // Writes a value without children, and returns its place. After an error the old heap is still a prefix of the new.
 #[inline(always)]
@@ -211,7 +209,7 @@ pub(crate) fn put_within<'a, V: Value<'a>>(
 {
     let len = heap.len();
     let mut places = Vec::new(alloc);
-    match put_tree(alloc, heap, &mut places, lend(value), LEVELS) {
+    match put_tree(alloc, heap, &mut places, lend(value), MAX_DEPTH) {
         Ok(place) => {
             if has_ten_times(len, heap.len()) {
                 return Ok(place);

@@ -14,14 +14,12 @@ use tv_value::children::Children;
 use tv_value::content::LeafContent;
 use tv_value::leaf::ReferenceValueLeaf;
 use tv_value::nested::{Nested, NestedValue, lend};
+use tv_value::nesting::MAX_DEPTH;
 use tv_value::pre_tokenized::TokenIter;
 use tv_value::value::Value;
 
 /// The most bytes that a heap has, so that 32 bits hold each address.
 pub const MAX_HEAP_LEN: u64 = 4294967295;
-
-// Lists within fewer than this many others are counted by recursion, and those further in by a loop, whose stack takes memory.
-const LEVELS: u32 = 64;
 
 // The room of a text or of bytes of this length.
 #[inline(always)]
@@ -163,10 +161,10 @@ fn children_above<N: Nested>(
 
 /// The room of a value, where it is at most 4294967295.
 ///
-/// Lists within 64 others take a stack in memory, so that no value exhausts the machine's stack. Where memory is refused for it, they are
+/// Lists within `MAX_DEPTH` others take a stack in memory, so that no value exhausts the machine's stack. Where memory is refused for it, they are
 /// counted by a recursion, as deep as they nest: the answer is the same.
 pub fn room<'a, V: Value<'a>>(alloc: Global, value: &V) -> Option<u32>
     ensures { SomeIff result (room (V.tree value.now) < 2 ^ 32) (room (V.tree value.now)) }
 {
-    value_above(alloc, lend(value), 0, LEVELS)
+    value_above(alloc, lend(value), 0, MAX_DEPTH)
 }

@@ -14,12 +14,10 @@ use std::alloc::{AllocError, Global};
 use std::convert::AsStr;
 use std::mem::replace;
 use tv_value::nested::{Lent, Nested, NestedValue, lend};
+use tv_value::nesting::MAX_DEPTH;
 use tv_value::value::Value;
 
-// Lists within this many others are written by recursion, which is faster, and those further in by a loop.
-const LEVELS: u32 = 64;
-
-// Writes a value. Lists within this many others are written by recursion.
+// Writes a value. Lists within fewer than `levels` others are written by recursion, which is faster, and those further in by a loop.
 #[cycle(write_value)]
 fn write_value<N: Nested>(json: &mut JsonWriter, value: &N, levels: u32) -> Result<(), AllocError>
     ensures ok { OnOk result
@@ -115,12 +113,12 @@ pub(crate) fn write_lent<'a, V: Value<'a>>(
 {
     match lend(value) {
         NestedValue::Leaf(leaf) => write_leaf(json, &leaf),
-        NestedValue::Array(items) => write_array::<Lent<'a, V>>(json, items, LEVELS),
+        NestedValue::Array(items) => write_array::<Lent<'a, V>>(json, items, MAX_DEPTH),
         NestedValue::Object(members) => {
             if is_in_order(lend(value)) {
-                write_members::<Lent<'a, V>>(json, members, LEVELS)
+                write_members::<Lent<'a, V>>(json, members, MAX_DEPTH)
             } else {
-                write_by_key::<Lent<'a, V>>(json, members, LEVELS)
+                write_by_key::<Lent<'a, V>>(json, members, MAX_DEPTH)
             }
         }
     }

@@ -51,7 +51,7 @@ fn take_rest<S: ByteSource>(
     Err(DeserializeError::CorruptedValue(Cause::TooLong))
 }
 
-/// Takes a document: the number of its pairs, and each pair, to any depth, by a recursion of 64 levels at most. Nothing is reserved from
+/// Takes a document: the number of its pairs, and each pair, to any depth, by a recursion of `MAX_DEPTH` levels at most. Nothing is reserved from
 /// announced numbers, and no byte behind the document is taken.
 ///
 /// Errors: `CorruptedValue` and `TypeMismatch` with the first error in the bytes; `HeapFull` where what has come needs more room than

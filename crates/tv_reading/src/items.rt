@@ -24,6 +24,7 @@ use tv_reader::kinds::take_kind;
 use tv_reader::trees::{take_entry_count, take_legacy_object};
 use tv_reader::value_type::{ValueType, take_leaf};
 use tv_reader::version::DocStoreVersion;
+use tv_value::nesting::MAX_DEPTH;
 
 // What an open list holds: values, keys with values, or fields with values.
 #[derive(Clone, Copy)]
@@ -39,9 +40,6 @@ pub(crate) struct ItemsLeft {
     kind: ItemKind,
     left: u64,
 }
-
-// What is buffered is walked by a recursion of this many levels at most.
-const LEVELS: u32 = 64;
 
 // Passes over the items that the source has buffered whole, one behind the other, and gives those that are left. It may pass over none.
 fn pass_buffered_items<S: ByteSource>(
@@ -60,7 +58,7 @@ fn pass_buffered_items<S: ByteSource>(
     if u64::MAX - *count < lent.len() as u64 {
         return items;
     }
-    let (rest, passed) = behind_as_many(items.kind, items.left, lent, known, LEVELS);
+    let (rest, passed) = behind_as_many(items.kind, items.left, lent, known, MAX_DEPTH);
     let taken = lent.len() - rest.len();
     if !source.pass(taken) {
         return items;
@@ -223,7 +221,7 @@ fn skip_items<S: ByteSource>(
 
 /// Passes over a value, to any depth. It is tested as if it were read, and nothing of it is kept.
 ///
-/// A value that the source has buffered whole is walked where it lies, by a recursion of 64 levels at most. Any other is taken part by part, by no
+/// A value that the source has buffered whole is walked where it lies, by a recursion of `MAX_DEPTH` levels at most. Any other is taken part by part, by no
 /// recursion. Memory is taken then for texts that the source doesn't lend, which are tested in one buffer that is used again, and for objects
 /// as older stores hold them; and for each list that is open.
 ///

@@ -53,7 +53,7 @@ pub(crate) fn take_in_place<S: ByteSource>(
 }
 
 /// Reads a document, however the source cuts its bytes, and takes no byte behind it. Values of every type are read, to any
-/// depth, straight into the document's heap, by a recursion of 64 levels at most; and objects as older stores hold them.
+/// depth, straight into the document's heap, by a recursion of `MAX_DEPTH` levels at most; and objects as older stores hold them.
 ///
 /// Errors, the first error in reading order: `CorruptedValue` where the bytes encode no document, `TypeMismatch` where in a key's
 /// place stands a value that isn't a text, `HeapFull` where what has come so far needs more room than 4294967295 bytes, `Io` where

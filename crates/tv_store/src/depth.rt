@@ -9,11 +9,8 @@ use std::alloc::{AllocError, Global};
 use tv_doc::document::CompactDoc;
 use tv_value::children::Children;
 use tv_value::nested::{Nested, lend};
-use tv_value::nesting::nests_within;
+use tv_value::nesting::{MAX_DEPTH, nests_within};
 use tv_value::value::Value;
-
-// This many levels are tested by recursion, and values that nest deeper by a loop, whose stack takes memory.
-const LEVELS: u32 = 64;
 
 // Whether each child that is left of a list nests within this many lists. The open lists stand on a stack in memory.
 fn rest_within<N: Nested>(
@@ -48,15 +45,15 @@ fn rest_within<N: Nested>(
     }
 }
 
-// Whether no more than this many lists are open at once in a value. Where it nests deeper than 64 lists, those that are open stand on a stack in
+// Whether no more than this many lists are open at once in a value. Where it nests deeper than `MAX_DEPTH` lists, those that are open stand on a stack in
 // memory, so that no value exhausts the machine's stack. The only error is that memory was refused.
 fn value_within<'a, V: Value<'a>>(alloc: Global, value: &V, depth: u32) -> Result<bool, AllocError>
     ensures { IfOk result (λ within. IsTrue within ↔ NestsWithin depth (V.tree value.now)) }
 {
-    if depth <= LEVELS {
+    if depth <= MAX_DEPTH {
         return Ok(nests_within(value, depth));
     }
-    if nests_within(value, LEVELS) {
+    if nests_within(value, MAX_DEPTH) {
         return Ok(true);
     }
     match lend(value).into_children() {

@@ -29,9 +29,6 @@ use tv_value::children::Children;
 use tv_writer::leaf_writer::{write_code, write_coded_bool, write_coded_count, write_coded_u64};
 use tv_writer::value_writer::{write_child_key, write_key, write_object_head};
 
-// Lists within fewer than this many others are written by recursion, and those further in by a loop, whose stack takes memory.
-pub(crate) const LEVELS: u32 = 64;
-
 // A code, and the bytes behind it.
 #[inline]
 #[tactic(auto, using(tv_writer::proofs::Coded::Coded_then))]

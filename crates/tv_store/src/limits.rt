@@ -368,7 +368,7 @@ impl DirectDecoder {
 /// Reads a document as `read_document` does, and stops where it passes a limit. The parts are those that a step of `DirectDecoder` reads,
 /// so a text with its tokens is one part, and so is an object as stores of versions 1 and 2 may hold it, a JSON text with code 8. In such an
 /// object no list is open while it is read, and it nests at most 127 levels by itself: how deep the values nest is tested once more when the
-/// document has come. The test takes memory for values that nest deeper than 64 levels. Without limits `read_document` is faster. Never more
+/// document has come. The test takes memory for values that nest deeper than `MAX_DEPTH` levels. Without limits `read_document` is faster. Never more
 /// than `bytes` bytes are taken of the source, also within a part. (Not in tantivy.)
 ///
 /// Errors: `Limit(Bytes)` where all these were taken and the document needs more, so no prefix of them encodes one; `Limit(Depth)` right

@@ -20,7 +20,7 @@ ghost use Rattle.tv_writer.specs.Error as store;
 ghost use Rattle.tv_writer.specs.Error.{IsIo, IsIoOrMemory};
 ghost use Rattle.tv_value.specs.Nesting.{AllNestWithin, NestsWithin};
 
-use crate::encoded_writer::{LEVELS, write_encoded};
+use crate::encoded_writer::write_encoded;
 use crate::error::SerializeError;
 use crate::type_codes::TEXT_CODE;
 use std::alloc::Global;
@@ -33,6 +33,7 @@ use tv_heap::encoded::Encoded;
 use tv_heap::value::CompactDocValue;
 use tv_value::field::Field;
 use tv_value::leaf::ReferenceValueLeaf;
+use tv_value::nesting::MAX_DEPTH;
 use tv_value::value::{ReferenceValue, Value};
 use tv_writer::leaf_writer::{write_coded_text, write_leaf};
 
@@ -82,10 +83,10 @@ fn write_field_encoded<K: ByteSink>(
     ensures writes { store.WritesStore K.ByteSink sink.old sink.new result
         (Ok (four_bytes field.id ++ encoded_bytes (written_version version) encoded.entry)) }
     ensures errors { IfErr result IsIoOrMemory }
-    ensures only_io { HeldNestsWithin 64 encoded.entry → IfErr result IsIo }
+    ensures only_io { HeldNestsWithin MAX_DEPTH encoded.entry → IfErr result IsIo }
 {
     write_u32(sink, field.field_id())?;
-    write_encoded(sink, alloc, version, encoded, LEVELS)
+    write_encoded(sink, alloc, version, encoded, MAX_DEPTH)
 }
 
 // The same. What is commonest is written with the field, at once.
@@ -101,7 +102,7 @@ pub(crate) fn write_pair<K: ByteSink>(
     ensures writes { store.WritesStore K.ByteSink sink.old sink.new result
         (Ok (four_bytes field.id ++ encoded_bytes (written_version version) encoded.entry)) }
     ensures errors { IfErr result IsIoOrMemory }
-    ensures only_io { HeldNestsWithin 64 encoded.entry → IfErr result IsIo }
+    ensures only_io { HeldNestsWithin MAX_DEPTH encoded.entry → IfErr result IsIo }
 {
     match encoded {
         Encoded::Number(code, number) => write_field_u64(sink, field, code, number)?,
@@ -155,7 +156,7 @@ pub(crate) fn write_stored_pair<K: ByteSink>(
     ensures writes { store.WritesStore K.ByteSink sink.old sink.new result
         (Ok (short_pair (written_version version) (field.id, tree_written (tree_of value.entry)))) }
     ensures errors { IfErr result IsIoOrMemory }
-    ensures only_io { NestsWithin 64 (tree_of value.entry) → IfErr result IsIo }
+    ensures only_io { NestsWithin MAX_DEPTH (tree_of value.entry) → IfErr result IsIo }
 {
     match value.encoded() {
         Encoded::Tokenized(_) => write_field_text(sink, field, value)?,
@@ -173,7 +174,7 @@ fn write_pairs<K: ByteSink>(
     ensures writes { store.WritesStore K.ByteSink sink.old sink.new result
         (Ok (flat_map (short_pair (written_version version)) (document_of document.now))) }
     ensures errors { IfErr result IsIoOrMemory }
-    ensures only_io { AllNestWithin 64 (document_of document.now) → IfErr result IsIo }
+    ensures only_io { AllNestWithin MAX_DEPTH (document_of document.now) → IfErr result IsIo }
 {
     let alloc = document.allocator();
     for (field, value) in document.field_values() {
@@ -191,7 +192,7 @@ pub(crate) fn write_document<K: ByteSink>(
     ensures writes { store.WritesStore K.ByteSink sink.old sink.new result
         (Ok (short_document (written_version version) (document_of document.now))) }
     ensures errors { IfErr result IsIoOrMemory }
-    ensures only_io { AllNestWithin 64 (document_of document.now) → IfErr result IsIo }
+    ensures only_io { AllNestWithin MAX_DEPTH (document_of document.now) → IfErr result IsIo }
 {
     write_vint(sink, document.len() as u64)?;
     write_pairs(sink, version, document)

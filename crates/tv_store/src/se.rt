@@ -22,6 +22,7 @@ use tv_format::version::WriteVersion;
 use tv_heap::value::CompactDocValue;
 use tv_schema::Schema;
 use tv_value::field::Field;
+use tv_value::nesting::MAX_DEPTH;
 pub use tv_writer::serializers::{
     BinaryArraySerializer, BinaryObjectSerializer, BinaryValueSerializer,
 };
@@ -56,7 +57,7 @@ fn write_if_stored<K: ByteSink>(
         (Ok (written_pairs (written_version version) schema.now
         ((field.id, tree_of value.entry) ∷ []))) }
     ensures errors { IfErr result IsIoOrMemory }
-    ensures only_io { NestsWithin 64 (tree_of value.entry) → IfErr result IsIo }
+    ensures only_io { NestsWithin MAX_DEPTH (tree_of value.entry) → IfErr result IsIo }
 {
     if schema.get_field_entry(field).is_stored() {
         write_stored_pair(sink, alloc, version, field, value)
@@ -76,7 +77,7 @@ fn write_stored_pairs<K: ByteSink>(
     ensures writes { store.WritesStore K.ByteSink sink.old sink.new result
         (Ok (written_pairs (written_version version) schema.now (document_of document.now))) }
     ensures errors { IfErr result IsIoOrMemory }
-    ensures only_io { AllNestWithin 64 (document_of document.now) → IfErr result IsIo }
+    ensures only_io { AllNestWithin MAX_DEPTH (document_of document.now) → IfErr result IsIo }
 {
     let alloc = document.allocator();
     for (field, value) in document.field_values() {
@@ -123,7 +124,7 @@ impl<'se, K: ByteSink> BinaryDocumentSerializer<'se, K> {
     }
 
     /// Appends the stored pairs of a document whose fields belong to the schema, in the shortest encoding. It takes memory only
-    /// for a value that nests deeper than 64 levels.
+    /// for a value that nests deeper than `MAX_DEPTH` levels.
     ///
     /// Errors: `Io` where the sink failed; `Memory` where memory was refused for such a value. The sink then holds what it held
     /// before, and a beginning of what was to be written; a later call appends to that.
@@ -146,7 +147,7 @@ impl<'se, K: ByteSink> BinaryDocumentSerializer<'se, K> {
             (Ok (short_document (written_version self.old.version)
             (stored self.old.schema.now (document_of document.now)))) }
         ensures errors { IfErr result IsIoOrMemory }
-        ensures io { AllNestWithin 64 (document_of document.now) → IfErr result IsIo }
+        ensures io { AllNestWithin MAX_DEPTH (document_of document.now) → IfErr result IsIo }
     {
         write_vint(self.sink, stored_count(self.schema, document))?;
         write_stored_pairs(self.sink, self.version, self.schema, document)

@@ -14,7 +14,7 @@ use tv_reading::items::{pass_document, pass_value};
 /// Passes over a document: takes all of its bytes and no byte behind it, tests them as `read_document` does, and keeps nothing, whatever it holds
 /// and however deep that nests. There is no heap that could be full. (Not in tantivy.)
 ///
-/// Pairs that the source has buffered whole are tested where they lie, by a recursion of 64 levels at most. The others are taken part by part, by no
+/// Pairs that the source has buffered whole are tested where they lie, by a recursion of `MAX_DEPTH` levels at most. The others are taken part by part, by no
 /// recursion: a text in one buffer that is used again, an object as older stores hold it is built for the test and given back, and each list
 /// within another, as an array in a document is, takes some bytes while it is open. Nothing else takes memory.
 ///

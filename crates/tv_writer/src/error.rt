@@ -22,7 +22,7 @@ pub enum SerializeError {
     /// A value nests in more lists than the serializer writes.
     #[error("the value nests too deep")]
     TooDeep,
-    /// Memory was refused, for a value that nests deeper than 64 levels.
+    /// Memory was refused, for a value that nests deeper than `MAX_DEPTH` levels.
     #[error("memory was refused")]
     Memory,
 }

@@ -129,7 +129,7 @@ fn arrays(alloc: Global, depth: u32) -> Result<Vec<u8>, AllocError> {
     Ok(bytes)
 }
 
-// Past 64 levels too, and on the machine's stack no more of them than that.
+// Past `MAX_DEPTH` levels too, and on the machine's stack no more of them than that.
 #[test]
 fn deep_values_nest_within_deep_limits(rt: HostRuntime) -> Result<(), Fail> {
     let alloc = rt.alloc();

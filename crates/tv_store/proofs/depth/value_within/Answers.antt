@@ -7,7 +7,7 @@ use Rattle.tv_store.proofs.depth.value_within.Goals as goal
 
 pub returns-then-nests_within : goal.returns-then-nests_within
 returns-then-nests_within g c =
-    (λ h. nests_more 64 c.args.depth (g.V.Value.tree c.args.value.now) (omega arith) (c.nests_within-2.ensures.0 (search rules)), λ h. search rules)
+    (λ h. nests_more 128 c.args.depth (g.V.Value.tree c.args.value.now) (omega arith) (c.nests_within-2.ensures.0 (search rules)), λ h. search rules)
 
 pub returns-in-Ok : goal.returns-in-Ok
 returns-in-Ok g c =

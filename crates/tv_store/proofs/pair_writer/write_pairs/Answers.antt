@@ -24,7 +24,7 @@ loop-field-preserved g c =
       can_next = tt;
       is_finite = tt;
       written = Written-step _ _ (pair_next v _ _ _ _ _ cut (c.encoded.ensures.bytes v)) l.invariant.written c.in_ok-write_pair.ensures.writes;
-      within = λ h. (subst (AllNestWithin 64) cut (l.invariant.within h)).1;
+      within = λ h. (subst (AllNestWithin 128) cut (l.invariant.within h)).1;
     }
 
 pub returns-in_err-write_pair-clause-writes : goal.returns-in_err-write_pair-clause-writes
@@ -40,4 +40,4 @@ returns-in_err-write_pair-clause-only_io g c =
     let p = err_from_is_err_and c.from_residual.result c.from_residual.ensures.1 in
     let l = c.loop-field in
     let cut : pairs_left l.field-iterator ≡ (c.in-Some.field.id, tree_of c.in-Some.value) ∷ pairs_left c.next.new.self = search rules in
-    λ h. rw (p.1, p.2) (c.in_err-write_pair.ensures.only_io (held_within 64 c.in-Some.value c.encoded.result c.encoded.ensures.bytes (subst (AllNestWithin 64) cut (l.invariant.within h)).0))
+    λ h. rw (p.1, p.2) (c.in_err-write_pair.ensures.only_io (held_within 128 c.in-Some.value c.encoded.result c.encoded.ensures.bytes (subst (AllNestWithin 128) cut (l.invariant.within h)).0))

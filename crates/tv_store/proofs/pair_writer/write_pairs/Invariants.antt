@@ -13,5 +13,5 @@ invariant-loop-field g l = record {
   is_finite : (goal.iterator-loop-field g).is_finite l.field-iterator;
   written : Written g.K.ByteSink.is_known g.K.ByteSink.held g.K.ByteSink.failures l.initial.sink l.sink
       (flat_map (short_pair (written_version l.version)) (document_of l.document)) (flat_map (short_pair (written_version l.version)) (pairs_left l.field-iterator));
-  within : AllNestWithin 64 (document_of l.document) → AllNestWithin 64 (pairs_left l.field-iterator);
+  within : AllNestWithin 128 (document_of l.document) → AllNestWithin 128 (pairs_left l.field-iterator);
 }

@@ -32,7 +32,7 @@ returns-in_err-write_pair-in_default-clause-writes g c =
 pub returns-in_err-write_pair-in_default-clause-only_io : goal.returns-in_err-write_pair-in_default-clause-only_io
 returns-in_err-write_pair-in_default-clause-only_io g c =
     let p = err_from_is_err_and c.from_residual-in_err-write_pair-in_default.result c.from_residual-in_err-write_pair-in_default.ensures.1 in
-    λ h. rw (p.1, p.2) (c.in_err-write_pair-in_default.ensures.only_io (held_within 64 c.args.value c.encoded.result c.encoded.ensures.bytes h))
+    λ h. rw (p.1, p.2) (c.in_err-write_pair-in_default.ensures.only_io (held_within 128 c.args.value c.encoded.result c.encoded.ensures.bytes h))
 
 pub returns-in_ok-write_pair-in_default-clause-writes : goal.returns-in_ok-write_pair-in_default-clause-writes
 returns-in_ok-write_pair-in_default-clause-writes g c =

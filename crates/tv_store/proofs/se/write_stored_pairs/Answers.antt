@@ -22,7 +22,7 @@ loop-field-preserved g c =
       is_finite = tt;
       belongs = search rules;
       written = Written-step _ _ (written_next _ _ _ _ _ cut) l.invariant.written c.in_ok-write_if_stored.ensures.writes;
-      within = λ h. (subst (AllNestWithin 64) cut (l.invariant.within h)).1;
+      within = λ h. (subst (AllNestWithin 128) cut (l.invariant.within h)).1;
     }
 
 pub returns-in_err-write_if_stored-clause-writes : goal.returns-in_err-write_if_stored-clause-writes
@@ -37,4 +37,4 @@ returns-in_err-write_if_stored-clause-only_io g c =
     let p = err_from_is_err_and c.from_residual.result c.from_residual.ensures.1 in
     let l = c.loop-field in
     let cut : pairs_left l.field-iterator ≡ (c.in-Some.field.id, tree_of c.in-Some.value) ∷ pairs_left c.next.new.self = search rules in
-    λ h. rw (p.1, p.2) (c.in_err-write_if_stored.ensures.only_io (subst (AllNestWithin 64) cut (l.invariant.within h)).0)
+    λ h. rw (p.1, p.2) (c.in_err-write_if_stored.ensures.only_io (subst (AllNestWithin 128) cut (l.invariant.within h)).0)

@@ -14,5 +14,5 @@ invariant-loop-field g l = record {
   belongs : Belongs l.schema (pairs_left l.field-iterator);
   written : Written g.K.ByteSink.is_known g.K.ByteSink.held g.K.ByteSink.failures l.initial.sink l.sink
       (written_pairs (written_version l.version) l.schema (document_of l.document)) (written_pairs (written_version l.version) l.schema (pairs_left l.field-iterator));
-  within : AllNestWithin 64 (document_of l.document) → AllNestWithin 64 (pairs_left l.field-iterator);
+  within : AllNestWithin 128 (document_of l.document) → AllNestWithin 128 (pairs_left l.field-iterator);
 }
