@@ -23,20 +23,21 @@ fn main(rt: HostRuntime) -> Result<()> {
     let input = BufReader::new(rt.alloc(), rt.reader())?.lines(rt.alloc());
     for line in input {
         let line = line?;
-        let (shape, count) = line
+        let (name, count) = line
             .as_str()
             .split_once(' ')
             .context("a shape and a number")?;
-        let shape = Shape::named(shape).context("a shape")?;
+        let shape = Shape::named(name).context("a shape")?;
         let count = count.parse::<u32>().ok().context("a number")?;
-        make_calls(&rt, shape, count, is_timed)?;
+        make_calls(&rt, name, shape, count, is_timed)?;
     }
     Ok(())
 }
 
-// Makes each call that the shape has.
+// Makes each call that the shape of this name has.
 fn make_calls(
     rt: &(impl Clock + Print + Eprint + AllocGlobal),
+    name: &str,
     shape: Shape,
     count: u32,
     is_timed: bool,
@@ -47,11 +48,11 @@ fn make_calls(
         let answer = call.make(rt.alloc(), &workload)?;
         let nanos = start.elapsed(rt)?.as_nanos();
         match answer {
-            Some(len) => println!(rt; "{} {count} {}: {len}", shape.name(), call.name())?,
-            None => println!(rt; "{} {count} {}: too deep", shape.name(), call.name())?,
+            Some(len) => println!(rt; "{name} {count} {}: {len}", call.name())?,
+            None => println!(rt; "{name} {count} {}: too deep", call.name())?,
         }
         if is_timed {
-            eprintln!(rt; "{} {count} {}: {nanos} ns", shape.name(), call.name())?;
+            eprintln!(rt; "{name} {count} {}: {nanos} ns", call.name())?;
         }
     }
     Ok(())

@@ -9,7 +9,7 @@ use tantivy_schema::schema::{INDEXED, STORED, Schema, TEXT};
 use tantivy_schema::store::{DocStoreVersion, read_document};
 
 /// What a document has many of.
-#[derive(Clone, Copy, PartialEq, Eq)]
+#[derive(Clone, Copy)]
 pub enum Shape {
     /// Values of one field.
     Values,
@@ -75,45 +75,27 @@ impl Drop for Workload {
 }
 
 impl Shape {
-    const ALL: [Shape; 13] = [
-        Shape::Values,
-        Shape::Items,
-        Shape::Rising,
-        Shape::Falling,
-        Shape::Equal,
-        Shape::Mixed,
-        Shape::Levels,
-        Shape::Fields,
-        Shape::Steps,
-        Shape::Lines,
-        Shape::Documents,
-        Shape::Terms,
-        Shape::Facets,
+    // The shapes, each behind the name under which it is asked for.
+    const NAMED: [(&'static str, Shape); 13] = [
+        ("values", Shape::Values),
+        ("items", Shape::Items),
+        ("rising", Shape::Rising),
+        ("falling", Shape::Falling),
+        ("equal", Shape::Equal),
+        ("mixed", Shape::Mixed),
+        ("levels", Shape::Levels),
+        ("fields", Shape::Fields),
+        ("steps", Shape::Steps),
+        ("lines", Shape::Lines),
+        ("documents", Shape::Documents),
+        ("terms", Shape::Terms),
+        ("facets", Shape::Facets),
     ];
-
-    /// The name under which it is asked for.
-    pub fn name(self) -> &'static str {
-        match self {
-            Shape::Values => "values",
-            Shape::Items => "items",
-            Shape::Rising => "rising",
-            Shape::Falling => "falling",
-            Shape::Equal => "equal",
-            Shape::Mixed => "mixed",
-            Shape::Levels => "levels",
-            Shape::Fields => "fields",
-            Shape::Steps => "steps",
-            Shape::Lines => "lines",
-            Shape::Documents => "documents",
-            Shape::Terms => "terms",
-            Shape::Facets => "facets",
-        }
-    }
 
     /// The shape of this name.
     pub fn named(name: &str) -> Option<Shape> {
-        for shape in Shape::ALL {
-            if shape.name() == name {
+        for (known, shape) in Shape::NAMED {
+            if known == name {
                 return Some(shape);
             }
         }
@@ -197,18 +179,18 @@ impl Workload {
         let lines = lines_of(alloc, schema_json.as_str(), shape, count)?;
         let mut json = String::new(alloc);
         let mut stored = Vec::new(alloc);
-        if shape == Shape::Levels {
+        if matches!(shape, Shape::Levels) {
             push_levels(&mut stored, count)?;
         } else {
             push_json(&mut json, shape, count)?;
         }
-        let document = if shape == Shape::Levels {
+        let document = if matches!(shape, Shape::Levels) {
             let mut source = SliceSource::new(stored.as_slice());
             read_document(alloc, &mut source, DocStoreVersion::V2)?
         } else {
             CompactDoc::parse_json(alloc, &schema, json.as_str())?
         };
-        if shape != Shape::Levels {
+        if !matches!(shape, Shape::Levels) {
             stored = stored_of(alloc, &schema, &document)?;
         }
         Ok(Workload {
@@ -228,7 +210,7 @@ impl Workload {
 // The fields of a shape: many, or one for values and one for objects.
 fn schema_of(alloc: Global, shape: Shape, count: u32) -> Result<Schema> {
     let mut builder = Schema::builder(alloc);
-    if shape == Shape::Fields {
+    if matches!(shape, Shape::Fields) {
         for number in 0..count {
             let name = format!(in alloc; "field{number}")?;
             let _field = builder.add_text_field(name.as_str(), TEXT | STORED)?;
@@ -265,7 +247,7 @@ fn push_levels(stored: &mut Vec<u8>, count: u32) -> Result<()> {
 // A path of this many steps; of other shapes of none.
 fn path_of(alloc: Global, shape: Shape, count: u32) -> Result<String> {
     let mut path = String::from_str(alloc, "tree")?;
-    if shape == Shape::Steps {
+    if matches!(shape, Shape::Steps) {
         for _ in 0..count {
             path.push_str(".a")?;
         }
@@ -276,7 +258,7 @@ fn path_of(alloc: Global, shape: Shape, count: u32) -> Result<String> {
 // The lines of that shape, one with a number for each document.
 fn lines_of(alloc: Global, schema_json: &str, shape: Shape, count: u32) -> Result<Vec<u8>> {
     let mut lines = Vec::new(alloc);
-    if shape == Shape::Lines {
+    if matches!(shape, Shape::Lines) {
         lines.extend_from_slice(schema_json.as_bytes())?;
         for _ in 0..count {
             lines.extend_from_slice(b"\n{\"numbers\":[7]}")?;
@@ -288,7 +270,7 @@ fn lines_of(alloc: Global, schema_json: &str, shape: Shape, count: u32) -> Resul
 // The stored bytes of that shape, as version 2 has them: documents with a number in field 0 each.
 fn block_of(alloc: Global, shape: Shape, count: u32) -> Result<Vec<u8>> {
     let mut block = Vec::new(alloc);
-    if shape == Shape::Documents {
+    if matches!(shape, Shape::Documents) {
         for _ in 0..count {
             block.extend_from_slice(&[129, 0, 0, 0, 0, 1, 7, 0, 0, 0, 0, 0, 0, 0])?;
         }

@@ -97,7 +97,7 @@ fn the_bytes_of_a_reader_come_through_any_buffer(rt: HostRuntime) -> Result<(), 
                 let mut source = BufferedSource::with_capacity(rt.alloc(), capacity, reader)?;
                 let (bytes, failed) = take_all(rt.alloc(), &mut source)?;
                 assert!(rt; bytes.as_slice() == BYTES);
-                assert_eq!(rt; failed, usize::from(passes.is_some()));
+                assert!(rt; failed == usize::from(passes.is_some()));
                 assert!(rt; source.into_inner().rest.is_empty());
             }
         }
@@ -114,16 +114,16 @@ fn what_is_buffered_is_lent(rt: HostRuntime) -> Result<(), Fail> {
     };
     let mut source = BufferedSource::with_capacity(rt.alloc(), 4, reader)?;
     assert!(rt; source.buffered().is_empty() && !source.pass(1));
-    assert_eq!(rt; source.next_byte(), Ok(Some(b'a')));
+    assert!(rt; source.next_byte() == Ok(Some(b'a')));
     assert!(rt; source.buffered() == b"bcd".as_slice());
     assert!(rt; !source.pass(4) && source.pass(1));
     assert!(rt; source.buffered() == b"cd".as_slice());
     let mut buf = [0; 6];
-    assert_eq!(rt; source.read(&mut buf), Ok(2));
-    assert_eq!(rt; source.read(&mut buf), Err(io::ErrorKind::TimedOut));
-    assert_eq!(rt; source.read(&mut buf), Ok(4));
-    assert_eq!(rt; buf, *b"efgh\0\0");
+    assert!(rt; source.read(&mut buf) == Ok(2));
+    assert!(rt; source.read(&mut buf) == Err(io::ErrorKind::TimedOut));
+    assert!(rt; source.read(&mut buf) == Ok(4));
+    assert!(rt; buf == *b"efgh\0\0");
     assert!(rt; source.buffered().is_empty());
-    assert_eq!(rt; source.next_byte(), Ok(None));
+    assert!(rt; source.next_byte() == Ok(None));
     Ok(())
 }

@@ -40,23 +40,23 @@ fn first_write_fails<K: ByteSink>(
 fn first_calls_fail(rt: HostRuntime) {
     let kind = io::ErrorKind::PermissionDenied;
     let (answer, source) = first_read_fails(SliceSource::new(b"abc"), kind);
-    assert_eq!(rt; (answer, source.rest()), (Err(kind), b"abc".as_slice()));
+    assert!(rt; (answer, source.rest()) == (Err(kind), b"abc".as_slice()));
     let (answer, sink) = first_write_fails(VecSink::new(rt.alloc()), kind);
-    assert_eq!(rt; (answer, sink.as_slice()), (Err(kind), b"".as_slice()));
+    assert!(rt; (answer, sink.as_slice()) == (Err(kind), b"".as_slice()));
 }
 
 #[test]
 fn one_read_fails(rt: HostRuntime) {
     let mut source = FaultSource::new(SliceSource::new(b"abc"), 1, io::ErrorKind::TimedOut);
     let mut buf = [0; 8];
-    assert_eq!(rt; (source.read(&mut []), source.calls()), (Ok(0), 0));
+    assert!(rt; (source.read(&mut []), source.calls()) == (Ok(0), 0));
     assert!(rt; source.buffered().is_empty() && !source.pass(1));
     let failed = Err(io::ErrorKind::TimedOut);
     for (calls, answer) in [Ok(1), failed, Ok(1), Ok(1), Ok(0)].iter().enumerate() {
         let read = (source.calls(), source.read(&mut buf), source.read(&mut []));
-        assert_eq!(rt; read, (calls as u64, *answer, Ok(0)));
+        assert!(rt; read == ((calls as u64, *answer, Ok(0))));
     }
-    assert_eq!(rt; (source.calls(), buf), (5, *b"c\0\0\0\0\0\0\0"));
+    assert!(rt; (source.calls(), buf) == (5, *b"c\0\0\0\0\0\0\0"));
     assert!(rt; source.into_inner().rest().is_empty());
 }
 
@@ -64,13 +64,13 @@ fn one_read_fails(rt: HostRuntime) {
 fn one_write_fails(rt: HostRuntime) {
     let kind = io::ErrorKind::StorageFull;
     let mut sink = FaultSink::new(VecSink::new(rt.alloc()), 2, kind);
-    assert_eq!(rt; sink.write(&[]), Ok(0));
+    assert!(rt; sink.write(&[]) == Ok(0));
     for (calls, answer) in [Ok(1), Ok(1), Err(kind), Ok(1)].iter().enumerate() {
         let written = (sink.calls(), sink.write(b"abc"), sink.write(&[]));
-        assert_eq!(rt; written, (calls as u64, *answer, Ok(0)));
+        assert!(rt; written == ((calls as u64, *answer, Ok(0))));
     }
-    assert_eq!(rt; sink.calls(), 4);
-    assert_eq!(rt; sink.into_inner().as_slice(), b"aaa".as_slice());
+    assert!(rt; sink.calls() == 4);
+    assert!(rt; sink.into_inner().as_slice() == b"aaa".as_slice());
 }
 
 // The kinds of the errors.
@@ -115,10 +115,7 @@ fn parts_are_read_up_to_the_call_that_fails(rt: HostRuntime) {
                 Err(ReadError::Io(kind))
             };
             let calls = place as u64 + u64::from(!is_whole);
-            assert_eq!(rt;
-                (answer, count, source.calls()),
-                (expected, place as u64, calls)
-            );
+            assert!(rt; (answer, count, source.calls()) == ((expected, place as u64, calls)));
             assert!(rt; Some(source.into_inner().rest()) == PARTS.get(place..));
         }
     }
@@ -133,7 +130,7 @@ fn parts_are_written_up_to_the_call_that_fails(rt: HostRuntime) {
             let is_whole = place == PARTS.len();
             let expected = if is_whole { Ok(()) } else { Err(kind) };
             let calls = place as u64 + u64::from(!is_whole);
-            assert_eq!(rt; (answer, sink.calls()), (expected, calls), "at {place}");
+            assert!(rt; (answer, sink.calls()) == (expected, calls), "at {place}");
             assert!(rt; Some(sink.into_inner().as_slice()) == PARTS.get(..place));
         }
     }
@@ -157,11 +154,11 @@ fn write_failing(alloc: Global, passes: u64) -> (Result<(), io::ErrorKind>, VecS
 fn numbers_fail_with_their_call(rt: HostRuntime) -> Result<(), Fail> {
     let full = Err(io::ErrorKind::StorageFull);
     let (written, sink) = write_failing(rt.alloc(), 3);
-    assert_eq!(rt; (written, sink.as_slice()), (full, [20, 0, 0].as_slice()));
+    assert!(rt; (written, sink.as_slice()) == (full, [20, 0, 0].as_slice()));
     let (written, sink) = write_failing(rt.alloc(), 8);
-    assert_eq!(rt; written, Ok(()));
+    assert!(rt; written == Ok(()));
     let failed = read_failing(rt.alloc(), sink.as_slice(), 3);
-    assert_eq!(rt; failed, Err(ReadError::Io(io::ErrorKind::TimedOut)));
-    assert_eq!(rt; read_failing(rt.alloc(), sink.as_slice(), 8)?, 20);
+    assert!(rt; failed == Err(ReadError::Io(io::ErrorKind::TimedOut)));
+    assert!(rt; read_failing(rt.alloc(), sink.as_slice(), 8)? == 20);
     Ok(())
 }

@@ -8,27 +8,45 @@ use tv_term::{FacetCount, FacetCountsError, Term, TermError, TermWriter, count_c
 use tv_value::date_time::DateTime;
 use tv_value::field::Field;
 
+// Whether a term is another one, which is let go.
+fn is_same(term: &Term, other: Result<Term, TermError>) -> Result<bool, Fail> {
+    Ok(*term == other?)
+}
+
 #[test]
-fn terms_follow_one_another(rt: HostRuntime) -> Result<(), Fail> {
+fn numbers_follow_a_text(rt: HostRuntime) -> Result<(), Fail> {
     let (alloc, field) = (rt.alloc(), Field::from_field_id(7));
+    let text = "a text that is longer than all others";
     let mut writer = TermWriter::new(alloc);
     assert!(rt; !writer.has_term());
-    writer.write_text(field, "a text that is longer than all others")?;
-    let text = Term::from_field_text(alloc, field, "a text that is longer than all others")?;
-    assert!(rt; *writer.term() == text);
+    writer.write_text(field, text)?;
+    assert!(rt; is_same(writer.term(), Term::from_field_text(alloc, field, text))?);
     writer.write_u64(field, 258)?;
-    assert!(rt; *writer.term() == Term::from_field_u64(alloc, field, 258)?);
-    assert!(rt;
-        writer.term().serialized_term() == [0, 0, 0, 7, b'u', 0, 0, 0, 0, 0, 0, 1, 2].as_slice()
-    );
-    writer.write_i64(Field::from_field_id(0), -1)?;
-    assert!(rt; *writer.term() == Term::from_field_i64(alloc, Field::from_field_id(0), -1)?);
+    assert!(rt; is_same(writer.term(), Term::from_field_u64(alloc, field, 258))?);
+    let bytes = [0, 0, 0, 7, b'u', 0, 0, 0, 0, 0, 0, 1, 2];
+    assert!(rt; writer.term().serialized_term() == bytes.as_slice());
+    let first = Field::from_field_id(0);
+    writer.write_i64(first, -1)?;
+    assert!(rt; is_same(writer.term(), Term::from_field_i64(alloc, first, -1))?);
+    Ok(())
+}
+
+#[test]
+fn other_terms_follow_one_another(rt: HostRuntime) -> Result<(), Fail> {
+    let (alloc, field) = (rt.alloc(), Field::from_field_id(7));
+    let address = Ipv6Addr::from_bits(1);
+    let mut writer = TermWriter::new(alloc);
     writer.write_bool(field, true)?;
-    assert!(rt; *writer.term() == Term::from_field_bool(alloc, field, true)?);
+    assert!(rt; is_same(writer.term(), Term::from_field_bool(alloc, field, true))?);
     writer.write_bytes(field, &[])?;
-    assert!(rt; *writer.term() == Term::from_field_bytes(alloc, field, &[])?);
-    writer.write_ip_addr(field, Ipv6Addr::from_bits(1))?;
-    assert!(rt; *writer.term() == Term::from_field_ip_addr(alloc, field, Ipv6Addr::from_bits(1))?);
+    assert!(rt; is_same(writer.term(), Term::from_field_bytes(alloc, field, &[]))?);
+    writer.write_ip_addr(field, address)?;
+    assert!(rt;
+        is_same(
+            writer.term(),
+            Term::from_field_ip_addr(alloc, field, address)
+        )?
+    );
     Ok(())
 }
 
@@ -38,14 +56,24 @@ fn dates_and_facets_follow_one_another(rt: HostRuntime) -> Result<(), Fail> {
     let mut writer = TermWriter::new(alloc);
     let date = DateTime::from_timestamp_nanos(1_500_000_001);
     writer.write_date(field, date)?;
-    assert!(rt; *writer.term() == Term::from_field_date(alloc, field, date)?);
+    assert!(rt; is_same(writer.term(), Term::from_field_date(alloc, field, date))?);
     writer.write_date_for_search(field, date)?;
-    assert!(rt; *writer.term() == Term::from_field_date_for_search(alloc, field, date)?);
+    assert!(rt;
+        is_same(
+            writer.term(),
+            Term::from_field_date_for_search(alloc, field, date)
+        )?
+    );
     let facet = Facet::from_text(alloc, "/a/b")?;
     writer.write_facet(field, &facet)?;
-    assert!(rt; *writer.term() == Term::from_facet(alloc, field, &facet)?);
+    assert!(rt; is_same(writer.term(), Term::from_facet(alloc, field, &facet))?);
     assert!(rt; writer.term().serialized_value_bytes() == b"a\0b".as_slice());
     Ok(())
+}
+
+// Whether a term holds this value.
+fn has_value(term: &Term, bytes: &[u8]) -> bool {
+    term.serialized_value_bytes() == bytes
 }
 
 #[test]
@@ -53,15 +81,13 @@ fn json_terms_follow_one_another(rt: HostRuntime) -> Result<(), Fail> {
     let (alloc, field) = (rt.alloc(), Field::from_field_id(1));
     let mut writer = TermWriter::new(alloc);
     writer.write_json_path(field, "k8s\\.node.id", false)?;
-    assert!(rt; writer.term().serialized_value_bytes() == b"k8s.node\x01id\0".as_slice());
+    assert!(rt; has_value(writer.term(), b"k8s.node\x01id\0"));
     writer.append_text("c")?;
-    assert!(rt; writer.term().serialized_value_bytes() == b"k8s.node\x01id\0sc".as_slice());
+    assert!(rt; has_value(writer.term(), b"k8s.node\x01id\0sc"));
     writer.write_json_segments(field, &["a", "b.c"])?;
-    assert!(rt; writer.term().serialized_value_bytes() == b"a\x01b.c\0".as_slice());
+    assert!(rt; has_value(writer.term(), b"a\x01b.c\0"));
     writer.append_fast_value(2u64)?;
-    assert!(rt;
-        writer.term().serialized_value_bytes() == b"a\x01b.c\0u\0\0\0\0\0\0\0\x02".as_slice()
-    );
+    assert!(rt; has_value(writer.term(), b"a\x01b.c\0u\0\0\0\0\0\0\0\x02"));
     let refused = writer.write_json_path(field, "a\0", false).err();
     assert!(rt; refused == Some(TermError::NulInPath));
     let refused = writer.write_json_segments(field, &["a", "\0"]).err();
@@ -92,29 +118,28 @@ fn facets_are_counted(rt: HostRuntime) -> Result<(), Fail> {
     Ok(())
 }
 
-// What `Debug` prints of a term.
-fn shown(alloc: Global, term: Result<Term, TermError>) -> Result<String, Fail> {
-    Ok(format!(in alloc; "{:?}", term?)?)
+// Whether `Debug` prints this of a term, which is let go.
+fn is_shown(alloc: Global, term: Result<Term, TermError>, expected: &str) -> Result<bool, Fail> {
+    Ok(format!(in alloc; "{:?}", term?)?.as_str() == expected)
 }
 
 #[test]
 fn terms_are_printed(rt: HostRuntime) -> Result<(), Fail> {
     let (alloc, field) = (rt.alloc(), Field::from_field_id(1));
-    let text = shown(alloc, Term::from_field_u64(alloc, field, 12))?;
-    assert!(rt; text.as_str() == "Term(field=1, type=U64, 12)");
-    let text = shown(alloc, Term::from_field_i64(alloc, field, -1))?;
-    assert!(rt; text.as_str() == "Term(field=1, type=I64, -1)");
-    let text = shown(alloc, Term::from_field_bool(alloc, field, true))?;
-    assert!(rt; text.as_str() == "Term(field=1, type=Bool, true)");
-    let text = shown(alloc, Term::from_field_text(alloc, field, "a\n\""))?;
-    assert!(rt; text.as_str() == "Term(field=1, type=Str, \"a\\n\\\"\")");
-    let text = shown(alloc, Term::from_field_bytes(alloc, field, &[1, 255]))?;
-    assert!(rt; text.as_str() == "Term(field=1, type=Bytes, [1, 255])");
-    let address = Ipv6Addr::from_bits(1);
-    let text = shown(alloc, Term::from_field_ip_addr(alloc, field, address))?;
-    assert!(rt; text.as_str() == "Term(field=1, type=IpAddr, ::1)");
-    let text = shown(alloc, Term::with_capacity(alloc, 0))?;
-    assert!(rt; text.as_str() == "Term(field=0, type=0)");
+    let number = Term::from_field_u64(alloc, field, 12);
+    assert!(rt; is_shown(alloc, number, "Term(field=1, type=U64, 12)")?);
+    let negative = Term::from_field_i64(alloc, field, -1);
+    assert!(rt; is_shown(alloc, negative, "Term(field=1, type=I64, -1)")?);
+    let truth = Term::from_field_bool(alloc, field, true);
+    assert!(rt; is_shown(alloc, truth, "Term(field=1, type=Bool, true)")?);
+    let text = Term::from_field_text(alloc, field, "a\n\"");
+    assert!(rt; is_shown(alloc, text, "Term(field=1, type=Str, \"a\\n\\\"\")")?);
+    let bytes = Term::from_field_bytes(alloc, field, &[1, 255]);
+    assert!(rt; is_shown(alloc, bytes, "Term(field=1, type=Bytes, [1, 255])")?);
+    let address = Term::from_field_ip_addr(alloc, field, Ipv6Addr::from_bits(1));
+    assert!(rt; is_shown(alloc, address, "Term(field=1, type=IpAddr, ::1)")?);
+    let empty = Term::with_capacity(alloc, 0);
+    assert!(rt; is_shown(alloc, empty, "Term(field=0, type=0)")?);
     Ok(())
 }
 
@@ -122,20 +147,23 @@ fn terms_are_printed(rt: HostRuntime) -> Result<(), Fail> {
 fn what_terms_hold_is_printed(rt: HostRuntime) -> Result<(), Fail> {
     let (alloc, field) = (rt.alloc(), Field::from_field_id(1));
     let facet = Facet::from_text(alloc, "/a/b\\/c")?;
-    let text = shown(alloc, Term::from_facet(alloc, field, &facet))?;
-    assert!(rt; text.as_str() == "Term(field=1, type=Facet, Facet(/a/b\\/c))");
+    let term = Term::from_facet(alloc, field, &facet);
+    assert!(rt; is_shown(alloc, term, "Term(field=1, type=Facet, Facet(/a/b\\/c))")?);
     let date = DateTime::from_timestamp_nanos(1_500_000_000);
-    let text = shown(alloc, Term::from_field_date(alloc, field, date))?;
-    assert!(rt; text.as_str() == "Term(field=1, type=Date, 1970-01-01T00:00:01.5Z)");
-    let path = shown(
-        alloc,
-        Term::from_field_json_path(alloc, field, "a.b", false),
-    )?;
-    assert!(rt; path.as_str() == "Term(field=1, type=Json, path=a.b, )");
+    let term = Term::from_field_date(alloc, field, date);
+    assert!(rt;
+        is_shown(
+            alloc,
+            term,
+            "Term(field=1, type=Date, 1970-01-01T00:00:01.5Z)"
+        )?
+    );
+    let path = Term::from_field_json_path(alloc, field, "a.b", false);
+    assert!(rt; is_shown(alloc, path, "Term(field=1, type=Json, path=a.b, )")?);
     let mut term = Term::from_field_json_path(alloc, field, "a.b", false)?;
     term.append_type_and_str("c")?;
-    let text = shown(alloc, Ok(term))?;
-    assert!(rt; text.as_str() == "Term(field=1, type=Json, path=a.b, type=Str, \"c\")");
+    let expected = "Term(field=1, type=Json, path=a.b, type=Str, \"c\")";
+    assert!(rt; is_shown(alloc, Ok(term), expected)?);
     let text = format!(in alloc; "{field:?} {date:?} {facet:?}")?;
     assert!(rt; text.as_str() == "Field(1) 1970-01-01T00:00:01.5Z Facet(/a/b\\/c)");
     Ok(())

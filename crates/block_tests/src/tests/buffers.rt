@@ -64,9 +64,9 @@ fn lines_are_imported(rt: HostRuntime) -> Result<(), Fail> {
         bytes: 21,
         lines: 8,
     };
-    assert_eq!(rt; imported, Ok(count));
-    assert_eq!(rt; &block[..21], BLOCK);
-    assert_eq!(rt; &block[21..], [KEPT; 3].as_slice());
+    assert!(rt; imported == Ok(count));
+    assert!(rt; &block[..21] == BLOCK);
+    assert!(rt; &block[21..] == [KEPT; 3].as_slice());
     let said = STATUSES.into_iter().zip(FIELDS).zip(SIZES);
     for (answer, ((status, field), bytes)) in answers.iter().zip(said) {
         let line = LineAnswer {
@@ -74,9 +74,9 @@ fn lines_are_imported(rt: HostRuntime) -> Result<(), Fail> {
             field,
             bytes,
         };
-        assert_eq!(rt; *answer, line);
+        assert!(rt; *answer == line);
     }
-    assert_eq!(rt; answers[8], NO_ANSWER);
+    assert!(rt; answers[8] == NO_ANSWER);
     Ok(())
 }
 
@@ -90,16 +90,16 @@ fn nothing_is_imported_where_a_buffer_is_too_small(rt: HostRuntime) -> Result<()
     let mut block = [KEPT; 20];
     let mut answers = [NO_ANSWER; 8];
     let short = import_lines(alloc, SCHEMA, LINES, &mut block, &mut answers);
-    assert_eq!(rt; short, Err(needed));
-    assert_eq!(rt; &block, &[KEPT; 20]);
-    assert_eq!(rt; &answers, &[NO_ANSWER; 8]);
+    assert!(rt; short == Err(needed));
+    assert!(rt; block == [KEPT; 20]);
+    assert!(rt; answers == [NO_ANSWER; 8]);
     let mut larger = [KEPT; 21];
     let few = import_lines(alloc, SCHEMA, LINES, &mut larger, &mut answers[..7]);
-    assert_eq!(rt; few, Err(needed));
-    assert_eq!(rt; &larger, &[KEPT; 21]);
-    assert_eq!(rt; &answers, &[NO_ANSWER; 8]);
+    assert!(rt; few == Err(needed));
+    assert!(rt; larger == [KEPT; 21]);
+    assert!(rt; answers == [NO_ANSWER; 8]);
     let none = import_lines(alloc, b"{", LINES, &mut larger, &mut answers);
-    assert_eq!(rt; none, Err(BlockError::InvalidJson));
+    assert!(rt; none == Err(BlockError::InvalidJson));
     Ok(())
 }
 
@@ -108,26 +108,26 @@ fn a_block_is_printed(rt: HostRuntime) -> Result<(), Fail> {
     let alloc = rt.alloc();
     let mut lines = [KEPT; 32];
     let len = export_block(alloc, SCHEMA, DocStoreVersion::V2, BLOCK, &mut lines);
-    assert_eq!(rt; len, Ok(30));
-    assert_eq!(rt; lines.as_slice(), PRINTED);
+    assert!(rt; len == Ok(30));
+    assert!(rt; lines.as_slice() == PRINTED);
     let mut others = [KEPT; 32];
     let later = export_block(alloc, SCHEMA, DocStoreVersion::V3, LATER, &mut others);
-    assert_eq!(rt; later, Ok(30));
-    assert_eq!(rt; others.as_slice(), PRINTED);
+    assert!(rt; later == Ok(30));
+    assert!(rt; others.as_slice() == PRINTED);
     let mut short = [KEPT; 29];
     let needed = BlockError::TooSmall {
         bytes: 30,
         lines: 0,
     };
     let refused = export_block(alloc, SCHEMA, DocStoreVersion::V2, BLOCK, &mut short);
-    assert_eq!(rt; refused, Err(needed));
-    assert_eq!(rt; &short, &[KEPT; 29]);
+    assert!(rt; refused == Err(needed));
+    assert!(rt; short == [KEPT; 29]);
     let cut = export_block(alloc, SCHEMA, DocStoreVersion::V2, &BLOCK[..20], &mut short);
     let broken = BlockError::BadDocument {
         start: 8,
         refusal: DocumentRefusal::Corrupted(Cause::UnexpectedEnd),
     };
-    assert_eq!(rt; cut, Err(broken));
+    assert!(rt; cut == Err(broken));
     Ok(())
 }
 
@@ -137,11 +137,11 @@ fn a_block_is_carried_over(rt: HostRuntime) -> Result<(), Fail> {
     let mut block = [KEPT; 21];
     let (two, three) = (DocStoreVersion::V2, DocStoreVersion::V3);
     let later = migrate_block(alloc, two, BLOCK, WriteVersion::V3, &mut block);
-    assert_eq!(rt; later, Ok(20));
-    assert_eq!(rt; &block[..20], LATER);
+    assert!(rt; later == Ok(20));
+    assert!(rt; &block[..20] == LATER);
     let back = migrate_block(alloc, three, LATER, WriteVersion::V2, &mut block);
-    assert_eq!(rt; back, Ok(21));
-    assert_eq!(rt; block.as_slice(), BLOCK);
+    assert!(rt; back == Ok(21));
+    assert!(rt; block.as_slice() == BLOCK);
     let key = migrate_block(
         alloc,
         two,
@@ -153,30 +153,18 @@ fn a_block_is_carried_over(rt: HostRuntime) -> Result<(), Fail> {
         start: 1,
         refusal: DocumentRefusal::KeyIsNoText,
     };
-    assert_eq!(rt; key, Err(broken));
-    assert_eq!(rt; block.as_slice(), BLOCK);
+    assert!(rt; key == Err(broken));
+    assert!(rt; block.as_slice() == BLOCK);
     Ok(())
 }
 
 #[test]
 fn a_path_names_a_field(rt: HostRuntime) -> Result<(), Fail> {
     let alloc = rt.alloc();
-    assert_eq!(rt;
-        find_field(alloc, SCHEMA, b"j.a.b"),
-        Ok(FoundField { field: 4, rest: 2 })
-    );
-    assert_eq!(rt;
-        find_field(alloc, SCHEMA, b"u"),
-        Ok(FoundField { field: 1, rest: 1 })
-    );
-    assert_eq!(rt;
-        find_field(alloc, SCHEMA, b"none"),
-        Err(BlockError::NoField)
-    );
-    assert_eq!(rt;
-        find_field(alloc, SCHEMA, b"\xff"),
-        Err(BlockError::NotUtf8)
-    );
+    assert!(rt; find_field(alloc, SCHEMA, b"j.a.b") == Ok(FoundField { field: 4, rest: 2 }));
+    assert!(rt; find_field(alloc, SCHEMA, b"u") == Ok(FoundField { field: 1, rest: 1 }));
+    assert!(rt; find_field(alloc, SCHEMA, b"none") == Err(BlockError::NoField));
+    assert!(rt; find_field(alloc, SCHEMA, b"\xff") == Err(BlockError::NotUtf8));
     Ok(())
 }
 
@@ -184,18 +172,12 @@ fn a_path_names_a_field(rt: HostRuntime) -> Result<(), Fail> {
 fn facets_are_encoded_and_printed(rt: HostRuntime) -> Result<(), Fail> {
     let alloc = rt.alloc();
     let mut bytes = [KEPT; 8];
-    assert_eq!(rt; facet_of_text(alloc, b"/a/b\\/c", &mut bytes), Ok(5));
-    assert_eq!(rt; &bytes, b"a\0b/c\xa5\xa5\xa5");
-    assert_eq!(rt; text_of_facet(alloc, b"a\0b/c", &mut bytes), Ok(7));
-    assert_eq!(rt; &bytes, b"/a/b\\/c\xa5");
-    assert_eq!(rt;
-        facet_of_text(alloc, b"a", &mut bytes),
-        Err(BlockError::NotFacet)
-    );
-    assert_eq!(rt;
-        text_of_facet(alloc, b"\xff", &mut bytes),
-        Err(BlockError::NotUtf8)
-    );
+    assert!(rt; facet_of_text(alloc, b"/a/b\\/c", &mut bytes) == Ok(5));
+    assert!(rt; &bytes == b"a\0b/c\xa5\xa5\xa5");
+    assert!(rt; text_of_facet(alloc, b"a\0b/c", &mut bytes) == Ok(7));
+    assert!(rt; &bytes == b"/a/b\\/c\xa5");
+    assert!(rt; facet_of_text(alloc, b"a", &mut bytes) == Err(BlockError::NotFacet));
+    assert!(rt; text_of_facet(alloc, b"\xff", &mut bytes) == Err(BlockError::NotUtf8));
     Ok(())
 }
 
@@ -208,63 +190,62 @@ fn answers_are_numbers(rt: HostRuntime) -> Result<(), Fail> {
         bytes: 0,
         lines: 0,
     };
-    assert_eq!(rt;
-        written_answer(Ok(7)),
-        Answer {
-            bytes: 7,
-            ..nothing
-        }
+    assert!(rt;
+        written_answer(Ok(7))
+            == Answer {
+                bytes: 7,
+                ..nothing
+            }
     );
     let both = Imported { bytes: 7, lines: 2 };
-    assert_eq!(rt;
-        import_answer(Ok(both)),
-        Answer {
-            bytes: 7,
-            lines: 2,
-            ..nothing
-        }
+    assert!(rt;
+        import_answer(Ok(both))
+            == Answer {
+                bytes: 7,
+                lines: 2,
+                ..nothing
+            }
     );
     let broken = BlockError::BadDocument {
         start: 3,
         refusal: DocumentRefusal::HeapFull,
     };
     let told = error_answer(broken);
-    assert_eq!(rt;
-        told,
-        Answer {
+    assert!(rt;
+        told == Answer {
             status: 8,
             detail: 13,
             place: 3,
             ..nothing
         }
     );
-    assert_eq!(rt;
-        wrong_version(),
-        Answer {
-            status: 9,
-            ..nothing
-        }
+    assert!(rt;
+        wrong_version()
+            == Answer {
+                status: 9,
+                ..nothing
+            }
     );
     let refused = BlockError::BadLine(LineRefusal::BadValue {
         field: 4,
         refusal: ValueRefusal::FloatNumber,
     });
-    assert_eq!(rt;
-        error_answer(refused),
-        Answer {
-            status: 11,
-            detail: 6,
-            place: 4,
-            ..nothing
-        }
+    assert!(rt;
+        error_answer(refused)
+            == Answer {
+                status: 11,
+                detail: 6,
+                place: 4,
+                ..nothing
+            }
     );
-    assert_eq!(rt;
-        error_answer(BlockError::ForeignField { field: 5 }),
-        Answer {
-            status: 12,
-            place: 5,
-            ..nothing
-        }
+    assert!(rt;
+        error_answer(BlockError::ForeignField { field: 5 })
+            == Answer {
+                status: 12,
+                place: 5,
+                ..nothing
+            }
     );
     Ok(())
 }

@@ -49,19 +49,19 @@ fn a_line_is_parsed_printed_and_written(rt: HostRuntime) -> Result<(), Fail> {
     let mut document = TantivyDocument::new(alloc);
     let mut buffers = ParseBuffers::new(alloc);
     let parsed = parse_line(alloc, &schema, LINE, &mut document, &mut buffers);
-    assert_eq!(rt; parsed, Ok(()));
+    assert!(rt; parsed == Ok(()));
     let mut text = [KEPT; 29];
     let printed = print_document(alloc, &schema, &document, &mut text);
-    assert_eq!(rt; printed, Ok(27));
-    assert_eq!(rt; text.as_slice(), PRINTED);
+    assert!(rt; printed == Ok(27));
+    assert!(rt; text.as_slice() == PRINTED);
     let mut bytes = [KEPT; 20];
     let two = write_document(alloc, &schema, WriteVersion::V2, &document, &mut bytes);
-    assert_eq!(rt; two, Ok(20));
-    assert_eq!(rt; bytes.as_slice(), STORED);
+    assert!(rt; two == Ok(20));
+    assert!(rt; bytes.as_slice() == STORED);
     let mut later = [KEPT; 19];
     let three = write_document(alloc, &schema, WriteVersion::V3, &document, &mut later);
-    assert_eq!(rt; three, Ok(19));
-    assert_eq!(rt; later.as_slice(), LATER);
+    assert!(rt; three == Ok(19));
+    assert!(rt; later.as_slice() == LATER);
     Ok(())
 }
 
@@ -72,23 +72,23 @@ fn nothing_is_written_where_a_buffer_is_too_small(rt: HostRuntime) -> Result<(),
     let mut document = TantivyDocument::new(alloc);
     let mut buffers = ParseBuffers::new(alloc);
     let parsed = parse_line(alloc, &schema, LINE, &mut document, &mut buffers);
-    assert_eq!(rt; parsed, Ok(()));
+    assert!(rt; parsed == Ok(()));
     let mut text = [KEPT; 26];
     let printed = print_document(alloc, &schema, &document, &mut text);
     let longer = BlockError::TooSmall {
         bytes: 27,
         lines: 0,
     };
-    assert_eq!(rt; printed, Err(longer));
-    assert_eq!(rt; &text, &[KEPT; 26]);
+    assert!(rt; printed == Err(longer));
+    assert!(rt; text == [KEPT; 26]);
     let mut bytes = [KEPT; 19];
     let written = write_document(alloc, &schema, WriteVersion::V2, &document, &mut bytes);
     let needed = BlockError::TooSmall {
         bytes: 20,
         lines: 0,
     };
-    assert_eq!(rt; written, Err(needed));
-    assert_eq!(rt; &bytes, &[KEPT; 19]);
+    assert!(rt; written == Err(needed));
+    assert!(rt; bytes == [KEPT; 19]);
     Ok(())
 }
 
@@ -99,27 +99,27 @@ fn bytes_begin_with_a_document(rt: HostRuntime) -> Result<(), Fail> {
     let mut document = TantivyDocument::new(alloc);
     let (two, three) = (DocStoreVersion::V2, DocStoreVersion::V3);
     let first = read_first_document(alloc, three, LATER, &mut document);
-    assert_eq!(rt; first, Ok(19));
+    assert!(rt; first == Ok(19));
     let mut text = [KEPT; 29];
     let printed = print_document(alloc, &schema, &document, &mut text);
-    assert_eq!(rt; printed, Ok(27));
-    assert_eq!(rt; text.as_slice(), PRINTED);
+    assert!(rt; printed == Ok(27));
+    assert!(rt; text.as_slice() == PRINTED);
     let shorter = read_first_document(alloc, two, b"\x80\x81", &mut document);
-    assert_eq!(rt; (shorter, document.len()), (Ok(1), 0));
+    assert!(rt; (shorter, document.len()) == (Ok(1), 0));
     let again = read_first_document(alloc, two, STORED, &mut document);
-    assert_eq!(rt; (again, document.len()), (Ok(20), 2));
+    assert!(rt; (again, document.len()) == (Ok(20), 2));
     let cut = read_first_document(alloc, two, &STORED[..19], &mut document);
     let broken = BlockError::BadDocument {
         start: 0,
         refusal: DocumentRefusal::Corrupted(Cause::UnexpectedEnd),
     };
-    assert_eq!(rt; (cut, document.len()), (Err(broken), 0));
+    assert!(rt; (cut, document.len()) == (Err(broken), 0));
     let key = read_first_document(alloc, two, b"\x81\0\0\0\0\x0d\x82\x0b", &mut document);
     let no_text = BlockError::BadDocument {
         start: 0,
         refusal: DocumentRefusal::KeyIsNoText,
     };
-    assert_eq!(rt; key, Err(no_text));
+    assert!(rt; key == Err(no_text));
     Ok(())
 }
 
@@ -128,19 +128,19 @@ fn a_refused_line_is_told_with_its_field(rt: HostRuntime) -> Result<(), Fail> {
     let alloc = rt.alloc();
     let schema = read_schema(alloc, SCHEMA).expect(&rt, "a schema");
     let none = Err(BlockError::BadLine(LineRefusal::InvalidJson));
-    assert_eq!(rt; refused(alloc, &schema, b"null"), none);
-    assert_eq!(rt; refused(alloc, &schema, b"\xff"), none);
+    assert!(rt; refused(alloc, &schema, b"null") == none);
+    assert!(rt; refused(alloc, &schema, b"\xff") == none);
     let kind = Err(BlockError::BadLine(LineRefusal::BadValue {
         field: 0,
         refusal: ValueRefusal::WrongType,
     }));
-    assert_eq!(rt; refused(alloc, &schema, b"{\"s\":7,\"other\":7}"), kind);
+    assert!(rt; refused(alloc, &schema, b"{\"s\":7,\"other\":7}") == kind);
     let float = Err(BlockError::BadLine(LineRefusal::BadValue {
         field: 1,
         refusal: ValueRefusal::FloatNumber,
     }));
     let line = b"{\"s\":7,\"j\":[{},{\"a\":0.5}]}";
-    assert_eq!(rt; refused(alloc, &schema, line), float);
+    assert!(rt; refused(alloc, &schema, line) == float);
     Ok(())
 }
 
@@ -160,7 +160,7 @@ fn a_field_that_the_schema_lacks_is_refused(rt: HostRuntime) -> Result<(), Fail>
         .expect(&rt, "room");
     let mut bytes = [KEPT; 8];
     let written = write_document(alloc, &schema, WriteVersion::V2, &document, &mut bytes);
-    assert_eq!(rt; written, Err(BlockError::ForeignField { field: 3 }));
-    assert_eq!(rt; &bytes, &[KEPT; 8]);
+    assert!(rt; written == Err(BlockError::ForeignField { field: 3 }));
+    assert!(rt; bytes == [KEPT; 8]);
     Ok(())
 }

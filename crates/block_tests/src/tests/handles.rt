@@ -40,11 +40,11 @@ fn a_handle_holds_one_schema_at_a_time(rt: HostRuntime) -> Result<(), Fail> {
     handle.close(alloc);
     let left = handle.into_box(alloc);
     let field = Some(Ok(FoundField { field: 0, rest: 1 }));
-    assert_eq!(rt; closed, None);
-    assert_eq!(rt; (opened, opened_anew), (Ok(()), Ok(())));
-    assert_eq!(rt; (first, again), (field, field));
-    assert_eq!(rt; gone, Some(Err(BlockError::NoField)));
-    assert_eq!(rt; held, field);
+    assert!(rt; closed == None);
+    assert!(rt; (opened, opened_anew) == (Ok(()), Ok(())));
+    assert!(rt; (first, again) == (field, field));
+    assert!(rt; gone == Some(Err(BlockError::NoField)));
+    assert!(rt; held == field);
     assert!(rt; left.is_none());
     Ok(())
 }
@@ -76,9 +76,9 @@ fn a_handle_holds_one_document_at_a_time(rt: HostRuntime) -> Result<(), Fail> {
     handle.close(alloc);
     handle.close(alloc);
     let left = handle.into_box(alloc);
-    assert_eq!(rt; closed, None);
-    assert_eq!(rt; (once, again), (Some(1), Some(1)));
-    assert_eq!(rt; other, Some(0));
+    assert!(rt; closed == None);
+    assert!(rt; (once, again) == (Some(1), Some(1)));
+    assert!(rt; other == Some(0));
     assert!(rt; left.is_none());
     Ok(())
 }

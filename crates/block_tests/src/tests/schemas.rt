@@ -199,18 +199,18 @@ fn a_schema_serves_many_calls(rt: HostRuntime) -> Result<(), Fail> {
         &mut block,
         &mut answers,
     );
-    assert_eq!(rt; imported, Ok(Imported { bytes: 8, lines: 2 }));
-    assert_eq!(rt; block.as_slice(), BLOCK);
-    assert_eq!(rt; &answers, &ANSWERS);
+    assert!(rt; imported == Ok(Imported { bytes: 8, lines: 2 }));
+    assert!(rt; block.as_slice() == BLOCK);
+    assert!(rt; &answers == &ANSWERS);
     let mut lines = [KEPT; 14];
     let two = DocStoreVersion::V2;
     let printed = export_block_by(alloc, &schema, two, b"\x81\0\0\0\0\0\x81a", &mut lines);
-    assert_eq!(rt; printed, Ok(12));
-    assert_eq!(rt; lines.as_slice(), PRINTED);
+    assert!(rt; printed == Ok(12));
+    assert!(rt; lines.as_slice() == PRINTED);
     let found = find_field_by(&schema, b"j.a.b");
-    assert_eq!(rt; found, Ok(FoundField { field: 1, rest: 2 }));
-    assert_eq!(rt; find_field_by(&schema, b"none"), Err(BlockError::NoField));
-    assert_eq!(rt; find_field_by(&schema, b"\xff"), Err(BlockError::NotUtf8));
+    assert!(rt; found == Ok(FoundField { field: 1, rest: 2 }));
+    assert!(rt; find_field_by(&schema, b"none") == Err(BlockError::NoField));
+    assert!(rt; find_field_by(&schema, b"\xff") == Err(BlockError::NotUtf8));
     Ok(())
 }
 
@@ -230,9 +230,9 @@ fn nothing_is_written_where_a_buffer_is_too_small(rt: HostRuntime) -> Result<(),
         &mut answers,
     );
     let needed = BlockError::TooSmall { bytes: 8, lines: 2 };
-    assert_eq!(rt; short, Err(needed));
-    assert_eq!(rt; &block, &[KEPT; 7]);
-    assert_eq!(rt; &answers, &[NO_ANSWER; 3]);
+    assert!(rt; short == Err(needed));
+    assert!(rt; block == [KEPT; 7]);
+    assert!(rt; answers == [NO_ANSWER; 3]);
     let mut lines = [KEPT; 11];
     let two = DocStoreVersion::V2;
     let cut = export_block_by(alloc, &schema, two, b"\x81\0\0\0\0\0\x81a", &mut lines);
@@ -240,8 +240,8 @@ fn nothing_is_written_where_a_buffer_is_too_small(rt: HostRuntime) -> Result<(),
         bytes: 12,
         lines: 0,
     };
-    assert_eq!(rt; cut, Err(longer));
-    assert_eq!(rt; &lines, &[KEPT; 11]);
+    assert!(rt; cut == Err(longer));
+    assert!(rt; lines == [KEPT; 11]);
     Ok(())
 }
 
@@ -264,16 +264,16 @@ fn a_key_at_fault_is_named(rt: HostRuntime) -> Result<(), Fail> {
             entry: 0,
             key: *key,
         };
-        assert_eq!(rt; refusal(alloc, text), Some(fault));
-        assert_eq!(rt; error_answer(fault).detail, *number);
+        assert!(rt; refusal(alloc, text) == Some(fault));
+        assert!(rt; error_answer(fault).detail == *number);
     }
     let later = br#"[{"name":"a","type":"facet","options":{"stored":true}},{"name":"a"}]"#;
     let second = BlockError::BadSchemaKey {
         entry: 1,
         key: SchemaKey::Type,
     };
-    assert_eq!(rt; refusal(alloc, later), Some(second));
-    assert_eq!(rt; error_answer(second).place, 2);
+    assert!(rt; refusal(alloc, later) == Some(second));
+    assert!(rt; error_answer(second).place == 2);
     Ok(())
 }
 
@@ -281,29 +281,26 @@ fn a_key_at_fault_is_named(rt: HostRuntime) -> Result<(), Fail> {
 fn no_key_is_named_where_none_is_at_fault(rt: HostRuntime) -> Result<(), Fail> {
     let alloc = rt.alloc();
     let entry = SchemaError::BadJson { entry: Some(0) };
-    assert_eq!(rt;
-        refusal(alloc, b"[null]"),
-        Some(BlockError::BadSchema(entry))
-    );
+    assert!(rt; refusal(alloc, b"[null]") == Some(BlockError::BadSchema(entry)));
     let float = br#"[{"name":"a","type":"f64"}]"#;
     let unread = SchemaError::FloatField { entry: 0 };
-    assert_eq!(rt; refusal(alloc, float), Some(BlockError::BadSchema(unread)));
+    assert!(rt; refusal(alloc, float) == Some(BlockError::BadSchema(unread)));
     let twice = br#"[{"name":"a","type":"facet","options":{"stored":true}},
 {"name":"a","type":"facet","options":{"stored":true}},{}]"#;
     let double = BlockError::BadSchemaEntry {
         entry: 1,
         error: SchemaError::DuplicateName,
     };
-    assert_eq!(rt; refusal(alloc, twice), Some(double));
-    assert_eq!(rt; error_answer(double).place, 2);
-    assert_eq!(rt; error_answer(double).detail, 2);
+    assert!(rt; refusal(alloc, twice) == Some(double));
+    assert!(rt; error_answer(double).place == 2);
+    assert!(rt; error_answer(double).detail == 2);
     let hyphen = br#"[{"name":"-a","type":"facet","options":{"stored":true}}]"#;
     let name = BlockError::BadSchemaEntry {
         entry: 0,
         error: SchemaError::InvalidName,
     };
-    assert_eq!(rt; refusal(alloc, hyphen), Some(name));
-    assert_eq!(rt; error_answer(name).place, 1);
+    assert!(rt; refusal(alloc, hyphen) == Some(name));
+    assert!(rt; error_answer(name).place == 1);
     Ok(())
 }
 
@@ -312,14 +309,14 @@ fn a_schema_is_printed(rt: HostRuntime) -> Result<(), Fail> {
     let alloc = rt.alloc();
     let schema = read_schema(alloc, SCHEMA).expect(&rt, "a schema");
     let mut text = [KEPT; 186];
-    assert_eq!(rt; print_schema(alloc, &schema, &mut text), Ok(184));
-    assert_eq!(rt; text.as_slice(), PRINTED_SCHEMA);
+    assert!(rt; print_schema(alloc, &schema, &mut text) == Ok(184));
+    assert!(rt; text.as_slice() == PRINTED_SCHEMA);
     let mut short = [KEPT; 183];
     let longer = BlockError::TooSmall {
         bytes: 184,
         lines: 0,
     };
-    assert_eq!(rt; print_schema(alloc, &schema, &mut short), Err(longer));
-    assert_eq!(rt; &short, &[KEPT; 183]);
+    assert!(rt; print_schema(alloc, &schema, &mut short) == Err(longer));
+    assert!(rt; short == [KEPT; 183]);
     Ok(())
 }

@@ -18,11 +18,11 @@ fn open_lists(builder: &mut TreeBuilder) -> Result<(), BuildError> {
 fn opens_and_closes_a_million_lists(rt: HostRuntime) -> Result<(), Fail> {
     let mut builder = TreeBuilder::new(CompactDoc::new(rt.alloc()));
     open_lists(&mut builder)?;
-    assert_eq!(rt; (builder.frames(), builder.heap_len()), (1000000, 0));
+    assert!(rt; (builder.frames(), builder.heap_len()) == (1000000, 0));
     builder.leaf(ReferenceValueLeaf::Null)?;
-    assert_eq!(rt; (builder.frames(), builder.pending()), (0, 0));
+    assert!(rt; (builder.frames(), builder.pending()) == (0, 0));
     builder.finish(Field::from_field_id(0))?;
-    assert_eq!(rt; builder.into_doc().len(), 1);
+    assert!(rt; builder.into_doc().len() == 1);
     Ok(())
 }
 
@@ -39,13 +39,10 @@ fn put_list(builder: &mut TreeBuilder) -> Result<(), BuildError> {
 fn closes_a_list_of_a_million(rt: HostRuntime) -> Result<(), Fail> {
     let mut builder = TreeBuilder::new(CompactDoc::new(rt.alloc()));
     put_list(&mut builder)?;
-    assert_eq!(rt; builder.frames(), 0);
+    assert!(rt; builder.frames() == 0);
     builder.finish(Field::from_field_id(0))?;
     let document = builder.into_doc();
     // a length of three bytes, and two for each child
-    assert_eq!(rt;
-        (document.node_data().len(), document.addr_of(0)),
-        (2000003, Some((12, 0)))
-    );
+    assert!(rt; (document.node_data().len(), document.addr_of(0)) == (2000003, Some((12, 0))));
     Ok(())
 }

@@ -99,20 +99,17 @@ fn keeps_the_finished_pairs_where_memory_is_refused(rt: HostRuntime) -> Result<(
     let mut builder = TreeBuilder::new(CompactDoc::new(alloc));
     let mut finished = 0;
     match build(&mut builder, &whole, &mut finished) {
-        Ok(()) => assert_eq!(rt; finished, 6),
+        Ok(()) => assert!(rt; finished == 6),
         Err(error) => {
-            assert_eq!(rt; error, BuildError::Memory);
+            assert!(rt; error == BuildError::Memory);
             assert!(rt; refuses_each_call(&mut builder, &whole));
         }
     }
     drop(whole);
-    assert_eq!(rt; (builder.pending(), builder.frames()), (0, 0));
+    assert!(rt; (builder.pending(), builder.frames()) == (0, 0));
     let len = builder.heap_len();
     let document = builder.into_doc();
-    assert_eq!(rt;
-        (document.len(), document.node_data().len()),
-        (finished, len)
-    );
+    assert!(rt; (document.len(), document.node_data().len()) == (finished, len));
     assert!(rt; has_pairs(&document, finished));
     Ok(())
 }

@@ -24,6 +24,21 @@ const TEXTS: [&str; 3] = [
     "{\"u\": 3, \"j\": {\"b\": [true, -7]}, \"none\": [0.5, 1e300]}",
 ];
 
+// Whether a document is the one that is made of the text anew, byte by byte in its heap too.
+fn is_made_anew(
+    alloc: Global,
+    schema: &Schema,
+    text: &str,
+    document: &CompactDoc,
+) -> Result<bool, Fail> {
+    let fresh = CompactDoc::parse_json(alloc, schema, text)?;
+    Ok(
+        document.len() == fresh.len()
+            && document.node_data() == fresh.node_data()
+            && document.same_as(alloc, &fresh)?,
+    )
+}
+
 #[test]
 fn documents_are_parsed_in_place(rt: HostRuntime) -> Result<(), Fail> {
     let alloc = rt.alloc();
@@ -33,14 +48,10 @@ fn documents_are_parsed_in_place(rt: HostRuntime) -> Result<(), Fail> {
     let mut pairs = 0;
     for text in TEXTS {
         document.parse_json_into(alloc, &schema, text, &mut buffers)?;
-        let fresh = CompactDoc::parse_json(alloc, &schema, text)?;
-        assert_eq!(rt; document.len(), fresh.len());
-        assert!(rt; document.node_data() == fresh.node_data());
-        assert!(rt; document.same_as(alloc, &fresh)?);
+        assert!(rt; is_made_anew(alloc, &schema, text, &document)?);
         pairs = document.len().max(pairs);
     }
-    assert_eq!(rt; pairs, 3);
-    assert_eq!(rt; document.len(), 2);
+    assert!(rt; pairs == 3 && document.len() == 2);
     Ok(())
 }
 
@@ -57,10 +68,8 @@ fn a_document_has_no_pairs_after_a_refusal(rt: HostRuntime) -> Result<(), Fail> 
         refused,
         Err(DocParsingError::ValueError(_, ValueParsingError::FloatNumber))
     );
-    assert!(rt; is_float);
-    assert!(rt; document.is_empty());
-    assert!(rt; document.node_data().is_empty());
+    assert!(rt; is_float && document.is_empty() && document.node_data().is_empty());
     document.parse_json_into(alloc, &schema, TEXTS[2], &mut buffers)?;
-    assert_eq!(rt; document.len(), 2);
+    assert!(rt; document.len() == 2);
     Ok(())
 }

@@ -121,15 +121,15 @@ fn malformed_values_are_refused_where_they_are_read(rt: HostRuntime) -> Result<(
     for (bytes, error, left) in malformed() {
         let mut source = SliceSource::new(bytes);
         let answer = skip_value(alloc, &mut source, DocStoreVersion::V2);
-        assert_eq!(rt; answer, Err(error));
-        assert_eq!(rt; source.rest().len(), left);
+        assert!(rt; answer == Err(error));
+        assert!(rt; source.rest().len() == left);
     }
     // a date of version 1 whose nanoseconds don't fit 64 bits
     let mut source = SliceSource::new(b"\x05\xff\xff\xff\xff\xff\xff\xff\x7f\x0b");
     let answer = skip_value(alloc, &mut source, DocStoreVersion::V1);
     let refused = Err(DeserializeError::CorruptedValue(Cause::DateRange));
-    assert_eq!(rt; answer, refused);
-    assert_eq!(rt; source.rest().len(), 1);
+    assert!(rt; answer == refused);
+    assert!(rt; source.rest().len() == 1);
     Ok(())
 }
 
@@ -154,11 +154,8 @@ const DOCUMENT: &[u8] =
 fn documents_are_passed_over_as_they_are_read(rt: HostRuntime) -> Result<(), Fail> {
     let alloc = rt.alloc();
     let mut source = SliceSource::new(DOCUMENT);
-    assert_eq!(rt;
-        skip_document(alloc, &mut source, DocStoreVersion::V2),
-        Ok(())
-    );
-    assert_eq!(rt; source.rest().len(), 1);
+    assert!(rt; skip_document(alloc, &mut source, DocStoreVersion::V2) == Ok(()));
+    assert!(rt; source.rest().len() == 1);
     for version in VERSIONS {
         for len in 0..=DOCUMENT.len() {
             assert!(rt; passes_as_read(alloc, &DOCUMENT[..len], version));
@@ -193,11 +190,8 @@ fn deep_documents_are_passed_over(rt: HostRuntime) -> Result<(), Fail> {
     let alloc = rt.alloc();
     let bytes = deep_bytes(alloc)?;
     let mut source = SliceSource::new(bytes.as_slice());
-    assert_eq!(rt;
-        skip_document(alloc, &mut source, DocStoreVersion::V2),
-        Ok(())
-    );
-    assert_eq!(rt; source.rest().len(), 0);
+    assert!(rt; skip_document(alloc, &mut source, DocStoreVersion::V2) == Ok(()));
+    assert!(rt; source.rest().len() == 0);
     Ok(())
 }
 
@@ -209,27 +203,21 @@ fn documents_of_a_block_are_passed_over(rt: HostRuntime) -> Result<(), Fail> {
     let alloc = rt.alloc();
     let mut source = SliceSource::new(BLOCK);
     let mut reader = BlockReader::new(alloc, DocStoreVersion::V2);
-    assert_eq!(rt; reader.advance(&mut source), Ok(true));
-    assert_eq!(rt; reader.skip(&mut source), Ok(true));
-    assert_eq!(rt; source.rest().len(), 6);
-    assert_eq!(rt; reader.document().len(), 1);
-    assert_eq!(rt; reader.skip(&mut source), Ok(true));
-    assert_eq!(rt; reader.skip(&mut source), Ok(false));
-    assert_eq!(rt; reader.skip(&mut source), Ok(false));
-    assert_eq!(rt; reader.document().len(), 1);
+    assert!(rt; reader.advance(&mut source) == Ok(true));
+    assert!(rt; reader.skip(&mut source) == Ok(true));
+    assert!(rt; source.rest().len() == 6);
+    assert!(rt; reader.document().len() == 1);
+    assert!(rt; reader.skip(&mut source) == Ok(true));
+    assert!(rt; reader.skip(&mut source) == Ok(false));
+    assert!(rt; reader.skip(&mut source) == Ok(false));
+    assert!(rt; reader.document().len() == 1);
     // nothing is read behind a refusal
     let mut source = SliceSource::new(b"\x81\0\0\0\0\x06\x80");
     let refused = Err(DeserializeError::CorruptedValue(Cause::FloatCode));
-    assert_eq!(rt; reader.skip(&mut source), refused);
-    assert_eq!(rt;
-        reader.skip(&mut source),
-        Err(DeserializeError::AlreadyFailed)
-    );
-    assert_eq!(rt;
-        reader.advance(&mut source),
-        Err(DeserializeError::AlreadyFailed)
-    );
-    assert_eq!(rt; source.rest().len(), 1);
-    assert_eq!(rt; reader.document().len(), 1);
+    assert!(rt; reader.skip(&mut source) == refused);
+    assert!(rt; reader.skip(&mut source) == Err(DeserializeError::AlreadyFailed));
+    assert!(rt; reader.advance(&mut source) == Err(DeserializeError::AlreadyFailed));
+    assert!(rt; source.rest().len() == 1);
+    assert!(rt; reader.document().len() == 1);
     Ok(())
 }

@@ -62,15 +62,15 @@ fn each_document_has_the_limits(rt: HostRuntime) -> Result<(), Fail> {
         let mut source = SliceSource::new(BLOCK);
         let mut reader = BlockReader::new(alloc, DocStoreVersion::V2);
         assert!(rt; reader.advance_within(&mut source, limits) == Ok(true));
-        assert_eq!(rt; reader.document().len(), 1);
-        assert_eq!(rt; source.rest().len(), 7);
+        assert!(rt; reader.document().len() == 1);
+        assert!(rt; source.rest().len() == 7);
         assert!(rt; reader.advance_within(&mut source, limits) == Ok(true));
-        assert_eq!(rt; reader.document().len(), 0);
+        assert!(rt; reader.document().len() == 0);
         assert!(rt; reader.advance_within(&mut source, limits) == Ok(true));
-        assert_eq!(rt; reader.document().len(), 1);
+        assert!(rt; reader.document().len() == 1);
         assert!(rt; reader.advance_within(&mut source, limits) == Ok(false));
         assert!(rt; reader.advance_within(&mut source, limits) == Ok(false));
-        assert_eq!(rt; reader.document().len(), 0);
+        assert!(rt; reader.document().len() == 0);
     }
     Ok(())
 }
@@ -88,15 +88,15 @@ fn a_document_past_a_limit_is_refused(rt: HostRuntime) -> Result<(), Fail> {
         let mut source = SliceSource::new(BLOCK);
         let mut reader = BlockReader::new(alloc, DocStoreVersion::V2);
         assert!(rt; reader.advance_within(&mut source, limits) == passed(limit));
-        assert_eq!(rt; source.rest().len(), left);
-        assert_eq!(rt; reader.document().len(), 0);
+        assert!(rt; source.rest().len() == left);
+        assert!(rt; reader.document().len() == 0);
         // nothing is read behind a refusal
         let none = within(None, None, None);
         let again = reader.advance_within(&mut source, none);
         assert!(rt; again == refused(DeserializeError::AlreadyFailed));
         assert!(rt; reader.advance(&mut source) == Err(DeserializeError::AlreadyFailed));
         assert!(rt; reader.skip(&mut source) == Err(DeserializeError::AlreadyFailed));
-        assert_eq!(rt; source.rest().len(), left);
+        assert!(rt; source.rest().len() == left);
     }
     Ok(())
 }
@@ -118,7 +118,7 @@ fn a_document_that_is_cut_off_is_corrupted(rt: HostRuntime) -> Result<(), Fail> 
     assert!(rt; reader.advance_within(&mut source, limits) == Ok(true));
     let cut = DeserializeError::CorruptedValue(Cause::UnexpectedEnd);
     assert!(rt; reader.advance_within(&mut source, limits) == refused(cut));
-    assert_eq!(rt; source.rest().len(), 0);
+    assert!(rt; source.rest().len() == 0);
     Ok(())
 }
 
@@ -130,7 +130,7 @@ fn limits_hold_over_any_buffer(rt: HostRuntime) -> Result<(), Fail> {
         let mut source = BufferedSource::with_capacity(alloc, capacity, BLOCK)?;
         let mut reader = BlockReader::new(alloc, DocStoreVersion::V2);
         assert!(rt; reader.advance_within(&mut source, limits) == Ok(true));
-        assert_eq!(rt; reader.document().len(), 1);
+        assert!(rt; reader.document().len() == 1);
         assert!(rt; reader.skip(&mut source) == Ok(true));
         assert!(rt; reader.advance(&mut source) == Ok(true));
         assert!(rt; reader.advance_within(&mut source, limits) == Ok(false));

@@ -26,7 +26,7 @@ fn no_more_is_counted_than_fits(rt: HostRuntime) {
             ),
             Err(error) => assert!(rt; !is_read && error == too_long),
         }
-        assert_eq!(rt; count, u64::MAX - room.saturating_sub(14));
+        assert!(rt; count == u64::MAX - room.saturating_sub(14));
     }
 }
 

@@ -26,12 +26,12 @@ fn arrays_nest_128_levels_deep(rt: HostRuntime) -> Result<(), Fail> {
         match reader.read::<OwnedValue>(rt.alloc()) {
             Ok(_) => {
                 assert!(rt; is_read);
-                assert_eq!(rt; reader.bytes_read(), bytes.len() as u64);
+                assert!(rt; reader.bytes_read() == (bytes.len() as u64));
             }
             Err(error) => {
                 assert!(rt; !is_read && error == DeserializeError::TooDeep);
                 // right behind the code of the 129th
-                assert_eq!(rt; reader.bytes_read(), 129 * 2 - 1);
+                assert!(rt; reader.bytes_read() == 129 * 2 - 1);
                 assert!(rt; reader.has_failed());
             }
         }
@@ -70,6 +70,6 @@ fn each_value_in_a_list_has_the_limit_for_itself(rt: HostRuntime) -> Result<(), 
     let version = DocStoreVersion::V2;
     let mut reader = StoreReader::with_depth(SliceSource::new(&bytes), version, 2);
     let values = reader.read::<Vec<OwnedValue>>(rt.alloc())?;
-    assert_eq!(rt; values.len(), 1);
+    assert!(rt; values.len() == 1);
     Ok(())
 }

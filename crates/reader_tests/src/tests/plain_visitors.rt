@@ -104,10 +104,10 @@ fn ending(alloc: Global, bytes: &[u8]) -> Result<(), DeserializeError> {
 fn arrays_and_objects_need_calls_of_their_own(rt: HostRuntime) {
     let alloc = rt.alloc();
     let array = DeserializeError::UnsupportedType(ValueType::Array);
-    assert_eq!(rt; ending(alloc, b"\x0c\x82\x0b\x0b"), Err(array));
+    assert!(rt; ending(alloc, b"\x0c\x82\x0b\x0b") == Err(array));
     let object = DeserializeError::UnsupportedType(ValueType::Object);
-    assert_eq!(rt; ending(alloc, b"\x0d\x82\x00\x81a\x0b"), Err(object));
+    assert!(rt; ending(alloc, b"\x0d\x82\x00\x81a\x0b") == Err(object));
     let legacy = DeserializeError::UnsupportedType(ValueType::Object);
-    assert_eq!(rt; ending(alloc, b"\x08{}"), Err(legacy));
-    assert_eq!(rt; ending(alloc, b"\x0b"), Ok(()));
+    assert!(rt; ending(alloc, b"\x08{}") == Err(legacy));
+    assert!(rt; ending(alloc, b"\x0b") == Ok(()));
 }

@@ -120,7 +120,7 @@ fn values_are_handed_to_the_call_of_their_type(rt: HostRuntime) {
         (b"\x08{\"a\":1,\"b\":2}", 2),
     ];
     for (bytes, number) in cases {
-        assert_eq!(rt; told(alloc, bytes), (Ok(number), false));
+        assert!(rt; told(alloc, bytes) == (Ok(number), false));
     }
 }
 
@@ -147,6 +147,6 @@ fn refusals_are_given_and_marked(rt: HostRuntime) {
         ),
     ];
     for (bytes, error) in cases {
-        assert_eq!(rt; told(alloc, bytes), (Err(error), true));
+        assert!(rt; told(alloc, bytes) == (Err(error), true));
     }
 }

@@ -48,18 +48,18 @@ fn a_block_is_read_to_its_end(rt: HostRuntime) -> Result<(), Fail> {
     let alloc = rt.alloc();
     let documents = documents_of(alloc)?;
     for (document, len) in documents.iter().zip(LENS) {
-        assert_eq!(rt; document.len(), len);
+        assert!(rt; document.len() == len);
     }
     let mut slice = SliceSource::new(BLOCK);
-    assert_eq!(rt; reads_block(alloc, &mut slice, &documents), Ok(true));
+    assert!(rt; reads_block(alloc, &mut slice, &documents) == Ok(true));
     for capacity in [0, 1, 3, 8, 64] {
         let mut source = BufferedSource::with_capacity(alloc, capacity, BLOCK)?;
-        assert_eq!(rt; reads_block(alloc, &mut source, &documents), Ok(true));
+        assert!(rt; reads_block(alloc, &mut source, &documents) == Ok(true));
     }
     let mut empty = SliceSource::new(b"");
-    assert_eq!(rt; reads_block(alloc, &mut empty, &[]), Ok(true));
+    assert!(rt; reads_block(alloc, &mut empty, &[]) == Ok(true));
     let mut none = BufferedSource::with_capacity(alloc, 4, b"".as_slice())?;
-    assert_eq!(rt; reads_block(alloc, &mut none, &[]), Ok(true));
+    assert!(rt; reads_block(alloc, &mut none, &[]) == Ok(true));
     Ok(())
 }
 
@@ -88,11 +88,8 @@ fn a_block_that_is_cut_off_is_refused(rt: HostRuntime) -> Result<(), Fail> {
     let mut reader = BlockReader::new(alloc, DocStoreVersion::V2);
     let mut source = SliceSource::new(b"\x81\0\0\0\0\x06\x81\0\0\0\0\x0b");
     let refused = Err(DeserializeError::CorruptedValue(Cause::FloatCode));
-    assert_eq!(rt; reader.advance(&mut source), refused);
-    assert_eq!(rt;
-        reader.advance(&mut source),
-        Err(DeserializeError::AlreadyFailed)
-    );
-    assert_eq!(rt; source.rest().len(), 6);
+    assert!(rt; reader.advance(&mut source) == refused);
+    assert!(rt; reader.advance(&mut source) == Err(DeserializeError::AlreadyFailed));
+    assert!(rt; source.rest().len() == 6);
     Ok(())
 }

@@ -73,9 +73,9 @@ fn each_read_of_a_run_fails(rt: HostRuntime) -> Result<(), Fail> {
             let (end, sink) = ran(rt.alloc(), INPUT, place as u64, NEVER, kind);
             let broken = RunEnd::Broken(Halt::Read(kind));
             let expected = if place == reads { RunEnd::Done } else { broken };
-            assert_eq!(rt; end, expected, "at {place}");
+            assert!(rt; end == expected, "at {place}");
             let written = answers(rt.alloc(), answered(place))?;
-            assert_eq!(rt; sink.as_slice(), written.as_slice(), "at {place}");
+            assert!(rt; sink.as_slice() == written.as_slice(), "at {place}");
         }
     }
     Ok(())
@@ -95,7 +95,10 @@ fn each_write_of_a_run_fails(rt: HostRuntime) -> Result<(), Fail> {
                 let (end, sink) = ran(rt.alloc(), input, NEVER, place as u64, kind);
                 let is_whole = place == output.len();
                 let broken = RunEnd::Broken(Halt::Write(kind));
-                assert_eq!(rt; end, if is_whole { whole } else { broken }, "at {place}");
+                assert!(rt;
+                    end == (if is_whole { whole } else { broken }),
+                    "at {place}"
+                );
                 assert!(rt; Some(sink.as_slice()) == output.get(..place), "at {place}");
             }
         }

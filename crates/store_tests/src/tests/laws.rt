@@ -1,5 +1,6 @@
 //! Laws of calls, in use.
 
+use std::alloc::{AllocError, Global};
 use std::io;
 use std::io::Read;
 use std::test::Fail;
@@ -7,7 +8,9 @@ use tantivy_schema::common::ReadSource;
 use tantivy_schema::laws::{
     additions_are_stored_and_read_back, stored_pairs_are_read_back, written_documents_are_shortest,
 };
-use tantivy_schema::schema::{CompactDoc, OwnedValue, STORED, Schema, TEXT, Value};
+use tantivy_schema::schema::{
+    CompactDoc, Field, OwnedValue, STORED, Schema, SchemaError, TEXT, Value,
+};
 
 // Gives one byte at a time.
 #[derive(Drop)]
@@ -24,60 +27,80 @@ impl<'a> Read for SingleBytes<'a> {
     }
 }
 
+// The numbers of the fields.
+const NAME: u32 = 0;
+
+const AGE: u32 = 1;
+
+const NOTE: u32 = 2;
+
+// A schema of a stored name, a stored age, and a note that isn't stored.
+fn schema(alloc: Global) -> Result<Schema, SchemaError> {
+    let mut builder = Schema::builder(alloc);
+    builder.add_text_field("name", TEXT | STORED)?;
+    builder.add_u64_field("age", STORED)?;
+    builder.add_text_field("note", TEXT)?;
+    Ok(builder.build()?)
+}
+
+// What is stored of a name and an age.
+const PAIRS: &[u8] = b"\x82\0\0\0\0\0\x8aChillFish8\x01\0\0\0\x01\x14\0\0\0\0\0\0\0";
+
+// Whether a document has that name and that age, and nothing else.
+fn is_read_back(document: &CompactDoc) -> Result<bool, Fail> {
+    let mut pairs = document.field_values();
+    let (field, name) = pairs.next().ok_or("a pair")?;
+    let (other, age) = pairs.next().ok_or("a second pair")?;
+    Ok(
+        (field.field_id(), name.as_str()) == (NAME, Some("ChillFish8"))
+            && (other.field_id(), age.as_u64()) == (AGE, Some(20))
+            && pairs.next().is_none(),
+    )
+}
+
+// A document of both.
+fn document(alloc: Global) -> Result<CompactDoc, Fail> {
+    let mut document = CompactDoc::new(alloc);
+    document.add_text(Field::from_field_id(NAME), "ChillFish8")?;
+    document.add_u64(Field::from_field_id(AGE), 20)?;
+    Ok(document)
+}
+
 #[test]
 fn laws_of_calls_in_memory(rt: HostRuntime) -> Result<(), Fail> {
     let alloc = rt.alloc();
-    let mut builder = Schema::builder(alloc);
-    let name = builder.add_text_field("name", TEXT | STORED)?;
-    let age = builder.add_u64_field("age", STORED)?;
-    let schema = builder.build()?;
-    let mut document = CompactDoc::new(alloc);
-    document.add_text(name, "ChillFish8")?;
-    document.add_u64(age, 20)?;
+    let schema = schema(alloc)?;
+    let document = document(alloc)?;
     assert!(rt; document.fits(&schema));
     let bytes = written_documents_are_shortest(alloc, &schema, &document)?;
-    let expected = b"\x82\0\0\0\0\0\x8aChillFish8\x01\0\0\0\x01\x14\0\0\0\0\0\0\0";
-    assert_eq!(rt; bytes.as_slice(), expected.as_slice());
+    assert!(rt; bytes.as_slice() == PAIRS);
     let rest = bytes.as_slice();
     let mut source = ReadSource::new(SingleBytes { rest });
     let read = stored_pairs_are_read_back(alloc, &mut source, &schema, &document)?;
-    let mut pairs = read.field_values();
-    let (field, value) = pairs.next().ok_or("a pair")?;
-    assert_eq!(rt; (field, value.as_str()), (name, Some("ChillFish8")));
-    let (field, value) = pairs.next().ok_or("a second pair")?;
-    assert_eq!(rt; (field, value.as_u64()), (age, Some(20)));
-    assert!(rt; pairs.next().is_none());
+    assert!(rt; is_read_back(&read)?);
     Ok(())
+}
+
+// Values of both, and of a note between them.
+fn values(alloc: Global) -> Result<Vec<(Field, OwnedValue)>, AllocError> {
+    let mut values = Vec::new(alloc);
+    let name = String::from_str(alloc, "ChillFish8")?;
+    values.push((Field::from_field_id(NAME), OwnedValue::Str(name)))?;
+    let note = String::from_str(alloc, "not stored")?;
+    values.push((Field::from_field_id(NOTE), OwnedValue::Str(note)))?;
+    values.push((Field::from_field_id(AGE), OwnedValue::U64(20)))?;
+    Ok(values)
 }
 
 #[test]
 fn additions_in_memory(rt: HostRuntime) -> Result<(), Fail> {
     let alloc = rt.alloc();
-    let mut builder = Schema::builder(alloc);
-    let name = builder.add_text_field("name", TEXT | STORED)?;
-    let age = builder.add_u64_field("age", STORED)?;
-    let note = builder.add_text_field("note", TEXT)?;
-    let schema = builder.build()?;
-    let mut values = Vec::new(alloc);
-    values.push((
-        name,
-        OwnedValue::Str(String::from_str(alloc, "ChillFish8")?),
-    ))?;
-    values.push((
-        note,
-        OwnedValue::Str(String::from_str(alloc, "not stored")?),
-    ))?;
-    values.push((age, OwnedValue::U64(20)))?;
+    let schema = schema(alloc)?;
+    let values = values(alloc)?;
     let trip = additions_are_stored_and_read_back(alloc, &schema, values.as_slice(), b"rest")?;
-    assert_eq!(rt; trip.added.len(), 3);
-    let expected = b"\x82\0\0\0\0\0\x8aChillFish8\x01\0\0\0\x01\x14\0\0\0\0\0\0\0";
-    assert_eq!(rt; trip.written.as_slice(), expected.as_slice());
-    assert_eq!(rt; trip.left.as_slice(), b"rest".as_slice());
-    let mut pairs = trip.back.field_values();
-    let (field, value) = pairs.next().ok_or("a pair")?;
-    assert_eq!(rt; (field, value.as_str()), (name, Some("ChillFish8")));
-    let (field, value) = pairs.next().ok_or("a second pair")?;
-    assert_eq!(rt; (field, value.as_u64()), (age, Some(20)));
-    assert!(rt; pairs.next().is_none());
+    assert!(rt; trip.added.len() == 3);
+    assert!(rt; trip.written.as_slice() == PAIRS);
+    assert!(rt; trip.left.as_slice() == b"rest".as_slice());
+    assert!(rt; is_read_back(&trip.back)?);
     Ok(())
 }

@@ -46,7 +46,7 @@ fn documents_are_read_within_limits(rt: HostRuntime) -> Result<(), Fail> {
     for (heap_bytes, depth) in limits {
         let (result, left) = read(alloc, heap_bytes, depth);
         assert!(rt; result.is_ok_and(|document| document.len() == 1));
-        assert_eq!(rt; left, 2);
+        assert!(rt; left == 2);
     }
     Ok(())
 }
@@ -56,10 +56,10 @@ fn lists_past_the_limit_are_refused_behind_their_head(rt: HostRuntime) -> Result
     let deep = Err(LimitedReadError::Limit(ReadLimit::Depth));
     let (result, left) = read(rt.alloc(), None, Some(1));
     assert!(rt; result.map(|document| document.len()) == deep);
-    assert_eq!(rt; left, 8);
+    assert!(rt; left == 8);
     let (result, left) = read(rt.alloc(), Some(0), Some(0));
     assert!(rt; result.map(|document| document.len()) == deep);
-    assert_eq!(rt; left, 10);
+    assert!(rt; left == 10);
     Ok(())
 }
 
@@ -69,7 +69,7 @@ fn heaps_past_the_limit_are_refused(rt: HostRuntime) -> Result<(), Fail> {
     let large = Err(LimitedReadError::Limit(ReadLimit::HeapBytes));
     let (result, left) = read(rt.alloc(), Some(3), None);
     assert!(rt; result.map(|document| document.len()) == large);
-    assert_eq!(rt; left, 3);
+    assert!(rt; left == 3);
     Ok(())
 }
 
@@ -96,12 +96,12 @@ fn read_to_depth(
 fn objects_of_older_stores_nest_within_the_limit(rt: HostRuntime) -> Result<(), Fail> {
     let (result, left) = read_to_depth(rt.alloc(), OLDER, 2);
     assert!(rt; result.is_ok_and(|document| document.len() == 1));
-    assert_eq!(rt; left, 2);
+    assert!(rt; left == 2);
     for depth in 0..2 {
         let (result, left) = read_to_depth(rt.alloc(), OLDER, depth);
         let deep = Err(LimitedReadError::Limit(ReadLimit::Depth));
         assert!(rt; result.map(|document| document.len()) == deep);
-        assert_eq!(rt; left, 2);
+        assert!(rt; left == 2);
     }
     Ok(())
 }
@@ -158,7 +158,7 @@ fn no_more_bytes_are_taken_than_the_limit(rt: HostRuntime) -> Result<(), Fail> {
         };
         let (result, rest) = read_within(rt.alloc(), limits);
         assert!(rt; result.map(|document| document.len()) == long);
-        assert_eq!(rt; rest, left);
+        assert!(rt; rest == left);
     }
     let limits = ReadLimits {
         bytes: Some(15),
@@ -166,7 +166,7 @@ fn no_more_bytes_are_taken_than_the_limit(rt: HostRuntime) -> Result<(), Fail> {
     };
     let (result, rest) = read_within(rt.alloc(), limits);
     assert!(rt; result.is_ok_and(|document| document.len() == 1));
-    assert_eq!(rt; rest, 2);
+    assert!(rt; rest == 2);
     Ok(())
 }
 
@@ -218,8 +218,8 @@ fn a_limited_source_ends(rt: HostRuntime) -> Result<(), Fail> {
     );
     let cut = DeserializeError::CorruptedValue(Cause::UnexpectedEnd);
     assert!(rt; result.map(|document| document.len()) == Err(LimitedReadError::Read(cut)));
-    assert_eq!(rt; first.limit(), 0);
+    assert!(rt; first.limit() == 0);
     assert!(rt; first.next_byte() == Ok(None));
-    assert_eq!(rt; source.rest().len(), 9);
+    assert!(rt; source.rest().len() == 9);
     Ok(())
 }

@@ -17,10 +17,10 @@ fn documents_are_read_in_place(rt: HostRuntime) -> Result<(), Fail> {
     for len in [2, 1] {
         read_document_into(alloc, &mut document, &mut source, DocStoreVersion::V2)?;
         let fresh = read_document(alloc, &mut other, DocStoreVersion::V2)?;
-        assert_eq!(rt; document.len(), len);
+        assert!(rt; document.len() == len);
         assert!(rt; document.node_data() == fresh.node_data());
         assert!(rt; document.same_as(alloc, &fresh)?);
-        assert_eq!(rt; source.rest().len(), other.rest().len());
+        assert!(rt; source.rest().len() == other.rest().len());
     }
     assert!(rt; source.rest().is_empty());
     Ok(())
@@ -34,10 +34,7 @@ fn a_document_has_no_pairs_after_an_error(rt: HostRuntime) -> Result<(), Fail> {
     read_document_into(alloc, &mut document, &mut source, DocStoreVersion::V2)?;
     let mut cut = SliceSource::new(&BLOCK[..20]);
     let refused = read_document_into(alloc, &mut document, &mut cut, DocStoreVersion::V2);
-    assert_eq!(rt;
-        refused,
-        Err(DeserializeError::CorruptedValue(Cause::UnexpectedEnd))
-    );
+    assert!(rt; refused == Err(DeserializeError::CorruptedValue(Cause::UnexpectedEnd)));
     assert!(rt; document.is_empty());
     assert!(rt; document.node_data().is_empty());
     Ok(())
