@@ -247,7 +247,3 @@ leaf_puts (Err e) old places t new ok err = err
 pub refused : (r : Result Place AddError) (old places : List ℕ) (t : Tree) (new left : List ℕ) (e : AddError) → IsErrAnd r (λ x. x ≡ e) → PutNot old t new e → Puts old places t new left r
 refused (Ok p) old places t new left e is not = absurd is
 refused (Err x) old places t new left e is not = subst (PutNot old t new) (sym is) not
-
-pub child_refused : {T : Type 0} (r : Result T AddError) (e : AddError) (Says : AddError → Type 0) → IsErrAnd r (λ x. x ≡ e) → Says e → IfErr r Says
-child_refused (Ok x) e Says is says = absurd is
-child_refused (Err x) e Says is says = subst Says (sym is) says

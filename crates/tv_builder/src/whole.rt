@@ -120,6 +120,7 @@ pub(crate) fn put_list(
 // end of `places`, which is afterwards as it was. `levels` is how deep its lists may nest for no stack in memory to be taken. After an
 // error the old heap is still a prefix of the new, and what `places` holds is unspecified.
 #[inline(always)]
+#[cycle(parts)]
 pub(crate) fn put_tree<N: Nested>(
     alloc: Global,
     heap: &mut Vec<u8>,
@@ -136,32 +137,6 @@ pub(crate) fn put_tree<N: Nested>(
         NestedValue::Array(items) => put_array::<N>(alloc, heap, places, items, levels),
         NestedValue::Object(members) => { put_object::<N>(alloc, heap, places, members, levels) }
     }
-}
-
-// Writes a child of a list, and its place behind others. A leaf goes a way of its own, which is faster.
-#[inline(always)]
-#[cycle(parts)]
-fn put_child<N: Nested>(
-    alloc: Global,
-    heap: &mut Vec<u8>,
-    places: &mut Vec<u8>,
-    child: NestedValue<'_, N>,
-    levels: u32,
-) -> Result<(), AddError>
-    requires { length heap.old.items ≤ 4294967295 }
-    ensures ok { OnOk result (ChildPut heap.old.items places.old.items
-        (nested_tree N.array_rest N.object_rest child.entry) heap.new.items places.new.items) }
-    ensures err { IfErr result
-        (λ e. PutNot heap.old.items (nested_tree N.array_rest N.object_rest child.entry)
-        heap.new.items e) }
-{
-    let place = match child {
-        NestedValue::Leaf(single) => return put_single(heap, places, &single),
-        NestedValue::Array(items) => put_array::<N>(alloc, heap, places, items, levels)?,
-        NestedValue::Object(members) => put_object::<N>(alloc, heap, places, members, levels)?,
-    };
-    push_place(places, place)?;
-    Ok(())
 }
 
 // Writes an array behind its values.
@@ -183,7 +158,17 @@ fn put_array<N: Nested>(
     }
     let first = places.len();
     for item in items {
-        put_child(alloc, heap, places, item.as_nested(), levels - 1)?;
+        match item.as_nested() {
+            NestedValue::Leaf(single) => {
+                put_single(heap, places, &single)?;
+                continue;
+            }
+            list => {
+                let place = put_tree(alloc, heap, places, list, levels - 1)?;
+                push_place(places, place)?;
+                continue;
+            }
+        }
     }
     put_list(heap, places, ListKind::Array, first)
 }
@@ -208,7 +193,17 @@ fn put_object<N: Nested>(
     let first = places.len();
     for (key, item) in members {
         put_single(heap, places, &ReferenceValueLeaf::Str(key.as_str()))?;
-        put_child(alloc, heap, places, item.as_nested(), levels - 1)?;
+        match item.as_nested() {
+            NestedValue::Leaf(single) => {
+                put_single(heap, places, &single)?;
+                continue;
+            }
+            list => {
+                let place = put_tree(alloc, heap, places, list, levels - 1)?;
+                push_place(places, place)?;
+                continue;
+            }
+        }
     }
     put_list(heap, places, ListKind::Object, first)
 }

@@ -8,8 +8,8 @@ use Rattle.tv_builder.proofs.Putting.{ListOpen}
 use Rattle.tv_builder.proofs.whole.+parts.Given as goal
 
 -- each child is smaller
-abbrev pub decreases-put_child : goal.decreases-put_child
-decreases-put_child g l = size (nested_tree g.N.Nested.array_rest g.N.Nested.object_rest l.child)
+abbrev pub decreases-put_tree : goal.decreases-put_tree
+decreases-put_tree g l = size (nested_tree g.N.Nested.array_rest g.N.Nested.object_rest l.value)
 
 abbrev pub decreases-put_array : goal.decreases-put_array
 decreases-put_array g l = elements_size (elements (g.N.Nested.array_rest l.items))
