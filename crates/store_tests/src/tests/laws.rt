@@ -1,6 +1,6 @@
 //! Laws of calls, in use.
 
-use std::alloc::{AllocError, Global};
+use std::alloc::Global;
 use std::io;
 use std::io::Read;
 use std::test::Fail;
@@ -32,14 +32,11 @@ const NAME: u32 = 0;
 
 const AGE: u32 = 1;
 
-const NOTE: u32 = 2;
-
-// A schema of a stored name, a stored age, and a note that isn't stored.
+// A schema of a stored name and a stored age.
 fn schema(alloc: Global) -> Result<Schema, SchemaError> {
     let mut builder = Schema::builder(alloc);
     builder.add_text_field("name", TEXT | STORED)?;
     builder.add_u64_field("age", STORED)?;
-    builder.add_text_field("note", TEXT)?;
     Ok(builder.build()?)
 }
 
@@ -81,22 +78,24 @@ fn laws_of_calls_in_memory(rt: HostRuntime) -> Result<(), Fail> {
     Ok(())
 }
 
-// Values of both, and of a note between them.
-fn values(alloc: Global) -> Result<Vec<(Field, OwnedValue)>, AllocError> {
-    let mut values = Vec::new(alloc);
-    let name = String::from_str(alloc, "ChillFish8")?;
-    values.push((Field::from_field_id(NAME), OwnedValue::Str(name)))?;
-    let note = String::from_str(alloc, "not stored")?;
-    values.push((Field::from_field_id(NOTE), OwnedValue::Str(note)))?;
-    values.push((Field::from_field_id(AGE), OwnedValue::U64(20)))?;
-    Ok(values)
-}
-
 #[test]
 fn additions_in_memory(rt: HostRuntime) -> Result<(), Fail> {
     let alloc = rt.alloc();
-    let schema = schema(alloc)?;
-    let values = values(alloc)?;
+    let mut builder = Schema::builder(alloc);
+    let name = builder.add_text_field("name", TEXT | STORED)?;
+    let age = builder.add_u64_field("age", STORED)?;
+    let note = builder.add_text_field("note", TEXT)?;
+    let schema = builder.build()?;
+    let mut values = Vec::new(alloc);
+    values.push((
+        name,
+        OwnedValue::Str(String::from_str(alloc, "ChillFish8")?),
+    ))?;
+    values.push((
+        note,
+        OwnedValue::Str(String::from_str(alloc, "not stored")?),
+    ))?;
+    values.push((age, OwnedValue::U64(20)))?;
     let trip = additions_are_stored_and_read_back(alloc, &schema, values.as_slice(), b"rest")?;
     assert!(rt; trip.added.len() == 3);
     assert!(rt; trip.written.as_slice() == PAIRS);
