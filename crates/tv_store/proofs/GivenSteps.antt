@@ -29,13 +29,13 @@ pub gives_push : {D : Type 0} (gives : D → ℕ × Tree → D → Type 0) (firs
 gives_push gives first mid last [] pair p g = (last, subst (λ z. gives z pair last) p g, refl)
 gives_push gives first mid last (q ∷ pairs) pair p g = (p.0, p.1, gives_push gives p.0 mid last pairs pair p.2 g)
 
-refused_by : {D : Type 0} (gives : D → ℕ × Tree → D → Type 0) (refuses : D → (Version → ValueType → List ℕ → DeserializeError → Type 0) → DeserializeError → Type 0) (first mid last : D) (doc : CompactDoc) (field : ℕ) (t : Tree) (error : AddError)
+refused_by : {D : Type 0} (gives : D → ℕ × Tree → D → Type 0) (refuses : D → (Version → ValueType → List ℕ → DeserializeError → Type 0) → (Version → ℕ → ValueType → List ℕ → List ℕ → Type 0) → DeserializeError → Type 0) (first mid last : D) (doc : CompactDoc) (field : ℕ) (t : Tree) (error : AddError)
     → GivesAll gives first (document_of doc) mid → gives mid (field, t) last → length (heap_of doc) ≤ document_room (document_of doc) → RefusesAddition doc t error → PairsRefused gives refuses first (add_error error)
 refused_by gives refuses first mid last doc field t adds.HeapFull p g within h =
     no_room (document_of doc ++ (field, t) ∷ []) last (gives_push gives first mid last (document_of doc) (field, t) p g) (omega (arith, document_room-push (document_of doc) (field, t), within, h))
 refused_by gives refuses first mid last doc field t adds.Memory p g within h = no_memory
 
-pub addition_refused : {D : Type 0} (gives : D → ℕ × Tree → D → Type 0) (refuses : D → (Version → ValueType → List ℕ → DeserializeError → Type 0) → DeserializeError → Type 0) (first mid last : D) (doc : CompactDoc) (field : ℕ) (t : Tree) (error : AddError) (e : DeserializeError)
+pub addition_refused : {D : Type 0} (gives : D → ℕ × Tree → D → Type 0) (refuses : D → (Version → ValueType → List ℕ → DeserializeError → Type 0) → (Version → ℕ → ValueType → List ℕ → List ℕ → Type 0) → DeserializeError → Type 0) (first mid last : D) (doc : CompactDoc) (field : ℕ) (t : Tree) (error : AddError) (e : DeserializeError)
     → e ≡ add_error error → GivesAll gives first (document_of doc) mid → gives mid (field, t) last → length (heap_of doc) ≤ document_room (document_of doc) → RefusesAddition doc t error → PairsRefused gives refuses first e
 addition_refused gives refuses first mid last doc field t error e is p g within h = subst (PairsRefused gives refuses first) (sym is) (refused_by gives refuses first mid last doc field t error p g within h)
 

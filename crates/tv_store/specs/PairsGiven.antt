@@ -8,6 +8,7 @@ use Rattle.tv_format.specs.Version.{Version}
 use Rattle.tv_reader.specs.declared.error.DeserializeError.{DeserializeError}
 use Rattle.tv_reader.specs.declared.error.DeserializeError.TheVariants as errors
 use Rattle.tv_reader.specs.declared.value_type.ValueType.{ValueType}
+use Rattle.tv_typed.specs.Depths.{OpensBehind}
 use Rattle.tv_typed.specs.Documents.{GivesAll}
 use Rattle.tv_typed.specs.Typed.{typed_stop}
 use Rattle.tv_typed.specs.Values.{TreeRefused}
@@ -21,8 +22,8 @@ abbrev pub document_stop : DeserializeError → Stop DeserializeError
 document_stop errors.HeapFull = Short
 document_stop e = typed_stop e
 
--- No document is read: some pairs are given, and the next is refused, or has no room beside them in a heap. Or memory was refused.
-pub data PairsRefused {D : Type 0} (gives : D → ℕ × Tree → D → Type 0) (refuses : D → (Version → ValueType → List ℕ → DeserializeError → Type 0) → DeserializeError → Type 0) (first : D) : DeserializeError → Type 0 where
-  in_next : {e : DeserializeError} (pairs : Document) (last : D) → GivesAll gives first pairs last → refuses last TreeRefused e → PairsRefused gives refuses first e
+-- No document is read: some pairs are given, and the next is refused or too deep, or has no room beside them in a heap. Or memory was refused.
+pub data PairsRefused {D : Type 0} (gives : D → ℕ × Tree → D → Type 0) (refuses : D → (Version → ValueType → List ℕ → DeserializeError → Type 0) → (Version → ℕ → ValueType → List ℕ → List ℕ → Type 0) → DeserializeError → Type 0) (first : D) : DeserializeError → Type 0 where
+  in_next : {e : DeserializeError} (pairs : Document) (last : D) → GivesAll gives first pairs last → refuses last TreeRefused OpensBehind e → PairsRefused gives refuses first e
   no_room : (pairs : Document) (last : D) → GivesAll gives first pairs last → 4294967295 < document_room pairs → PairsRefused gives refuses first errors.HeapFull
   no_memory : PairsRefused gives refuses first errors.Memory

@@ -1,7 +1,7 @@
 //! Terms.
 
 ghost use Rattle.std.specs.Prelude.{◌≡◌, ◌<◌, ◌≤◌, ◌+◌, ◌^◌, ◌++◌, ◌∷◌, ◌↔◌, [], length, take};
-ghost use Rattle.std.specs.Prelude.{drop, IfOk, MatchResult, MatchBool, OnOk, OnErr, IsTrue};
+ghost use Rattle.std.specs.Prelude.{drop, Err, IfOk, MatchBool, OnOk, OnErr, IsTrue};
 ghost use Rattle.std.specs.Prelude.{slice_index, option_map, string_bytes, vec_capacity};
 ghost use Rattle.std.specs.Prelude.{Some};
 ghost use Rattle.std.specs.Int.{to_be_bytes, w32};
@@ -66,10 +66,10 @@ impl Term {
 
     /// The term that has these bytes. Any byte is taken for a code, also one that no type has.
     ///
-    /// Errors: `TooShort`, exactly where there are fewer than five bytes, and `Memory`.
+    /// Errors: `TooShort`, exactly where there are fewer than five bytes, and else `Memory`.
     pub fn wrap(alloc: Global, serialized: &[u8]) -> Result<Term, TermError>
-        ensures { MatchResult result (λ made. made ≡ serialized.now)
-            (λ error. (error ≡ TooShort) ↔ (length serialized.now < 5)) }
+        ensures too_short { length serialized.now < 5 → result ≡ Err TooShort }
+        ensures made { 5 ≤ length serialized.now → GivesExactly serialized.now result }
     {
         if serialized.len() < 5 {
             return Err(TermError::TooShort);

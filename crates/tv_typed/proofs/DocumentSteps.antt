@@ -16,7 +16,9 @@ use Rattle.tv_reader.specs.declared.error.DeserializeError.{DeserializeError}
 use Rattle.tv_reader.specs.declared.error.DeserializeError.TheVariants as errors
 use Rattle.tv_reader.specs.declared.value_type.ValueType.{ValueType}
 use Rattle.tv_reader.proofs.AgreeField.{field_agrees}
+use Rattle.tv_reader.proofs.DepthSteps.{err_of}
 use Rattle.tv_reader.proofs.Finding.{finds_as, finds_read, finds_read_fails, finds_any}
+use Rattle.tv_typed.specs.Depths.{FieldTooDeep, WhereTooDeepBy}
 use Rattle.tv_typed.specs.Documents.{EncodesField, FieldEnds, FieldRefused, GivesPair, RefusesPairBy}
 use Rattle.tv_typed.specs.Lists.{NextItemRefused}
 use Rattle.tv_typed.specs.Typed.{ReadsIf, DeserializesBy}
@@ -85,17 +87,23 @@ pair_given is is_open h told =
       ),
     )
 
-pub pair_refused : {S X : Type 0} {is_known : S → Type 0} {left : S → List ℕ} {failures : S → Failures} {old new : StoreReader S} {e : DeserializeError} (is : Tree → X → Type 0) (refused : Version → ValueType → List ℕ → DeserializeError → Type 0) (position announced : ℕ) → position < announced
-    → DeserializesBy {X = Field × X} is_known left failures old new (Err e) (EncodesField is (version_of old.version)) (FieldRefused refused (version_of old.version)) → RefusesPairBy is_known left failures position announced old refused e
-pair_refused {old = old} {new = new} is refused position announced fewer h = (new, goes_fails (λ b x. ⊥) (NextItemRefused (FieldRefused refused (version_of old.version)) position announced) (λ w c f. (fewer, f)) h)
+pub pair_refused : {S X : Type 0} {is_known : S → Type 0} {left : S → List ℕ} {failures : S → Failures} {old new : StoreReader S} {e : DeserializeError} (is : Tree → X → Type 0) (refused : Version → ValueType → List ℕ → DeserializeError → Type 0) (deep : Version → ℕ → ValueType → List ℕ → List ℕ → Type 0) (position announced : ℕ) → position < announced
+    → DeserializesBy {X = Field × X} is_known left failures old new (Err e) (EncodesField is (version_of old.version)) (FieldRefused refused (version_of old.version)) → WhereTooDeepBy {X = Field × X} is_known left old new (Err e) (FieldTooDeep deep)
+    → RefusesPairBy is_known left failures position announced old refused deep e
+pair_refused {old = old} {new = new} {e = e} is refused deep position announced fewer h d = record {
+  new = new;
+  deserializes = goes_fails (λ b x. ⊥) (NextItemRefused (FieldRefused refused (version_of old.version)) position announced) (λ w c f. (fewer, f)) h;
+  too_deep = λ is_open told is. (fewer, d is_open told (err_of e _ is));
+}
 
 both : false ≡ true → ⊥
 both e = absurd cc
 
-pub closed_refused : {S : Type 0} (is_known : S → Type 0) (left : S → List ℕ) (failures : S → Failures) (old : StoreReader S) (refused : Version → ValueType → List ℕ → DeserializeError → Type 0) (position announced : ℕ) → old.has_failed ≡ true → RefusesPairBy is_known left failures position announced old refused errors.AlreadyFailed
-closed_refused is_known left failures old refused position announced failed = (
-  old,
-  record {
+pub closed_refused : {S : Type 0} (is_known : S → Type 0) (left : S → List ℕ) (failures : S → Failures) (old : StoreReader S) (refused : Version → ValueType → List ℕ → DeserializeError → Type 0) (deep : Version → ℕ → ValueType → List ℕ → List ℕ → Type 0) (position announced : ℕ)
+    → old.has_failed ≡ true → RefusesPairBy is_known left failures position announced old refused deep errors.AlreadyFailed
+closed_refused is_known left failures old refused deep position announced failed = record {
+  new = old;
+  deserializes = record {
     closed = λ _. (refl, refl, refl);
     unmarked = tt;
     found = λ is_open t. absurd (both (sym is_open ∙ failed));
@@ -104,5 +112,6 @@ closed_refused is_known left failures old refused position announced failed = (
     counts = λ is_open. absurd (both (sym is_open ∙ failed));
     same_version = refl;
     same_levels = refl;
-  },
-)
+  };
+  too_deep = λ is_open t is. absurd (both (sym is_open ∙ failed));
+}

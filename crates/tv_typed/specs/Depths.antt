@@ -1,6 +1,7 @@
 -- How deep a value of any type nests that is read through a reader with a limit. The code of the value was read before.
 use Rattle.std.specs.Prelude.{◌≡◌, ◌≢◌, ◌<◌, false, ℕ, List, ◌++◌, length, Result, IfOk, IsErrOf}
 use Rattle.tv_base.specs.declared.source.ByteSource.{Ghosts}
+use Rattle.tv_base.specs.Number.{Fixed}
 use Rattle.tv_base.specs.Parts.{Begins, Each}
 use Rattle.tv_format.specs.Tree.{Tree}
 use Rattle.tv_reader.specs.Depth.{EncodesWithin, Opens}
@@ -46,6 +47,14 @@ ArrayTooDeep is deep v levels = ItemsTooDeep types.Array element_total (EncodesA
 abbrev pub EntryTooDeep : (Version → ℕ → ValueType → List ℕ → List ℕ → Type 0) → Version → ℕ → List ℕ → List ℕ → Type 0
 EntryTooDeep deep v levels old new = (key : List ℕ) × (mid : List ℕ) × Begins (λ b. Key v b key) old mid × NextTooDeep deep v levels mid new
 
+-- behind the four bytes of a field
+abbrev pub FieldTooDeep : (Version → ℕ → ValueType → List ℕ → List ℕ → Type 0) → Version → ℕ → List ℕ → List ℕ → Type 0
+FieldTooDeep deep v levels old new = (field : ℕ) × (mid : List ℕ) × Begins (λ b. Fixed 4 b field) old mid × NextTooDeep deep v levels mid new
+
+-- there is a next item, and in its place a value is too deep
+abbrev pub ItemTooDeep : (Version → ℕ → List ℕ → List ℕ → Type 0) → ℕ → ℕ → Version → ℕ → List ℕ → List ℕ → Type 0
+ItemTooDeep Next position announced v levels old new = (position < announced) × Next v levels old new
+
 -- among the values of an object; of a legacy one nothing is said
 abbrev pub ObjectTooDeep : {X : Type 0} → (Tree → X → Type 0) → (Version → ℕ → ValueType → List ℕ → List ℕ → Type 0) → Version → ℕ → ValueType → List ℕ → List ℕ → Type 0
 ObjectTooDeep is deep v levels = ItemsTooDeep types.Object (entry_total v) (EncodesEntry is v) (EntryTooDeep deep v levels)
@@ -63,6 +72,11 @@ abbrev pub IsTooDeepBy : {S X : Type 0} (is_known : S → Type 0) (left : S → 
 IsTooDeepBy is_known left old new result code =
     old.has_failed ≡ false → is_known old.source → IsErrOf result errors.TooDeep → Begins (λ b. Opens (version_of old.version) old.levels (code ++ b)) (left old.source) (left new.source)
 
+-- Where the result is that a value is too deep, this holds of the version, of the depth of the reader, and of the bytes before and behind it.
+abbrev pub WhereTooDeepBy : {S X : Type 0} (is_known : S → Type 0) (left : S → List ℕ) (old new : StoreReader S) (result : Result X DeserializeError) → (Version → ℕ → List ℕ → List ℕ → Type 0) → Type 0
+WhereTooDeepBy is_known left old new result shows =
+    old.has_failed ≡ false → is_known old.source → IsErrOf result errors.TooDeep → shows (version_of old.version) old.levels (left old.source) (left new.source)
+
 -- where a prefix of what is left encodes a value within the depth, it isn't told to be too deep
 abbrev pub HasDepthBy : {S X : Type 0} (is_known : S → Type 0) (left : S → List ℕ) (old : StoreReader S) (result : Result X DeserializeError) (code : List ℕ) → Type 0
 HasDepthBy is_known left old result code =
@@ -71,10 +85,8 @@ HasDepthBy is_known left old result code =
 
 -- ---- as contracts say it, of a source
 
--- Where the result is that a value is too deep, this holds of the version, of the depth of the reader, and of the bytes before and behind it.
 abbrev pub WhereTooDeep : {S X : Type 0} (source : Ghosts S) (old new : StoreReader S) (result : Result X DeserializeError) → (Version → ℕ → List ℕ → List ℕ → Type 0) → Type 0
-WhereTooDeep source old new result shows =
-    old.has_failed ≡ false → source.is_known old.source → IsErrOf result errors.TooDeep → shows (version_of old.version) old.levels (source.left old.source) (source.left new.source)
+WhereTooDeep source old new result shows = WhereTooDeepBy source.is_known source.left old new result shows
 
 abbrev pub ReadsWithinDepth : {S : Type 0} (source : Ghosts S) (old new : StoreReader S) (result : Result OwnedValue DeserializeError) (code : List ℕ) → Type 0
 ReadsWithinDepth source old new result code = IsWithinBy source.is_known source.left old new result code

@@ -1,11 +1,12 @@
 //! Arrays in a store.
 
 ghost use Rattle.std.specs.Prelude.{◌≡◌, ◌+◌, ◌-◌, false, true, IsErrOf, OnErr, if◌then◌else◌};
+ghost use Rattle.std.specs.Prelude.{is_err};
 ghost use Rattle.tv_base.specs.ErrorInPart.{InEach};
 ghost use Rattle.tv_reader.specs.Version.{version_of};
 ghost use Rattle.tv_reader.specs.declared.error.DeserializeError.TheVariants as errors;
 ghost use Rattle.tv_reader.specs.declared.value_type.ValueType.TheVariants as types;
-ghost use Rattle.tv_typed.specs.Depths.{AmongRead, NextTooDeep};
+ghost use Rattle.tv_typed.specs.Depths.{AmongRead, ItemTooDeep, NextTooDeep, WhereTooDeep};
 ghost use Rattle.tv_typed.specs.Lists.{EncodesInto, NextItem, NextItemRefused, gives_some};
 ghost use Rattle.tv_typed.specs.Typed.{Deserializes};
 ghost use Rattle.tv_typed.specs.Values.{EncodesAs, NextRefused};
@@ -67,19 +68,31 @@ impl<'de, S: ByteSource> BinaryArrayDeserializer<'de, S> {
 
     /// Reads all values that are left, in order. Nothing is reserved from their number. (Not in tantivy.)
     ///
-    /// Errors: those of `next_element`, and `Memory` where the list can't grow, which isn't marked in the reader.
+    /// Errors: those of `next_element`, and `Memory` where the list can't grow. Each is marked in the reader.
     pub fn read_all<V: ValueDeserialize>(self, alloc: Global) -> Result<Vec<V>, DeserializeError>
         requires { self.reader.now.has_failed ≡ false }
-        ensures { Deserializes S.ByteSource self.entry.reader.now self.exit.1.1.0.now result
+        ensures deserializes { Deserializes S.ByteSource self.entry.reader.now
+            self.exit.1.1.0.now result
             (EncodesInto (λ items xs. items.items ≡ xs)
             (EncodesAs V.is (version_of self.entry.reader.now.version))
             (self.entry.announced - self.entry.position))
             (InEach (NextRefused V.refused (version_of self.entry.reader.now.version))
             (EncodesAs V.is (version_of self.entry.reader.now.version))
             (self.entry.announced - self.entry.position)) }
+        ensures deep { WhereTooDeep S.ByteSource self.entry.reader.now self.exit.1.1.0.now result
+            (λ v levels. AmongRead (EncodesAs V.is v) (NextTooDeep V.deep v levels)
+            (self.entry.announced - self.entry.position)) }
+        ensures marks_failure { self.exit.1.1.0.now.has_failed ≡ is_err result }
     {
-        let rest = self.announced.saturating_sub(self.position);
-        read_elements(alloc, self.reader, rest)
+        let BinaryArrayDeserializer {
+            announced,
+            position,
+            reader,
+        } = self;
+        let rest = announced.saturating_sub(position);
+        let answer = read_elements(alloc, reader, rest);
+        reader.has_failed = answer.is_err();
+        answer
     }
 
     /// Reads the next value. None where as many were read as are announced.
@@ -99,6 +112,8 @@ impl<'de, S: ByteSource> BinaryArrayDeserializer<'de, S> {
             self.old.announced)
             (NextItemRefused (NextRefused V.refused (version_of self.old.reader.now.version))
             self.old.position self.old.announced) }
+        ensures deep { WhereTooDeep S.ByteSource self.old.reader.now self.new.reader.now result
+            (ItemTooDeep (NextTooDeep V.deep) self.old.position self.old.announced) }
         ensures marks_failure { OnErr result (self.new.reader.now.has_failed ≡ true) }
     {
         self.reader.go_on()?;

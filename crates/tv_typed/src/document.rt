@@ -12,6 +12,7 @@ ghost use Rattle.tv_reader.specs.declared.error.DeserializeError.TheVariants as 
 ghost use Rattle.tv_reader.specs.declared.value_type.ValueType.{ValueType};
 ghost use Rattle.tv_format.specs.Tree.{Tree};
 ghost use Rattle.tv_format.specs.Version.{Version};
+ghost use Rattle.tv_typed.specs.Depths.{FieldTooDeep, ItemTooDeep, WhereTooDeep};
 ghost use Rattle.tv_typed.specs.Documents.{NextField, GivesPair, RefusesPair, EncodesField};
 ghost use Rattle.tv_typed.specs.Documents.{FieldEnds, FieldRefused, NumberRefused};
 ghost use Rattle.tv_typed.specs.Lists.{NextItem, NextItemRefused, gives_some};
@@ -41,9 +42,10 @@ pub trait DocumentDeserializer: Drop {
     /// Which pair of a field and a tree is given next, and what is left then.
     ghost gives: { Self → ℕ × Tree → Self → Type 0 };
 
-    /// Which error may be returned in place of the next pair, where a value of some type is read, by the refusals of that type.
+    /// Which error may be returned in place of the next pair, where a value of some type is read, by the refusals of that type and by what
+    /// stands where a value of any type in it is too deep.
     ghost refuses: { Self → (Version → ValueType → List ℕ → DeserializeError → Type 0)
-        → DeserializeError → Type 0 };
+        → (Version → ℕ → ValueType → List ℕ → List ℕ → Type 0) → DeserializeError → Type 0 };
 
     /// Whether a read through it was refused, so that each later one returns `AlreadyFailed`.
     ghost has_failed: { Self → Bool };
@@ -65,7 +67,7 @@ pub trait DocumentDeserializer: Drop {
         alloc: Global,
     ) -> Result<Option<(Field, V)>, DeserializeError>
         ensures gives { IfOk result (NextField remaining is_known gives V.is self.old self.new) }
-        ensures refuses { IfErr result (λ e. refuses self.old V.refused e) }
+        ensures refuses { IfErr result (refuses self.old V.refused V.deep) }
         ensures marks_failure { has_failed self.new ≡ is_err result }
         ensures counts { has_failed self.old ≡ false
             → Counts typed_stop result (failures self.old) (failures self.new) }
@@ -111,6 +113,7 @@ impl<S: ByteSource> StoreReader<S> {
             (EncodesField V.is (version_of self.old.version))
             (FieldRefused V.refused (version_of self.old.version)) }
         ensures marks_failure { OnErr result (self.new.has_failed ≡ true) }
+        ensures deep { WhereTooDeep S.ByteSource self.old self.new result (FieldTooDeep V.deep) }
     {
         let field = self.field()?;
         let value = self.read::<V>(alloc)?;
@@ -162,8 +165,8 @@ impl<'de, S: ByteSource> DocumentDeserializer for BinaryDocumentDeserializer<'de
 
     ghost gives = { λ old pair new. GivesPair S.left old.reader.now pair new.reader.now };
 
-    ghost refuses = { λ d refused. RefusesPair S.ByteSource d.position d.announced
-        d.reader.now refused };
+    ghost refuses = { λ d refused deep. RefusesPair S.ByteSource d.position d.announced
+        d.reader.now refused deep };
 
     ghost has_failed = { λ d. d.reader.now.has_failed };
 
@@ -187,9 +190,8 @@ impl<'de, S: ByteSource> DocumentDeserializer for BinaryDocumentDeserializer<'de
             (NextField (λ d. d.announced - d.position) (λ d. S.is_known d.reader.now.source)
             (λ old pair new. GivesPair S.left old.reader.now pair new.reader.now) V.is self.old
             self.new) }
-        ensures refuses { IfErr result
-            (λ e. RefusesPair S.ByteSource self.old.position self.old.announced
-            self.old.reader.now V.refused e) }
+        ensures refuses { IfErr result (RefusesPair S.ByteSource self.old.position
+            self.old.announced self.old.reader.now V.refused V.deep) }
         ensures same_reader { self.new.reader.ghost_name ≡ self.old.reader.ghost_name }
         ensures announced { self.new.announced ≡ self.old.announced }
         ensures position { self.new.position
@@ -200,6 +202,8 @@ impl<'de, S: ByteSource> DocumentDeserializer for BinaryDocumentDeserializer<'de
             self.old.announced)
             (NextItemRefused (FieldRefused V.refused (version_of self.old.reader.now.version))
             self.old.position self.old.announced) }
+        ensures deep { WhereTooDeep S.ByteSource self.old.reader.now self.new.reader.now result
+            (ItemTooDeep (FieldTooDeep V.deep) self.old.position self.old.announced) }
         ensures marks_failure { self.new.reader.now.has_failed ≡ is_err result }
         ensures counts { self.old.reader.now.has_failed ≡ false
             → Counts typed_stop result (S.failures self.old.reader.now.source)

@@ -1,7 +1,7 @@
 //! Objects in a store.
 
 ghost use Rattle.std.specs.Prelude.{◌≡◌, ◌+◌, ◌-◌, ◌++◌, ◌∷◌, [], false, true, List, IsErrOf, OnOk, OnErr};
-ghost use Rattle.std.specs.Prelude.{String, if◌then◌else◌};
+ghost use Rattle.std.specs.Prelude.{String, if◌then◌else◌, is_err};
 ghost use Rattle.std.specs.BTreeMap as tree;
 ghost use Rattle.std.specs.HashMap as hash;
 ghost use Rattle.std.specs.declared.alloc.Global.{Global};
@@ -11,7 +11,8 @@ ghost use Rattle.tv_reader.specs.declared.error.DeserializeError.TheVariants as 
 ghost use Rattle.tv_reader.specs.declared.value_type.ValueType.TheVariants as types;
 ghost use Rattle.std.proofs.Common.{subst, sym};
 ghost use Rattle.tv_format.specs.Tree.{Tree};
-ghost use Rattle.tv_typed.specs.Depths.{AmongRead, EntryTooDeep, ObjectTooDeep, WhereTooDeep};
+ghost use Rattle.tv_typed.specs.Depths.{AmongRead, EntryTooDeep, ItemTooDeep, ObjectTooDeep};
+ghost use Rattle.tv_typed.specs.Depths.{WhereTooDeep};
 ghost use Rattle.tv_typed.specs.Lists.{EncodesInto, EncodesEntry, EntryRefused, GivesLast};
 ghost use Rattle.tv_typed.specs.Lists.{MapOf, ObjectOf, ObjectRefused};
 ghost use Rattle.tv_typed.specs.Lists.{NextItem, NextItemRefused, gives_some};
@@ -181,22 +182,34 @@ impl<'de, S: ByteSource> BinaryObjectDeserializer<'de, S> {
 
     /// Reads all keys with values that are left, in order, equal keys too. Nothing is reserved from their number. (Not in tantivy.)
     ///
-    /// Errors: those of `next_entry`, and `Memory` where the list can't grow, which isn't marked in the reader.
+    /// Errors: those of `next_entry`, and `Memory` where the list can't grow. Each is marked in the reader.
     pub fn read_all<V: ValueDeserialize>(
         self,
         alloc: Global,
     ) -> Result<Vec<(String, V)>, DeserializeError>
         requires { self.reader.now.has_failed ≡ false }
-        ensures { Deserializes S.ByteSource self.entry.reader.now self.exit.1.1.0.now result
+        ensures deserializes { Deserializes S.ByteSource self.entry.reader.now
+            self.exit.1.1.0.now result
             (EncodesInto (λ items xs. items.items ≡ xs)
             (EncodesEntry V.is (version_of self.entry.reader.now.version))
             (self.entry.announced - self.entry.position))
             (InEach (EntryRefused V.refused (version_of self.entry.reader.now.version))
             (EncodesEntry V.is (version_of self.entry.reader.now.version))
             (self.entry.announced - self.entry.position)) }
+        ensures deep { WhereTooDeep S.ByteSource self.entry.reader.now self.exit.1.1.0.now result
+            (λ v levels. AmongRead (EncodesEntry V.is v) (EntryTooDeep V.deep v levels)
+            (self.entry.announced - self.entry.position)) }
+        ensures marks_failure { self.exit.1.1.0.now.has_failed ≡ is_err result }
     {
-        let rest = self.announced.saturating_sub(self.position);
-        read_entries::<V, Vec<(String, V)>, S>(alloc, self.reader, rest)
+        let BinaryObjectDeserializer {
+            announced,
+            position,
+            reader,
+        } = self;
+        let rest = announced.saturating_sub(position);
+        let answer = read_entries::<V, Vec<(String, V)>, S>(alloc, reader, rest);
+        reader.has_failed = answer.is_err();
+        answer
     }
 
     /// Reads the next key with its value. None where as many were read as there are.
@@ -217,6 +230,8 @@ impl<'de, S: ByteSource> BinaryObjectDeserializer<'de, S> {
             self.old.announced)
             (NextItemRefused (EntryRefused V.refused (version_of self.old.reader.now.version))
             self.old.position self.old.announced) }
+        ensures deep { WhereTooDeep S.ByteSource self.old.reader.now self.new.reader.now result
+            (ItemTooDeep (EntryTooDeep V.deep) self.old.position self.old.announced) }
         ensures marks_failure { OnErr result (self.new.reader.now.has_failed ≡ true) }
     {
         self.reader.go_on()?;

@@ -181,11 +181,11 @@ impl<'se, K: ByteSink> BinaryArraySerializer<'se, K> {
         ensures io { IfErr result IsIo }
         ensures fails { IfErr result (λ e. FailsToWrite K.ByteSink sink.old e (vnum count)) }
     {
-        BinaryArraySerializer::begin_with_version(count, sink, WriteVersion::V2)
+        BinaryArraySerializer::with_version(count, sink, WriteVersion::V2)
     }
 
     /// The same, with each value as this version has it. (Not in tantivy.)
-    pub fn begin_with_version(
+    pub fn with_version(
         count: u64,
         sink: &'se mut K,
         version: WriteVersion,
@@ -285,7 +285,7 @@ impl<'se, K: ByteSink> BinaryObjectSerializer<'se, K> {
         ensures fails { 2 * count < 2 ^ 64 → IfErr result
             (λ e. FailsToWrite K.ByteSink sink.old e (vnum (2 * count))) }
     {
-        BinaryObjectSerializer::begin_with_version(count, sink, WriteVersion::V2)
+        BinaryObjectSerializer::with_version(count, sink, WriteVersion::V2)
     }
 
     /// Appends the number that an object of this many entries announces in this version, all of which are then awaited, each as this
@@ -293,7 +293,7 @@ impl<'se, K: ByteSink> BinaryObjectSerializer<'se, K> {
     ///
     /// Errors: `TooMany` where the announced number is above 2^64 - 1, which it never is in version 3, and nothing is written; else
     /// `Io` where the sink failed. The sink then holds what it held before, and a beginning of the number, as after `begin`.
-    pub fn begin_with_version(
+    pub fn with_version(
         count: u64,
         sink: &'se mut K,
         version: WriteVersion,

@@ -78,8 +78,8 @@ fn child_count<N: Nested>(value: NestedValue<'_, N>) -> u64
     count
 }
 
-/// Writes the key of a child, if it has one: its length and its text. A child of an array has none, and then nothing is written. It takes
-/// no memory of its own.
+/// Writes the key of a child, if it has one, as `write_key` does. A child of an array has none, and then nothing is written. It takes no
+/// memory of its own.
 ///
 /// The only error is the kind with which a write failed. The sink then holds what it held before, and a beginning of the key.
 /// (Not in tantivy.)

@@ -4,7 +4,7 @@ use std::alloc::{AllocError, Global};
 use std::test::Fail;
 use tv_base::SliceSource;
 use tv_reader::{DeserializeError, DocStoreVersion};
-use tv_typed::StoreReader;
+use tv_typed::{BinaryDocumentDeserializer, DocumentDeserializer, StoreReader};
 use tv_value::owned_value::OwnedValue;
 
 // This many arrays of one element, each in the one before, and null in the last.
@@ -71,5 +71,20 @@ fn each_value_in_a_list_has_the_limit_for_itself(rt: HostRuntime) -> Result<(), 
     let mut reader = StoreReader::with_depth(SliceSource::new(&bytes), version, 2);
     let values = reader.read::<Vec<OwnedValue>>(rt.alloc())?;
     assert!(rt; values.len() == 1);
+    Ok(())
+}
+
+#[test]
+fn a_pair_that_is_too_deep_is_refused_behind_its_field(rt: HostRuntime) -> Result<(), Fail> {
+    // one pair, of field 3
+    let mut bytes = Vec::from_slice(rt.alloc(), b"\x81\x03\0\0\0")?;
+    bytes.extend_from_slice(&nested(rt.alloc(), 129)?)?;
+    let mut reader = StoreReader::new(SliceSource::new(&bytes), DocStoreVersion::V2);
+    let mut pairs = BinaryDocumentDeserializer::from_reader(&mut reader)?;
+    let answer = pairs.next_field::<OwnedValue>(rt.alloc());
+    assert!(rt; answer.is_err_and(|error| error == DeserializeError::TooDeep));
+    drop(pairs);
+    assert!(rt; reader.has_failed());
+    assert!(rt; reader.bytes_read() == 5 + 129 * 2 - 1);
     Ok(())
 }

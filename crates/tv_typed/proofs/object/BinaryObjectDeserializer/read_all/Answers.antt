@@ -1,4 +1,8 @@
+use Rattle.tv_typed.proofs.DeserializeSteps.{goes_told}
 use Rattle.tv_typed.proofs.object.BinaryObjectDeserializer.read_all.Goals as goal
 
-pub returns : goal.returns
-returns g c = rw c.saturating_sub-rest.ensures at c.read_entries.ensures.deserializes
+pub returns-clause-deserializes : goal.returns-clause-deserializes
+returns-clause-deserializes g c = goes_told c.is_err-reader.result c.is_err-reader.ensures.value (rw c.saturating_sub-rest.ensures at c.read_entries-answer.ensures.deserializes)
+
+pub returns-clause-deep : goal.returns-clause-deep
+returns-clause-deep g c = λ is_open told is. rw c.saturating_sub-rest.ensures at c.read_entries-answer.ensures.deep told is

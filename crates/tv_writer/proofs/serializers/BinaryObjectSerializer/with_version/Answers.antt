@@ -5,7 +5,7 @@ use Rattle.tv_format.specs.Version.{entry_total}
 use Rattle.tv_format.specs.WriteVersion.{written_version}
 use Rattle.tv_writer.specs.Error.{write_error}
 use Rattle.tv_writer.specs.Serialized.{FailsToWrite}
-use Rattle.tv_writer.proofs.serializers.BinaryObjectSerializer.begin_with_version.Goals as goal
+use Rattle.tv_writer.proofs.serializers.BinaryObjectSerializer.with_version.Goals as goal
 
 pub returns-in_err-write_vint-clause-fails : goal.returns-in_err-write_vint-clause-fails
 returns-in_err-write_vint-clause-fails g c =

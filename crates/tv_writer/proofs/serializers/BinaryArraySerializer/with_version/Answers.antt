@@ -1,5 +1,5 @@
 use Rattle.std.proofs.lemmas.Result.{err_from_is_err_and}
-use Rattle.tv_writer.proofs.serializers.BinaryArraySerializer.begin_with_version.Goals as goal
+use Rattle.tv_writer.proofs.serializers.BinaryArraySerializer.with_version.Goals as goal
 
 pub returns-in_err-write_vint-clause-fails : goal.returns-in_err-write_vint-clause-fails
 returns-in_err-write_vint-clause-fails g c =
