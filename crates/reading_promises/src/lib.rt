@@ -4,3 +4,4 @@
 #![tactic(auto)]
 
 pub mod reading;
+pub mod steps;

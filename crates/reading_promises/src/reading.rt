@@ -55,13 +55,21 @@ pub fn encoded_documents_are_returned<S: ByteSource>(
         S.left source.old ≡ prefix ++ rest → EncodesDocument Legacy (version_of version) prefix d →
         document_room d ≤ 4294967295 → ReturnsDocument result d rest (S.left source.new) }
 {
+    let is_older = holds_older_object(source.buffered());
     let read = read_document(alloc, source, version);
     let _ = source.buffered();
     match first_value(&read) {
         FirstValue::Array => read,
+        FirstValue::Object if is_older => read,
         FirstValue::Object => read,
         FirstValue::Other => read,
     }
+}
+
+// Whether the first value of a document with few pairs is an object as older stores hold it: its code stands behind the number of the pairs
+// and the four bytes of the field.
+fn holds_older_object(bytes: &[u8]) -> bool {
+    bytes.get(5) == Some(&8)
 }
 
 // What the first value of a document is, if there is one.

@@ -67,6 +67,7 @@ pub use tv_store::laws::{
 };
 pub use tv_store::migration_trip::{MigrationTrip, migrations_are_read_back};
 pub use tv_store::round_trip::{RoundTrip, RoundTripError, additions_are_stored_and_read_back};
+pub use tv_store::stepped::stepped_decoders_are_paid_for;
 use tv_store::{
     BinaryDocumentSerializer, DeserializeError, DocStoreVersion, SerializeError, read_document,
 };

@@ -1,5 +1,5 @@
 -- What is paid for by the bytes that were read.
-use Rattle.std.proofs.Common.{◌≡◌, ℕ, ◌+◌, ◌*◌, ◌≤◌, Bool, false, List, ◌++◌, length, Option, Some, None, Ok, sym, ap, subst, length-append, arith, inl, inr}
+use Rattle.std.proofs.Common.{◌≡◌, ℕ, ◌+◌, ◌-◌, ◌*◌, ◌≤◌, Bool, false, List, ◌++◌, length, Option, Some, None, Ok, sym, ap, subst, length-append, arith, inl, inr}
 use Rattle.tv_base.specs.Source.{Failures}
 use Rattle.tv_builder.specs.Prefix.{Encoded}
 use Rattle.tv_builder.specs.State.{State, lists_of, children_of}
@@ -57,9 +57,9 @@ paid_left v old new b count sound p less (inl h) =
 paid_left v old new b count sound p less (inr e) = subst (λ (z : Reading). PaidBy z.builder count) (sym e) (paid_now v old b count sound p less)
 
 -- a step that took these bytes
-pub paid_next : {S : Type 0} {is_known : S → Type 0} {left : S → List ℕ} {failures : S → Failures} {os ns : S} {i k : ℕ} (x : Unit {0}) (v : Version) (legacy : Bool) (old new : Reading) (b : List ℕ) → IsSound new → Encoded NoLegacy v b (parts_read old) → i ≡ length b → legacy ≡ false
-    → FindsIf StoreMayStop is_known left failures os i ns k (Ok x) (λ b _. Stepped v legacy old new b) (IsMalformedNext v old) → is_known os → PaidBy new.builder k
-paid_next {left = left} {ns = ns} x v legacy old new b sound p counted none h t =
+pub paid_next : {S : Type 0} {is_known : S → Type 0} {left : S → List ℕ} {failures : S → Failures} {os ns : S} {i k : ℕ} (x : Unit {0}) (v : Version) (legacy : Bool) (old new : Reading) (b : List ℕ) → IsSound new → Encoded NoLegacy v b (parts_read old) → legacy ≡ false
+    → FindsIf StoreMayStop is_known left failures os i ns k (Ok x) (λ b _. Stepped v legacy old new b) (IsMalformedNext v old) → is_known os → PaidBy new.builder (length b + (k - i))
+paid_next {left = left} {ns = ns} x v legacy old new b sound p none h t =
     let f = h.found t in
     let g = h.taken t in
-    paid_now v new (b ++ f.prefix) _ sound (f.encoded.plain none b p) (omega (arith, g.counted, counted, ap length f.joined, ap length g.joined, length-append b f.prefix, length-append f.prefix (left ns), length-append g.prefix (left ns)))
+    paid_now v new (b ++ f.prefix) _ sound (f.encoded.plain none b p) (omega (arith, g.counted, ap length f.joined, ap length g.joined, length-append b f.prefix, length-append f.prefix (left ns), length-append g.prefix (left ns)))

@@ -15,3 +15,4 @@ pub mod Nesting
 pub mod NestedSteps
 pub mod WithinDepth
 pub mod WithinLimits
+pub mod StepsPaid

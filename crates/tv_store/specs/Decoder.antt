@@ -9,7 +9,7 @@
 --   live       After it succeeded, the decoder isn't refused.
 --   mark       After an error it is.
 --   version    The version stays.
-use Rattle.std.specs.Prelude.{◌≡◌, ◌↔◌, ℕ, List, length, true, false, Result, Ok, Err, IfOk, IsErrOf, OnOk, OnErr}
+use Rattle.std.specs.Prelude.{◌≡◌, ◌↔◌, ℕ, ◌+◌, ◌-◌, List, length, true, false, Result, Ok, Err, IfOk, IsErrOf, OnOk, OnErr}
 use Rattle.tv_base.specs.declared.source.ByteSource.{Ghosts}
 use Rattle.tv_base.specs.ReadsAs.{Errors}
 use Rattle.tv_builder.specs.Prefix.{Encoded}
@@ -52,7 +52,13 @@ pub record Steps {E S : Type 0} (kind : Errors Refusal E) (MayStop : E → ℕ �
 abbrev pub ReadsStep : {S : Type 0} (source : Ghosts S) (source_old source_new : S) (old new : DirectDecoder) (result : Result Step DeserializeError) → Type 0
 ReadsStep source source_old source_new old new result = Steps reading StoreMayStop AlreadyFailed source source_old source_new old new result
 
--- Where what had come was paid for by the bytes that were read, what has come then is, too, unless an object as older stores hold it was met.
+-- What has come is paid for by any bytes that encode what had come, with those that were taken then, unless an object as older stores hold
+-- it was met.
 abbrev pub StaysPaid : DirectDecoder → DirectDecoder → Type 0
 StaysPaid old new =
-    old.failed ≡ false → (bytes : List ℕ) → Encoded NoLegacy (version_of old.version) bytes (parts_read old.reading) → old.count ≡ length bytes → new.legacy_seen ≡ false → PaidBy new.reading.builder new.count
+    old.failed ≡ false → (bytes : List ℕ) → Encoded NoLegacy (version_of old.version) bytes (parts_read old.reading) → new.legacy_seen ≡ false → PaidBy new.reading.builder (length bytes + (new.count - old.count))
+
+-- What has come is paid for by the bytes that were read. As long as no step was refused, as many bytes encode it.
+pub record IsPaidFor (d : DirectDecoder) : Type 0 where
+  pub paid : PaidBy d.reading.builder d.count
+  pub encoded : d.failed ≡ false → (bytes : List ℕ) × Encoded NoLegacy (version_of d.version) bytes (parts_read d.reading) × (d.count ≡ length bytes)

@@ -126,7 +126,8 @@ TestsDepth most read (Err (limited.Read e)) = e ≡ errors.Memory
 TestsDepth most read (Err (limited.Limit limit.Depth)) = ¬ AllNestWithinLimit most (document_of read)
 TestsDepth most read (Err (limited.Limit l)) = ⊥
 
--- The bytes encode a document of which a tree nests deeper: an object of an older store may, in which no list is open while it is read.
+-- The bytes encode a document of which a tree nests deeper: an object of an older store may, in which no list is open while it is read, and
+-- so may a list without children, which is never open.
 pub record NestsDeeper (v : Version) (most : Option ℕ) (taken : List ℕ) : Type 0 where
   pub document : Document
   pub encoded : EncodesDocument Legacy v taken document

@@ -17,6 +17,7 @@ pub mod pairs_given;
 pub mod round_trip;
 pub mod se;
 pub mod skip;
+pub mod stepped;
 
 pub use block::BlockReader;
 pub use de::{DocStoreVersion, read_document, read_document_into};

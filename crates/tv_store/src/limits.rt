@@ -10,7 +10,7 @@ ghost use Rattle.tv_builder.specs.HeldPairs.{document_of as pairs_of};
 ghost use Rattle.tv_builder.specs.State.{lists_of};
 ghost use Rattle.tv_doc.specs.Document.{document_of, heap_of};
 ghost use Rattle.tv_reading.specs.Prefix.{IsDone, IsMalformedNext, NoRoomBehind};
-ghost use Rattle.tv_reading.specs.Steps.{Advances, Stepped};
+ghost use Rattle.tv_reading.specs.Steps.{Advances, IsFew, Sees, Stepped};
 ghost use Rattle.tv_legacy.specs.Legacy.{Legacy};
 ghost use Rattle.tv_reader.specs.declared.error.DeserializeError.{DeserializeError};
 ghost use Rattle.tv_reader.specs.Version.{version_of};
@@ -22,7 +22,7 @@ ghost use Rattle.tv_store.specs.Limits.{ReadsByLimits, IsLimitedError, limited_s
 ghost use Rattle.tv_store.specs.Limits.{first_count, FindsPart, IsCapped};
 ghost use Rattle.tv_store.specs.Limits.{ReadsWithin, StopsWithin, Told};
 ghost use Rattle.tv_store.specs.Limits.{EndsPart, LeavesPart, ReadsStepWithin, TestsPart};
-ghost use Rattle.tv_store.specs.Decoder.{SaysDone};
+ghost use Rattle.tv_store.specs.Decoder.{SaysDone, StaysPaid};
 ghost use Rattle.tv_reading.specs.Kept.{Grows, KeepsPairs};
 ghost use Rattle.tv_store.specs.Documents.{in_place};
 ghost use Rattle.tv_store.specs.declared.limits.LimitedReadError.{LimitedReadError};
@@ -48,8 +48,9 @@ pub struct ReadLimits {
     pub bytes: Option<u64>,
     /// The bytes of heap that the document takes.
     pub heap_bytes: Option<u64>,
-    /// The lists, arrays or objects, that are open at once. An object as older stores hold it is read at once, so no list of it is ever open:
-    /// `step_within` doesn't count its lists, and `read_document_within` does once the whole document has come.
+    /// The lists, arrays or objects, that are open at once. An object as older stores hold it is read at once, so no list of it is ever open,
+    /// and a list without children isn't either: `step_within` doesn't count these, and `read_document_within` does once the whole document
+    /// has come.
     pub depth: Option<u32>,
 }
 
@@ -189,6 +190,12 @@ fn step_capped<S: ByteSource>(
     ensures grows { OnOk result (Grows decoder.old.reading decoder.new.reading) }
     ensures kept { OnErr result (KeepsPairs decoder.old.reading decoder.new.reading) }
     ensures version { decoder.new.version ≡ decoder.old.version }
+    ensures at_most { S.is_known source.old
+        → IsFew decoder.old.reading (S.left source.old) decoder.old.count decoder.new.count }
+    ensures seen { S.is_known source.old
+        → Sees decoder.old.reading (S.left source.old) decoder.old.legacy_seen
+        decoder.new.legacy_seen }
+    ensures paid { S.is_known source.old → StaysPaid decoder.old decoder.new }
 {
     let first = first_count(most);
     let taken = decoder.bytes_read();
@@ -343,6 +350,13 @@ impl DirectDecoder {
 
         // the heap grows at its end, or ends behind the finished pairs after a refusal; these are kept
         ensures leaves { LeavesPart self.old self.new result }
+
+        // as of `step`: how many bytes are taken, objects of older stores, and what is paid for by the bytes that were read
+        ensures at_most { S.is_known source.old
+            → IsFew self.old.reading (S.left source.old) self.old.count self.new.count }
+        ensures seen { S.is_known source.old
+            → Sees self.old.reading (S.left source.old) self.old.legacy_seen self.new.legacy_seen }
+        ensures paid { S.is_known source.old → StaysPaid self.old self.new }
     {
         if self.has_failed() {
             return Err(LimitedReadError::Read(DeserializeError::AlreadyFailed));
@@ -374,7 +388,7 @@ impl DirectDecoder {
 /// Errors: `Limit(Bytes)` where all these were taken and the document needs more, so no prefix of them encodes one; `Limit(Depth)` right
 /// behind the head of the list with which more than `depth` lists are open, `Limit(HeapBytes)` right behind the part with which the
 /// document's heap takes more than `heap_bytes` bytes, and the first of them where both hold; `Limit(Depth)` behind a document of which a
-/// value nests deeper by an object of an older store; else `Read` with the error of `read_document`, also where the last byte that may be
+/// value nests deeper by an object of an older store or by a list without children; else `Read` with the error of `read_document`, also where the last byte that may be
 /// taken shows it, and with `Memory` where it is refused for that test.
 ///
 /// ```

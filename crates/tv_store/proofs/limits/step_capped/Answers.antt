@@ -3,6 +3,7 @@ use Rattle.std.specs.Prelude.{◌↔◌, IsTrue, IsSome}
 use Rattle.tv_reading.specs.Prefix.{IsDone, IsMalformedNext}
 use Rattle.tv_reading.specs.Steps.{Stepped}
 use Rattle.tv_reader.specs.Version.{version_of}
+use Rattle.tv_store.proofs.StepsPaid.{recounted_few, recounted_paid}
 use Rattle.tv_store.proofs.WithinLimits.{part_read, part_refused, part_early, stepped_as}
 use Rattle.tv_store.specs.declared.limits.LimitedReadError.TheVariants as limited
 use Rattle.tv_store.specs.declared.limits.ReadLimit.TheVariants as limit
@@ -48,3 +49,31 @@ returns-in-Err-clause-ends g c = λ known is.
     let said : c.refused.result ≡ limited.Limit limit.Bytes = cc in
     part_early c.in-Err.error c.is_all.result c.refused.result _ _ (IsMalformedNext v d.reading) c.refused.ensures said
     (λ b f p. subst (λ r. IsMalformedNext v r b f) c.recount.ensures.reading (subst (λ z. IsMalformedNext (version_of z) at.reading b f) c.recount.ensures.version p)) h known
+
+pub returns-in-Ok-clause-at_most : goal.returns-in-Ok-clause-at_most
+returns-in-Ok-clause-at_most g c = λ known.
+    let begun = c.recount.ensures.count ∙ ap (λ n. c.first_count-first.result + n) c.bytes_read-taken.ensures in
+    let ended = c.recount-2.ensures.count ∙ ap (λ n. n - c.first_count-first.result) c.bytes_read-count.ensures in
+    recounted_few c.args.decoder.now c.recount.new.self c.step-stepped.new.self c.recount-2.new.self c.first_count-first.result c.recount.ensures.reading begun c.recount-2.ensures.reading ended c.recount-2.ensures.seen _ (c.in-Ok.ensures.at_most known)
+
+pub returns-in-Ok-clause-paid : goal.returns-in-Ok-clause-paid
+returns-in-Ok-clause-paid g c = λ known.
+    let begun = c.recount.ensures.count ∙ ap (λ n. c.first_count-first.result + n) c.bytes_read-taken.ensures in
+    let ended = c.recount-2.ensures.count ∙ ap (λ n. n - c.first_count-first.result) c.bytes_read-count.ensures in
+    let more = subst (λ r. ¬ IsDone r) (sym c.recount.ensures.reading) c.requires.more in
+    let h = c.in-Ok.ensures.steps.finds (c.recount.ensures.failed ∙ c.requires.live) more in
+    recounted_paid c.args.decoder.now c.recount.new.self c.step-stepped.new.self c.recount-2.new.self c.first_count-first.result c.recount.ensures.reading begun c.recount-2.ensures.reading ended c.recount-2.ensures.seen c.recount.ensures.version c.recount.ensures.failed h.rises (c.in-Ok.ensures.paid known)
+
+pub returns-in-Err-clause-at_most : goal.returns-in-Err-clause-at_most
+returns-in-Err-clause-at_most g c = λ known.
+    let begun = c.recount.ensures.count ∙ ap (λ n. c.first_count-first.result + n) c.bytes_read-taken.ensures in
+    let ended = c.recount-2.ensures.count ∙ ap (λ n. n - c.first_count-first.result) c.bytes_read-count.ensures in
+    recounted_few c.args.decoder.now c.recount.new.self c.step-stepped.new.self c.recount-2.new.self c.first_count-first.result c.recount.ensures.reading begun c.recount-2.ensures.reading ended c.recount-2.ensures.seen _ (c.in-Err.ensures.at_most known)
+
+pub returns-in-Err-clause-paid : goal.returns-in-Err-clause-paid
+returns-in-Err-clause-paid g c = λ known.
+    let begun = c.recount.ensures.count ∙ ap (λ n. c.first_count-first.result + n) c.bytes_read-taken.ensures in
+    let ended = c.recount-2.ensures.count ∙ ap (λ n. n - c.first_count-first.result) c.bytes_read-count.ensures in
+    let more = subst (λ r. ¬ IsDone r) (sym c.recount.ensures.reading) c.requires.more in
+    let h = c.in-Err.ensures.steps.finds (c.recount.ensures.failed ∙ c.requires.live) more in
+    recounted_paid c.args.decoder.now c.recount.new.self c.step-stepped.new.self c.recount-2.new.self c.first_count-first.result c.recount.ensures.reading begun c.recount-2.ensures.reading ended c.recount-2.ensures.seen c.recount.ensures.version c.recount.ensures.failed h.rises (c.in-Err.ensures.paid known)
