@@ -2,9 +2,9 @@
 
 ghost use Rattle.std.specs.Prelude.{◌≡◌, length};
 ghost use Rattle.tv_builder.specs.Builder.{Builds, TakesBytes, heap_so_far, state_of};
-ghost use Rattle.tv_builder.specs.Fits.{ListFits};
-ghost use Rattle.tv_builder.specs.State.{and_bytes, and_list, awaited};
-ghost use Rattle.tv_builder.specs.declared.awaits.Awaits.TheVariants.{Value};
+ghost use Rattle.tv_builder.specs.Fits.{KeyFits, ListFits};
+ghost use Rattle.tv_builder.specs.State.{and_bytes, and_key, and_list, awaited};
+ghost use Rattle.tv_builder.specs.declared.awaits.Awaits.TheVariants.{Key, Value};
 ghost use Rattle.tv_builder.specs.declared.list_kind.ListKind.TheVariants.{Array};
 
 use tv_builder::awaits::Awaits;
@@ -40,5 +40,20 @@ pub fn announced_elements_take_nothing(
     match builder.open_list(ListKind::Array, announced) {
         Ok(()) => Ok(()),
         Err(error) => Err(error),
+    }
+}
+
+/// Each key of an object stands in the heap, also where it is the key of the entry before.
+pub fn equal_keys_stand_in_the_heap(
+    builder: &mut PairBuilder,
+    before: &str,
+    key: &str,
+) -> Result<(), BuildError>
+    ensures { Builds builder.old builder.new (awaited (state_of builder.old) ≡ Key)
+        (KeyFits (heap_so_far builder.old) key.now) (λ s. and_key s key.now) result }
+{
+    match key == before {
+        true => builder.key(key),
+        false => builder.key(key),
     }
 }

@@ -23,19 +23,7 @@ pub fn entries_of_equal_keys_are_kept<S: ByteSource>(
         (NextRefused ⟦<Vec<(String, u64)> as ValueDeserialize>⟧.refused
         (version_of reader.old.version)) }
 {
-    let entries = reader.read::<Vec<(String, u64)>>(alloc)?;
-    match are_two_of_one_key(&entries) {
-        true => Ok(entries),
-        false => Ok(entries),
-    }
-}
-
-// Whether these are two entries that have one key.
-fn are_two_of_one_key(entries: &Vec<(String, u64)>) -> bool {
-    match entries.as_slice() {
-        [(first, _), (second, _)] => first.as_str() == second.as_str(),
-        _ => false,
-    }
+    reader.read::<Vec<(String, u64)>>(alloc)
 }
 
 /// A reader is marked once a document was refused, also where it had no room or no memory, so that nothing is read behind it.
