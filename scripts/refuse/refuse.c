@@ -24,7 +24,7 @@
 #include <unistd.h>
 
 struct outcome {
-    uint64_t at, asked, refused;
+    uint64_t at, asked, refused, largest;
     int32_t status;
     uint32_t out_len, err_len;
     uint32_t padding;
@@ -55,9 +55,10 @@ static void *give_early(size_t n) {
     return early + early_used - n;
 }
 
-static int refuses(void) {
+static int refuses(size_t n) {
     if (!runs) return 0;
     now->asked++;
+    if (n > now->largest) now->largest = n;
     if (!at || now->asked < at || now->asked - at >= count) return 0;
     now->refused++;
     errno = ENOMEM;
@@ -66,25 +67,25 @@ static int refuses(void) {
 
 void *malloc(size_t n) {
     if (!real_malloc) return give_early(n);
-    return refuses() ? NULL : real_malloc(n);
+    return refuses(n) ? NULL : real_malloc(n);
 }
 
 void *calloc(size_t n, size_t size) {
     if (!real_calloc) return give_early(n * size);
-    return refuses() ? NULL : real_calloc(n, size);
+    return refuses(size && n > SIZE_MAX / size ? SIZE_MAX : n * size) ? NULL : real_calloc(n, size);
 }
 
 void *realloc(void *p, size_t n) {
-    if (n && refuses()) return NULL;
+    if (n && refuses(n)) return NULL;
     if (!is_early(p)) return real_realloc(p, n);
     void *fresh = real_malloc(n);
     if (fresh) memcpy(fresh, p, n);
     return fresh;
 }
 
-void *aligned_alloc(size_t align, size_t n) { return refuses() ? NULL : real_aligned(align, n); }
+void *aligned_alloc(size_t align, size_t n) { return refuses(n) ? NULL : real_aligned(align, n); }
 
-int posix_memalign(void **p, size_t align, size_t n) { return refuses() ? ENOMEM : real_memalign(p, align, n); }
+int posix_memalign(void **p, size_t align, size_t n) { return refuses(n) ? ENOMEM : real_memalign(p, align, n); }
 
 void free(void *p) {
     if (real_free && !is_early(p)) real_free(p);
