@@ -1,6 +1,7 @@
 //! Documents read step by step, however often.
 
-ghost use Rattle.std.specs.Prelude.{◌≡◌, ◌≤◌, ◌*◌, false};
+ghost use Rattle.std.specs.Prelude.{◌≡◌, ◌≤◌, ◌*◌, false, length};
+ghost use Rattle.tantivy_schema.specs.PairsBuilder.{heap_so_far};
 ghost use Rattle.tantivy_schema.specs.Paid.{PaidBy};
 ghost use Rattle.tantivy_schema.specs.Stop.{Taken};
 
@@ -21,7 +22,8 @@ pub fn decoders_hold_what_was_read<S: ByteSource>(
         → Taken (S.left source.old) (S.left source.new) 0 result.0.count }
     ensures paid { S.is_known source.old → result.0.legacy_seen ≡ false
         → PaidBy result.0.reading.builder result.0.count }
-    ensures heap { S.is_known source.old → result.0.legacy_seen ≡ false
+    ensures heap { result.1 ≡ length (heap_so_far result.0.reading.builder) }
+    ensures at_most { S.is_known source.old → result.0.legacy_seen ≡ false
         → result.1 ≤ 7 * result.0.count }
 {
     let decoder = stepped_decoders_are_paid_for(alloc, source, version, steps);
