@@ -1,9 +1,13 @@
 -- Texts that are rewritten by what backslashes take, step by step.
-use Rattle.std.proofs.Common.{◌≡◌, ℕ, suc, zero, ◌+◌, ◌-◌, ◌%◌, ◌≤◌, ◌<◌, Bool, true, false, not, ◌&&◌, cond, List, [], ◌∷◌, ◌++◌, length, take, drop, get_or, reverse, refl, sym, ◌∙◌, ap, arith, eqb, append_assoc, drop-cons, add-one}
+use Rattle.std.proofs.Common.{◌≡◌, ℕ, suc, zero, ◌+◌, ◌-◌, ◌%◌, ◌≤◌, ◌<◌, Bool, true, false, not, ◌&&◌, ◌||◌, cond, List, [], ◌∷◌, ◌++◌, length, take, drop, get_or, reverse, refl, sym, ◌∙◌, ap, arith, eqb, append_assoc, drop-cons, add-one}
 use Rattle.std.proofs.lemmas.List.{take_more, take_all, reverse-append, drop_all, append-nil, length-drop, get_or-drop}
 use Rattle.std.proofs.lemmas.Grind.{common_steps}
 use Rattle.std.specs.List.{slice_range}
 use Rattle.tv_base.specs.Escapes.{leading_backslashes, run_before, is_unescaped, rewritten_below, rewritten}
+use Rattle.tv_base.specs.JsonPath.{expanded}
+use Rattle.tv_base.specs.Rewriting.{stands_for}
+use Rattle.tv_base.specs.declared.text_rules.Rule.{Rule}
+use Rattle.tv_base.specs.declared.text_rules.Rule.TheVariants as rules
 
 -- the run before the next place
 run_before-more : (text : List ℕ) (i : ℕ) → i < length text → run_before text (i + 1) ≡ cond (eqb (get_or text i 0) 92) (run_before text i + 1) 0
@@ -74,3 +78,16 @@ step-written prefix text below more other written start i e next is =
 
 pub slice_range-all : (text : List ℕ) (start i : ℕ) → length text ≤ i → slice_range text start i ≡ drop start text
 slice_range-all text start i h = take_all (i - start) (drop start text) (omega (arith, length-drop start text))
+
+cond-short : (b : Bool) (bytes others : List ℕ) → length bytes ≤ 1 → length others ≤ 1 → length (cond b bytes others) ≤ 1
+cond-short true bytes others h k = h
+cond-short false bytes others h k = k
+
+one-short : (b : ℕ) → length (b ∷ []) ≤ 1
+one-short b = omega arith
+
+-- what stands for a byte is one byte or none
+pub stands_for-short : (rule : Rule) (unescaped : Bool) (b : ℕ) → length (stands_for rule unescaped b) ≤ 1
+stands_for-short rules.Facet unescaped b = cond-short (unescaped && eqb b 92) [] _ (omega arith) (cond-short (unescaped && eqb b 47) _ _ (one-short 0) (one-short b))
+stands_for-short (rules.Path expand_dots) unescaped b = cond-short (unescaped && eqb b 92) [] _ (omega arith) (cond-short ((unescaped || expand_dots) && eqb b 46) _ _ (one-short 1) (one-short b))
+stands_for-short (rules.Segment expand_dots) unescaped b = one-short (expanded expand_dots b)

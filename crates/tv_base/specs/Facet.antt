@@ -57,8 +57,9 @@ abbrev pub IsParseError : List ℕ → FacetParseError → Type 0
 IsParseError text parse_error.Memory = Unit {0}
 IsParseError text (parse_error.FacetParseError copy) = (parse text ≡ None) × (string_bytes copy ≡ text)
 
--- whether the text names a facet, whose encoded text then was written
-abbrev pub IsEncoded : {E : Type 0} → List ℕ → List ℕ → Result Bool E → Type 0
-IsEncoded text encoded (Ok true) = parse text ≡ Some encoded
-IsEncoded text encoded (Ok false) = parse text ≡ None
-IsEncoded text encoded (Err e) = Unit {0}
+-- whether the text names a facet, whose encoded text is then written in place of the old text; else that stays, also after a refusal,
+-- which comes only for a text that names a facet
+abbrev pub WritesFacet : {E : Type 0} → List ℕ → List ℕ → List ℕ → Result Bool E → Type 0
+WritesFacet text old new (Ok true) = parse text ≡ Some new
+WritesFacet text old new (Ok false) = (parse text ≡ None) × (new ≡ old)
+WritesFacet text old new (Err e) = (parse text ≢ None) × (new ≡ old)

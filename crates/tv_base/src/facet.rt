@@ -13,7 +13,7 @@ ghost use Rattle.std.specs.Fmt.{DisplaysOnOk};
 ghost use Rattle.std.specs.Cmp.{partial_equiv_from_equiv};
 ghost use Rattle.std.specs.Cmp.Lexicographic.{slice_cmp, nat_list_eq_equiv, nat_list_cmp_total};
 ghost use Rattle.std.specs.Cmp.Lexicographic.{texts_ties, texts_po};
-ghost use Rattle.tv_base.specs.Facet.{parse, path, printed, debug_printed, IsParseError, IsEncoded};
+ghost use Rattle.tv_base.specs.Facet.{parse, path, printed, debug_printed, IsParseError, WritesFacet};
 ghost use Rattle.tv_base.specs.Facet.{Descends};
 ghost use Rattle.tv_base.specs.Sink.{AppendsPrefix};
 
@@ -132,12 +132,15 @@ impl Facet {
     }
 
     /// Writes the encoded text of the facet that a text names, in place of what is there (not in tantivy). Returns whether the text names one:
-    /// whether it begins with `/`. Errors: memory was refused.
+    /// whether it begins with `/`. Where it doesn't, what is there stays.
+    ///
+    /// Errors: memory was refused, which comes only where the text names a facet. Then what is there stays, too.
     pub fn encode_text(text: &str, encoded: &mut String) -> Result<bool, AllocError>
-        ensures { IsEncoded text.now (string_bytes encoded.new) result }
+        ensures { WritesFacet text.now (string_bytes encoded.old) (string_bytes encoded.new) result }
     {
         match text.strip_prefix('/') {
             Some(rest) => {
+                encoded.reserve(rest.len().saturating_sub(encoded.len()))?;
                 encoded.clear();
                 rewrite(Rule::Facet, rest, encoded)?;
                 Ok(true)

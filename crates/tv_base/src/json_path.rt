@@ -1,6 +1,6 @@
 //! Paths into JSON objects: the keys on the way, as segments.
 
-ghost use Rattle.std.specs.Prelude.{◌≡◌, ◌++◌, map, IfOk, OnOk};
+ghost use Rattle.std.specs.Prelude.{◌≡◌, ◌++◌, map, IfOk, OnErr, OnOk};
 ghost use Rattle.std.specs.String.{string_bytes};
 ghost use Rattle.tv_base.specs.JsonPath.{split, joined, joined_path};
 
@@ -71,15 +71,15 @@ pub fn joined_json_path(alloc: Global, path: &str, expand_dots: bool) -> Result<
     Ok(text)
 }
 
-/// Adds what `joined_json_path` makes of a path to a text. (Not in tantivy.) The only error is that memory was refused, and then a part
-/// of it may be added.
+/// Adds what `joined_json_path` makes of a path to a text. (Not in tantivy.) Errors: memory was refused. Then the text is as it was.
 pub fn push_joined_json_path(
     path: &str,
     expand_dots: bool,
     text: &mut String,
 ) -> Result<(), AllocError>
-    ensures { OnOk result
+    ensures added { OnOk result
         (string_bytes text.new ≡ string_bytes text.old ++ joined_path expand_dots path.now) }
+    ensures unchanged { OnErr result (string_bytes text.new ≡ string_bytes text.old) }
 {
     rewrite(Rule::Path { expand_dots }, path, text)
 }

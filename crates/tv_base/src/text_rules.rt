@@ -1,7 +1,7 @@
 //! Texts that are rewritten byte by byte, where a backslash keeps the character behind it.
 
-ghost use Rattle.std.specs.Prelude.{◌≡◌, ◌<◌, ◌∷◌, ◌++◌, [], OnErr, OnOk, MatchOption};
-ghost use Rattle.std.specs.String.{string_bytes};
+ghost use Rattle.std.specs.Prelude.{◌≡◌, ◌<◌, ◌+◌, ◌∷◌, ◌++◌, [], length, OnErr, OnOk, MatchOption};
+ghost use Rattle.std.specs.String.{string_bytes, string_capacity, string_len};
 ghost use Rattle.tv_base.specs.Escapes.{rewritten};
 ghost use Rattle.tv_base.specs.Facet.{printed, printed_or_slash};
 ghost use Rattle.tv_base.specs.Rewriting.{stands_for};
@@ -34,11 +34,15 @@ fn replacement(rule: Rule, is_unescaped: bool, byte: u8) -> Option<&'static str>
     }
 }
 
-// Writes the rewritten text behind what is there. Errors: memory was refused, and then a part of it may be written.
+// Writes the rewritten text, which is never longer than the text, behind what is there. Errors: memory was refused, which comes only
+// where there is no room for as many bytes as the text has. Then nothing is written.
 pub(crate) fn rewrite(rule: Rule, text: &str, out: &mut String) -> Result<(), AllocError>
-    ensures { OnOk result
+    ensures written { OnOk result
         (string_bytes out.new ≡ string_bytes out.old ++ rewritten (stands_for rule) text.now) }
+    ensures unchanged { OnErr result (string_bytes out.new ≡ string_bytes out.old) }
+    ensures full { OnErr result (string_capacity out.old < string_len out.old + length text.now) }
 {
+    out.reserve(text.len())?;
     let bytes = text.as_bytes();
     let mut start = 0;
     let mut is_unescaped = true;
