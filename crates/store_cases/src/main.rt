@@ -3,6 +3,7 @@
 //! that the format, the standards and the original give.
 #![tactic(auto)]
 
+mod calls;
 mod lines;
 mod over_each;
 mod reads;

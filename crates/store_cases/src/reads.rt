@@ -1,7 +1,7 @@
 //! Documents that are read, by one call and step by step.
 
 use crate::over_each::{Ending, Reading, once, over_each, where_it_fails};
-use crate::{steps, stored};
+use crate::{calls, steps, stored};
 use anyhow::{Context, Result, anyhow};
 use case_words as words;
 use std::alloc::Global;
@@ -184,6 +184,7 @@ pub fn answer(alloc: Global, call: &[&str]) -> Result<String> {
         ["size", number] => document(alloc, version(number)?, Form::Size, &bytes),
         ["prefixes", number] => prefixes(alloc, version(number)?, &bytes),
         ["failing", name, number] => failing(alloc, kind(name)?, version(number)?, &bytes),
+        [name, number] => calls::answer(alloc, name, number, &bytes),
         _ => Err(anyhow!("an unknown call that reads documents")),
     }
 }

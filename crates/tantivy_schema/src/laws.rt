@@ -22,13 +22,14 @@ pub use tv_base::laws::{
 };
 use tv_base::{ByteSource, VecSink};
 pub use tv_builder::laws::{
-    calls_trade, lists_are_paid, open_lists_are_paid, parts_are_traded, parts_make_values,
+    calls_trade, heaps_hold_what_came, lists_are_paid, open_lists_are_paid, parts_are_traded, parts_make_values,
     what_is_written_is_paid,
 };
 use tv_doc::document::CompactDoc;
 pub use tv_doc::laws::{
     additions_are_kept, builders_hold_their_state, built_values_are_as_added, documents_are_valid,
-    heaps_are_within_room, named_documents_are_converted_back, named_values_make_the_same_pairs,
+    heaps_are_within_room, heaps_are_written_in_order, named_documents_are_converted_back,
+    named_values_make_the_same_pairs,
 };
 pub use tv_format::laws::{
     documents_have_one_reading, errors_of_documents_are_unique, errors_of_values_are_unique,

@@ -3,7 +3,6 @@ use Rattle.std.proofs.Common.{true, ◌≡◌, ◌≢◌, ℕ, suc, zero, ◌+�
 use Rattle.std.proofs.lemmas.Bool.{ltb-true}
 use Rattle.std.proofs.lemmas.Option.{slice_get-get_or}
 use Rattle.std.proofs.lemmas.List.{length-append, map-append}
-use Rattle.std.proofs.lemmas.List.Sums.{sum_by_push}
 use Rattle.std.proofs.Math.Logic.{∥∥₁_elim, ∥∥₁_map}
 use Rattle.std.proofs.Math.Seq.{take-append_seam}
 use Rattle.std.proofs.Math.Nat.{ℕ_set}
@@ -14,18 +13,18 @@ use Rattle.tv_builder.specs.declared.heap_pairs.HeapPairs.{HeapPairs}
 use Rattle.tv_builder.specs.declared.heap_pair.HeapPair.{HeapPair}
 use Rattle.tv_builder.specs.HeldPairs.{heap_of, document_of, IsUnchanged, Added, ReadsAt}
 use Rattle.tv_builder.specs.Holds.{pair_at, ReadsPair, ReadsPairs, Holds, one_document}
-use Rattle.tv_heap.specs.Room.{room}
-use Rattle.tv_heap.specs.Weight.{tree_weight, document_weight}
+use Rattle.tv_heap.specs.Room.{room, document_room}
+use Rattle.tv_heap.specs.Weight.{document_weight}
 use Rattle.tv_heap.specs.TypeCode.{type_code}
 use Rattle.tv_base.specs.Sink.{IsPrefix}
 use Rattle.tv_heap.specs.Reads.{ReadsTree}
 use Rattle.tv_heap.specs.declared.place.Place.{Place}
 use Rattle.tv_heap.proofs.Grown.{grown}
-use Rattle.tv_builder.specs.TreeBytes.{leaf_place, tree_place, elements_heap, entries_heap}
+use Rattle.tv_builder.specs.TreeBytes.{leaf_place, tree_heap, tree_place, elements_heap, entries_heap, document_heap}
 use Rattle.tv_builder.specs.Whole.{Put}
 use Rattle.tv_builder.proofs.Giving.{prefix_length}
 use Rattle.tv_builder.proofs.Putting.{elements_prefix, entries_prefix, put_grows}
-use Rattle.tv_builder.proofs.Within.{tree_within, tree_within_room}
+use Rattle.tv_builder.proofs.Within.{document_within, tree_within_room, weight_room}
 
 -- one heap and one list of pairs hold one document
 pub same_document : (h k : List ℕ) (ps qs : List HeapPair) (x : Holds h ps) (y : Holds k qs) → h ≡ k → ps ≡ qs → x.0 ≡ y.0
@@ -96,11 +95,15 @@ pushed old heap ps at field t fits w e =
           (record { field = refl; fits = fits; reads = placed_reads (heap_of old) heap at t w }))),
     )
 
-pub pushed_weight : (old : HeapPairs) (heap : List ℕ) (ps : List HeapPair) (at : Place) (field : ℕ) (t : Tree) (fits : field < 2 ^ 32) (w : Put (heap_of old) t heap at) (e : ps ≡ old.pairs.items ++ pair_at field at ∷ [])
-    → length heap ≤ document_weight ((pushed old heap ps at field t fits w e).0)
+-- the heap behind one pair more
+pub heap_then : (heap : List ℕ) (d : Document) (pair : ℕ × Tree) → document_heap heap (d ++ pair ∷ []) ≡ tree_heap (document_heap heap d) pair.1
+heap_then heap [] pair = refl
+heap_then heap (x ∷ d) pair = heap_then (tree_heap heap x.1) d pair
+
+pub pushed_bytes : (old : HeapPairs) (heap : List ℕ) (ps : List HeapPair) (at : Place) (field : ℕ) (t : Tree) (fits : field < 2 ^ 32) (w : Put (heap_of old) t heap at) (e : ps ≡ old.pairs.items ++ pair_at field at ∷ [])
+    → heap ≡ document_heap [] ((pushed old heap ps at field t fits w e).0)
 unfolding pushed
-pushed_weight old heap ps at field t fits w e =
-    omega (arith, old.weight, ap length w.heap, tree_within (heap_of old) t (omega (arith, w.fits, ap length w.heap)), sum_by_push (λ (pair : ℕ × Tree). tree_weight pair.1) (document_of old) (field, t))
+pushed_bytes old heap ps at field t fits w e = w.heap ∙ ap (λ h. tree_heap h t) old.bytes ∙ sym (heap_then [] (document_of old) (field, t))
 
 pub added : (old new : HeapPairs) (at : Place) (field : ℕ) (t : Tree) → field < 2 ^ 32 → Put (heap_of old) t (heap_of new) at → new.pairs.items ≡ old.pairs.items ++ pair_at field at ∷ [] → Added old new field t
 unfolding pushed
@@ -123,8 +126,8 @@ added old new at field t fits w e =
 pub kept : (old : HeapPairs) (heap : List ℕ) (ps : List HeapPair) → heap ≡ heap_of old → ps ≡ old.pairs.items → Holds heap ps
 kept old heap ps e f = subst (λ z. Holds z ps) (sym e) (subst (λ z. Holds (heap_of old) z) (sym f) old.document)
 
-pub kept_weight : (old : HeapPairs) (heap : List ℕ) (ps : List HeapPair) (e : heap ≡ heap_of old) (f : ps ≡ old.pairs.items) → length heap ≤ document_weight ((kept old heap ps e f).0)
-kept_weight old heap ps e f = omega (arith, ap length e, old.weight, ap document_weight (same_document heap (heap_of old) ps old.pairs.items (kept old heap ps e f) old.document e f))
+pub kept_bytes : (old : HeapPairs) (heap : List ℕ) (ps : List HeapPair) (e : heap ≡ heap_of old) (f : ps ≡ old.pairs.items) → heap ≡ document_heap [] ((kept old heap ps e f).0)
+kept_bytes old heap ps e f = e ∙ old.bytes ∙ ap (document_heap []) (sym (same_document heap (heap_of old) ps old.pairs.items (kept old heap ps e f) old.document e f))
 
 -- what was written is cut off again
 pub restored : (old mid : List ℕ) (n : ℕ) → IsPrefix old mid → n ≡ length old → take n mid ≡ old
@@ -195,6 +198,13 @@ no_pairs d e = none (document_of d) (omega (arith, document_length d))
     none : (xs : Document) → length xs ≡ 0 → xs ≡ []
     none [] e = refl
     none (x ∷ xs) e = absurd (omega arith)
+
+-- the heap is within the weight of what it holds, and within its room
+pub weighs : (d : HeapPairs) → length (heap_of d) ≤ document_weight (document_of d)
+weighs d = document_within (heap_of d) (document_of d) d.bytes (omega (arith, d.fits))
+
+pub within_room : (d : HeapPairs) → length (heap_of d) ≤ document_room (document_of d)
+within_room d = weight_room (length (heap_of d)) (document_of d) (weighs d) (omega (arith, d.fits))
 
 -- a document without places has no pairs
 pub empty_document : (d : HeapPairs) → d.pairs.items ≡ [] → document_of d ≡ []

@@ -22,7 +22,7 @@ use Rattle.tv_builder.specs.HeldPairs.{document_of, heap_of, Added, IsUnchanged}
 use Rattle.tv_builder.specs.Keeping.{PairKept}
 use Rattle.tv_builder.specs.EncodedPairs.{IsStart, AddsEncodedPair, AddsEncoded, StoodIn}
 use Rattle.tv_builder.specs.Holds.{pair_at}
-use Rattle.tv_builder.proofs.Documents.{unchanged, restored, document_length}
+use Rattle.tv_builder.proofs.Documents.{unchanged, heap_then, restored, document_length}
 use Rattle.tv_builder.proofs.Kept.{Written, Fields, same_fields, kept_added}
 
 -- ---- one pair
@@ -82,10 +82,6 @@ none_encoded v d whole = record {
   within = omega arith;
   none = λ e. unchanged d d refl refl;
 }
-
-heap_then : (heap : List ℕ) (d : Document) (pair : ℕ × Tree) → document_heap heap (d ++ pair ∷ []) ≡ tree_heap (document_heap heap d) pair.1
-heap_then heap [] pair = refl
-heap_then heap (x ∷ d) pair = heap_then (tree_heap heap x.1) d pair
 
 pairs_then : (heap : List ℕ) (d : Document) (pair : ℕ × Tree) → document_pairs heap (d ++ pair ∷ []) ≡ document_pairs heap d ++ pair_at pair.0 (tree_place (document_heap heap d) pair.1) ∷ []
 pairs_then heap [] pair = refl

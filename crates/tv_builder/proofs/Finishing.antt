@@ -1,13 +1,11 @@
 -- The complete tree becomes the value of a pair.
 use Rattle.std.proofs.Common.{◌≡◌, ℕ, Bool, false, List, [], ◌∷◌, ◌++◌, length, take, drop, Option, Some, None, Ok, Err, OnOk, IfErr, refl, sym, ◌∙◌, ap, subst, arith}
 use Rattle.std.proofs.lemmas.List.{append-nil, take-append-drop, take_all}
-use Rattle.std.proofs.lemmas.List.Sums.{sum_by_push}
 use Rattle.std.proofs.Math.Logic.{∥∥₁_elim, ∥∥₁_map, ∥∥₁_prop}
 use mathlib.Core.HLevel.{⊥_prop}
 use Rattle.std.specs.Coded.{Coded-set}
 use Rattle.tv_format.specs.Tree.{Tree}
 use Rattle.tv_heap.specs.Reads.{ReadsTree}
-use Rattle.tv_heap.specs.Weight.{tree_weight, document_weight}
 use Rattle.tv_heap.specs.TypeCode.{type_code}
 use Rattle.tv_builder.specs.declared.build_error.BuildError.{BuildError}
 use Rattle.tv_builder.specs.declared.build_error.BuildError.TheVariants.{AlreadyFailed, OutOfPlace, NotUtf8, HeapFull, Memory}
@@ -18,15 +16,16 @@ use Rattle.tv_builder.specs.Given.{Given, pending_in}
 use Rattle.tv_builder.specs.Image.{held, image_of, ShowsBehind}
 use Rattle.tv_builder.specs.OneState.{StandsBehind, same_behind}
 use Rattle.tv_builder.specs.Shows.{ShowsState}
-use Rattle.tv_builder.specs.TreeBytes.{tree_place}
-use Rattle.tv_builder.specs.State.{State, complete, in_lists, in_bytes, written}
+use Rattle.tv_builder.specs.StateHeap.{state_heap}
+use Rattle.tv_builder.specs.TreeBytes.{tree_place, document_heap}
+use Rattle.tv_builder.specs.State.{State, complete, in_lists, in_bytes}
 use Rattle.tv_builder.specs.declared.pair_builder.PairBuilder.{PairBuilder}
 use Rattle.tv_builder.specs.declared.heap_pair.HeapPair.{HeapPair}
 use Rattle.tv_builder.specs.Finish.{HoldsPrefix, Settled, Kept, KeptNot, WhyNoPair}
 use Rattle.tv_builder.specs.Builder.{built, state_of, heap_so_far, kept_heap, Fails, Finished, FinishesIf, Finishes, IsComplete}
 use Rattle.tv_builder.specs.Holds.{ReadsPairs, Holds, pair_at}
-use Rattle.tv_builder.proofs.Documents.{same_document, pairs_grown, pairs_push}
-use Rattle.tv_builder.proofs.PairBuilding.{Answer, Left, stands, Fields, none_shows, fields_left, heap_within, fails_now}
+use Rattle.tv_builder.proofs.Documents.{same_document, heap_then, pairs_grown, pairs_push}
+use Rattle.tv_builder.proofs.PairBuilding.{Answer, Left, stands, Fields, none_shows, fields_left, heap_stands, fails_now}
 
 both : {A : Type 0} (x : Option A) (a : A) → x ≡ Some a → x ≡ None → ⊥
 both x a e f = absurd (let g : Some a ≡ None = sym e ∙ f in cc)
@@ -108,7 +107,9 @@ finish_fields_ok old mid new ps kept f k e =
     record {
       document = document;
       kept_within = omega (arith, ap length same_heap, k.kept_is);
-      weight = omega (arith, k.kept_is, heap_within old, old.weight, ap written w.is, ap document_weight same_doc, sum_by_push (λ (x : ℕ × Tree). tree_weight x.1) (built old) (f, w.tree));
+      bytes =
+          prefix ∙ heap_stands old ∙ ap (λ s. state_heap (document_heap [] (built old)) s) w.is
+          ∙ sym (heap_then [] (built old) (f, w.tree)) ∙ ap (document_heap []) (sym same_doc);
       state = after_pair old mid new ps kept f k e;
     }
 

@@ -1,12 +1,11 @@
 -- Pairs behind an addition that kept the place of what was written, or cut what was written off again.
-use Rattle.std.proofs.Common.{◌≡◌, ℕ, ◌+◌, ◌≤◌, ◌<◌, ◌^◌, true, false, Bool, List, ◌++◌, length, length-append, take, Option, Some, None, Result, Ok, Err, SomeIff, sym, subst, ◌∙◌, ap, arith}
+use Rattle.std.proofs.Common.{◌≡◌, ℕ, ◌+◌, ◌≤◌, ◌<◌, ◌^◌, true, false, Bool, List, [], ◌++◌, length, length-append, take, Option, Some, None, Result, Ok, Err, SomeIff, sym, subst, ◌∙◌, ap, arith}
 use Rattle.tv_base.specs.Sink.{IsPrefix}
 use Rattle.tv_format.specs.Tree.{Tree, leaf}
 use Rattle.tv_heap.specs.LeafBytes.{leaf_bytes, leaf_value_type, leaf_address}
-use Rattle.tv_heap.specs.Room.{leaf_room, room, document_room}
+use Rattle.tv_heap.specs.Room.{leaf_room, room}
 use Rattle.tv_heap.specs.TypeCode.{type_code}
 use Rattle.tv_heap.specs.Wrote.{Wrote}
-use Rattle.tv_heap.specs.Weight.{document_weight}
 use Rattle.tv_heap.specs.declared.place.Place.{Place}
 use Rattle.tv_heap.proofs.Writes.{leaf_fits}
 use Rattle.tv_value.specs.Lent.{leaf_of}
@@ -18,10 +17,10 @@ use Rattle.tv_builder.specs.HeldPairs.{heap_of, Added, Adds, RefusesAddition, Is
 use Rattle.tv_builder.specs.Keeping.{KeepsPair, PairKept, PairCut}
 use Rattle.tv_builder.specs.Holds.{Holds}
 use Rattle.tv_builder.specs.Moves.{FitsRoom}
+use Rattle.tv_builder.specs.TreeBytes.{document_heap}
 use Rattle.tv_builder.specs.Whole.{Put}
-use Rattle.tv_builder.proofs.Documents.{unchanged, added, pushed, pushed_weight, kept, kept_weight, restored}
+use Rattle.tv_builder.proofs.Documents.{unchanged, added, pushed, pushed_bytes, kept, kept_bytes, restored}
 use Rattle.tv_builder.proofs.Putting.{put_grows, leaf_put}
-use Rattle.tv_builder.proofs.Within.{weight_room}
 
 -- the room that was found is the tree's, and it is free
 pub room_fits : (found : Option ℕ) (len n : ℕ) (fits : Bool) → SomeIff found (n < 2 ^ 32) n → FitsRoom found len fits → fits ≡ true → len + n ≤ 4294967295
@@ -31,16 +30,12 @@ room_fits None len n fits is h e = absurd (let f : false ≡ true = sym h ∙ e 
 -- what is known of the heap and the pairs
 pub record Fields (heap : List ℕ) (ps : List HeapPair) : Type 0 where
   pub document : Holds heap ps
-  pub room : length heap ≤ document_room document.0
-  pub weight : length heap ≤ document_weight document.0
+  pub bytes : heap ≡ document_heap [] document.0
   pub fits : length heap < 2 ^ 32
-
-pub known : (heap : List ℕ) (ps : List HeapPair) (document : Holds heap ps) → length heap ≤ document_weight document.0 → length heap ≤ 4294967295 → Fields heap ps
-known heap ps document weight small = record { document = document; room = weight_room (length heap) document.0 weight small; weight = weight; fits = omega (arith, small) }
 
 -- neither the heap nor the pairs changed
 pub same_fields : (old : HeapPairs) (heap : List ℕ) (ps : List HeapPair) → heap ≡ heap_of old → ps ≡ old.pairs.items → Fields heap ps
-same_fields old heap ps same same_pairs = known heap ps (kept old heap ps same same_pairs) (kept_weight old heap ps same same_pairs) (omega (arith, old.fits, ap length same))
+same_fields old heap ps same same_pairs = record { document = kept old heap ps same same_pairs; bytes = kept_bytes old heap ps same same_pairs; fits = omega (arith, old.fits, ap length same) }
 
 -- what was written is cut off again
 pub cut_fields : (old : HeapPairs) (mid heap : List ℕ) (ps : List HeapPair) (len : ℕ) → IsPrefix (heap_of old) mid → len ≡ length (heap_of old) → heap ≡ take len mid → ps ≡ old.pairs.items → Fields heap ps
@@ -76,7 +71,7 @@ pub kept_fields : (old : HeapPairs) (mid heap : List ℕ) (ps : List HeapPair) (
     → KeepsPair mid heap old.pairs.items ps len field at result → Fields heap ps
 kept_fields old mid heap ps len field t at (Ok x) w k =
     let put = put_at old mid heap len field t at w k.heap in
-    known heap ps (pushed old heap ps at field t w.field_fits put k.pairs) (pushed_weight old heap ps at field t w.field_fits put k.pairs) put.fits
+    record { document = pushed old heap ps at field t w.field_fits put k.pairs; bytes = pushed_bytes old heap ps at field t w.field_fits put k.pairs; fits = omega (arith, put.fits) }
 kept_fields old mid heap ps len field t at (Err e) w k = cut_fields old mid heap ps len (put_grows (heap_of old) t mid at w.put) w.len_is k.heap k.pairs
 
 pub kept_added : (old new : HeapPairs) (mid : List ℕ) (len field : ℕ) (t : Tree) (at : Place) → Written old mid len field t at → PairKept mid (heap_of new) old.pairs.items new.pairs.items field at → Added old new field t

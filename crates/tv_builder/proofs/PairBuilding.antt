@@ -29,14 +29,15 @@ use Rattle.tv_builder.specs.OneState.{StandsBehind, stands_of, same_behind, same
 use Rattle.tv_builder.specs.Shows.{ShowsLists, ShowsState, HoldsSomeState, frames_of, awaited_by}
 use Rattle.tv_builder.specs.State.{State, complete, in_lists, in_bytes, written, and_end, awaited, state_room}
 use Rattle.tv_builder.specs.StateHeap.{state_heap, full_length, missing}
+use Rattle.tv_builder.specs.TreeBytes.{document_heap}
 use Rattle.tv_builder.specs.Weight.{state_weight}
 use Rattle.tv_builder.proofs.Counts.{awaited_is}
 use Rattle.tv_builder.proofs.Documents.{same_document}
 use Rattle.tv_builder.proofs.Images.{image_heap}
-use Rattle.tv_builder.proofs.Kept.{Fields as HeapFields, known}
+use Rattle.tv_builder.proofs.Kept.{Fields as HeapFields}
 use Rattle.tv_builder.proofs.Sound.{fits_of}
 use Rattle.tv_builder.proofs.Weighing.{written_weighs}
-use Rattle.tv_builder.proofs.Within.{state_within, weight_room}
+use Rattle.tv_builder.proofs.Within.{document_within, state_within, weight_room}
 
 -- ---- the state
 
@@ -118,7 +119,7 @@ cut_heap old mid new kept after e h l c = c.heap_is ∙ prefix_kept kept old.hea
 pub record Fields (b : Building) (kept : ℕ) (ps : List HeapPair) : Type 0 where
   pub document : HoldsPrefix b.heap.items kept ps
   pub kept_within : kept ≤ length b.heap.items
-  pub weight : kept ≤ document_weight document.0
+  pub bytes : take kept b.heap.items ≡ document_heap [] document.0
   pub state : StandsBehind (take kept b.heap.items) b
 
 abbrev pub cleared_stands : (mid new : Building) (kept : ℕ) → kept ≤ 4294967295 → Empty (take kept mid.heap.items) new → StandsBehind (take kept new.heap.items) new
@@ -142,10 +143,21 @@ fields_left old mid new failed_new after r l s =
     let prefix = same_prefix_kept old.building mid new old.kept old.failed failed_new after r old.kept_within l s in
     let document : HoldsPrefix new.heap.items old.kept old.pairs.items = subst (λ z. Holds z old.pairs.items) (sym prefix.0) old.document in
     let same = same_document (take old.kept new.heap.items) (kept_heap old) old.pairs.items old.pairs.items document old.document prefix.0 refl in
-    record { document = document; kept_within = prefix.1; weight = omega (arith, old.weight, ap document_weight same); state = state_left old mid new failed_new after r l s }
+    record { document = document; kept_within = prefix.1; bytes = prefix.0 ∙ old.bytes ∙ ap (document_heap []) (sym same); state = state_left old mid new failed_new after r l s }
 
 pub fields_does : (old : PairBuilder) (mid new : Building) (failed_new : Bool) (here well fits : Type 0) (after : State → State) (r : Answer) → Does old.building mid here well fits after r → Settled mid new old.kept old.failed failed_new r → Fields new old.kept old.pairs.items
 fields_does old mid new failed_new here well fits after r d s = fields_left old mid new failed_new after r (does_left old.building mid here well fits after r d) s
+
+-- the heap is that of the finished pairs, and behind them that of what has come of the next value
+pub heap_stands : (b : PairBuilder) → heap_so_far b ≡ state_heap (document_heap [] (built b)) (state_of b)
+heap_stands b = heap_behind (kept_heap b) b.building b.state ∙ ap (λ base. state_heap base (state_of b)) b.bytes
+
+-- what is kept of it is within the weight of the finished pairs
+kept_weighs : (b : PairBuilder) → b.kept ≤ document_weight (built b)
+kept_weighs b =
+    let long = length-take-le b.kept (heap_so_far b) b.kept_within in
+    let small = fits_of b.building (stands b) in
+    omega (arith, long, document_within (kept_heap b) (built b) b.bytes (omega (arith, long, small, b.kept_within)))
 
 -- the heap is within the weights of what it holds
 pub heap_within : (b : PairBuilder) → length (heap_so_far b) ≤ b.kept + written (state_of b)
@@ -154,13 +166,13 @@ heap_within b =
     omega (arith, ap length heap, state_within (kept_heap b) (state_of b) (omega (arith, ap length heap, fits_of b.building (stands b))), length-take b.kept (heap_so_far b))
 
 pub heap_weighs : (b : PairBuilder) → length (heap_so_far b) ≤ document_weight (built b) + state_weight (state_of b)
-heap_weighs b = omega (arith, heap_within b, b.weight, written_weighs b.building (stands b))
+heap_weighs b = omega (arith, heap_within b, kept_weighs b, written_weighs b.building (stands b))
 
 -- and what is kept of it is within the room of the finished pairs
 pub kept_room : (b : PairBuilder) → b.kept ≤ document_room (built b)
 kept_room b =
     let small = fits_of b.building (stands b) in
-    weight_room b.kept (built b) b.weight (omega (arith, small, b.kept_within))
+    weight_room b.kept (built b) (kept_weighs b) (omega (arith, small, b.kept_within))
 
 -- ---- what the call says
 
@@ -303,7 +315,7 @@ new_fields doc b n e empty =
     record {
       document = document;
       kept_within = omega (arith, e, ap length heap);
-      weight = omega (arith, e, doc.weight, ap document_weight same);
+      bytes = ap (λ z. take n z) heap ∙ take_all n doc.heap.items (omega (arith, e)) ∙ doc.bytes ∙ ap (document_heap []) (sym same);
       state = none_behind n doc.heap.items b (omega (arith, e, ap length heap)) (omega (arith, doc.fits, ap length heap)) empty;
     }
 
@@ -320,7 +332,7 @@ end_fields b heap e =
     let same = same_document heap (take b.kept (heap_so_far b)) b.pairs.items b.pairs.items document b.document e refl in
     let long = length-take b.kept (heap_so_far b) in
     let small = fits_of b.building (stands b) in
-    known heap b.pairs.items document (omega (arith, b.weight, ap length e, long, ap document_weight same)) (omega (arith, ap length e, long, small))
+    record { document = document; bytes = e ∙ b.bytes ∙ ap (document_heap []) (sym same); fits = omega (arith, ap length e, long, small) }
 
 pub end_built : (b : PairBuilder) (d : HeapPairs) → d.heap.items ≡ take b.kept (heap_so_far b) → d.pairs.items ≡ b.pairs.items → document_of d ≡ built b
 end_built b d heap pairs = same_document d.heap.items (take b.kept (heap_so_far b)) d.pairs.items b.pairs.items d.document b.document heap pairs

@@ -1,5 +1,5 @@
 -- What is written takes no more than its weight, and that no more than its room, as long as the heap is below 2 ^ 32 bytes.
-use Rattle.std.proofs.Common.{◌≡◌, ℕ, ◌+◌, ◌/◌, ◌^◌, ◌<◌, ◌≤◌, List, [], ◌∷◌, ◌++◌, length, length-append, arith, inl, inr}
+use Rattle.std.proofs.Common.{◌≡◌, ℕ, ◌+◌, ◌/◌, ◌^◌, ◌<◌, ◌≤◌, List, [], ◌∷◌, ◌++◌, length, length-append, ap, arith, inl, inr}
 use Rattle.std.specs.List.{flat_map, sum_by}
 use Rattle.std.specs.Int.{w64, cast_unsigned}
 use Rattle.std.proofs.lemmas.Bool.{cases_lt}
@@ -18,7 +18,7 @@ use Rattle.tv_heap.proofs.Writes.{vnum_five, length_eight, length_sixteen, addre
 use Rattle.tv_builder.specs.Given.{place_bytes}
 use Rattle.tv_builder.specs.State.{OpenList, State, complete, in_lists, in_bytes, IsState, finished_room, lists_room, state_room, trees_weight, lists_written, written}
 use Rattle.tv_builder.specs.StateHeap.{lists_heap, state_heap, full_length}
-use Rattle.tv_builder.specs.TreeBytes.{tree_heap, tree_place, elements_heap, elements_places, entries_heap, entries_places}
+use Rattle.tv_builder.specs.TreeBytes.{tree_heap, tree_place, elements_heap, elements_places, entries_heap, entries_places, document_heap}
 
 -- ---- the weight
 
@@ -81,6 +81,13 @@ tree_within heap t h = below _ _ (tree_least heap t) h
 
 pub state_within : (base : List ℕ) (s : State) → length (state_heap base s) ≤ 4294967295 → length (state_heap base s) ≤ length base + written s
 state_within base s h = below _ _ (state_least base s) h
+
+document_least : (heap : List ℕ) (d : Document) → length heap + document_weight d < 4294967296 → length (document_heap heap d) ≤ length heap + document_weight d
+document_least heap [] h = omega arith
+document_least heap (pair ∷ d) h = omega (arith, tree_least heap pair.1, document_least (tree_heap heap pair.1) d, sum_by-cons (λ (x : ℕ × Tree). tree_weight x.1) pair d)
+
+pub document_within : (heap : List ℕ) (d : Document) → heap ≡ document_heap [] d → length heap ≤ 4294967295 → length heap ≤ document_weight d
+document_within heap d e h = below _ _ (λ p. omega (arith, document_least [] d p, ap length e)) h
 
 -- ---- the room
 

@@ -4,10 +4,9 @@ ghost use Rattle.std.specs.Prelude.{◌≡◌, ◌<◌, ◌≤◌, ◌^◌, [], 
 ghost use Rattle.std.specs.Prelude.{IfNone, length};
 ghost use Rattle.tv_builder.specs.Holds.{Holds, Holds-prop};
 ghost use Rattle.tv_builder.specs.Keeping.{KeepsPair};
+ghost use Rattle.tv_builder.specs.TreeBytes.{document_heap};
 ghost use Rattle.tv_format.specs.Tree.{leaf};
 ghost use Rattle.tv_format.specs.WriteVersion.{written_version};
-ghost use Rattle.tv_heap.specs.Room.{document_room};
-ghost use Rattle.tv_heap.specs.Weight.{document_weight};
 ghost use Rattle.tv_value.specs.Lent.{leaf_of};
 
 use crate::add_error::AddError;
@@ -72,8 +71,7 @@ pub struct HeapPairs {
     /// The fields, and where their values stand.
     pub pairs: Vec<HeapPair>,
     pub ghost document: { Holds heap.items pairs.items } by { Holds-prop heap.items pairs.items },
-    pub ghost room: { length heap.items ≤ document_room document.0 },
-    pub ghost weight: { length heap.items ≤ document_weight document.0 },
+    pub ghost bytes: { heap.items ≡ document_heap [] document.0 },
     pub ghost fits: { length heap.items < 2 ^ 32 },
 }
 

@@ -4,9 +4,13 @@ ghost use Rattle.std.specs.Prelude.{◌≡◌, ◌+◌, ◌*◌, ◌≤◌, ℕ,
 ghost use Rattle.tv_format.specs.Encoding.{NoLegacy};
 ghost use Rattle.tv_format.specs.Tree.{Tree, Document};
 ghost use Rattle.tv_format.specs.Version.{Version};
-ghost use Rattle.tv_builder.specs.Builder.{state_of};
+ghost use Rattle.tv_builder.specs.Builder.{built, heap_so_far, state_of};
 ghost use Rattle.tv_builder.specs.Called.{parts_called};
+ghost use Rattle.tv_builder.specs.HeldPairs.{document_of, heap_of};
 ghost use Rattle.tv_builder.specs.Shows.{ShowsState};
+ghost use Rattle.tv_builder.specs.StateHeap.{state_heap};
+ghost use Rattle.tv_builder.specs.TreeBytes.{document_heap};
+ghost use Rattle.tv_builder.specs.declared.heap_pairs.HeapPairs.{HeapPairs};
 ghost use Rattle.tv_builder.specs.declared.pair_builder.PairBuilder.{PairBuilder};
 ghost use Rattle.tv_builder.specs.Behind.{document_parts, open_parts};
 ghost use Rattle.tv_builder.specs.Prefix.{Encoded};
@@ -72,6 +76,14 @@ pub fn open_lists_are_paid()
 /// The calls for the parts of a value, one after the other, make of a state what the value itself makes of it.
 pub fn parts_make_values()
     ensures { (s : State) (t : Tree) → awaited s ≡ Value → parts_called s t ≡ and_value s t }
+{}
+
+/// A heap is what writing the trees of its pairs one after the other gives, and in a builder, behind them, what writing the parts of the next
+/// value gives that have come: the same has one heap, however it was added.
+pub fn heaps_hold_what_came()
+    ensures pairs { (d : HeapPairs) → heap_of d ≡ document_heap [] (document_of d) }
+    ensures builders { (b : PairBuilder)
+        → heap_so_far b ≡ state_heap (document_heap [] (built b)) (state_of b) }
 {}
 
 /// All of a builder's state stands in its heap: each finished child and the complete tree reads at its place, and open bytes so far, behind

@@ -4,6 +4,7 @@ ghost use Rattle.std.specs.Prelude.{◌≡◌, ◌+◌, ◌<◌, ◌≤◌, [], 
 ghost use Rattle.std.specs.Prelude.{take, true, false, None};
 ghost use Rattle.tv_builder.specs.OneState.{StandsBehind, StandsBehind-prop};
 ghost use Rattle.tv_builder.specs.Finish.{HoldsPrefix, HoldsPrefix-prop, Settled, Kept, KeptNot};
+ghost use Rattle.tv_builder.specs.TreeBytes.{document_heap};
 ghost use Rattle.tv_builder.specs.Weight.{document_weight, state_weight};
 
 use crate::awaits::Awaits;
@@ -73,7 +74,7 @@ pub struct PairBuilder {
     failed: bool,
     pub ghost document: { HoldsPrefix building.heap.items kept pairs.items } by { HoldsPrefix-prop building.heap.items kept pairs.items },
     pub ghost kept_within: { kept ≤ length building.heap.items },
-    pub ghost weight: { kept ≤ document_weight document.0 },
+    pub ghost bytes: { take kept building.heap.items ≡ document_heap [] document.0 },
     pub ghost state: { StandsBehind (take kept building.heap.items) building } by { StandsBehind-prop (take kept building.heap.items) building },
 }
 

@@ -6,7 +6,12 @@ use Rattle.tv_format.specs.Tree.{Tree, Document}
 use Rattle.tv_builder.specs.declared.add_error.AddError.{AddError}
 use Rattle.tv_doc.specs.declared.document.CompactDoc.{CompactDoc}
 use Rattle.tv_doc.specs.Additions.{Addition, pair_of, accepted_pairs, Runs, Keeps, Accepts, AddsEach, IsEmpty, IsMade}
-use Rattle.tv_doc.specs.Document.{document_of, heap_of, places_of, Adds, IsUnchanged}
+use Rattle.tv_doc.specs.Document.{document_of, heap_of, places_of, Adds, IsUnchanged, IsWithinRoom}
+use Rattle.tv_builder.proofs.Documents.{within_room as pairs_within_room}
+
+-- the heap is within the room of the values
+pub within_room : (d : CompactDoc) → IsWithinRoom d
+within_room d = pairs_within_room d.values
 
 unchanged_keeps : (old new : CompactDoc) → IsUnchanged old new → Keeps [] old new
 unchanged_keeps old new same = record {

@@ -14,7 +14,7 @@ use Rattle.tv_builder.specs.declared.add_error.AddError.{AddError}
 use Rattle.tv_builder.specs.declared.add_error.AddError.TheVariants.{HeapFull, Memory}
 use Rattle.tv_doc.specs.declared.doc_parsing_error.DocParsingError.{DocParsingError}
 use Rattle.tv_doc.specs.declared.document.CompactDoc.{CompactDoc}
-use Rattle.tv_doc.proofs.Additions.{from_empty}
+use Rattle.tv_doc.proofs.Additions.{from_empty, within_room}
 use Rattle.tv_doc.proofs.Pairs.{value_first, other_first}
 
 -- a document without the first value of a field
@@ -94,7 +94,7 @@ middle_room p before behind = omega (arith, sum_by-append (λ (pair : ℕ × Tre
 refusal_back : (pairs d : Document) (start : CompactDoc) (r : AddError) → Parts pairs d → IsEmpty start → StopsAtPair pairs start r → IsConversionError d (addition_error r)
 refusal_back pairs d start HeapFull h none s =
     let mid = s.mid in
-    let within = mid.values.room in
+    let within = within_room mid in
     omega (arith, s.refused, within, ap document_room (from_empty s.before start mid none s.added), middle_room s.at s.before s.behind, ap document_room s.joined, room_within pairs d h)
 refusal_back pairs d start Memory h none s = tt
 

@@ -16,7 +16,8 @@
 -- `BuildsBytes`: some of the announced bytes. `builds`: it is such a call. `no_heap_full`: it never returns `HeapFull`.
 -- `Ends`: the announced bytes are a finished value or key, or the call is refused. `Finishes`: the complete value becomes that of a pair, or the call
 -- is refused.
--- `HoldsState`: all of a builder's state stands in its heap. `bytes`: behind the heap of the finished pairs its bytes are those of the state.
+-- `HoldsState`: all of a builder's state stands in its heap. `kept`: the heap of the finished pairs is what writing their trees one after the other
+-- gives. `bytes`: behind it the heap's bytes are those of the state.
 -- `reads`: where a tree is complete, the heap reads it at its place. `room`: the heap takes at most the room of the pairs and what is written.
 use Rattle.std.specs.Prelude.{◌≡◌, ◌+◌, ◌≤◌, ℕ, List, [], false, length, Result, IsErrOf}
 use Rattle.tv_builder.specs.Builder as pairs
@@ -25,7 +26,7 @@ use Rattle.tv_builder.specs.Fits.{LeafFits, ListFits, KeyFits, HeadFits}
 use Rattle.tv_builder.specs.State.{State, OpenList, complete, in_lists, lists_of, awaited, head_awaits, written}
 use Rattle.tv_builder.specs.State.{and_value, and_list, and_key, and_head, and_bytes}
 use Rattle.tv_builder.specs.StateHeap.{state_heap}
-use Rattle.tv_builder.specs.TreeBytes.{tree_place}
+use Rattle.tv_builder.specs.TreeBytes.{tree_place, document_heap}
 use Rattle.tv_builder.specs.Weight.{document_weight, state_weight}
 use Rattle.tv_builder.specs.declared.awaits.Awaits.TheVariants as awaits
 use Rattle.tv_builder.specs.declared.bytes_kind.BytesKind.{BytesKind}
@@ -126,6 +127,7 @@ pub record BuildsBytes (old new : TreeBuilder) (bs : List ℕ) (r : Result (Unit
 
 -- all of the state stands in the heap
 pub record HoldsState (b : TreeBuilder) : Type 0 where
+  pub kept : kept_heap b ≡ document_heap [] (built b)
   pub bytes : heap_so_far b ≡ state_heap (kept_heap b) (state_of b)
   pub reads : (t : Tree) → state_of b ≡ complete t
       → let place = tree_place (kept_heap b) t in ∥ ReadsTree (heap_so_far b) (type_code place.value_type) place.address t ∥₁

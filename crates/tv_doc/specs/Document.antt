@@ -9,9 +9,11 @@
 -- no pair.
 -- `Adds`: a pair of this field and this tree is added behind the others. Or the addition is refused: `HeapFull` where the heap has no room for the
 -- tree, `Memory` only where it has. The pairs and the heap are then unchanged. `AddsLeaf`: the same of a value without children.
--- `IsWithinRoom`: the heap is no longer than the room of the values.
+-- `IsWrittenInOrder`: the heap is what writing the trees of the pairs one after the other gives. `IsWithinRoom`: it is no longer than the room of
+-- the values.
 use Rattle.std.specs.Prelude.{◌≡◌, ◌≤◌, ℕ, List, [], length, Option, Result}
 use Rattle.tv_builder.specs.HeldPairs as held
+use Rattle.tv_builder.specs.TreeBytes.{document_heap}
 use Rattle.tv_builder.specs.declared.add_error.AddError.{AddError}
 use Rattle.tv_builder.specs.declared.heap_pair.HeapPair.{HeapPair}
 use Rattle.tv_format.specs.Tree.{Leaf, Tree, Document, leaf}
@@ -83,6 +85,10 @@ pub record Shrinks (old new : CompactDoc) : Type 0 where
   pub places : pairs_capacity new ≤ pairs_capacity old
   pub frees_bytes : heap_of old ≡ [] → heap_capacity new ≡ 0
   pub frees_places : document_of old ≡ [] → pairs_capacity new ≡ 0
+
+-- the heap is what writing the trees one after the other gives
+abbrev pub IsWrittenInOrder : CompactDoc → Type 0
+IsWrittenInOrder d = heap_of d ≡ document_heap [] (document_of d)
 
 -- the heap takes at most the room of the values
 abbrev pub IsWithinRoom : CompactDoc → Type 0

@@ -1,6 +1,7 @@
 //! Laws of documents, each the contract of a function that does nothing.
 
-ghost use Rattle.std.specs.Prelude.{List, IfSome};
+ghost use Rattle.std.specs.Prelude.{◌≡◌, ◌⊎◌, List, IfErr, IfOk, IsErrOf};
+ghost use Rattle.tv_builder.specs.declared.build_error.BuildError.TheVariants.{HeapFull, Memory};
 ghost use Rattle.tv_field.specs.Entry.{Entry};
 ghost use Rattle.tv_format.specs.Short.{IsDocument};
 ghost use Rattle.tv_format.specs.Tree.{Document as Pairs};
@@ -8,11 +9,11 @@ ghost use Rattle.tv_doc.specs.declared.document.CompactDoc.{CompactDoc};
 ghost use Rattle.tv_doc.specs.declared.builder.TreeBuilder.{TreeBuilder};
 ghost use Rattle.tv_doc.specs.Additions.{Addition, AddsAsBuilt, AreKept};
 ghost use Rattle.tv_doc.specs.Builder.{HoldsState};
-ghost use Rattle.tv_doc.specs.Document.{document_of, IsWithinRoom};
+ghost use Rattle.tv_doc.specs.Document.{document_of, IsFull, IsWithinRoom, IsWrittenInOrder};
 ghost use Rattle.tv_doc.specs.Named.{Named};
 ghost use Rattle.tv_doc.specs.NamedPairs.{ConvertsBack, KeepsNamed};
 
-use crate::builder::TreeBuilder;
+use crate::builder::{BuildError, TreeBuilder};
 use crate::document::CompactDoc;
 use crate::document_trait::Document;
 use crate::named_back_error::NamedBackError;
@@ -25,6 +26,12 @@ use tv_value::value::Value;
 /// Each document has an encoding in the store: its fields are numbers below 2^32, and its numbers, texts and lists fit.
 pub fn documents_are_valid()
     ensures { (d : CompactDoc) → IsDocument (document_of d) }
+{}
+
+/// A document's heap is what writing the trees of its pairs one after the other gives. So documents of the same pairs have the same heap, byte
+/// for byte, however they were made.
+pub fn heaps_are_written_in_order()
+    ensures { (d : CompactDoc) → IsWrittenInOrder d }
 {}
 
 /// A document's heap takes at most the room of its values.
@@ -71,31 +78,24 @@ pub fn builders_hold_their_state()
 {}
 
 /// A value that is built whole and finished leaves what its addition leaves: the same heap, byte for byte, and the same pairs at the same
-/// places. The first document is made by the addition, the second by the builder. `None` where an addition or a call of the builder was refused.
+/// places. The first document is made by the addition, the second by the builder.
+///
+/// Errors: `HeapFull`, only where the heap has no room for the value, and `Memory`.
 pub fn built_values_are_as_added<'a, V: Value<'a>>(
     alloc: Global,
     document: &CompactDoc,
     field: Field,
     value: &V,
-) -> Option<(CompactDoc, CompactDoc)>
-    ensures { IfSome result
+) -> Result<(CompactDoc, CompactDoc), BuildError>
+    ensures made { IfOk result
         (λ made. AddsAsBuilt document.now field.id (V.tree value.now) made.0 made.1) }
+    ensures full { IsErrOf result HeapFull → IsFull document.now (V.tree value.now) }
+    ensures errors { IfErr result (λ error. (error ≡ HeapFull) ⊎ (error ≡ Memory)) }
 {
-    let Ok(mut added) = document.try_clone(alloc) else {
-        return None;
-    };
-    let Ok(()) = added.add_field_value(field, value) else {
-        return None;
-    };
-    let Ok(copy) = document.try_clone(alloc) else {
-        return None;
-    };
-    let mut builder = TreeBuilder::new(copy);
-    let Ok(()) = builder.tree(value) else {
-        return None;
-    };
-    let Ok(()) = builder.finish(field) else {
-        return None;
-    };
-    Some((added, builder.into_doc()))
+    let mut added = document.try_clone(alloc)?;
+    added.add_field_value(field, value)?;
+    let mut builder = TreeBuilder::new(document.try_clone(alloc)?);
+    builder.tree(value)?;
+    builder.finish(field)?;
+    Ok((added, builder.into_doc()))
 }

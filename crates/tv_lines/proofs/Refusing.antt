@@ -7,7 +7,7 @@ use Rattle.std.proofs.lemmas.List.Sums.{sum_by_push}
 use Rattle.std.proofs.lemmas.Option.{same_Some}
 use Rattle.tv_heap.specs.Room.{room, document_room}
 use Rattle.tv_doc.specs.Additions.{AddsEach, IsEmpty}
-use Rattle.tv_doc.proofs.Additions.{from_empty}
+use Rattle.tv_doc.proofs.Additions.{from_empty, within_room}
 use Rattle.tv_doc.specs.Document.{document_of, IsFull}
 use Rattle.tv_doc.specs.JsonObject.{FieldJson, object_values, Pairs, Parses}
 use Rattle.tv_doc.specs.declared.doc_parsing_error.DocParsingError.{DocParsingError}
@@ -48,7 +48,7 @@ pairs-snoc (v ∷ vs) at tree pairs made row =
 -- the heap has no room, so the pairs have none
 pub full_room : (pairs : Document) (start mid : CompactDoc) (field : ℕ) (t : Tree) → IsEmpty start → AddsEach pairs start mid → IsFull mid t → 4294967295 < document_room (pairs ++ (field, t) ∷ [])
 full_room pairs start mid field t none adds full =
-    let within = mid.values.room in
+    let within = within_room mid in
     omega (arith, full, within, ap document_room (from_empty pairs start mid none adds), sum_by_push (λ (pair : ℕ × Tree). room pair.1) pairs (field, t))
 
 -- ---- the answer for an error

@@ -5,16 +5,15 @@ use Rattle.tv_base.specs.declared.cause.Cause.TheVariants.{UnexpectedEnd}
 use Rattle.tv_base.specs.declared.source.ByteSource.{Ghosts}
 use Rattle.tv_base.specs.Source.{Failures}
 use Rattle.tv_base.specs.Stop.{Counts, Taken}
-use Rattle.tv_builder.specs.Builder.{built, state_of}
+use Rattle.tv_builder.specs.StateHeap.{state_heap}
 use Rattle.tv_builder.specs.Prefix.{Encoded}
 use Rattle.tv_builder.specs.State.{State}
-use Rattle.tv_builder.specs.Weight.{state_weight}
+use Rattle.tv_builder.specs.TreeBytes.{document_heap}
 use Rattle.tv_reading.specs.Prefix.{parts_at, IsPlace}
 use Rattle.tv_doc.specs.Document.{document_of}
 use Rattle.tv_doc.specs.declared.document.CompactDoc.{CompactDoc}
 use Rattle.tv_format.specs.Tree.{Document}
 use Rattle.tv_format.specs.Version.{Version}
-use Rattle.tv_heap.specs.Weight.{document_weight}
 use Rattle.tv_legacy.specs.Legacy.{Legacy}
 use Rattle.tv_reader.specs.Error.{store_stop}
 use Rattle.tv_reader.specs.Finds.{GivesStop}
@@ -83,11 +82,11 @@ said_end v limits old new count next document comes t none is =
     let few : length h.taken ≡ 0 = omega (arith, t.counted, none, ap length h.joined, ap length t.joined, length-append h.taken new, length-append t.prefix new) in
     no_bytes old h.taken new h.joined ((told_cause (NoDocument v) UnexpectedEnd old new (length h.taken) (omega (arith, few)) h.outcome.stop).shows.all refl) few
 
-weighs_nothing : (v : Version) (most : Option ℕ) (taken : List ℕ) (a f : Option ℕ) (d : Document) (s : State) → IsPlace a d f s → Encoded Legacy v taken (parts_at a d f s) → taken ≡ [] → IsPast most (document_weight d + state_weight s) → ⊥
-weighs_nothing v most taken None None d s place p none past = past_none most (subst (λ z. IsPast most (document_weight z + 0)) place.0 (subst (λ z. IsPast most (document_weight d + state_weight z)) place.1 past))
-weighs_nothing v most taken None (Some f) d s place p none past = absurd place
-weighs_nothing v most taken (Some n) None d s place p none past = no_number v taken n _ none p
-weighs_nothing v most taken (Some n) (Some f) d s place p none past = no_number v taken n _ none p
+never_large : (v : Version) (most : Option ℕ) (taken : List ℕ) (a f : Option ℕ) (d : Document) (s : State) → IsPlace a d f s → Encoded Legacy v taken (parts_at a d f s) → taken ≡ [] → IsPast most (length (state_heap (document_heap [] d) s)) → ⊥
+never_large v most taken None None d s place p none past = past_none most (subst (λ z. IsPast most (length (document_heap [] z))) place.0 (subst (λ z. IsPast most (length (state_heap (document_heap [] d) z))) place.1 past))
+never_large v most taken None (Some f) d s place p none past = absurd place
+never_large v most taken (Some n) None d s place p none past = no_number v taken n _ none p
+never_large v most taken (Some n) (Some f) d s place p none past = no_number v taken n _ none p
 
 never_deep : (v : Version) (most : Option ℕ) (taken : List ℕ) → taken ≡ [] → PassesDepth v most taken → ⊥
 never_deep v most taken none (inl deep) = no_number v taken deep.announced _ none deep.encoded
@@ -103,6 +102,6 @@ said_at_end v limits old new count (Err (limited.Read e)) document h cut t none 
     at_end v (Err e) document old new count (subst (λ n. GivesStop end (NoDocument v) old new n (store_stop e)) (few ∙ sym same) h.outcome.stop) (λ is. h.outcome.full (cc)) (λ is. cut (cc)) same none
 said_at_end v limits old new count (Err (limited.Limit limit.Bytes)) document h cut t none = h.outcome.0 ∙ ap (λ z. Some (length z)) (none_before h.taken new (sym h.joined ∙ none))
 said_at_end v limits old new count (Err (limited.Limit limit.HeapBytes)) document h cut t none =
-    let r = h.outcome.reading in
-    weighs_nothing v limits.heap_bytes h.taken r.announced r.field (built r.builder) (state_of r.builder) h.outcome.sound.place h.outcome.encoded (none_before h.taken new (sym h.joined ∙ none)) h.outcome.weighs
+    let o = h.outcome in
+    never_large v limits.heap_bytes h.taken o.announced o.field o.finished o.state o.place o.encoded (none_before h.taken new (sym h.joined ∙ none)) o.large
 said_at_end v limits old new count (Err (limited.Limit limit.Depth)) document h cut t none = never_deep v limits.depth h.taken (none_before h.taken new (sym h.joined ∙ none)) h.outcome

@@ -33,7 +33,7 @@ use Rattle.tv_reading.specs.Steps.{Advances, Stepped}
 use Rattle.tv_reading.specs.declared.reading.Reading.{Reading}
 use Rattle.tv_reader.proofs.Lending.{none_buffered}
 use Rattle.tv_reading.proofs.States.{is_state}
-use Rattle.tv_builder.proofs.PairBuilding.{heap_weighs}
+use Rattle.tv_builder.proofs.PairBuilding.{heap_stands}
 use Rattle.tv_reading.proofs.WholeDocuments.{Goes, step_more, step_fails, step_takes, done_encodes, awaits_more}
 use Rattle.tv_store.proofs.Promises.{only_by, excluded, excused, single_documents}
 use Rattle.tv_store.specs.Reading.{documents}
@@ -104,10 +104,6 @@ pub ended : (v : Version) (limits : ReadLimits) (begun r : Reading) (d : Compact
 ended v limits begun r d old new count none sound done is f t below =
     record { taken = f.prefix; joined = f.joined; most = taken_within limits.bytes f.prefix old new count f.joined t below; outcome = done_encodes v r d.values f.prefix sound done is (f.encoded [] (at_start v begun none)) }
 
-past_more : (most : Option ℕ) (m n : ℕ) → m ≤ n → IsPast most m → IsPast most n
-past_more None m n le h = h
-past_more (Some k) m n le h = omega arith
-
 pub past_none : (most : Option ℕ) → IsPast most 0 → ⊥
 past_none None h = h
 past_none (Some n) h = omega arith
@@ -121,6 +117,10 @@ deep_at v most taken None (Some f) d s is place p past = absurd place
 deep_at v most taken (Some n) None d s is place p past = absurd (none_open most s place.1 past)
 deep_at v most taken (Some n) (Some f) d s is place p past = record { announced = n; finished = d; field = f; state = s; less = place.0; is = is; encoded = p; deep = past }
 
+large_at : (v : Version) (limits : ReadLimits) (r : Reading) (taken : List ℕ) → IsSound r → Encoded Legacy v taken (parts_read r) → IsPast limits.heap_bytes (length (heap_so_far r.builder)) → IsLarge v limits.heap_bytes taken
+large_at v limits r taken sound p past =
+    record { announced = r.announced; finished = built r.builder; field = r.field; state = state_of r.builder; place = sound.place; encoded = p; large = subst (λ h. IsPast limits.heap_bytes (length h)) (heap_stands r.builder) past }
+
 pub passed : (v : Version) (limits : ReadLimits) (begun r : Reading) (l : ReadLimit) (old new : List ℕ) (count : ℕ) → parts_read begun ≡ [] → IsSound r
     → Checks limits (length (heap_so_far r.builder)) (length (lists_of (state_of r.builder))) (Some l) → Begins (λ b. Advances Legacy v begun r b) old new
     → Taken old new (first_count limits.bytes) count → count < 2 ^ 64 → ReadsByLimits v limits old new (Err (limited.Limit l))
@@ -128,7 +128,7 @@ passed v limits begun r limit.Bytes old new count none sound check f t below = a
 passed v limits begun r limit.Depth old new count none sound check f t below =
     record { taken = f.prefix; joined = f.joined; most = taken_within limits.bytes f.prefix old new count f.joined t below; outcome = inl (deep_at v limits.depth f.prefix r.announced r.field (built r.builder) (state_of r.builder) (is_state r.builder) sound.place (f.encoded [] (at_start v begun none)) check) }
 passed v limits begun r limit.HeapBytes old new count none sound check f t below =
-    record { taken = f.prefix; joined = f.joined; most = taken_within limits.bytes f.prefix old new count f.joined t below; outcome = record { reading = r; sound = sound; encoded = f.encoded [] (at_start v begun none); large = check.1; weighs = past_more limits.heap_bytes _ _ (heap_weighs r.builder) check.1 } }
+    record { taken = f.prefix; joined = f.joined; most = taken_within limits.bytes f.prefix old new count f.joined t below; outcome = large_at v limits r f.prefix sound (f.encoded [] (at_start v begun none)) check.1 }
 
 -- That no more bytes can be counted is told where there is no limit, so as many were taken.
 all_counted : (most : Option ℕ) (n count : ℕ) → count ≡ first_count most + n → ¬ (IsSome most × (count ≡ 2 ^ 64 - 1)) → count ≡ 2 ^ 64 - 1 → n ≡ 2 ^ 64 - 1

@@ -8,14 +8,14 @@ use Rattle.tv_base.specs.Source.{Failures}
 use Rattle.tv_base.specs.Stop.{Stop, CountsStop}
 use Rattle.tv_base.specs.Stop.Stop.{Short}
 use Rattle.tv_builder.specs.Behind.{open_parts}
-use Rattle.tv_builder.specs.Builder.{built, state_of, heap_so_far}
+use Rattle.tv_builder.specs.Builder.{state_of, heap_so_far}
 use Rattle.tv_builder.specs.Prefix.{Encoded}
 use Rattle.tv_builder.specs.State.{State, IsState, lists_of}
+use Rattle.tv_builder.specs.StateHeap.{state_heap}
+use Rattle.tv_builder.specs.TreeBytes.{document_heap}
 use Rattle.tv_reading.specs.Kept.{Grows, KeepsPairs}
-use Rattle.tv_reading.specs.Prefix.{parts_read, IsDone, IsSound, HasNoRoom, IsMalformedNext}
+use Rattle.tv_reading.specs.Prefix.{parts_at, IsDone, IsPlace, HasNoRoom, IsMalformedNext}
 use Rattle.tv_reading.specs.declared.reading.Reading.{Reading}
-use Rattle.tv_builder.specs.Weight.{state_weight}
-use Rattle.tv_heap.specs.Weight.{document_weight}
 use Rattle.tv_doc.specs.Document.{document_of}
 use Rattle.tv_doc.specs.declared.document.CompactDoc.{CompactDoc}
 use Rattle.tv_legacy.specs.Legacy.{Legacy}
@@ -148,13 +148,15 @@ pub record IsDeep (v : Version) (most : Option ℕ) (taken : List ℕ) : Type 0 
 abbrev pub PassesDepth : Version → Option ℕ → List ℕ → Type 0
 PassesDepth v most taken = IsDeep v most taken ⊎ NestsDeeper v most taken
 
--- The heap takes more than this many bytes once these have come, and so what has come weighs more.
+-- What is written of what the bytes encode takes more than this many bytes of a heap: the finished pairs, and what has come of a value.
 pub record IsLarge (v : Version) (most : Option ℕ) (taken : List ℕ) : Type 0 where
-  pub reading : Reading
-  pub sound : IsSound reading
-  pub encoded : Encoded Legacy v taken (parts_read reading)
-  pub large : IsPast most (length (heap_so_far reading.builder))
-  pub weighs : IsPast most (document_weight (built reading.builder) + state_weight (state_of reading.builder))
+  pub announced : Option ℕ
+  pub finished : Document
+  pub field : Option ℕ
+  pub state : State
+  pub place : IsPlace announced finished field state
+  pub encoded : Encoded Legacy v taken (parts_at announced finished field state)
+  pub large : IsPast most (length (state_heap (document_heap [] finished) state))
 
 -- as many bytes as may be taken
 abbrev pub IsAll : Option ℕ → List ℕ → Type 0

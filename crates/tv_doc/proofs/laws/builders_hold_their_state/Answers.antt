@@ -14,6 +14,7 @@ use Rattle.tv_doc.proofs.laws.builders_hold_their_state.Goals as goal
 
 pub returns : goal.returns
 returns c = λ b. record {
+  kept = b.builder.bytes;
   bytes = heap_behind (kept_heap b) b.builder.building b.builder.state;
   reads = λ t e. ∥∥₁_map b.builder.state.1 (λ p.
       let base = kept_heap b in

@@ -10,7 +10,7 @@ invariant_of-self c =
     let old = c.args.self.now in
     let len : c.len-len.result ≡ length (heap_of old) = omega (arith, c.len-len.ensures, old.heap.ok.0) in
     let fields = cut_fields old c.put_encoded.new.heap.items _ _ c.len-len.result c.put_encoded.ensures.prefix len c.truncate.ensures.items (λ i. old.pairs.items) in
-    record { document = fields.document; room = fields.room; weight = fields.weight; fits = fields.fits }
+    record { document = fields.document; bytes = fields.bytes; fits = fields.fits }
 
 pub returns-in_default-clause-none : goal.returns-in_default-clause-none
 returns-in_default-clause-none c =
@@ -25,7 +25,7 @@ invariant_of-self-2 c =
     let s = c.in-Some.ensures.found in
     let written : Written old c.put_encoded.new.heap.items c.len-len.result c.from_le_bytes-field.result s.tree c.in-Some.place = record { len_is = len; field_fits = omega arith; put = s.put } in
     let fields = kept_fields old _ _ _ _ _ _ _ _ written c.keep_pair.ensures in
-    record { document = fields.document; room = fields.room; weight = fields.weight; fits = fields.fits }
+    record { document = fields.document; bytes = fields.bytes; fits = fields.fits }
 
 pub returns-in-Ok-clause-added : goal.returns-in-Ok-clause-added
 returns-in-Ok-clause-added c =

@@ -15,7 +15,7 @@ invariant_of-self c =
     let old = c.args.self.now in
     let len : c.len-len.result ≡ length (heap_of old) = omega (arith, c.len-len.ensures, old.heap.ok.0) in
     let fields = cut_fields old c.write_leaf.new.heap.items _ _ c.len-len.result c.in_default.ensures.err len c.truncate.ensures.items (λ i. old.pairs.items) in
-    record { document = fields.document; room = fields.room; weight = fields.weight; fits = fields.fits }
+    record { document = fields.document; bytes = fields.bytes; fits = fields.fits }
 
 pub returns-in_default : goal.returns-in_default
 returns-in_default c =
@@ -32,7 +32,7 @@ invariant_of-self-2 c =
     let e = c.in-Ok.ensures in
     let written = leaf_written old _ c.len-len.result c.args.field c.args.value.now c.in-Ok.place len (omega arith) (omega (arith, free, len)) e.heap e.place e.ok in
     let fields = kept_fields old _ _ _ _ _ _ _ _ written c.keep_pair.ensures in
-    record { document = fields.document; room = fields.room; weight = fields.weight; fits = fields.fits }
+    record { document = fields.document; bytes = fields.bytes; fits = fields.fits }
 
 pub returns : goal.returns
 returns c =

@@ -18,14 +18,14 @@ invariant_of-self g c =
     let len : c.len-len.result ≡ length (heap_of old) = omega (arith, c.len-len.ensures, old.heap.ok.0) in
     let written : Written old c.put_within.new.heap.items c.len-len.result c.args.field (g.V.Value.tree c.args.value.now) c.in-Ok.place = record { len_is = len; field_fits = omega arith; put = c.in-Ok.ensures.ok.put } in
     let fields = kept_fields old _ _ _ _ _ _ _ _ written c.keep_pair.ensures in
-    record { document = fields.document; room = fields.room; weight = fields.weight; fits = fields.fits }
+    record { document = fields.document; bytes = fields.bytes; fits = fields.fits }
 
 pub invariant_of-self-in-Err : goal.invariant_of-self-in-Err
 invariant_of-self-in-Err g c =
     let old = c.args.self.now in
     let len : c.len-len.result ≡ length (heap_of old) = omega (arith, c.len-len.ensures, old.heap.ok.0) in
     let fields = cut_fields old c.put_within.new.heap.items _ _ c.len-len.result c.in-Err.ensures.err.prefix len c.truncate.ensures.items (λ i. old.pairs.items) in
-    record { document = fields.document; room = fields.room; weight = fields.weight; fits = fields.fits }
+    record { document = fields.document; bytes = fields.bytes; fits = fields.fits }
 
 pub returns-in-Ok : goal.returns-in-Ok
 returns-in-Ok g c =

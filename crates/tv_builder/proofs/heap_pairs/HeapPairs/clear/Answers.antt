@@ -6,8 +6,7 @@ pub invariant_of-self : goal.invariant_of-self
 unfolding empty
 invariant_of-self c = record {
   document = empty c.clear-2.new.self.items c.clear.new.self.items c.clear.ensures.items;
-  room = omega (arith, ap length c.clear-2.ensures.items);
-  weight = omega (arith, ap length c.clear-2.ensures.items);
+  bytes = c.clear-2.ensures.items;
   fits = omega (arith, ap length c.clear-2.ensures.items);
 }
 

@@ -6,8 +6,7 @@ pub invariant_of-result : goal.invariant_of-result
 unfolding empty
 invariant_of-result c = record {
   document = empty c.new.result.items c.new-2.result.items c.new-2.ensures.items;
-  room = omega (arith, ap length c.new.ensures.items);
-  weight = omega (arith, ap length c.new.ensures.items);
+  bytes = c.new.ensures.items;
   fits = omega (arith, ap length c.new.ensures.items);
 }
 

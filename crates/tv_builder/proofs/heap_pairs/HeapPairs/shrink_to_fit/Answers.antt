@@ -9,7 +9,7 @@ invariant_of-self c =
     let heap = c.shrink_to_fit.ensures.items in
     let pairs = c.shrink_to_fit-2.ensures.items in
     let f = same_fields old _ _ heap pairs in
-    record { document = f.document; room = f.room; weight = f.weight; fits = f.fits }
+    record { document = f.document; bytes = f.bytes; fits = f.fits }
 
 pub returns-clause-same : goal.returns-clause-same
 returns-clause-same c = unchanged c.args.self.now _ c.shrink_to_fit.ensures.items c.shrink_to_fit-2.ensures.items

@@ -9,7 +9,7 @@ invariant_of-result c =
     let heap = c.in_ok-heap.ensures.items ∙ c.as_slice.ensures.value in
     let pairs = c.in_ok-pairs.ensures.items ∙ c.as_slice-2.ensures.value in
     let f = same_fields old _ _ heap pairs in
-    record { document = f.document; room = f.room; weight = f.weight; fits = f.fits }
+    record { document = f.document; bytes = f.bytes; fits = f.fits }
 
 pub returns : goal.returns
 returns c =

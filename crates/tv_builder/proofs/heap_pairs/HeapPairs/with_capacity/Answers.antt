@@ -6,8 +6,7 @@ pub invariant_of-result : goal.invariant_of-result
 unfolding empty
 invariant_of-result c = record {
   document = empty _ _ c.new.ensures.items;
-  room = omega (arith, ap length c.in_ok-heap.ensures.items);
-  weight = omega (arith, ap length c.in_ok-heap.ensures.items);
+  bytes = c.in_ok-heap.ensures.items;
   fits = omega (arith, ap length c.in_ok-heap.ensures.items);
 }
 

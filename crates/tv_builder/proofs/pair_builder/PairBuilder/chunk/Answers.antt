@@ -6,7 +6,7 @@ use Rattle.tv_builder.proofs.pair_builder.PairBuilder.chunk.Goals as goal
 pub invariant_of-self : goal.invariant_of-self
 invariant_of-self c =
     let f = fields_does c.args.self.now c.chunk-result.new.self c.settle.new.building c.settle.new.failed _ _ _ (λ s. and_bytes s c.args.bytes.now) c.chunk-result.result c.chunk-result.ensures.does c.settle.ensures.settled in
-    record { document = f.document; kept_within = f.kept_within; weight = f.weight; state = f.state }
+    record { document = f.document; kept_within = f.kept_within; bytes = f.bytes; state = f.state }
 
 pub returns-clause-builds : goal.returns-clause-builds
 returns-clause-builds c =

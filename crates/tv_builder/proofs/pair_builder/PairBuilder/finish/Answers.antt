@@ -5,7 +5,7 @@ pub invariant_of-self : goal.invariant_of-self
 invariant_of-self c =
     let k = c.keep_tree-result in
     let f = finish_fields c.args.self.now k.new.building c.settle.new.building k.new.pairs.items k.new.kept c.args.field c.settle.new.failed k.result k.ensures.ok k.ensures.err c.settle.ensures.settled in
-    record { document = f.document; kept_within = f.kept_within; weight = f.weight; state = f.state }
+    record { document = f.document; kept_within = f.kept_within; bytes = f.bytes; state = f.state }
 
 pub returns : goal.returns
 returns c =

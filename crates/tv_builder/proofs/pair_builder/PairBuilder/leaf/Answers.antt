@@ -9,7 +9,7 @@ pub invariant_of-self : goal.invariant_of-self
 invariant_of-self c =
     let l = leaf_of c.args.value in
     let f = fields_does c.args.self.now c.leaf-result.new.self c.settle.new.building c.settle.new.failed _ _ _ (λ s. and_value s (leaf l)) c.leaf-result.result c.leaf-result.ensures c.settle.ensures.settled in
-    record { document = f.document; kept_within = f.kept_within; weight = f.weight; state = f.state }
+    record { document = f.document; kept_within = f.kept_within; bytes = f.bytes; state = f.state }
 
 pub returns : goal.returns
 returns c =

@@ -8,7 +8,7 @@ invariant_of-result c =
     let doc = c.args.finished in
     let len : length doc.heap.items ≡ c.len-kept.result = omega (arith, c.len-kept.ensures, doc.heap.ok.0) in
     let f = new_fields doc c.new.result c.len-kept.result len c.new.ensures in
-    record { document = f.document; kept_within = f.kept_within; weight = f.weight; state = f.state }
+    record { document = f.document; kept_within = f.kept_within; bytes = f.bytes; state = f.state }
 
 pub returns-clause-document : goal.returns-clause-document
 returns-clause-document c =

@@ -6,7 +6,7 @@ use Rattle.tv_builder.proofs.pair_builder.PairBuilder.open_list.Goals as goal
 pub invariant_of-self : goal.invariant_of-self
 invariant_of-self c =
     let f = fields_does c.args.self.now c.open_list-result.new.self c.settle.new.building c.settle.new.failed _ _ _ (λ s. and_list s c.args.kind c.args.announced) c.open_list-result.result c.open_list-result.ensures c.settle.ensures.settled in
-    record { document = f.document; kept_within = f.kept_within; weight = f.weight; state = f.state }
+    record { document = f.document; kept_within = f.kept_within; bytes = f.bytes; state = f.state }
 
 pub returns : goal.returns
 returns c =

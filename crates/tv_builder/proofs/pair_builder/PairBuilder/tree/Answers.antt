@@ -7,7 +7,7 @@ pub invariant_of-self : goal.invariant_of-self
 invariant_of-self g c =
     let t = g.V.Value.tree c.args.value.now in
     let f = fields_does c.args.self.now c.tree-result.new.self c.settle.new.building c.settle.new.failed _ _ _ (λ s. and_value s t) c.tree-result.result c.tree-result.ensures c.settle.ensures.settled in
-    record { document = f.document; kept_within = f.kept_within; weight = f.weight; state = f.state }
+    record { document = f.document; kept_within = f.kept_within; bytes = f.bytes; state = f.state }
 
 pub returns : goal.returns
 returns g c =

@@ -3,6 +3,7 @@ use Rattle.tv_reader.proofs.DepthSteps.{err_of}
 use Rattle.std.proofs.lemmas.Result.{err_from_is_err_and}
 use Rattle.tv_base.specs.Stop.{CountsStop}
 use Rattle.tv_doc.specs.Document.{document_of}
+use Rattle.tv_doc.proofs.Additions.{within_room}
 use Rattle.tv_typed.specs.Documents.{GivesAll}
 use Rattle.tv_typed.specs.Typed.{typed_stop}
 use Rattle.tv_typed.specs.Values.{IsTree}
@@ -48,7 +49,7 @@ returns-in-Err-clause-refused g c =
     let so_far = l.invariant.0 told in
     let next = (given_next D.remaining D.is_known D.gives IsTree l.deserializer c.next_field.new.self _ c.in-Some.field c.in-Some.value c.in-Some.is c.in_ok-field.ensures.gives).1 so_far.0 in
     let given = subst (λ t. D.gives l.deserializer (c.in-Some.field.id, t) c.next_field.new.self) next.1.2 next.1.1 in
-    addition_refused D.gives D.refuses c.args.deserializer.now l.deserializer c.next_field.new.self l.document c.in-Some.field.id (owned_tree c.in-Some.value) refused.0 _ refused.1 so_far.1 given l.document.values.room refused.2.0
+    addition_refused D.gives D.refuses c.args.deserializer.now l.deserializer c.next_field.new.self l.document c.in-Some.field.id (owned_tree c.in-Some.value) refused.0 _ refused.1 so_far.1 given (within_room l.document) refused.2.0
 
 -- the next pair
 
