@@ -1,6 +1,7 @@
 //! Documents read step by step, however often.
 
 ghost use Rattle.std.specs.Prelude.{◌≡◌, ◌≤◌, ◌*◌, false, length};
+ghost use Rattle.tantivy_schema.specs.Decoder.{IsStepped};
 ghost use Rattle.tantivy_schema.specs.PairsBuilder.{heap_so_far};
 ghost use Rattle.tantivy_schema.specs.Paid.{PaidBy};
 ghost use Rattle.tantivy_schema.specs.Stop.{Taken};
@@ -18,6 +19,7 @@ pub fn decoders_hold_what_was_read<S: ByteSource>(
     version: DocStoreVersion,
     steps: u64,
 ) -> (DirectDecoder, usize)
+    ensures stepped { IsStepped S.ByteSource version steps source.old source.new result.0 }
     ensures taken { S.is_known source.old
         → Taken (S.left source.old) (S.left source.new) 0 result.0.count }
     ensures paid { S.is_known source.old → result.0.legacy_seen ≡ false

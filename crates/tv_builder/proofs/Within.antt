@@ -87,7 +87,7 @@ document_least heap [] h = omega arith
 document_least heap (pair ∷ d) h = omega (arith, tree_least heap pair.1, document_least (tree_heap heap pair.1) d, sum_by-cons (λ (x : ℕ × Tree). tree_weight x.1) pair d)
 
 pub document_within : (heap : List ℕ) (d : Document) → heap ≡ document_heap [] d → length heap ≤ 4294967295 → length heap ≤ document_weight d
-document_within heap d e h = below _ _ (λ p. omega (arith, document_least [] d p, ap length e)) h
+document_within heap d e h = below (length heap) (document_weight d) (λ p. omega (arith, document_least [] d (omega (arith, p)), ap length e)) h
 
 -- ---- the room
 

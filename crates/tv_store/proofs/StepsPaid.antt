@@ -1,5 +1,5 @@
 -- Decoders that are stepped, and what they take for the bytes that they read.
-use Rattle.std.proofs.Common.{◌≡◌, ℕ, ◌+◌, ◌-◌, ◌≤◌, Bool, true, false, List, [], ◌++◌, length, Option, Some, None, Result, Ok, Err, refl, sym, ap, subst, ◌∙◌, arith, length-append, inl, inr}
+use Rattle.std.proofs.Common.{◌≡◌, ℕ, ◌+◌, ◌-◌, ◌≤◌, add-one, Bool, true, false, List, [], ◌++◌, length, Option, Some, None, Result, Ok, Err, refl, sym, ap, subst, ◌∙◌, arith, length-append, inl, inr}
 use Rattle.std.specs.Prelude.{◌⊎◌, OnErr}
 use Rattle.std.proofs.lemmas.Bool.{cases_lt}
 use Rattle.tv_base.specs.declared.cause.Cause.TheVariants.{UnexpectedEnd}
@@ -13,12 +13,13 @@ use Rattle.tv_reader.specs.Error.{store_stop}
 use Rattle.tv_reader.specs.Finds.{Found}
 use Rattle.tv_reader.specs.Version.{version_of}
 use Rattle.tv_reader.specs.declared.error.DeserializeError.{DeserializeError}
+use Rattle.tv_reader.specs.declared.version.DocStoreVersion.{DocStoreVersion}
 use Rattle.tv_reading.specs.Paid.{PaidBy}
 use Rattle.tv_reading.specs.Prefix.{parts_read, AllFinished, IsDone, IsMalformedNext}
 use Rattle.tv_reading.specs.Steps.{IsFew, IsTakenWhole, Sees, Stepped}
 use Rattle.tv_reading.specs.declared.reading.Reading.{Reading}
 use Rattle.tv_reading.proofs.Paying.{paid_now}
-use Rattle.tv_store.specs.Decoder.{IsPaidFor, ReadsStep, StaysPaid}
+use Rattle.tv_store.specs.Decoder.{IsPaidFor, IsStepped, ReadsStep, StaysPaid, StepsTo}
 use Rattle.tv_store.specs.declared.direct_decoder.DirectDecoder.{DirectDecoder}
 use Rattle.tv_store.specs.declared.direct_decoder.Step.{Step}
 
@@ -86,6 +87,17 @@ module _ {S : Type 0} (source : Ghosts S) {source_old source_new : S} {old new :
         ]
       ]
 
+  -- one step more was made
+  pub one_more : {version : DocStoreVersion} {n : ℕ} {first : S} → IsStepped source version n first source_old old → IsStepped source version (n + 1) first source_new new
+  one_more {n = n} {first = first} made = record {
+    start = made.start;
+    nothing = made.nothing;
+    uncounted = made.uncounted;
+    live = made.live;
+    same_version = made.same_version;
+    stepped = subst (λ k. StepsTo source k first made.start source_new new) (sym (add-one n)) (source_old, old, result, made.stepped, h);
+  }
+
   -- the source stays known, and what is taken of it is counted
   pub still_known : source.is_known source_old → source.is_known source_new
   still_known known = elim (failed_or_live old.failed) [
@@ -128,9 +140,3 @@ module _ (d at then new : DirectDecoder) (first : ℕ) (reading : at.reading ≡
 pub rests_paid : (old new : DirectDecoder) → new.reading ≡ old.reading → StaysPaid old new
 rests_paid old new same = λ live bytes encoded none.
     subst (λ (r : Reading). PaidBy r.builder (length bytes + (new.count - old.count))) (sym same) (paid_now (version_of old.version) old.reading bytes _ (old.sound live) encoded (omega arith))
-
--- a refusal was marked behind the step
-pub marked_paid : (old mid new : DirectDecoder) → new.reading ≡ mid.reading → new.count ≡ mid.count → new.legacy_seen ≡ mid.legacy_seen → StaysPaid old mid → StaysPaid old new
-marked_paid old mid new reading count seen stays = λ live bytes encoded none.
-    subst (λ (r : Reading). PaidBy r.builder (length bytes + (new.count - old.count))) (sym reading)
-    (subst (λ n. PaidBy mid.reading.builder (length bytes + (n - old.count))) (sym count) (stays live bytes encoded (sym seen ∙ none)))

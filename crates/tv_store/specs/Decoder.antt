@@ -9,7 +9,7 @@
 --   live       After it succeeded, the decoder isn't refused.
 --   mark       After an error it is.
 --   version    The version stays.
-use Rattle.std.specs.Prelude.{◌≡◌, ◌↔◌, ℕ, ◌+◌, ◌-◌, List, length, true, false, Result, Ok, Err, IfOk, IsErrOf, OnOk, OnErr}
+use Rattle.std.specs.Prelude.{◌≡◌, ◌↔◌, ℕ, zero, suc, ◌+◌, ◌-◌, List, [], length, true, false, Result, Ok, Err, IfOk, IsErrOf, OnOk, OnErr}
 use Rattle.tv_base.specs.declared.source.ByteSource.{Ghosts}
 use Rattle.tv_base.specs.ReadsAs.{Errors}
 use Rattle.tv_builder.specs.Prefix.{Encoded}
@@ -22,6 +22,7 @@ use Rattle.tv_reader.specs.Error.{StoreMayStop}
 use Rattle.tv_reader.specs.Finds.{FindsBy}
 use Rattle.tv_reader.specs.Version.{version_of}
 use Rattle.tv_reader.specs.declared.error.DeserializeError.{DeserializeError}
+use Rattle.tv_reader.specs.declared.version.DocStoreVersion.{DocStoreVersion}
 use Rattle.tv_reader.specs.declared.error.DeserializeError.TheVariants.{AlreadyFailed}
 use Rattle.tv_store.specs.Reading.{reading}
 use Rattle.tv_store.specs.declared.direct_decoder.DirectDecoder.{DirectDecoder}
@@ -62,3 +63,18 @@ StaysPaid old new =
 pub record IsPaidFor (d : DirectDecoder) : Type 0 where
   pub paid : PaidBy d.reading.builder d.count
   pub encoded : d.failed ≡ false → (bytes : List ℕ) × Encoded NoLegacy (version_of d.version) bytes (parts_read d.reading) × (d.count ≡ length bytes)
+
+-- The decoder and its source come to this by that many steps, whatever each of them returned.
+abbrev pub StepsTo : {S : Type 0} (source : Ghosts S) → ℕ → S → DirectDecoder → S → DirectDecoder → Type 0
+StepsTo source zero source_old old source_new new = (source_new ≡ source_old) × (new ≡ old)
+StepsTo {S} source (suc n) source_old old source_new new =
+    (source_mid : S) × (mid : DirectDecoder) × (result : Result Step DeserializeError) × StepsTo source n source_old old source_mid mid × ReadsStep source source_mid source_new mid new result
+
+-- a decoder of this version that had read nothing, behind that many steps
+pub record IsStepped {S : Type 0} (source : Ghosts S) (version : DocStoreVersion) (steps : ℕ) (source_old source_new : S) (d : DirectDecoder) : Type 0 where
+  pub start : DirectDecoder
+  pub nothing : parts_read start.reading ≡ []
+  pub uncounted : start.count ≡ 0
+  pub live : start.failed ≡ false
+  pub same_version : start.version ≡ version
+  pub stepped : StepsTo source steps source_old start source_new d

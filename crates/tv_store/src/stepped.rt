@@ -3,6 +3,7 @@
 ghost use Rattle.std.specs.Prelude.{◌≡◌, false};
 ghost use Rattle.tv_base.specs.Stop.{Taken};
 ghost use Rattle.tv_reading.specs.Paid.{PaidBy};
+ghost use Rattle.tv_store.specs.Decoder.{IsStepped};
 
 use crate::de::DocStoreVersion;
 use crate::direct_decoder::DirectDecoder;
@@ -20,6 +21,7 @@ pub fn stepped_decoders_are_paid_for<S: ByteSource>(
     version: DocStoreVersion,
     steps: u64,
 ) -> DirectDecoder
+    ensures stepped { IsStepped S.ByteSource version steps source.old source.new result }
     ensures paid { S.is_known source.old → result.legacy_seen ≡ false
         → PaidBy result.reading.builder result.count }
     ensures taken { S.is_known source.old

@@ -1,5 +1,5 @@
 -- Where a value is too deep to be read, none is encoded within the depth.
-use Rattle.std.proofs.Common.{◌≡◌, ℕ, ◌<◌, false, List, ◌++◌, Result, Ok, IsErrOf, sym, ap, subst, ◌∙◌, append_assoc}
+use Rattle.std.proofs.Common.{◌≡◌, ℕ, ◌+◌, ◌<◌, add-one, false, List, ◌++◌, Result, Ok, IsErrOf, sym, ap, subst, ◌∙◌, append_assoc}
 use Rattle.tv_base.specs.Parts.{Begins}
 use Rattle.tv_base.specs.Source.{Failures}
 use Rattle.tv_format.specs.Version.{Version}
@@ -8,7 +8,7 @@ use Rattle.tv_reader.specs.Version.{version_of}
 use Rattle.tv_reader.specs.declared.error.DeserializeError.{DeserializeError}
 use Rattle.tv_reader.specs.declared.error.DeserializeError.TheVariants as errors
 use Rattle.tv_reader.proofs.Depths.{opens_excludes}
-use Rattle.tv_typed.specs.Depths.{AmongRead, HasDepthBy}
+use Rattle.tv_typed.specs.Depths.{AmongRead, AtEach, HasDepthBy, WhereBy}
 use Rattle.tv_typed.specs.Lists.{EncodesInto}
 use Rattle.tv_typed.specs.Typed.{ReadsIf, DeserializesBy}
 use Rattle.tv_typed.specs.declared.store_reader.StoreReader.{StoreReader}
@@ -40,6 +40,16 @@ among_fails {left = left} {old = old} {mid = mid} {n = n} Made Item behind Next 
       read = record { prefix = f.prefix; joined = f.joined; encoded = f.encoded.3 };
       next = subst (λ l. Next (version_of old.version) l (left mid.source) behind) p.same_levels (subst (λ z. Next (version_of z) mid.levels (left mid.source) behind) p.same_version there);
     }
+
+-- one item more was read, of which that is so
+pub each_more : {S C X : Type 0} {is_known : S → Type 0} {left : S → List ℕ} {failures : S → Failures} {old mid : StoreReader S} {c : C} {m : ℕ} {I : List ℕ → DeserializeError → Type 0} {P : Type 0} (new : StoreReader S) (Made : C → List X → Type 0) (Item : List ℕ → X → Type 0) (Next : Version → ℕ → List ℕ → List ℕ → Type 0)
+    → old.has_failed ≡ false → DeserializesBy is_known left failures old mid (Ok c) (EncodesInto Made Item m) I
+    → (is_known old.source → AtEach (Next (version_of old.version) old.levels) m (left old.source) (left mid.source)) → WhereBy is_known left mid new P Next → P
+    → is_known old.source → AtEach (Next (version_of old.version) old.levels) (m + 1) (left old.source) (left new.source)
+each_more {left = left} {old = old} {mid = mid} {m = m} new Made Item Next is_open p so_far h is = λ told.
+    let there = h p.unmarked (p.stays_known is_open told) is in
+    subst (λ k. AtEach (Next (version_of old.version) old.levels) k (left old.source) (left new.source)) (sym (add-one m))
+    (left mid.source, so_far told, subst (λ l. Next (version_of old.version) l (left mid.source) (left new.source)) p.same_levels (subst (λ z. Next (version_of z) mid.levels (left mid.source) (left new.source)) p.same_version there))
 
 pub has_depth : {S X : Type 0} (is_known : S → Type 0) (left : S → List ℕ) (old : StoreReader S) (result : Result X DeserializeError) (code behind : List ℕ)
     → (is_known old.source → IsErrOf result errors.TooDeep → Begins (λ b. Opens (version_of old.version) old.levels (code ++ b)) (left old.source) behind) → HasDepthBy is_known left old result code

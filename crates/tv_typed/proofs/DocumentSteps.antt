@@ -18,7 +18,7 @@ use Rattle.tv_reader.specs.declared.value_type.ValueType.{ValueType}
 use Rattle.tv_reader.proofs.AgreeField.{field_agrees}
 use Rattle.tv_reader.proofs.DepthSteps.{err_of}
 use Rattle.tv_reader.proofs.Finding.{finds_as, finds_read, finds_read_fails, finds_any}
-use Rattle.tv_typed.specs.Depths.{FieldTooDeep, WhereTooDeepBy}
+use Rattle.tv_typed.specs.Depths.{AtField, WhereTooDeepBy}
 use Rattle.tv_typed.specs.Documents.{EncodesField, FieldEnds, FieldRefused, GivesPair, RefusesPairBy}
 use Rattle.tv_typed.specs.Lists.{NextItemRefused}
 use Rattle.tv_typed.specs.Typed.{ReadsIf, DeserializesBy}
@@ -88,7 +88,7 @@ pair_given is is_open h told =
     )
 
 pub pair_refused : {S X : Type 0} {is_known : S → Type 0} {left : S → List ℕ} {failures : S → Failures} {old new : StoreReader S} {e : DeserializeError} (is : Tree → X → Type 0) (refused : Version → ValueType → List ℕ → DeserializeError → Type 0) (deep : Version → ℕ → ValueType → List ℕ → List ℕ → Type 0) (position announced : ℕ) → position < announced
-    → DeserializesBy {X = Field × X} is_known left failures old new (Err e) (EncodesField is (version_of old.version)) (FieldRefused refused (version_of old.version)) → WhereTooDeepBy {X = Field × X} is_known left old new (Err e) (FieldTooDeep deep)
+    → DeserializesBy {X = Field × X} is_known left failures old new (Err e) (EncodesField is (version_of old.version)) (FieldRefused refused (version_of old.version)) → WhereTooDeepBy {X = Field × X} is_known left old new (Err e) (AtField deep)
     → RefusesPairBy is_known left failures position announced old refused deep e
 pair_refused {old = old} {new = new} {e = e} is refused deep position announced fewer h d = record {
   new = new;

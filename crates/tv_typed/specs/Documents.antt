@@ -16,7 +16,7 @@ use Rattle.tv_reader.specs.Version.{version_of}
 use Rattle.tv_reader.specs.declared.error.DeserializeError.{DeserializeError}
 use Rattle.tv_reader.specs.declared.error.DeserializeError.TheVariants as errors
 use Rattle.tv_reader.specs.declared.value_type.ValueType.{ValueType}
-use Rattle.tv_typed.specs.Depths.{FieldTooDeep, ItemTooDeep, WhereTooDeepBy}
+use Rattle.tv_typed.specs.Depths.{AtField, AtItem, WhereTooDeepBy}
 use Rattle.tv_typed.specs.Lists.{NextItemRefused}
 use Rattle.tv_typed.specs.Typed.{DeserializesBy}
 use Rattle.tv_typed.specs.Values.{EncodesAs, GivesError, NextRefused}
@@ -66,7 +66,7 @@ pub record GivesPair {S : Type 0} (left : S → List ℕ) (old : StoreReader S) 
 pub record RefusesPairBy {S : Type 0} (is_known : S → Type 0) (left : S → List ℕ) (failures : S → Failures) (position announced : ℕ) (old : StoreReader S) (refused : Version → ValueType → List ℕ → DeserializeError → Type 0) (deep : Version → ℕ → ValueType → List ℕ → List ℕ → Type 0) (e : DeserializeError) : Type 0 where
   pub new : StoreReader S
   pub deserializes : DeserializesBy {X = ℕ} is_known left failures old new (Err e) (λ b x. ⊥) (NextItemRefused (FieldRefused refused (version_of old.version)) position announced)
-  pub too_deep : WhereTooDeepBy {X = ℕ} is_known left old new (Err e) (ItemTooDeep (FieldTooDeep deep) position announced)
+  pub too_deep : WhereTooDeepBy {X = ℕ} is_known left old new (Err e) (AtItem (AtField deep) position announced)
 
 -- the same, as contracts say it, of a source
 abbrev pub RefusesPair : {S : Type 0} → Ghosts S → ℕ → ℕ → StoreReader S → (Version → ValueType → List ℕ → DeserializeError → Type 0) → (Version → ℕ → ValueType → List ℕ → List ℕ → Type 0) → DeserializeError → Type 0

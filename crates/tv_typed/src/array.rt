@@ -1,12 +1,13 @@
 //! Arrays in a store.
 
-ghost use Rattle.std.specs.Prelude.{◌≡◌, ◌+◌, ◌-◌, false, true, IsErrOf, OnErr, if◌then◌else◌};
+ghost use Rattle.std.specs.Prelude.{◌≡◌, ◌+◌, ◌-◌, false, true, IsErrOf, IsOk, OnErr, if◌then◌else◌};
 ghost use Rattle.std.specs.Prelude.{is_err};
 ghost use Rattle.tv_base.specs.ErrorInPart.{InEach};
 ghost use Rattle.tv_reader.specs.Version.{version_of};
 ghost use Rattle.tv_reader.specs.declared.error.DeserializeError.TheVariants as errors;
 ghost use Rattle.tv_reader.specs.declared.value_type.ValueType.TheVariants as types;
-ghost use Rattle.tv_typed.specs.Depths.{AmongRead, ItemTooDeep, NextTooDeep, WhereTooDeep};
+ghost use Rattle.tv_typed.specs.Depths.{AmongRead, AtEach, AtItem, AtValue, WhereGiven};
+ghost use Rattle.tv_typed.specs.Depths.{WhereRead, WhereTooDeep};
 ghost use Rattle.tv_typed.specs.Lists.{EncodesInto, NextItem, NextItemRefused, gives_some};
 ghost use Rattle.tv_typed.specs.Typed.{Deserializes};
 ghost use Rattle.tv_typed.specs.Values.{EncodesAs, NextRefused};
@@ -29,9 +30,12 @@ pub(crate) fn read_elements<T: ValueDeserialize, S: ByteSource>(
         announced) (InEach (NextRefused T.refused (version_of reader.old.version))
         (EncodesAs T.is (version_of reader.old.version)) announced) }
     ensures deep { S.is_known reader.old.source → IsErrOf result errors.TooDeep → AmongRead
-        (EncodesAs T.is (version_of reader.old.version)) (NextTooDeep T.deep (version_of
+        (EncodesAs T.is (version_of reader.old.version)) (AtValue T.deep (version_of
         reader.old.version) reader.old.levels) announced (S.left reader.old.source) (S.left
         reader.new.source) }
+    ensures within { S.is_known reader.old.source → IsOk result → AtEach
+        (AtValue T.within (version_of reader.old.version) reader.old.levels) announced
+        (S.left reader.old.source) (S.left reader.new.source) }
 {
     let mut items = Vec::new(alloc);
     for _ in 0..announced {
@@ -80,7 +84,10 @@ impl<'de, S: ByteSource> BinaryArrayDeserializer<'de, S> {
             (EncodesAs V.is (version_of self.entry.reader.now.version))
             (self.entry.announced - self.entry.position)) }
         ensures deep { WhereTooDeep S.ByteSource self.entry.reader.now self.exit.1.1.0.now result
-            (λ v levels. AmongRead (EncodesAs V.is v) (NextTooDeep V.deep v levels)
+            (λ v levels. AmongRead (EncodesAs V.is v) (AtValue V.deep v levels)
+            (self.entry.announced - self.entry.position)) }
+        ensures within { WhereRead S.ByteSource self.entry.reader.now self.exit.1.1.0.now result
+            (λ v levels. AtEach (AtValue V.within v levels)
             (self.entry.announced - self.entry.position)) }
         ensures marks_failure { self.exit.1.1.0.now.has_failed ≡ is_err result }
     {
@@ -113,7 +120,9 @@ impl<'de, S: ByteSource> BinaryArrayDeserializer<'de, S> {
             (NextItemRefused (NextRefused V.refused (version_of self.old.reader.now.version))
             self.old.position self.old.announced) }
         ensures deep { WhereTooDeep S.ByteSource self.old.reader.now self.new.reader.now result
-            (ItemTooDeep (NextTooDeep V.deep) self.old.position self.old.announced) }
+            (AtItem (AtValue V.deep) self.old.position self.old.announced) }
+        ensures within { WhereGiven S.ByteSource self.old.reader.now self.new.reader.now result
+            (AtItem (AtValue V.within) self.old.position self.old.announced) }
         ensures marks_failure { OnErr result (self.new.reader.now.has_failed ≡ true) }
     {
         self.reader.go_on()?;

@@ -9,7 +9,8 @@
 //! `UnsupportedType(JSONObject)` where the type of its values reads past the end of that encoding, which none of this library does.
 
 ghost use Rattle.std.specs.Prelude.{◌≡◌, true, OnErr};
-ghost use Rattle.tv_typed.specs.Depths.{ArrayTooDeep, MembersTooDeep, WhereTooDeep};
+ghost use Rattle.tv_typed.specs.Depths.{ArrayTooDeep, ArrayWithin, MembersTooDeep};
+ghost use Rattle.tv_typed.specs.Depths.{MembersWithin, WhereRead, WhereTooDeep};
 ghost use Rattle.std.specs.BTreeMap as tree;
 ghost use Rattle.std.specs.HashMap as hash;
 ghost use Rattle.tv_typed.specs.ExcludingLegacy.{entries_exclude};
@@ -34,6 +35,8 @@ impl<T: ValueDeserialize> ValueDeserialize for Vec<T> {
 
     ghost deep = { ArrayTooDeep T.is T.deep };
 
+    ghost within = { ArrayWithin T.within };
+
     fn deserialize<S: ByteSource>(
         alloc: Global,
         deserializer: BinaryValueDeserializer<'_, S>,
@@ -45,6 +48,9 @@ impl<T: ValueDeserialize> ValueDeserialize for Vec<T> {
         ensures deep { WhereTooDeep S.ByteSource deserializer.entry.reader.now
             deserializer.exit.1.0.now result
             (λ v levels. ArrayTooDeep T.is T.deep v levels deserializer.entry.kind) }
+        ensures within { WhereRead S.ByteSource deserializer.entry.reader.now
+            deserializer.exit.1.0.now result
+            (λ v levels. ArrayWithin T.within v levels deserializer.entry.kind) }
     {
         let BinaryValueDeserializer { kind, reader } = deserializer;
         let announced = reader.array_length(kind)?;
@@ -69,6 +75,8 @@ impl<'de, S: ByteSource> BinaryValueDeserializer<'de, S> {
         ensures marks_failure { OnErr result (self.exit.1.0.now.has_failed ≡ true) }
         ensures deep { WhereTooDeep S.ByteSource self.entry.reader.now self.exit.1.0.now result
             (λ v levels. MembersTooDeep T.is T.deep v levels self.entry.kind) }
+        ensures within { WhereRead S.ByteSource self.entry.reader.now self.exit.1.0.now result
+            (λ v levels. MembersWithin T.within v levels self.entry.kind) }
     {
         let BinaryValueDeserializer { kind, reader } = self;
         let answer = read_object::<T, C, S>(alloc, kind, reader);
@@ -84,6 +92,8 @@ impl<T: ValueDeserialize> ValueDeserialize for Vec<(String, T)> {
 
     ghost deep = { MembersTooDeep T.is T.deep };
 
+    ghost within = { MembersWithin T.within };
+
     fn deserialize<S: ByteSource>(
         alloc: Global,
         deserializer: BinaryValueDeserializer<'_, S>,
@@ -95,6 +105,9 @@ impl<T: ValueDeserialize> ValueDeserialize for Vec<(String, T)> {
         ensures deep { WhereTooDeep S.ByteSource deserializer.entry.reader.now
             deserializer.exit.1.0.now result
             (λ v levels. MembersTooDeep T.is T.deep v levels deserializer.entry.kind) }
+        ensures within { WhereRead S.ByteSource deserializer.entry.reader.now
+            deserializer.exit.1.0.now result
+            (λ v levels. MembersWithin T.within v levels deserializer.entry.kind) }
     {
         deserializer.members::<T, Vec<(String, T)>>(alloc)
     }
@@ -110,6 +123,8 @@ impl<T: ValueDeserialize> ValueDeserialize for BTreeMap<String, T> {
 
     ghost deep = { MembersTooDeep T.is T.deep };
 
+    ghost within = { MembersWithin T.within };
+
     fn deserialize<S: ByteSource>(
         alloc: Global,
         deserializer: BinaryValueDeserializer<'_, S>,
@@ -122,6 +137,9 @@ impl<T: ValueDeserialize> ValueDeserialize for BTreeMap<String, T> {
         ensures deep { WhereTooDeep S.ByteSource deserializer.entry.reader.now
             deserializer.exit.1.0.now result
             (λ v levels. MembersTooDeep T.is T.deep v levels deserializer.entry.kind) }
+        ensures within { WhereRead S.ByteSource deserializer.entry.reader.now
+            deserializer.exit.1.0.now result
+            (λ v levels. MembersWithin T.within v levels deserializer.entry.kind) }
     {
         deserializer.members::<T, BTreeMap<String, T>>(alloc)
     }
@@ -138,6 +156,8 @@ impl<T: ValueDeserialize> ValueDeserialize for HashMap<String, T> {
 
     ghost deep = { MembersTooDeep T.is T.deep };
 
+    ghost within = { MembersWithin T.within };
+
     fn deserialize<S: ByteSource>(
         alloc: Global,
         deserializer: BinaryValueDeserializer<'_, S>,
@@ -150,6 +170,9 @@ impl<T: ValueDeserialize> ValueDeserialize for HashMap<String, T> {
         ensures deep { WhereTooDeep S.ByteSource deserializer.entry.reader.now
             deserializer.exit.1.0.now result
             (λ v levels. MembersTooDeep T.is T.deep v levels deserializer.entry.kind) }
+        ensures within { WhereRead S.ByteSource deserializer.entry.reader.now
+            deserializer.exit.1.0.now result
+            (λ v levels. MembersWithin T.within v levels deserializer.entry.kind) }
     {
         deserializer.members::<T, HashMap<String, T>>(alloc)
     }

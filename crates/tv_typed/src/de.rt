@@ -13,8 +13,9 @@ ghost use Rattle.tv_reader.specs.declared.error.DeserializeError.TheVariants as 
 ghost use Rattle.tv_reader.specs.declared.value_type.ValueType.{ValueType};
 ghost use Rattle.tv_typed.specs.Excluding.{tree_excludes};
 ghost use Rattle.tv_typed.specs.Lists.{EncodesEntry, EntryRefused};
-ghost use Rattle.tv_typed.specs.Depths.{ReadsWithinDepth, IsTooDeep, HasDepth, NextTooDeep};
-ghost use Rattle.tv_typed.specs.Depths.{EntryTooDeep, OpensBehind, WhereTooDeep};
+ghost use Rattle.tv_typed.specs.Depths.{ReadsWithinDepth, IsTooDeep, HasDepth, AtValue};
+ghost use Rattle.tv_typed.specs.Depths.{AtEntry, NestsBehind, OpensBehind};
+ghost use Rattle.tv_typed.specs.Depths.{WhereRead, WhereTooDeep};
 ghost use Rattle.tv_typed.specs.Typed.{ReadsThrough, ReadsDeep, Deserializes};
 ghost use Rattle.tv_typed.specs.Values.{CodeRefused, IsTree, TreeRefused, Only, EncodesAs};
 ghost use Rattle.tv_typed.specs.Values.{DeserializesAs, NextRefused, RefusalsExclude};
@@ -108,6 +109,9 @@ pub trait ValueDeserialize: Sized + Drop {
     /// whose code was read, the bytes behind that and those that are left in the end. By default it says nothing.
     ghost deep: { Version → ℕ → ValueType → List ℕ → List ℕ → Type 0 } = { λ _ _ _ _ _. Unit {0} };
 
+    /// How deep the values of any type in one nest that was read. It speaks of the same as `deep`, and says nothing by default.
+    ghost within: { Version → ℕ → ValueType → List ℕ → List ℕ → Type 0 } = { λ _ _ _ _ _. Unit {0} };
+
     /// Reads the value whose code was read. The errors are those of `BinaryValueDeserializer`, and `Custom`.
     fn deserialize<S: ByteSource>(
         alloc: Global,
@@ -116,7 +120,9 @@ pub trait ValueDeserialize: Sized + Drop {
         ensures deserializes { DeserializesAs S.ByteSource is refused
             deserializer.entry.kind deserializer.entry.reader.now deserializer.exit.1.0.now result }
         ensures deep { WhereTooDeep S.ByteSource deserializer.entry.reader.now
-            deserializer.exit.1.0.now result (λ v levels. deep v levels deserializer.entry.kind) };
+            deserializer.exit.1.0.now result (λ v levels. deep v levels deserializer.entry.kind) }
+        ensures within { WhereRead S.ByteSource deserializer.entry.reader.now
+            deserializer.exit.1.0.now result (λ v levels. within v levels deserializer.entry.kind) };
 
     /// Where bytes behind the code of a type are refused, no prefix of them encodes a tree of which a value is read.
     ghost excludes: { RefusalsExclude is refused };
@@ -132,7 +138,8 @@ impl<S: ByteSource> StoreReader<S> {
         ensures only { Only S.ByteSource self.old self.new result V.is
             (version_of self.old.version) [] }
         ensures marks_failure { OnErr result (self.new.has_failed ≡ true) }
-        ensures deep { WhereTooDeep S.ByteSource self.old self.new result (NextTooDeep V.deep) }
+        ensures deep { WhereTooDeep S.ByteSource self.old self.new result (AtValue V.deep) }
+        ensures within { WhereRead S.ByteSource self.old self.new result (AtValue V.within) }
     {
         let kind = self.code()?;
         match V::deserialize(alloc, BinaryValueDeserializer { kind, reader: self }) {
@@ -153,7 +160,8 @@ impl<S: ByteSource> StoreReader<S> {
             (EncodesEntry V.is (version_of self.old.version))
             (EntryRefused V.refused (version_of self.old.version)) }
         ensures marks_failure { OnErr result (self.new.has_failed ≡ true) }
-        ensures deep { WhereTooDeep S.ByteSource self.old self.new result (EntryTooDeep V.deep) }
+        ensures deep { WhereTooDeep S.ByteSource self.old self.new result (AtEntry V.deep) }
+        ensures within { WhereRead S.ByteSource self.old self.new result (AtEntry V.within) }
     {
         let key = self.key(alloc)?;
         let value = self.read::<V>(alloc)?;
@@ -168,6 +176,8 @@ impl ValueDeserialize for OwnedValue {
 
     ghost deep = { OpensBehind };
 
+    ghost within = { NestsBehind };
+
     fn deserialize<S: ByteSource>(
         alloc: Global,
         deserializer: BinaryValueDeserializer<'_, S>,
@@ -179,8 +189,11 @@ impl ValueDeserialize for OwnedValue {
             (EncodesBehind (version_of deserializer.entry.reader.now.version)
             deserializer.entry.kind) (TreeRefused (version_of deserializer.entry.reader.now.version)
             deserializer.entry.kind) }
-        ensures within { ReadsWithinDepth S.ByteSource deserializer.entry.reader.now
+        ensures nests { ReadsWithinDepth S.ByteSource deserializer.entry.reader.now
             deserializer.exit.1.0.now result (type_prefix deserializer.entry.kind) }
+        ensures within { WhereRead S.ByteSource deserializer.entry.reader.now
+            deserializer.exit.1.0.now result (λ v levels. NestsBehind v levels
+            deserializer.entry.kind) }
         ensures deep { IsTooDeep S.ByteSource deserializer.entry.reader.now
             deserializer.exit.1.0.now result (type_prefix deserializer.entry.kind) }
         ensures no_heap_full { HasDepth S.ByteSource deserializer.entry.reader.now result

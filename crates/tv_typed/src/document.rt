@@ -12,7 +12,7 @@ ghost use Rattle.tv_reader.specs.declared.error.DeserializeError.TheVariants as 
 ghost use Rattle.tv_reader.specs.declared.value_type.ValueType.{ValueType};
 ghost use Rattle.tv_format.specs.Tree.{Tree};
 ghost use Rattle.tv_format.specs.Version.{Version};
-ghost use Rattle.tv_typed.specs.Depths.{FieldTooDeep, ItemTooDeep, WhereTooDeep};
+ghost use Rattle.tv_typed.specs.Depths.{AtField, AtItem, WhereGiven, WhereRead, WhereTooDeep};
 ghost use Rattle.tv_typed.specs.Documents.{NextField, GivesPair, RefusesPair, EncodesField};
 ghost use Rattle.tv_typed.specs.Documents.{FieldEnds, FieldRefused, NumberRefused};
 ghost use Rattle.tv_typed.specs.Lists.{NextItem, NextItemRefused, gives_some};
@@ -113,7 +113,8 @@ impl<S: ByteSource> StoreReader<S> {
             (EncodesField V.is (version_of self.old.version))
             (FieldRefused V.refused (version_of self.old.version)) }
         ensures marks_failure { OnErr result (self.new.has_failed ≡ true) }
-        ensures deep { WhereTooDeep S.ByteSource self.old self.new result (FieldTooDeep V.deep) }
+        ensures deep { WhereTooDeep S.ByteSource self.old self.new result (AtField V.deep) }
+        ensures within { WhereRead S.ByteSource self.old self.new result (AtField V.within) }
     {
         let field = self.field()?;
         let value = self.read::<V>(alloc)?;
@@ -203,7 +204,9 @@ impl<'de, S: ByteSource> DocumentDeserializer for BinaryDocumentDeserializer<'de
             (NextItemRefused (FieldRefused V.refused (version_of self.old.reader.now.version))
             self.old.position self.old.announced) }
         ensures deep { WhereTooDeep S.ByteSource self.old.reader.now self.new.reader.now result
-            (ItemTooDeep (FieldTooDeep V.deep) self.old.position self.old.announced) }
+            (AtItem (AtField V.deep) self.old.position self.old.announced) }
+        ensures within { WhereGiven S.ByteSource self.old.reader.now self.new.reader.now result
+            (AtItem (AtField V.within) self.old.position self.old.announced) }
         ensures marks_failure { self.new.reader.now.has_failed ≡ is_err result }
         ensures counts { self.old.reader.now.has_failed ≡ false
             → Counts typed_stop result (S.failures self.old.reader.now.source)

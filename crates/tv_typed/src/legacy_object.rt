@@ -6,7 +6,7 @@ ghost use Rattle.tv_format.specs.Version.{V2};
 ghost use Rattle.tv_reader.specs.Trees.{EncodesBehind};
 ghost use Rattle.tv_reader.specs.Version.{version_of};
 ghost use Rattle.tv_reader.specs.declared.value_type.ValueType.TheVariants as types;
-ghost use Rattle.tv_typed.specs.Depths.{MembersTooDeep, WhereTooDeep};
+ghost use Rattle.tv_typed.specs.Depths.{MembersTooDeep, MembersWithin, WhereRead, WhereTooDeep};
 ghost use Rattle.tv_typed.specs.LegacyObjects.{Retold, OfEncoding, LegacyRefused, MembersRefused};
 ghost use Rattle.tv_typed.specs.Typed.{ReadsThrough, Deserializes};
 ghost use Rattle.tv_typed.specs.Lists.{ObjectRefused};
@@ -118,6 +118,8 @@ pub(crate) fn read_object<T: ValueDeserialize, C: Entries<T>, S: ByteSource>(
         (MembersRefused (ObjectRefused T.is T.refused)) kind reader.old reader.new result }
     ensures deep { WhereTooDeep S.ByteSource reader.old reader.new result
         (λ v levels. MembersTooDeep T.is T.deep v levels kind) }
+    ensures within { WhereRead S.ByteSource reader.old reader.new result
+        (λ v levels. MembersWithin T.within v levels kind) }
 {
     match kind {
         ValueType::JSONObject => legacy_object::<T, C, S>(alloc, reader),

@@ -1,6 +1,6 @@
 //! Objects in a store.
 
-ghost use Rattle.std.specs.Prelude.{◌≡◌, ◌+◌, ◌-◌, ◌++◌, ◌∷◌, [], false, true, List, IsErrOf, OnOk, OnErr};
+ghost use Rattle.std.specs.Prelude.{◌≡◌, ◌+◌, ◌-◌, ◌++◌, ◌∷◌, [], false, true, List, IsErrOf, IsOk, OnOk, OnErr};
 ghost use Rattle.std.specs.Prelude.{String, if◌then◌else◌, is_err};
 ghost use Rattle.std.specs.BTreeMap as tree;
 ghost use Rattle.std.specs.HashMap as hash;
@@ -11,8 +11,8 @@ ghost use Rattle.tv_reader.specs.declared.error.DeserializeError.TheVariants as 
 ghost use Rattle.tv_reader.specs.declared.value_type.ValueType.TheVariants as types;
 ghost use Rattle.std.proofs.Common.{subst, sym};
 ghost use Rattle.tv_format.specs.Tree.{Tree};
-ghost use Rattle.tv_typed.specs.Depths.{AmongRead, EntryTooDeep, ItemTooDeep, ObjectTooDeep};
-ghost use Rattle.tv_typed.specs.Depths.{WhereTooDeep};
+ghost use Rattle.tv_typed.specs.Depths.{AmongRead, AtEach, AtEntry, AtItem, ObjectTooDeep};
+ghost use Rattle.tv_typed.specs.Depths.{ObjectWithin, WhereGiven, WhereRead, WhereTooDeep};
 ghost use Rattle.tv_typed.specs.Lists.{EncodesInto, EncodesEntry, EntryRefused, GivesLast};
 ghost use Rattle.tv_typed.specs.Lists.{MapOf, ObjectOf, ObjectRefused};
 ghost use Rattle.tv_typed.specs.Lists.{NextItem, NextItemRefused, gives_some};
@@ -126,9 +126,12 @@ pub(crate) fn read_entries<T: ValueDeserialize, C: Entries<T>, S: ByteSource>(
         (InEach (EntryRefused T.refused (version_of reader.old.version))
         (EncodesEntry T.is (version_of reader.old.version)) announced) }
     ensures deep { S.is_known reader.old.source → IsErrOf result errors.TooDeep → AmongRead
-        (EncodesEntry T.is (version_of reader.old.version)) (EntryTooDeep T.deep (version_of
+        (EncodesEntry T.is (version_of reader.old.version)) (AtEntry T.deep (version_of
         reader.old.version) reader.old.levels) announced (S.left reader.old.source) (S.left
         reader.new.source) }
+    ensures within { S.is_known reader.old.source → IsOk result → AtEach
+        (AtEntry T.within (version_of reader.old.version) reader.old.levels) announced
+        (S.left reader.old.source) (S.left reader.new.source) }
 {
     let mut entries = C::empty(alloc);
     for _ in 0..announced {
@@ -148,6 +151,8 @@ pub(crate) fn read_coded<T: ValueDeserialize, C: Entries<T>, S: ByteSource>(
         (ObjectRefused T.is T.refused) kind reader.old reader.new result }
     ensures deep { WhereTooDeep S.ByteSource reader.old reader.new result
         (λ v levels. ObjectTooDeep T.is T.deep v levels kind) }
+    ensures within { WhereRead S.ByteSource reader.old reader.new result
+        (λ v levels. ObjectWithin T.within v levels kind) }
 {
     let announced = reader.object_length(kind)?;
     let answer = read_entries::<T, C, S>(alloc, reader, announced);
@@ -197,7 +202,10 @@ impl<'de, S: ByteSource> BinaryObjectDeserializer<'de, S> {
             (EncodesEntry V.is (version_of self.entry.reader.now.version))
             (self.entry.announced - self.entry.position)) }
         ensures deep { WhereTooDeep S.ByteSource self.entry.reader.now self.exit.1.1.0.now result
-            (λ v levels. AmongRead (EncodesEntry V.is v) (EntryTooDeep V.deep v levels)
+            (λ v levels. AmongRead (EncodesEntry V.is v) (AtEntry V.deep v levels)
+            (self.entry.announced - self.entry.position)) }
+        ensures within { WhereRead S.ByteSource self.entry.reader.now self.exit.1.1.0.now result
+            (λ v levels. AtEach (AtEntry V.within v levels)
             (self.entry.announced - self.entry.position)) }
         ensures marks_failure { self.exit.1.1.0.now.has_failed ≡ is_err result }
     {
@@ -231,7 +239,9 @@ impl<'de, S: ByteSource> BinaryObjectDeserializer<'de, S> {
             (NextItemRefused (EntryRefused V.refused (version_of self.old.reader.now.version))
             self.old.position self.old.announced) }
         ensures deep { WhereTooDeep S.ByteSource self.old.reader.now self.new.reader.now result
-            (ItemTooDeep (EntryTooDeep V.deep) self.old.position self.old.announced) }
+            (AtItem (AtEntry V.deep) self.old.position self.old.announced) }
+        ensures within { WhereGiven S.ByteSource self.old.reader.now self.new.reader.now result
+            (AtItem (AtEntry V.within) self.old.position self.old.announced) }
         ensures marks_failure { OnErr result (self.new.reader.now.has_failed ≡ true) }
     {
         self.reader.go_on()?;

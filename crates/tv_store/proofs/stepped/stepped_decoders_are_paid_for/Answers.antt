@@ -1,7 +1,7 @@
-use Rattle.std.proofs.Common.{arith, subst, sym}
+use Rattle.std.proofs.Common.{refl, subst, sym}
 use Rattle.tv_base.specs.Stop.{Taken}
 use Rattle.tv_base.proofs.TakeSteps.{Taken_none, Taken_then}
-use Rattle.tv_store.proofs.StepsPaid.{paid_at_start, still_paid, still_known, still_counted}
+use Rattle.tv_store.proofs.StepsPaid.{one_more, paid_at_start, still_paid, still_known, still_counted}
 use Rattle.tv_store.proofs.stepped.stepped_decoders_are_paid_for.Goals as goal
 
 pub loop-init : goal.loop-init
@@ -10,6 +10,14 @@ loop-init g c =
     let left = source.left c.args.source.now in
     let d = c.new-decoder in
     record {
+      stepped = record {
+        start = d.result;
+        nothing = d.ensures.parts;
+        uncounted = d.ensures.count;
+        live = d.ensures.not_failed;
+        same_version = d.ensures.version;
+        stepped = (refl, refl);
+      };
       known = λ known. known;
       taken = λ known. subst (λ n. Taken left left 0 n) (sym d.ensures.count) (Taken_none left 0);
       paid = λ known none. paid_at_start d.result d.ensures.not_failed d.ensures.parts d.ensures.count;
@@ -21,6 +29,7 @@ loop-preserved g c =
     let l = c.loop in
     let step = c.step.ensures in
     record {
+      stepped = one_more source step.steps l.invariant.stepped;
       known = λ known. still_known source step.steps (l.invariant.known known);
       taken = λ known. Taken_then (l.invariant.taken known) (still_counted source step.steps (l.invariant.known known));
       paid = λ known none. still_paid source step.steps (step.paid (l.invariant.known known)) (step.seen (l.invariant.known known)) (l.invariant.known known) (l.invariant.paid known) none;

@@ -20,3 +20,9 @@ returns-in-JSONObject-clause-deep g c = λ o t is other. absurd (other c.in-JSON
 
 pub returns-in_default-clause-deep : goal.returns-in_default-clause-deep
 returns-in_default-clause-deep g c = λ o t is other. c.read_coded.ensures.deep o t is
+
+pub returns-in-JSONObject-clause-within : goal.returns-in-JSONObject-clause-within
+returns-in-JSONObject-clause-within g c = λ o t is other. absurd (other c.in-JSONObject.is)
+
+pub returns-in_default-clause-within : goal.returns-in_default-clause-within
+returns-in_default-clause-within g c = λ o t is other. c.read_coded.ensures.within o t is

@@ -6,7 +6,7 @@ use Rattle.tv_reader.proofs.DepthSteps.{err_of}
 use Rattle.tv_typed.specs.Lists.{EncodesEntry, EntryRefused}
 use Rattle.tv_typed.specs.Values.{EncodedAs}
 use Rattle.tv_typed.proofs.DepthSteps.{deep_behind}
-use Rattle.tv_typed.specs.Depths.{AmongRead, EntryTooDeep}
+use Rattle.tv_typed.specs.Depths.{AmongRead, AtEach, AtEntry}
 use Rattle.std.proofs.Common.{refl}
 use Rattle.tv_typed.proofs.DeserializeSteps.{goes_told, reads_calm}
 use Rattle.tv_typed.proofs.ItemSteps.{object_then, collection_fails}
@@ -34,5 +34,12 @@ pub returns-clause-deep : goal.returns-clause-deep
 returns-clause-deep g c =
     let T = g.T.ValueDeserialize in
     let n = c.in_ok-announced.announced in
-    let d = deep_behind _ (λ v l old new. AmongRead (EncodesEntry T.is v) (EntryTooDeep T.deep v l) n old new) c.in_ok-announced.ensures.reads (λ o t is. c.read_entries-answer.ensures.deep t is) in
+    let d = deep_behind _ (λ v l old new. AmongRead (EncodesEntry T.is v) (AtEntry T.deep v l) n old new) c.in_ok-announced.ensures.reads (λ o t is. c.read_entries-answer.ensures.deep t is) in
+    λ o t is. let x = d o t is in (n, _, x.0, x.1)
+
+pub returns-clause-within : goal.returns-clause-within
+returns-clause-within g c =
+    let T = g.T.ValueDeserialize in
+    let n = c.in_ok-announced.announced in
+    let d = deep_behind _ (λ v l old new. AtEach (AtEntry T.within v l) n old new) c.in_ok-announced.ensures.reads (λ o t is. c.read_entries-answer.ensures.within t is) in
     λ o t is. let x = d o t is in (n, _, x.0, x.1)

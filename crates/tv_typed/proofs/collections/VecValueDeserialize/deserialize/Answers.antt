@@ -1,7 +1,7 @@
 use Rattle.tv_typed.specs.Lists.{ArrayOf, element_total}
 use Rattle.tv_typed.specs.Values.{EncodesAs, EncodedAs, NextRefused}
 use Rattle.tv_typed.proofs.DepthSteps.{deep_behind}
-use Rattle.tv_typed.specs.Depths.{AmongRead, NextTooDeep}
+use Rattle.tv_typed.specs.Depths.{AmongRead, AtEach, AtValue}
 use Rattle.std.proofs.Common.{refl}
 use Rattle.tv_typed.proofs.ItemSteps.{array_then, collection_fails}
 use Rattle.std.proofs.lemmas.Result.{err_from_is_err_and}
@@ -32,5 +32,12 @@ pub returns-clause-deep : goal.returns-clause-deep
 returns-clause-deep g c =
     let T = g.T.ValueDeserialize in
     let n = c.in_ok-announced.announced in
-    let d = deep_behind _ (λ v l old new. AmongRead (EncodesAs T.is v) (NextTooDeep T.deep v l) n old new) c.in_ok-announced.ensures.reads (λ o t is. c.read_elements-answer.ensures.deep t is) in
+    let d = deep_behind _ (λ v l old new. AmongRead (EncodesAs T.is v) (AtValue T.deep v l) n old new) c.in_ok-announced.ensures.reads (λ o t is. c.read_elements-answer.ensures.deep t is) in
+    λ o t is. let x = d o t is in (n, _, x.0, x.1)
+
+pub returns-clause-within : goal.returns-clause-within
+returns-clause-within g c =
+    let T = g.T.ValueDeserialize in
+    let n = c.in_ok-announced.announced in
+    let d = deep_behind _ (λ v l old new. AtEach (AtValue T.within v l) n old new) c.in_ok-announced.ensures.reads (λ o t is. c.read_elements-answer.ensures.within t is) in
     λ o t is. let x = d o t is in (n, _, x.0, x.1)

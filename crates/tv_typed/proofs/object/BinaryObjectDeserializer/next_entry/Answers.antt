@@ -1,4 +1,4 @@
-use Rattle.std.proofs.Common.{arith}
+use Rattle.std.proofs.Common.{arith, refl}
 use Rattle.std.proofs.lemmas.Result.{err_from_is_err_and}
 use Rattle.tv_reader.proofs.DepthSteps.{err_of}
 use Rattle.tv_reader.specs.Version.{version_of}
@@ -17,3 +17,6 @@ pub returns-in_err-entry-clause-deep : goal.returns-in_err-entry-clause-deep
 returns-in_err-entry-clause-deep g c =
     let p = err_from_is_err_and c.from_residual-in_err-entry.result c.from_residual-in_err-entry.ensures.1 in
     rw (p.1, p.2) (λ is_open told is. (omega (arith, c), c.in_err-entry.ensures.deep is_open told (err_of _ _ is)))
+
+pub returns-clause-within : goal.returns-clause-within
+returns-clause-within g c = λ is_open told is. (omega (arith, c), c.in_ok-entry.ensures.within is_open told refl)

@@ -3,7 +3,7 @@ use Rattle.tv_reader.proofs.DepthSteps.{err_of}
 use Rattle.std.proofs.lemmas.Result.{err_from_is_err_and}
 use Rattle.tv_typed.proofs.DeserializeSteps.{reads_calm}
 use Rattle.tv_typed.proofs.DepthSteps.{deep_behind}
-use Rattle.tv_typed.specs.Depths.{NextTooDeep}
+use Rattle.tv_typed.specs.Depths.{AtValue}
 use Rattle.std.specs.Prelude.{string_bytes}
 use Rattle.tv_typed.proofs.ListSteps.{entry_found, entry_key_fails, entry_value_fails}
 use Rattle.tv_typed.proofs.store_reader.StoreReader.entry.Goals as goal
@@ -34,5 +34,11 @@ pub returns-in_err-value-clause-deep : goal.returns-in_err-value-clause-deep
 returns-in_err-value-clause-deep g c =
     let p = err_from_is_err_and c.from_residual-in_err-value.result c.from_residual-in_err-value.ensures.1 in
     let V = g.V.ValueDeserialize in
-    let d = deep_behind _ (λ v l. NextTooDeep V.deep v l) c.in_ok-key.ensures (λ o t is. c.in_err-value.ensures.deep o t (err_of _ _ is)) in
+    let d = deep_behind _ (λ v l. AtValue V.deep v l) c.in_ok-key.ensures (λ o t is. c.in_err-value.ensures.deep o t (err_of _ _ is)) in
     rw (p.1, p.2) (λ o t is. let x = d o t is in (string_bytes c.in_ok-key.key, _, x.0, x.1))
+
+pub returns-clause-within : goal.returns-clause-within
+returns-clause-within g c =
+    let V = g.V.ValueDeserialize in
+    let d = deep_behind _ (λ v l. AtValue V.within v l) c.in_ok-key.ensures (λ o t is. c.in_ok-value.ensures.within o t is) in
+    λ o t is. let x = d o t refl in (string_bytes c.in_ok-key.key, _, x.0, x.1)
