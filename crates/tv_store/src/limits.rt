@@ -388,8 +388,8 @@ impl DirectDecoder {
 /// Errors: `Limit(Bytes)` where all these were taken and the document needs more, so no prefix of them encodes one; `Limit(Depth)` right
 /// behind the head of the list with which more than `depth` lists are open, `Limit(HeapBytes)` right behind the part with which the
 /// document's heap takes more than `heap_bytes` bytes, and the first of them where both hold; `Limit(Depth)` behind a document of which a
-/// value nests deeper by an object of an older store or by a list without children; else `Read` with the error of `read_document`, also where the last byte that may be
-/// taken shows it, and with `Memory` where it is refused for that test.
+/// value nests deeper by an object of an older store or by a list without children; else `Read` with the error of `read_document`, also
+/// where the last byte that may be taken shows it, and with `Memory` where it is refused for that test.
 ///
 /// ```
 /// pub fn read_untrusted(alloc: Global, bytes: &[u8]) -> Result<TantivyDocument, LimitedReadError> {

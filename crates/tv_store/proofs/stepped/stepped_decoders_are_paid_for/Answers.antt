@@ -1,6 +1,7 @@
-use Rattle.std.proofs.Common.{refl, subst, sym}
+use Rattle.std.proofs.Common.{arith, refl, subst, sym}
 use Rattle.tv_base.specs.Stop.{Taken}
 use Rattle.tv_base.proofs.TakeSteps.{Taken_none, Taken_then}
+use Rattle.tv_store.specs.Decoder.{IsStepped}
 use Rattle.tv_store.proofs.StepsPaid.{one_more, paid_at_start, still_paid, still_known, still_counted}
 use Rattle.tv_store.proofs.stepped.stepped_decoders_are_paid_for.Goals as goal
 
@@ -34,6 +35,9 @@ loop-preserved g c =
       taken = λ known. Taken_then (l.invariant.taken known) (still_counted source step.steps (l.invariant.known known));
       paid = λ known none. still_paid source step.steps (step.paid (l.invariant.known known)) (step.seen (l.invariant.known known)) (l.invariant.known known) (l.invariant.paid known) none;
     }
+
+pub returns-clause-stepped : goal.returns-clause-stepped
+returns-clause-stepped g c = subst (λ k. IsStepped g.S.ByteSource c.args.version k c.args.source.now c.loop.source c.loop.decoder) (omega arith) c.loop.invariant.stepped
 
 pub returns-clause-paid : goal.returns-clause-paid
 returns-clause-paid g c = λ known none. (c.loop.invariant.paid known none).paid

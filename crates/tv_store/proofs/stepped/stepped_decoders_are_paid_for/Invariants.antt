@@ -8,7 +8,7 @@ abbrev pub invariant-loop : goal.invariant-loop
 invariant-loop g l =
     let source = g.S.ByteSource in
     record {
-      stepped : IsStepped source l.version l.counter l.initial.source l.source l.decoder;
+      stepped : IsStepped source l.fn.version l.counter l.initial.source l.source l.decoder;
       known : source.is_known l.initial.source → source.is_known l.source;
       taken : source.is_known l.initial.source → Taken (source.left l.initial.source) (source.left l.source) 0 l.decoder.count;
       paid : source.is_known l.initial.source → l.decoder.legacy_seen ≡ false → IsPaidFor l.decoder;
