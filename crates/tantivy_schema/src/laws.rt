@@ -22,8 +22,8 @@ pub use tv_base::laws::{
 };
 use tv_base::{ByteSource, VecSink};
 pub use tv_builder::laws::{
-    calls_trade, heaps_hold_what_came, lists_are_paid, open_lists_are_paid, parts_are_traded, parts_make_values,
-    what_is_written_is_paid,
+    calls_trade, heaps_hold_what_came, lists_are_paid, open_lists_are_paid, parts_are_traded,
+    parts_make_values, what_is_written_is_paid,
 };
 use tv_doc::document::CompactDoc;
 pub use tv_doc::laws::{
