@@ -12,7 +12,7 @@ use tantivy_schema::store::{
     DocStoreVersion, WriteVersion, migrate, read_document, read_document_into,
 };
 
-/// A call that is made for each document, or for each field, path, term or facet.
+/// A call that is made for each document, or for each field, path, term, text, range or facet.
 #[derive(Clone, Copy)]
 pub enum Call {
     /// From JSON to the JSON library's value alone, which is the first part of the next.
@@ -69,6 +69,16 @@ pub enum Call {
     Ranges,
     /// The text that `Debug` has for each term.
     PrintTerms,
+    /// From decimal texts to terms of numbers, by the constructor.
+    NumberTerms,
+    /// The same by the call for texts of queries.
+    QueryNumbers,
+    /// From texts to terms of texts, by the constructor.
+    TextTerms,
+    /// The same by the call for texts of queries.
+    QueryTexts,
+    /// The terms, of many in rising order, that are in a range.
+    Within,
     /// From texts to facets, each tested as a prefix of the next.
     Facets,
     /// How many facets there are below each child of the root, counted in one pass over all.
@@ -104,7 +114,7 @@ impl Round {
 }
 
 impl Call {
-    pub const ALL: [Call; 29] = [
+    pub const ALL: [Call; 34] = [
         Call::ReadJson,
         Call::ParseJson,
         Call::ParseJsonInto,
@@ -132,6 +142,11 @@ impl Call {
         Call::TermValues,
         Call::Ranges,
         Call::PrintTerms,
+        Call::NumberTerms,
+        Call::QueryNumbers,
+        Call::TextTerms,
+        Call::QueryTexts,
+        Call::Within,
         Call::Facets,
         Call::CountFacets,
     ];
@@ -166,6 +181,11 @@ impl Call {
             Call::TermValues => "term_values",
             Call::Ranges => "ranges",
             Call::PrintTerms => "print_terms",
+            Call::NumberTerms => "number_terms",
+            Call::QueryNumbers => "query_numbers",
+            Call::TextTerms => "text_terms",
+            Call::QueryTexts => "query_texts",
+            Call::Within => "within",
             Call::Facets => "facets",
             Call::CountFacets => "count_facets",
         }
@@ -177,13 +197,14 @@ impl Call {
             Call::ReadSchema => "field",
             Call::FindField => "path",
             Call::Terms | Call::WriteTerms | Call::PrintTerms => "term",
-            Call::Ranges => "range",
+            Call::NumberTerms | Call::QueryNumbers | Call::TextTerms | Call::QueryTexts => "text",
+            Call::Ranges | Call::Within => "range",
             Call::Facets | Call::CountFacets => "facet",
             _ => "doc",
         }
     }
 
-    /// Makes the call for each document, field, path, term or facet.
+    /// Makes the call for each document, field, path, term, text, range or facet.
     pub fn for_each(self, alloc: Global, workload: &Workload, inputs: &Inputs) -> Result<Round> {
         let documents = workload.documents.len();
         match self {
@@ -203,6 +224,11 @@ impl Call {
             Call::TermValues => layer::list_terms(alloc, workload),
             Call::Ranges => term_calls::make_ranges(alloc, workload),
             Call::PrintTerms => term_calls::print_terms(alloc, workload),
+            Call::NumberTerms => term_calls::number_terms(alloc, inputs),
+            Call::QueryNumbers => term_calls::query_terms(alloc, inputs, "number"),
+            Call::TextTerms => term_calls::text_terms(alloc, inputs),
+            Call::QueryTexts => term_calls::query_terms(alloc, inputs, "text"),
+            Call::Within => Ok(term_calls::within_each(inputs)),
             Call::Facets => layer::make_facets(alloc, inputs),
             Call::CountFacets => layer::count_facets(alloc, inputs),
             other => other.for_each_document(alloc, workload),

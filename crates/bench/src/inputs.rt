@@ -3,9 +3,18 @@
 use crate::workload::Workload;
 use anyhow::Result;
 use std::alloc::Global;
-use tantivy_schema::schema::{Facet, Schema};
+use tantivy_schema::schema::{Facet, Field, INDEXED, Schema, TEXT, Term, TermRange};
 
-/// All documents one behind the other, the schema's JSON, paths into its fields, texts of facets, and lines.
+/// The number of the field of numbers of the schema of queries.
+pub const NUMBER_FIELD: u32 = 0;
+
+/// The number of its field of texts.
+pub const TEXT_FIELD: u32 = 1;
+
+// How many terms rise.
+const RISING_TERMS: u64 = 100_000;
+
+/// All documents one behind the other, the schema's JSON, paths into its fields, texts of facets, lines, and what queries have.
 pub struct Inputs {
     /// The stored bytes of all documents, one behind the other, as in a block of a store.
     pub block: Vec<u8>,
@@ -19,6 +28,14 @@ pub struct Inputs {
     pub rising_facets: Vec<Facet>,
     /// The schema's line, and a line for each document.
     pub lines: Vec<u8>,
+    /// A field `number` of numbers, and a field `text` of texts.
+    pub query_schema: Schema,
+    /// The text of a number for each document.
+    pub queries: Vec<String>,
+    /// Terms of numbers from 0 on.
+    pub rising_terms: Vec<Term>,
+    /// A range of ten of these terms for each document.
+    pub ranges: Vec<TermRange>,
 }
 
 // Written here, so that inputs are let go by one call.
@@ -31,6 +48,10 @@ impl Drop for Inputs {
             facets: _,
             rising_facets: _,
             lines: _,
+            query_schema: _,
+            queries: _,
+            rising_terms: _,
+            ranges: _,
         } = self;
     }
 }
@@ -49,6 +70,10 @@ impl Inputs {
             facets,
             rising_facets,
             lines,
+            query_schema: query_schema(alloc)?,
+            queries: queries(alloc, workload.lines.len())?,
+            rising_terms: rising_terms(alloc)?,
+            ranges: ranges(alloc, workload.lines.len())?,
         })
     }
 }
@@ -102,4 +127,38 @@ fn rising(alloc: Global, texts: &[String]) -> Result<Vec<Facet>> {
     }
     facets.sort()?;
     Ok(facets)
+}
+
+fn query_schema(alloc: Global) -> Result<Schema> {
+    let mut builder = Schema::builder(alloc);
+    builder.add_u64_field("number", INDEXED)?;
+    builder.add_text_field("text", TEXT)?;
+    Ok(builder.build()?)
+}
+
+fn queries(alloc: Global, count: usize) -> Result<Vec<String>> {
+    let mut queries = Vec::new(alloc);
+    for number in 0..count {
+        queries.push(format!(in alloc; "{}", number % 1000 * 7919)?)?;
+    }
+    Ok(queries)
+}
+
+fn rising_terms(alloc: Global) -> Result<Vec<Term>> {
+    let field = Field::from_field_id(NUMBER_FIELD);
+    let mut terms = Vec::new(alloc);
+    for number in 0..RISING_TERMS {
+        terms.push(Term::from_field_u64(alloc, field, number)?)?;
+    }
+    Ok(terms)
+}
+
+fn ranges(alloc: Global, count: usize) -> Result<Vec<TermRange>> {
+    let field = Field::from_field_id(NUMBER_FIELD);
+    let mut ranges = Vec::new(alloc);
+    for place in 0..count {
+        let number = (place % 1000 * 97) as u64;
+        ranges.push(Term::range_of_values(alloc, field, &(number..number + 10))?)?;
+    }
+    Ok(ranges)
 }

@@ -2,7 +2,7 @@
 //!
 //! Standard input holds the schema as JSON on its first line, and a document as JSON on each other line. Standard output says how
 //! many documents were accepted, how many bytes of JSON these have, and how many stored bytes. With the arguments `time N` standard
-//! error says for each call how many nanoseconds a document takes, or a field, path, term, range or facet: the mean over N rounds, and
+//! error says for each call how many nanoseconds a document takes, or a field, path, term, text, range or facet: the mean over N rounds, and
 //! that of the best round. `time N CALL` makes that call alone.
 #![tactic(auto)]
 

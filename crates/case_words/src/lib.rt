@@ -103,6 +103,23 @@ pub fn digits(alloc: Global, bytes: &[u8]) -> Result<String> {
     Ok(hex::encode(alloc, bytes)?)
 }
 
+/// Where a range of bytes begins and ends, as digits, or `none` for no end.
+pub fn ends(alloc: Global, start: &[u8], end: Option<&[u8]>) -> Result<String> {
+    let start = digits(alloc, start)?;
+    match end {
+        Some(end) => Ok(format!(in alloc; "{start} {}", digits(alloc, end)?)?),
+        None => Ok(format!(in alloc; "{start} none")?),
+    }
+}
+
+/// Texts with a blank between each two, or `none` where there is none.
+pub fn joined(alloc: Global, texts: &[String]) -> Result<String> {
+    if texts.is_empty() {
+        return none(alloc);
+    }
+    Ok(texts.join(alloc, " ")?)
+}
+
 /// A value as it is displayed.
 pub fn plain(alloc: Global, value: &impl Display) -> Result<String> {
     Ok(format!(in alloc; "{value}")?)

@@ -10,8 +10,13 @@ use tv_schema::{Schema, SchemaBuilder};
 const TYPES: &str =
     r#"[{"name":"s","type":"text","options":{"stored":true}},{"name":"sc","type":"text","options":{"stored":true,"coerce":true}},{"name":"u","type":"u64","options":{"indexed":false,"stored":true}},{"name":"uc","type":"u64","options":{"indexed":false,"stored":true,"coerce":true}},{"name":"i","type":"i64","options":{"indexed":false,"stored":true}},{"name":"ic","type":"i64","options":{"indexed":false,"stored":true,"coerce":true}},{"name":"b","type":"bool","options":{"indexed":false,"stored":true}},{"name":"bc","type":"bool","options":{"indexed":false,"stored":true,"coerce":true}},{"name":"d","type":"date","options":{"indexed":false,"fieldnorms":false,"stored":true}},{"name":"f","type":"facet","options":{"stored":true}},{"name":"y","type":"bytes","options":{"indexed":false,"fast":false,"stored":true}},{"name":"j","type":"json_object","options":{"stored":true,"fast":false}},{"name":"p","type":"ip_addr","options":{"indexed":false,"fieldnorms":false,"fast":false,"stored":true}},{"name":"n","type":"u64","options":{"indexed":true,"stored":false}}]"#;
 
-/// The schema of a JSON description. A list of names stands for fields of texts with these names, and the word `types` for a field of
-/// each type.
+// The schema that the word `indexed` stands for: an indexed field of each type, one of JSON objects whose dots are expanded, and one that
+// isn't indexed.
+const INDEXED: &str =
+    r#"[{"name":"s","type":"text","options":{"indexing":{"record":"basic"}}},{"name":"u","type":"u64","options":{"indexed":true,"stored":false}},{"name":"i","type":"i64","options":{"indexed":true,"stored":false}},{"name":"b","type":"bool","options":{"indexed":true,"stored":false}},{"name":"d","type":"date","options":{"indexed":true,"fieldnorms":true,"stored":false}},{"name":"f","type":"facet","options":{"stored":false}},{"name":"y","type":"bytes","options":{"indexed":true,"fast":false,"stored":false}},{"name":"p","type":"ip_addr","options":{"indexed":true,"fieldnorms":true,"fast":false,"stored":false}},{"name":"j","type":"json_object","options":{"indexing":{"record":"basic"},"fast":false,"stored":false}},{"name":"e","type":"json_object","options":{"indexing":{"record":"basic"},"fast":false,"stored":false,"expand_dots_enabled":true}},{"name":"n","type":"u64","options":{"indexed":false,"stored":true}}]"#;
+
+/// The schema of a JSON description. A list of names stands for fields of texts with these names, the word `types` for a field of each type,
+/// and the word `indexed` for fields that are indexed.
 pub fn schema(alloc: Global, word: &str) -> Result<Schema> {
     let description = description_of(word);
     let json = Value::from_str(alloc, description)?;
@@ -55,7 +60,12 @@ pub fn built(builder: SchemaBuilder, outcome: Result<()>) -> Result<Schema> {
     }
 }
 
-/// The description that a word stands for: that of a field of each type for `types`, and else the word itself.
+/// The description that a word stands for: that of a field of each type for `types`, that of indexed fields for `indexed`, and else the word
+/// itself.
 pub fn description_of(word: &str) -> &str {
-    if word == "types" { TYPES } else { word }
+    match word {
+        "types" => TYPES,
+        "indexed" => INDEXED,
+        _ => word,
+    }
 }

@@ -19,6 +19,7 @@ use tv_value::owned_value::OwnedValue;
 pub fn answer(alloc: Global, call: &[&str]) -> Result<String> {
     match call {
         ["range", call @ ..] => ranges::answer(alloc, call),
+        ["within", terms, call @ ..] => ranges::within(alloc, terms, call),
         ["of", field, kind, value] => of_value(alloc, field, kind, value),
         ["searched date", field, value] => of_searched_date(alloc, field, value),
         ["json", field, path, dots, appended @ ..] => of_path(alloc, field, path, dots, appended),
@@ -150,6 +151,9 @@ fn append(
     kind: &str,
     value: &str,
 ) -> Result<Result<(), AllocError>> {
+    if kind == "number" {
+        return Ok(term.append_json_number(words::number(value)?));
+    }
     let value = leaves::leaf(alloc, kind, value)?;
     let outcome = append_value(term, &value);
     drop(value);

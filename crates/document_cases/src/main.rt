@@ -9,6 +9,7 @@ mod heap;
 mod json_values;
 mod parts;
 mod rows;
+mod terms;
 mod tokens;
 
 use anyhow::{Result, anyhow};
@@ -25,6 +26,7 @@ impl Suite for DocumentCases {
             "document" => documents::answer(alloc, call),
             "builder" => builder::answer(alloc, call),
             "heap" => heap::answer(alloc, call),
+            "terms" => terms::answer(alloc, call),
             "row" => rows::answer(alloc, call),
             _ => Err(anyhow!("an unknown topic: {topic}")),
         }

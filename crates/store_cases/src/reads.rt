@@ -171,10 +171,13 @@ pub fn bytes(alloc: Global, word: &str) -> Result<Vec<u8>> {
     Ok(hex::decode(alloc, digits.as_str())?)
 }
 
-/// What a call that reads documents returns. But for a version, the last word has the bytes.
+/// What a call that reads documents returns. But for a version and its number, the last word has the bytes.
 pub fn answer(alloc: Global, call: &[&str]) -> Result<String> {
     if let ["version", number] = call {
         return words::shown(alloc, DocStoreVersion::from_u32(words::number(number)?));
+    }
+    if let ["number", number] = call {
+        return words::plain(alloc, &version(number)?.to_u32());
     }
     let (word, call) = call.split_last().context("bytes")?;
     let bytes = bytes(alloc, word)?;

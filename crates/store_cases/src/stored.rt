@@ -139,6 +139,7 @@ pub fn answer(alloc: Global, call: &[&str]) -> Result<String> {
             reads::document(alloc, DocStoreVersion::V2, Form::Written(&schema), &bytes)
         }
         ["migrate", from, to, word] => migrated(alloc, from, to, word),
+        ["number", number] => words::plain(alloc, &written_version(number)?.to_u32()),
         ["value", word] => alone(alloc, word),
         ["kept", word] => kept(alloc, word),
         ["map", word] => map(alloc, word),

@@ -34,8 +34,11 @@ pub use Rattle.tv_reader.specs.declared.value_type.ValueType
 pub use Rattle.tv_indexing.specs.declared.term_list.TermIter
 pub use Rattle.tv_indexing.specs.declared.term_list.TermList
 pub use Rattle.tv_indexing.specs.declared.term_values_error.TermValuesError
-pub use Rattle.tv_term.specs.declared.facet_counts.FacetCount
-pub use Rattle.tv_term.specs.declared.facet_counts.FacetCountsError
+pub use Rattle.tv_indexing.specs.declared.json_ranges.JsonKind
+pub use Rattle.tv_indexing.specs.declared.text_terms_error.TextTermsError
+pub use Rattle.tv_facets.specs.declared.document_counts.DocumentFacet
+pub use Rattle.tv_facets.specs.declared.facet_counts.FacetCount
+pub use Rattle.tv_facets.specs.declared.facet_counts.FacetCountsError
 pub use Rattle.tv_term.specs.declared.range.TermRange
 pub use Rattle.tv_term.specs.declared.term_error.TermError
 pub use Rattle.tv_value.specs.declared.json_error.JsonError
@@ -66,6 +69,7 @@ pub use Rattle.tv_doc.specs.declared.document.CompactDoc
 pub use Rattle.tv_doc.specs.declared.field_values.FieldValueIterRef
 pub use Rattle.tv_heap.specs.declared.value.CompactDocValue
 pub use Rattle.tv_heap.specs.declared.value_type.ValueType as HeapValueType
+pub use Rattle.tv_format.specs.declared.leaf_type.LeafType
 pub use Rattle.tv_reader.specs.declared.version.DocStoreVersion
 pub use Rattle.tv_date.specs.declared.date_time.DateTimePrecision
 pub use Rattle.tv_value.specs.declared.field.Field

@@ -83,11 +83,20 @@ pub use Rattle.tv_term.specs.Reading as TermReading
 pub use Rattle.tv_term.specs.Printed as TermPrinted
 pub use Rattle.tv_term.specs.Lending
 pub use Rattle.tv_term.specs.Range as TermRange
+pub use Rattle.tv_term.specs.Within as TermsWithin
 pub use Rattle.tv_term.specs.Segments
-pub use Rattle.tv_term.specs.FacetCounting
-pub use Rattle.tv_term.specs.ChildPlaces
 pub use Rattle.tv_indexing.specs.LeafTerms
 pub use Rattle.tv_indexing.specs.DocumentTerms
+pub use Rattle.tv_indexing.specs.IndexedField
+pub use Rattle.tv_indexing.specs.TextTerms
+pub use Rattle.tv_indexing.specs.TextRange
+pub use Rattle.tv_indexing.specs.JsonRanges
+-- facets that are counted
+pub use Rattle.tv_facets.specs.FacetCounting
+pub use Rattle.tv_facets.specs.ChildPlaces
+pub use Rattle.tv_facets.specs.DocumentCounting
+pub use Rattle.tv_facets.specs.Greatest as GreatestCounts
+pub use Rattle.tv_facets.specs.Printed as CountPrinted
 -- documents
 pub use Rattle.tv_doc.specs.AdditionError
 pub use Rattle.tv_doc.specs.Additions

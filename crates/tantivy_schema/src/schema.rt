@@ -20,10 +20,18 @@ pub use tv_doc::doc_parsing_error::DocParsingError;
 pub use tv_doc::document::{CompactDoc, CompactDoc as TantivyDocument};
 pub use tv_doc::document_trait::Document;
 pub use tv_doc::named::NamedFieldDocument;
+pub use tv_facets::{
+    DocumentFacet, FacetCount, FacetCountsError, count_child_documents, count_child_facets,
+    greatest_counts,
+};
+pub use tv_field::json_value::JsonRefusal;
 pub use tv_field::{
     FieldEntry, FieldType, ParseCause, SchemaError, ValueParsingError, is_valid_field_name,
 };
-pub use tv_indexing::{TermIter, TermList, TermValuesError, term_values};
+pub use tv_indexing::{
+    TermIter, TermList, TermValuesError, TextTermsError, bounds_of_text, range_between_texts,
+    range_of_text, ranges_between_texts, ranges_of_text, term_values, terms_of_text,
+};
 pub use tv_options::{
     BytesOptions, COERCE, CoerceFlag, Coercion, DATE_TIME_PRECISION_INDEXED, DateOptions,
     DateTimePrecision, DotExpansion, FAST, FacetOptions, FastFieldTextOptions, FastFlag,
@@ -32,10 +40,7 @@ pub use tv_options::{
     TextFieldIndexing, TextOptions, TextualOptions, TokenizerName, Type, TypeIter,
 };
 pub use tv_schema::{FieldIter, Schema, SchemaBuilder, SchemaJsonError, SchemaKey};
-pub use tv_term::{
-    FacetCount, FacetCountsError, OwnedValueBytes, Term, TermError, TermRange, TermWriter,
-    ValueBytes, count_child_facets, successor,
-};
+pub use tv_term::{OwnedValueBytes, Term, TermError, TermRange, TermWriter, ValueBytes, successor};
 pub use tv_value::field::Field;
 pub use tv_value::ip_addr::IntoIpv6Addr;
 pub use tv_value::json_error::JsonError;

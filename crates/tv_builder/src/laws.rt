@@ -79,7 +79,7 @@ pub fn parts_make_values()
 {}
 
 /// A heap is what writing the trees of its pairs one after the other gives, and in a builder, behind them, what writing the parts of the next
-/// value gives that have come: the same has one heap, however it was added.
+/// value gives that have come. So the same pairs and parts have the same heap, however they were added.
 pub fn heaps_hold_what_came()
     ensures pairs { (d : HeapPairs) → heap_of d ≡ document_heap [] (document_of d) }
     ensures builders { (b : PairBuilder)

@@ -6,10 +6,10 @@ use Rattle.serde_json.specs.View.{view}
 use Rattle.tv_value.specs.JsonTree.{lent_json_tree}
 use Rattle.tv_value.specs.Lent.{leaf_of}
 use Rattle.tv_value.specs.Owned.{owned_tree}
-use Rattle.tv_format.specs.Tree.{Tree, leaf}
+use Rattle.tv_format.specs.Tree.{Leaf, Tree, leaf}
 use Rattle.tv_value.specs.declared.leaf.ReferenceValueLeaf.{ReferenceValueLeaf}
 use Rattle.tv_value.specs.declared.owned_value.OwnedValue.{OwnedValue}
-use Rattle.tv_field.specs.JsonTable.{TableRefusal, overflow, mismatch, bad_text, bad_base64, float_number, Outcome}
+use Rattle.tv_field.specs.JsonTable.{TableRefusal, overflow, mismatch, bad_text, bad_base64, float_number, Outcome, TextRow}
 use Rattle.tv_field.specs.declared.field_type.FieldType.{FieldType}
 use Rattle.tv_field.specs.declared.field_type.FieldType.TheVariants as types
 use Rattle.tv_field.specs.declared.json_value.JsonRefusal.{JsonRefusal}
@@ -61,6 +61,14 @@ AnswersOwned P (Err e) = IfSome (error_of e) (λ r. P (Err r))
 abbrev pub LendsLeaf : Data → (Outcome → Type 0) → Result ReferenceValueLeaf JsonRefusal → Type 0
 LendsLeaf d P (Ok found) = P (Ok (leaf (leaf_of found)))
 LendsLeaf d P (Err e) = IfSome (refusal_of d e) (λ r. P (Err r))
+
+-- a text, as a query writes it, is this value of a field's type
+abbrev pub WritesValue : FieldType → List ℕ → Leaf → Type 0
+WritesValue type s l = TextRow type s (Ok (leaf l))
+
+-- it is none, and the refusal says why
+abbrev pub RefusesText : FieldType → List ℕ → JsonRefusal → Type 0
+RefusesText type s r = IfSome (refusal_of (json.string s) r) (λ why. TextRow type s (Err why))
 
 -- the error says what the refusal says of the value
 abbrev pub RefusesJson : Data → JsonRefusal → ValueParsingError → Type 0

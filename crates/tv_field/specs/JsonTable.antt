@@ -182,3 +182,17 @@ Table (types.Facet options) d o = o ≡ facet_row d
 Table (types.Bytes options) d o = o ≡ bytes_row d
 Table (types.JsonObject options) d o = o ≡ json_row d
 Table (types.IpAddr options) d o = IpRow d o
+
+-- ---- texts of queries
+
+-- what a text is to a field of each type, as a query writes it: what it is in JSON to such a field that coerces
+abbrev pub TextRow : FieldType → List ℕ → Outcome → Type 0
+TextRow (types.Str options) s o = o ≡ Ok (leaf (text s))
+TextRow (types.U64 options) s o = UnsignedText true s o
+TextRow (types.I64 options) s o = SignedText true s o
+TextRow (types.Bool options) s o = o ≡ boolean_text true s
+TextRow (types.Date options) s o = o ≡ date_row (json.string s)
+TextRow (types.Facet options) s o = o ≡ facet_row (json.string s)
+TextRow (types.Bytes options) s o = o ≡ bytes_row (json.string s)
+TextRow (types.JsonObject options) s o = o ≡ json_row (json.string s)
+TextRow (types.IpAddr options) s o = IpText s o

@@ -1,12 +1,12 @@
 //! JSON values as values of a field, by the field's type: lent without copies, or owned.
 
-ghost use Rattle.std.specs.Prelude.{◌≡◌, codes, string_bytes, IfSome, IfErr, IsErrOf, OnOk, OnErr};
+ghost use Rattle.std.specs.Prelude.{◌≡◌, true, codes, string_bytes, IfSome, IfErr, IsErrOf, OnOk, OnErr};
 ghost use Rattle.serde_json.specs.View.{view as data_of, number_view};
 ghost use Rattle.serde_json.specs.Data.{string, number};
 ghost use Rattle.tv_field.specs.JsonTable.{Table, str_row, decimal_text, U64Row, I64Row};
 ghost use Rattle.tv_field.specs.JsonTable.{SignedText, UnsignedText, signed_number, bool_row};
 ghost use Rattle.tv_field.specs.JsonTable.{boolean_text, date_row, date_text, facet_row, bytes_row};
-ghost use Rattle.tv_field.specs.JsonTable.{json_row, IpRow, IpText, leaf_or, mismatch};
+ghost use Rattle.tv_field.specs.JsonTable.{json_row, IpRow, IpText, leaf_or, mismatch, TextRow};
 ghost use Rattle.tv_field.specs.JsonTokens.{tokenized_in};
 ghost use Rattle.tv_field.specs.JsonAnswer.{Lends, LendsLeaf, AnswersOwned, TakesMemory, IsJsonString};
 ghost use Rattle.tv_field.specs.JsonAnswer.{IsNumberOrObject};
@@ -124,6 +124,19 @@ fn lend_signed(json: &Number) -> Result<ReferenceValueLeaf<'static>, JsonRefusal
     }
 }
 
+/// The number from 0 to 2^64 - 1 that a text of JSON is to a field of such numbers that coerces: its digits, perhaps behind a plus. (Not in
+/// tantivy.) Errors: those of `lend_json`.
+#[inline(always)]
+pub fn lend_u64_text(text: &str) -> Result<ReferenceValueLeaf<'static>, JsonRefusal>
+    ensures row { LendsLeaf (string text.now) (UnsignedText true text.now) result }
+    ensures no_memory { ¬ IsErrOf result JsonRefusal.Memory }
+{
+    match text.parse::<u64>() {
+        Ok(unsigned) => Ok(ReferenceValueLeaf::U64(unsigned)),
+        Err(_) => Err(JsonRefusal::Mismatch("a u64 or a u64 as string")),
+    }
+}
+
 // A value of a field of numbers from 0 to 2^64 - 1.
 fn lend_u64(coerce: bool, json: &Value) -> Result<ReferenceValueLeaf<'static>, JsonRefusal>
     ensures row { LendsLeaf (data_of json.now) (U64Row coerce (data_of json.now)) result }
@@ -131,15 +144,25 @@ fn lend_u64(coerce: bool, json: &Value) -> Result<ReferenceValueLeaf<'static>, J
 {
     match json {
         Value::String(_) if !coerce => Err(JsonRefusal::Mismatch("a u64")),
-        Value::String(text) => match text.as_str().parse::<u64>() {
-            Ok(unsigned) => Ok(ReferenceValueLeaf::U64(unsigned)),
-            Err(_) => Err(JsonRefusal::Mismatch("a u64 or a u64 as string")),
-        },
+        Value::String(text) => lend_u64_text(text.as_str()),
         Value::Number(number) => match number.as_u64() {
             Some(unsigned) => Ok(ReferenceValueLeaf::U64(unsigned)),
             None => Err(JsonRefusal::Overflow("u64")),
         },
         _ => Err(JsonRefusal::Mismatch(Type::U64.name())),
+    }
+}
+
+/// The number from -2^63 to 2^63 - 1 that a text of JSON is to a field of such numbers that coerces: its digits, perhaps behind a sign. (Not in
+/// tantivy.) Errors: those of `lend_json`.
+#[inline(always)]
+pub fn lend_i64_text(text: &str) -> Result<ReferenceValueLeaf<'static>, JsonRefusal>
+    ensures row { LendsLeaf (string text.now) (SignedText true text.now) result }
+    ensures no_memory { ¬ IsErrOf result JsonRefusal.Memory }
+{
+    match text.parse::<i64>() {
+        Ok(signed) => Ok(ReferenceValueLeaf::I64(signed)),
+        Err(_) => Err(JsonRefusal::Mismatch("a i64 or a i64 as string")),
     }
 }
 
@@ -150,12 +173,22 @@ fn lend_i64(coerce: bool, json: &Value) -> Result<ReferenceValueLeaf<'static>, J
 {
     match json {
         Value::String(_) if !coerce => Err(JsonRefusal::Mismatch("a i64")),
-        Value::String(text) => match text.as_str().parse::<i64>() {
-            Ok(signed) => Ok(ReferenceValueLeaf::I64(signed)),
-            Err(_) => Err(JsonRefusal::Mismatch("a i64 or a i64 as string")),
-        },
+        Value::String(text) => lend_i64_text(text.as_str()),
         Value::Number(number) => lend_signed(number),
         _ => Err(JsonRefusal::Mismatch(Type::I64.name())),
+    }
+}
+
+/// The truth value that a text of JSON is to a field of truth values that coerces: `true` or `false`. (Not in tantivy.) Errors: those of
+/// `lend_json`.
+#[inline(always)]
+pub fn lend_bool_text(text: &str) -> Result<ReferenceValueLeaf<'static>, JsonRefusal>
+    ensures row { LendsLeaf (string text.now) (λ o. o ≡ boolean_text true text.now) result }
+    ensures no_memory { ¬ IsErrOf result JsonRefusal.Memory }
+{
+    match text.parse::<bool>() {
+        Ok(truth) => Ok(ReferenceValueLeaf::Bool(truth)),
+        Err(_) => Err(JsonRefusal::Mismatch("a i64 or a bool as string")),
     }
 }
 
@@ -167,10 +200,7 @@ fn lend_bool(coerce: bool, json: &Value) -> Result<ReferenceValueLeaf<'static>, 
 {
     match json {
         Value::Bool(truth) => Ok(ReferenceValueLeaf::Bool(*truth)),
-        Value::String(text) if coerce => match text.as_str().parse::<bool>() {
-            Ok(truth) => Ok(ReferenceValueLeaf::Bool(truth)),
-            Err(_) => Err(JsonRefusal::Mismatch("a i64 or a bool as string")),
-        },
+        Value::String(text) if coerce => lend_bool_text(text.as_str()),
         Value::String(_) | Value::Number(_) => Err(JsonRefusal::Mismatch("a boolean")),
         _ => Err(JsonRefusal::Mismatch(Type::Bool.name())),
     }
@@ -282,6 +312,29 @@ fn lend_ip_addr(json: &Value) -> Result<ReferenceValueLeaf<'static>, JsonRefusal
         Value::String(text) => lend_ip_addr_text(text.as_str()),
         Value::Number(_) => Err(JsonRefusal::Mismatch("a string with an ip addr")),
         _ => Err(JsonRefusal::Mismatch(Type::IpAddr.name())),
+    }
+}
+
+/// What a text is to a field, as a query writes it, lent from the text or from the scratch: what the same text in JSON is to a field of this
+/// type that coerces. (Not in tantivy.) A field of JSON objects takes none. Errors: those of `lend_json`.
+#[inline(always)]
+pub fn lend_text<'a>(
+    field_type: &FieldType,
+    text: &'a str,
+    scratch: &'a mut JsonScratch,
+) -> Result<ReferenceValueLeaf<'a>, JsonRefusal>
+    ensures { LendsLeaf (string text.now) (TextRow field_type.now text.now) result }
+{
+    match field_type {
+        FieldType::Str(_) => Ok(ReferenceValueLeaf::Str(text)),
+        FieldType::U64(_) => lend_u64_text(text),
+        FieldType::I64(_) => lend_i64_text(text),
+        FieldType::Bool(_) => lend_bool_text(text),
+        FieldType::Date(_) => lend_date_text(text),
+        FieldType::Facet(_) => lend_facet_text(text, scratch),
+        FieldType::Bytes(_) => lend_bytes_text(text, scratch),
+        FieldType::JsonObject(_) => Err(JsonRefusal::Mismatch("a json object")),
+        FieldType::IpAddr(_) => lend_ip_addr_text(text),
     }
 }
 

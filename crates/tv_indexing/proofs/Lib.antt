@@ -1,4 +1,7 @@
-pub mod Pieces
+pub mod Places
 pub mod Following
 pub mod Walks
 pub mod Steps
+pub mod TextSteps
+pub mod RangeSteps
+pub mod JsonRangeSteps

@@ -1,9 +1,9 @@
 -- The values that the terms of leaves stand for.
-use Rattle.std.specs.Prelude.{◌≡◌, ◌≢◌, ℕ, Bool, true, false, List, [], Option, Some, None}
+use Rattle.std.specs.Prelude.{◌≢◌, ℕ, Bool, true, false, List, [], Option, Some, None}
 use Rattle.tv_date.specs.DateTime.{truncated}
 use Rattle.tv_date.specs.declared.date_time.DateTimePrecision.TheVariants.{Seconds}
 use Rattle.tv_format.specs.Tree.{Tree, leaf, array, object, Leaf, null, text, unsigned, signed, boolean, date, facet, bytes, ip_address, tokenized}
-use Rattle.tv_term.specs.Key.{TermValue, Text, Unsigned, Signed, Truth, Date, Facet, Bytes, Address, term}
+use Rattle.tv_term.specs.Key.{TermValue, Text, Unsigned, Signed, Truth, Date, Facet, Bytes, Address, IsTerm}
 
 -- The value that the term of a leaf stands for, as it is indexed: a date is cut to the second, a text is whole. Null has none.
 abbrev pub leaf_value : Leaf → Option TermValue
@@ -26,7 +26,7 @@ tree_value (object es) = None
 
 -- there is a term, and a writer has it, exactly where the value has one
 abbrev pub HasTerm : ℕ → Option TermValue → List ℕ → Bool → Type 0
-HasTerm field (Some value) held true = (held ≢ []) × (held ≡ term field value)
+HasTerm field (Some value) held true = (held ≢ []) × IsTerm held field value
 HasTerm field (Some value) held false = ⊥
 HasTerm field None held true = ⊥
 HasTerm field None held false = Unit {0}

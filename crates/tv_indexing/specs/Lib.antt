@@ -1,6 +1,10 @@
-pub mod TermPieces
+pub mod TermPlaces
 pub mod LeafTerms
 pub mod DocumentTerms
 pub mod Payloads
 pub mod JsonLeaves
 pub mod JsonWalk
+pub mod IndexedField
+pub mod TextTerms
+pub mod TextRange
+pub mod JsonRanges

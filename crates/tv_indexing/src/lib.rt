@@ -2,16 +2,25 @@
 #![tactic(auto)]
 
 pub mod document;
+mod indexed_field;
 mod json;
 mod json_leaf;
+pub mod json_ranges;
 mod key_path;
 pub mod leaf;
 mod payload;
 mod plain;
 pub mod term_list;
 pub mod term_values_error;
+pub mod text_range;
+pub mod text_terms;
+pub mod text_terms_error;
 
 pub use document::term_values;
+pub use json_ranges::{ranges_between_texts, ranges_of_text};
 pub use leaf::write_leaf;
 pub use term_list::{TermIter, TermList};
 pub use term_values_error::TermValuesError;
+pub use text_range::{bounds_of_text, range_between_texts, range_of_text};
+pub use text_terms::terms_of_text;
+pub use text_terms_error::TextTermsError;

@@ -17,7 +17,7 @@ use tv_value::leaf::ReferenceValueLeaf;
 use tv_value::value::{ReferenceValue, Value};
 
 // Appends the term of a value without children of a field of this type.
-fn push_leaf(
+pub(crate) fn push_leaf(
     terms: &mut TermList,
     field: Field,
     wanted: Type,

@@ -1,34 +1,58 @@
-//! Terms one behind the other in one buffer.
+//! Terms in one buffer.
 
-ghost use Rattle.std.specs.Prelude.{◌≡◌, ◌≤◌, ◌++◌, ◌∷◌, ◌↔◌, [], length, take, IsTrue, OnErr};
-ghost use Rattle.std.specs.Prelude.{OnOk, slice_get, slice_range};
+ghost use Rattle.std.specs.Prelude.{◌≡◌, ◌+◌, ◌≤◌, ◌++◌, ◌∷◌, ◌↔◌, ℕ, List, [], drop, length, take};
+ghost use Rattle.std.specs.Prelude.{bytes_eq, slice_get, IfOk, IsTrue, None, Ok, OnErr, OnOk};
+ghost use Rattle.std.specs.Cmp.Lexicographic.{slice_cmp};
+ghost use Rattle.std.specs.List.{Contains, dedup};
+ghost use Rattle.std.specs.List.Sorted.{IsPermutation, IsSorted, IsSortedByKey};
+ghost use Rattle.std.specs.List.Sorted.{IsStrictlySortedBy};
 ghost use Rattle.std.specs.Option.{option_copied};
-ghost use Rattle.tv_indexing.specs.TermPieces.{joined_parts, start_at};
+ghost use Rattle.std.specs.Ordering.{nat_cmp};
+ghost use Rattle.tv_indexing.specs.TermPlaces.{bytes_at, end_of, joined_parts, place};
+ghost use Rattle.tv_term.specs.Making.{OnlyMemory};
 
 use std::alloc::{AllocError, Global};
+use std::cmp::Ordering;
+use std::fmt;
 use std::marker::Model;
+use tv_term::{Term, TermError};
 
-/// Terms one behind the other in one buffer, each as its bytes. (Not in tantivy.)
+// Where a term stands in the buffer.
+#[derive(Clone, Copy)]
+struct TermPlace {
+    start: usize,
+    end: usize,
+}
+
+// The first terms, which may stand in any order: how many they are, and within how many bytes they stand.
+#[derive(Clone, Copy)]
+struct MovedTerms {
+    len: usize,
+    bytes: usize,
+}
+
+/// Terms in one buffer, each as its bytes. (Not in tantivy.)
 ///
 /// A term that is added takes memory only where the buffer is full. `clear` keeps the buffer, so a list that serves for many documents
-/// grows to what the largest of them needs, and takes no more.
-#[derive(Debug, Drop)]
+/// grows to what the largest of them needs, and takes no more. `sort_dedup` makes a list of each term once and in order, as a term dictionary has them.
+#[derive(Drop)]
 pub struct TermList {
     bytes: Vec<u8>,
-    // Where each term ends.
-    ends: Vec<usize>,
+    places: Vec<TermPlace>,
+    // The others stand one behind the other.
+    moved: MovedTerms,
 }
 
 impl Model for TermList {
-    ghost use Rattle.std.specs.Prelude.{List, ℕ, length};
-    ghost use Rattle.tv_indexing.specs.TermPieces.{pieces, AreEnds};
+    ghost use Rattle.std.specs.Prelude.{List, ℕ};
+    ghost use Rattle.tv_indexing.specs.TermPlaces.{pieces, ArePlacesHeld};
 
     // The bytes of each term.
     ghost Value = { List (List ℕ) };
 
-    ghost view = { λ terms. pieces terms.bytes.items 0 terms.ends.items };
+    ghost view = { λ terms. pieces terms.bytes.items terms.places.items };
 
-    ghost invariant = { λ terms. AreEnds 0 (length terms.bytes.items) terms.ends.items };
+    ghost invariant = { λ terms. ArePlacesHeld terms.bytes.items terms.places.items terms.moved };
 }
 
 impl TermList {
@@ -38,7 +62,8 @@ impl TermList {
     {
         TermList {
             bytes: Vec::new(alloc),
-            ends: Vec::new(alloc),
+            places: Vec::new(alloc),
+            moved: MovedTerms { len: 0, bytes: 0 },
         }
     }
 
@@ -47,33 +72,47 @@ impl TermList {
         ensures { self.new ≡ [] }
     {
         self.bytes.clear();
-        self.ends.clear();
+        self.places.clear();
+        self.moved = MovedTerms { len: 0, bytes: 0 };
     }
 
     /// How many terms there are.
     pub fn len(&self) -> usize
         ensures { result ≡ length self.now }
     {
-        self.ends.len()
+        self.places.len()
     }
 
     /// Whether there is no term.
     pub fn is_empty(&self) -> bool
         ensures { IsTrue result ↔ (self.now ≡ []) }
     {
-        self.ends.is_empty()
+        self.places.is_empty()
     }
 
     /// The bytes of the term at this place, counted from 0, or `None` where there are no more than this many terms.
     pub fn get(&self, index: usize) -> Option<&[u8]>
         ensures { option_copied result ≡ slice_get self.now index }
     {
-        if index >= self.ends.len() {
-            return None;
+        let place = self.places.get(index)?;
+        Some(term_at(self.bytes.as_slice(), *place))
+    }
+
+    /// The term at this place, counted from 0, in memory of its own, or `None` where there are no more than this many terms.
+    ///
+    /// Errors: `Memory`. Where there are no more than this many terms, no memory is asked for.
+    pub fn term(&self, alloc: Global, index: usize) -> Result<Option<Term>, TermError>
+        ensures found { IfOk result (λ found. found ≡ slice_get self.now index) }
+        ensures missing { length self.now ≤ index → result ≡ Ok None }
+        ensures memory { OnlyMemory result }
+    {
+        match self.places.get(index) {
+            Some(place) => {
+                let bytes = term_at(self.bytes.as_slice(), *place);
+                Ok(Some(Term::wrap(alloc, bytes)?))
+            }
+            None => Ok(None),
         }
-        let start = start_at(self.ends.as_slice(), index);
-        let end = self.ends[index];
-        Some(between(self.bytes.as_slice(), start, end))
     }
 
     /// The bytes of each term, in order.
@@ -82,9 +121,41 @@ impl TermList {
     {
         TermIter {
             bytes: self.bytes.as_slice(),
-            ends: self.ends.as_slice(),
-            start: 0,
+            places: self.places.as_slice(),
         }
+    }
+
+    /// Puts the terms in rising order of their bytes, which is the order of terms. It takes no memory.
+    pub fn sort(&mut self)
+        ensures permutation { IsPermutation self.old self.new }
+        ensures sorted { IsSorted (slice_cmp nat_cmp) self.new }
+    {
+        sort_places(self.bytes.as_slice(), &mut self.places);
+        self.moved = MovedTerms {
+            len: self.places.len(),
+            bytes: self.bytes.len(),
+        };
+    }
+
+    /// Of equal terms that stand one behind the other, keeps the first. It takes no memory, and the bytes of the others stay in the buffer
+    /// until `clear`.
+    pub fn dedup(&mut self)
+        ensures { self.new ≡ dedup bytes_eq self.old }
+    {
+        dedup_places(self.bytes.as_slice(), &mut self.places);
+        self.moved = MovedTerms {
+            len: self.places.len(),
+            bytes: self.bytes.len(),
+        };
+    }
+
+    /// Puts the terms in rising order of their bytes, and keeps each once: `sort` and then `dedup`.
+    pub fn sort_dedup(&mut self)
+        ensures rising { IsStrictlySortedBy (slice_cmp nat_cmp) self.new }
+        ensures same_terms { (term : List ℕ) → Contains self.new term ↔ Contains self.old term }
+    {
+        self.sort();
+        self.dedup();
     }
 
     // Appends a term: how it starts, the path in it, the code of a value's type, and the value. Errors: memory was refused, and then the list is
@@ -96,6 +167,7 @@ impl TermList {
         code: &'p [u8],
         payload: &'p [u8],
     ) -> Result<(), AllocError>
+        requires { 5 ≤ length start.now + length code.now }
         ensures made { OnOk result
             (self.new ≡ self.old ++ (start.now ++ (path.now ++ (code.now ++ payload.now))) ∷ []) }
         ensures unchanged { OnErr result (self.new ≡ self.old) }
@@ -105,11 +177,12 @@ impl TermList {
 
     // Appends a term that is given in parts. Errors: memory was refused, and then the list is as it was.
     fn push_parts(&mut self, parts: &[&[u8]]) -> Result<(), AllocError>
+        requires { 5 ≤ length (joined_parts parts.now) }
         ensures made { OnOk result (self.new ≡ self.old ++ joined_parts parts.now ∷ []) }
         ensures unchanged { OnErr result (self.new ≡ self.old) }
     {
         let start = self.bytes.len();
-        match append(&mut self.bytes, &mut self.ends, parts) {
+        match append(&mut self.bytes, &mut self.places, parts) {
             Ok(()) => Ok(()),
             Err(error) => {
                 self.bytes.truncate(start);
@@ -118,46 +191,93 @@ impl TermList {
         }
     }
 
-    // Takes the terms from this place on off the list.
+    // Takes the terms from this place on off the list. The bytes of those that were appended since the last `sort` or `dedup` go too.
     pub(crate) fn truncate(&mut self, len: usize)
         requires { len ≤ length self.old }
         ensures { self.new ≡ take len self.old }
     {
-        let end = start_at(self.ends.as_slice(), len);
-        self.ends.truncate(len);
+        self.places.truncate(len);
+        self.moved.len = self.moved.len.min(len);
+        let end = end_of(self.moved, self.places.as_slice());
         self.bytes.truncate(end);
     }
 }
 
-// Where the term at this place begins: where the one before it ends.
-fn start_at(ends: &[usize], index: usize) -> usize
-    requires { index ≤ length ends.now }
-    ensures { result ≡ start_at 0 ends.now index }
-{
-    if index == 0 { 0 } else { ends[index - 1] }
+/// The bytes of each term, as a list.
+impl fmt::Debug for TermList {
+    fn fmt<W: fmt::Write>(&self, f: &mut fmt::Formatter<W>) -> fmt::Result {
+        f.debug_list().entries(self.iter()).finish()
+    }
 }
 
-// The bytes from one place to another.
-fn between(bytes: &[u8], start: usize, end: usize) -> &[u8]
-    requires order { start ≤ end }
-    requires inside { end ≤ length bytes.now }
-    ensures { result.now ≡ slice_range bytes.now start end }
+// The bytes at a place, or those of them that there are.
+fn term_at(bytes: &[u8], place: TermPlace) -> &[u8]
+    ensures { result.now ≡ bytes_at bytes.now place }
 {
+    let end = place.end.min(bytes.len());
+    let start = place.start.min(end);
     &bytes[start..end]
 }
 
-// Appends the parts, and where the last of them ends. Errors: memory was refused, and then a beginning of the parts may be appended, and
-// no end.
-fn append(bytes: &mut Vec<u8>, ends: &mut Vec<usize>, parts: &[&[u8]]) -> Result<(), AllocError>
-    ensures bytes { OnOk result (bytes.new.items ≡ bytes.old.items ++ joined_parts parts.now) }
-    ensures end { OnOk result (ends.new.items ≡ ends.old.items ++ length bytes.new.items ∷ []) }
-    ensures before { take (length bytes.old.items) bytes.new.items ≡ bytes.old.items }
-    ensures ends { OnErr result (ends.new.items ≡ ends.old.items) }
+// Where the last term ends, and where there is none behind the moved ones, where they do.
+fn end_of(moved: MovedTerms, places: &[TermPlace]) -> usize
+    ensures { result ≡ end_of moved.bytes (drop moved.len places.now) }
 {
+    match places.last() {
+        Some(last) if moved.len < places.len() => last.end,
+        _ => moved.bytes,
+    }
+}
+
+// How the terms at two places compare.
+fn compared(bytes: &[u8], first: TermPlace, second: TermPlace) -> Ordering
+    ensures { result ≡ slice_cmp nat_cmp (bytes_at bytes.now first) (bytes_at bytes.now second) }
+{
+    term_at(bytes, first).cmp(term_at(bytes, second))
+}
+
+// Whether the terms at two places are equal.
+fn are_equal(bytes: &[u8], first: TermPlace, second: TermPlace) -> bool
+    ensures { result ≡ bytes_eq (bytes_at bytes.now first) (bytes_at bytes.now second) }
+{
+    term_at(bytes, first) == term_at(bytes, second)
+}
+
+// Puts the places in the order of their terms.
+fn sort_places(bytes: &[u8], places: &mut Vec<TermPlace>)
+    ensures permutation { IsPermutation places.old.items places.new.items }
+    ensures sorted { IsSortedByKey (bytes_at bytes.now) (slice_cmp nat_cmp) places.new.items }
+{
+    places.sort_unstable_by(|first, second| compared(bytes, *first, *second));
+}
+
+// Of the places of equal terms that stand one behind the other, keeps the first.
+fn dedup_places(bytes: &[u8], places: &mut Vec<TermPlace>)
+    ensures { places.new.items
+        ≡ dedup (λ x y. bytes_eq (bytes_at bytes.now x) (bytes_at bytes.now y)) places.old.items }
+{
+    places.dedup_by(|later, kept| are_equal(bytes, *later, *kept));
+}
+
+// Appends the parts, and the place where they stand. Errors: memory was refused, and then a beginning of the parts may be appended, and
+// no place.
+fn append(
+    bytes: &mut Vec<u8>,
+    places: &mut Vec<TermPlace>,
+    parts: &[&[u8]],
+) -> Result<(), AllocError>
+    ensures bytes { OnOk result (bytes.new.items ≡ bytes.old.items ++ joined_parts parts.now) }
+    ensures place { OnOk result (places.new.items
+        ≡ places.old.items ++ place (length bytes.old.items) (length bytes.new.items) ∷ []) }
+    ensures before { take (length bytes.old.items) bytes.new.items ≡ bytes.old.items }
+    ensures places { OnErr result (places.new.items ≡ places.old.items) }
+{
+    let start = bytes.len();
     for part in parts {
         bytes.extend_from_slice(part)?;
     }
-    ends.push(bytes.len())?;
+    let end = bytes.len();
+    places.push(TermPlace { start, end })?;
     Ok(())
 }
 
@@ -165,20 +285,17 @@ fn append(bytes: &mut Vec<u8>, ends: &mut Vec<usize>, parts: &[&[u8]]) -> Result
 #[derive(Drop)]
 pub struct TermIter<'a> {
     bytes: &'a [u8],
-    ends: &'a [usize],
-    start: usize,
+    places: &'a [TermPlace],
 }
 
 impl<'a> Model for TermIter<'a> {
-    ghost use Rattle.std.specs.Prelude.{List, ℕ, length};
-    ghost use Rattle.tv_indexing.specs.TermPieces.{pieces, AreEnds};
+    ghost use Rattle.std.specs.Prelude.{List, ℕ};
+    ghost use Rattle.tv_indexing.specs.TermPlaces.{pieces};
 
     // The bytes of each term.
     ghost Value = { List (List ℕ) };
 
-    ghost view = { λ terms. pieces terms.bytes.now terms.start terms.ends.now };
-
-    ghost invariant = { λ terms. AreEnds terms.start (length terms.bytes.now) terms.ends.now };
+    ghost view = { λ terms. pieces terms.bytes.now terms.places.now };
 }
 
 /// Gives the bytes of each term that is left once, and then `None`.
@@ -192,10 +309,8 @@ impl<'a> Iterator for TermIter<'a> {
     ghost remaining = { item_count (λ terms. terms) };
 
     fn next(&mut self) -> Option<&'a [u8]> {
-        let (first, others) = self.ends.split_first()?;
-        let term = between(self.bytes, self.start, *first);
-        self.start = *first;
-        self.ends = others;
-        Some(term)
+        let (first, others) = self.places.split_first()?;
+        self.places = others;
+        Some(term_at(self.bytes, *first))
     }
 }

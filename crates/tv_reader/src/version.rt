@@ -1,6 +1,6 @@
 //! The versions of the store format.
 
-ghost use Rattle.std.specs.Prelude.{◌≡◌, Ok, Err, MatchOption};
+ghost use Rattle.std.specs.Prelude.{◌≡◌, Ok, Err, MatchOption, Some};
 ghost use Rattle.tv_format.specs.WriteVersion.{written_version};
 ghost use Rattle.tv_reader.specs.Version.{version_of_number, version_of};
 
@@ -31,6 +31,17 @@ impl DocStoreVersion {
             2 => Ok(DocStoreVersion::V2),
             3 => Ok(DocStoreVersion::V3),
             _ => Err(DeserializeError::UnsupportedVersion(number, 3)),
+        }
+    }
+
+    /// The number of the version, of which `from_u32` makes it again. (Not in tantivy.)
+    pub fn to_u32(self) -> u32
+        ensures { version_of_number result ≡ Some self }
+    {
+        match self {
+            DocStoreVersion::V1 => 1,
+            DocStoreVersion::V2 => 2,
+            DocStoreVersion::V3 => 3,
         }
     }
 

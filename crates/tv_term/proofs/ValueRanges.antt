@@ -1,101 +1,99 @@
--- The terms between two bounds of values.
-use Rattle.std.proofs.Common.{◌≡◌, ℕ, ◌<◌, ◌^◌, ◌↔◌, List, [], ◌∷◌, ◌++◌, IsTrue, Option, Some, None, refl, subst, sym, ◌∙◌, ap, append_assoc, append-nil}
-use Rattle.std.specs.Int.{to_be_bytes, w32}
+-- What is left of a range within two bounds, and the terms between two bounds of values.
+use Rattle.std.proofs.Common.{◌≡◌, ℕ, ◌↔◌, true, false, List, [], ◌∷◌, ◌++◌, IsTrue, Option, Some, None, refl, subst, sym, ◌∙◌, ap}
 use Rattle.std.specs.Global.{Vec}
 use Rattle.std.specs.Ordering.{is_le, is_lt, nat_cmp}
 use Rattle.std.specs.Range.Bound.{bound_map}
 use Rattle.std.specs.Cmp.Lexicographic.{slice_cmp}
 use Rattle.std.specs.declared.ops.Bound.{Bound}
 use Rattle.std.specs.declared.ops.Bound.TheVariants.{Included, Excluded, Unbounded}
-use Rattle.tv_base.specs.Sink.{IsPrefix}
-use Rattle.tv_options.specs.Types.{code}
 use Rattle.tv_options.specs.declared.types.TypeTag.{TypeTag}
-use Rattle.tv_term.specs.Key.{TermValue, payload, term, tag_of, IsTerm}
-use Rattle.tv_term.specs.Range.{EndsPrefix, HasTerms, IsFrom, IsBelow, IsFromBound, IsToBound, IsBetween, IsTypedTerm, IsBehindTerm, StartsAt, EndsAt, typed_start}
+use Rattle.tv_term.specs.Key.{TermValue, IsTerm}
+use Rattle.tv_term.specs.Range.{AreTermsOf, HasTerms, IsBetween, IsFrom, IsFromBound, IsFromBytes, IsInRange, IsOfType, IsToBound, IsToBytes, LeavesBetween, LeavesFrom, LeavesTo}
+use Rattle.tv_term.specs.Within.{ends_below, is_below}
 use Rattle.tv_term.specs.declared.range.TermRange.{TermRange}
+use Rattle.tv_term.proofs.ByteRanges.{before-test, next-test}
 use Rattle.tv_term.proofs.Terms.{values-order}
-use Rattle.tv_term.proofs.TermRanges.{term-prefix}
-use Rattle.tv_term.proofs.ByteRanges.{from-shorter, prefix-between, from-prefix, next-test, before-test}
+use Rattle.tv_term.proofs.WithinRanges.{below_by, below_then, is_from, upto_of, upto_then}
 
--- a term of a type begins with the bytes of its field and type
-typed-prefix : (id : ℕ) (t : TypeTag) (value : TermValue) (bytes : List ℕ) → IsTypedTerm id t value bytes → (rest : List ℕ) × (bytes ≡ typed_start id t ++ rest)
-typed-prefix id t value bytes (is, kind) =
-    (payload value, is.bytes_are ∙ ap (λ k. to_be_bytes w32 id ++ code k ∷ payload value) kind ∙ sym (append_assoc (to_be_bytes w32 id) (code t ∷ []) (payload value)))
+-- ---- what isn't below some bytes
 
-behind-prefix : (id : ℕ) (t : TypeTag) (value : TermValue) (bytes : List ℕ) → IsBehindTerm id t value bytes → (rest : List ℕ) × (bytes ≡ typed_start id t ++ rest)
-behind-prefix id t value bytes (before, typed, is) =
-    let rest = typed-prefix id t value before typed in
-    (rest.0 ++ 0 ∷ [], is ∙ ap (λ z. z ++ 0 ∷ []) rest.1 ∙ append_assoc (typed_start id t) rest.0 (0 ∷ []))
+pub starts_later : (start least : List ℕ) (end : Option (Vec ℕ)) (bytes : List ℕ) → is_below start least ≡ true → IsInRange least end bytes ↔ (IsInRange start end bytes × IsFrom least bytes)
+starts_later start least end bytes h = ((λ i. ((upto_then start least bytes (upto_of _ h) i.0, i.1), i.0)), (λ w. (w.1, w.0.1)))
 
-start-prefix : (id : ℕ) (t : TypeTag) (lo : Bound TermValue) (start : List ℕ) → StartsAt id t lo start → (rest : List ℕ) × (start ≡ typed_start id t ++ rest)
-start-prefix id t (Included least) start s = typed-prefix id t least start s
-start-prefix id t (Excluded under) start s = behind-prefix id t under start s
-start-prefix id t Unbounded start s = ([], s.0 ∙ sym (append-nil (typed_start id t)))
+pub starts_already : (start least : List ℕ) (end : Option (Vec ℕ)) (bytes : List ℕ) → is_below start least ≡ false → IsInRange start end bytes ↔ (IsInRange start end bytes × IsFrom least bytes)
+starts_already start least end bytes h = ((λ i. (i, upto_then least start bytes (is_from least start h) i.0)), (λ w. w.0))
 
--- what is from the start on is from the field's and type's bytes on
-start-from : (id : ℕ) (t : TypeTag) (lo : Bound TermValue) (start bytes : List ℕ) → StartsAt id t lo start → IsFrom start bytes → IsFrom (typed_start id t) bytes
-start-from id t lo start bytes s from =
-    let rest = start-prefix id t lo start s in
-    from-shorter (typed_start id t) rest.0 bytes (subst (λ z. IsFrom z bytes) rest.1 from)
+-- ---- what is below some bytes
 
--- and what is below the end too is of that field and type
-end-within : (id : ℕ) (t : TypeTag) (hi : Bound TermValue) (end : Option (Vec ℕ)) (bytes : List ℕ) → (EndsPrefix (typed_start id t) end → IsFrom (typed_start id t) bytes → IsBelow end bytes → IsPrefix (typed_start id t) bytes)
-    → EndsAt id t hi end → IsFrom (typed_start id t) bytes → IsBelow end bytes → IsPrefix (typed_start id t) bytes
-end-within id t (Included most) None bytes unlimited e from under = absurd e
-end-within id t (Included most) (Some end) bytes unlimited e from under =
-    let rest = behind-prefix id t most end.items e in
-    prefix-between (typed_start id t) rest.0 bytes from (subst (λ z. IsTrue (is_lt (slice_cmp nat_cmp bytes z))) rest.1 under)
-end-within id t (Excluded above) None bytes unlimited e from under = absurd e
-end-within id t (Excluded above) (Some end) bytes unlimited e from under =
-    let rest = typed-prefix id t above end.items e in
-    prefix-between (typed_start id t) rest.0 bytes from (subst (λ z. IsTrue (is_lt (slice_cmp nat_cmp bytes z))) rest.1 under)
-end-within id t Unbounded end bytes unlimited e from under = unlimited e from under
+pub ends_sooner : (start : List ℕ) (old : Option (Vec ℕ)) (end : Vec ℕ) (bytes : List ℕ) → ends_below old end.items ≡ false → IsInRange start (Some end) bytes ↔ (IsInRange start old bytes × IsTrue (is_lt (slice_cmp nat_cmp bytes end.items)))
+ends_sooner start None end bytes h = ((λ i. ((i.0, tt), i.1)), (λ w. (w.0.0, w.1)))
+ends_sooner start (Some old) end bytes h = ((λ i. ((i.0, below_then bytes end.items old.items i.1 (is_from end.items old.items h)), i.1)), (λ w. (w.0.0, w.1)))
 
--- of a term of that field and type: it is from the start on where its value is from the bound on
-start-bound : (id : ℕ) (t : TypeTag) (lo : Bound TermValue) (start bytes : List ℕ) (value : TermValue) → StartsAt id t lo start → IsTerm bytes id value → IsPrefix (typed_start id t) bytes
-    → IsFrom start bytes ↔ IsFromBound lo value
-start-bound id t (Included least) start bytes value s is prefix =
-    let order = ap is_le (values-order start bytes id least value s.0 is) in ((λ h. sym order ∙ h), (λ h. order ∙ h))
-start-bound id t (Excluded under) start bytes value (before, typed, behind) is prefix =
-    let order = ap (λ z. is_le (slice_cmp nat_cmp z bytes)) behind ∙ next-test before bytes ∙ ap is_lt (values-order before bytes id under value typed.0 is) in
-    ((λ h. sym order ∙ h), (λ h. order ∙ h))
-start-bound id t Unbounded start bytes value s is prefix = ((λ h. tt), (λ h. subst (λ z. IsFrom z bytes) (sym s.0) (from-prefix (typed_start id t) bytes prefix)))
+pub ends_already : (start : List ℕ) (old : Option (Vec ℕ)) (end bytes : List ℕ) → ends_below old end ≡ true → IsInRange start old bytes ↔ (IsInRange start old bytes × IsTrue (is_lt (slice_cmp nat_cmp bytes end)))
+ends_already start None end bytes h = cc
+ends_already start (Some old) end bytes h = ((λ i. (i, below_by bytes old.items end _ refl (upto_of _ i.1) h)), (λ w. w.0))
 
--- it is below the end where its value is up to the bound
-end-bound : (id : ℕ) (t : TypeTag) (hi : Bound TermValue) (end : Option (Vec ℕ)) (bytes : List ℕ) (value : TermValue) → (EndsPrefix (typed_start id t) end → IsBelow end bytes)
-    → EndsAt id t hi end → IsTerm bytes id value → IsBelow end bytes ↔ IsToBound hi value
-end-bound id t (Included most) None bytes value unlimited e is = absurd e
-end-bound id t (Included most) (Some end) bytes value unlimited (before, typed, behind) is =
-    let order = ap (λ z. is_lt (slice_cmp nat_cmp bytes z)) behind ∙ before-test bytes before ∙ ap is_le (values-order bytes before id value most is typed.0) in
-    ((λ h. sym order ∙ h), (λ h. order ∙ h))
-end-bound id t (Excluded above) None bytes value unlimited e is = absurd e
-end-bound id t (Excluded above) (Some end) bytes value unlimited e is =
-    let order = ap is_lt (values-order bytes end.items id value above is e.0) in ((λ h. sym order ∙ h), (λ h. order ∙ h))
-end-bound id t Unbounded end bytes value unlimited e is = ((λ h. tt), (λ h. unlimited e))
+-- ---- both
 
-start-small : (id : ℕ) (t : TypeTag) (lo : Bound TermValue) (start : List ℕ) → StartsAt id t lo start → id < 2 ^ 32
-start-small id t (Included least) start s = s.0.field_fits
-start-small id t (Excluded under) start (before, typed, behind) = typed.0.field_fits
-start-small id t Unbounded start s = s.1
+pub starts_behind : (all left : TermRange) (below next : List ℕ) → next ≡ below ++ 0 ∷ [] → LeavesFrom all (Included next) left → LeavesFrom all (Excluded below) left
+starts_behind all left below next is leaves bytes =
+    let same = ap (λ z. is_le (slice_cmp nat_cmp z bytes)) is ∙ next-test below bytes in
+    let w = leaves bytes in ((λ i. let b = w.0 i in (b.0, sym same ∙ b.1)), (λ h. w.1 (h.0, same ∙ h.1)))
 
--- the terms of a range that starts and ends at two bounds
-pub between : (range : TermRange) (id : ℕ) (t : TypeTag) (lo hi : Bound TermValue) → StartsAt id t lo range.start.items → EndsAt id t hi range.end → HasTerms (IsBetween id t lo hi) range
-between range id t lo hi s e bytes f value are is =
-    let small = start-small id t lo range.start.items s in
-    let typed : IsPrefix (typed_start id t) (term f value) → (f ≡ id) × (tag_of value ≡ t) = λ p. let b = (term-prefix id f t [] value small is.field_fits).0 p in (b.0, b.1) in
-    let unlimited : EndsPrefix (typed_start id t) range.end → IsFrom (typed_start id t) bytes → IsBelow range.end bytes → IsPrefix (typed_start id t) bytes = λ ends from under. (ends bytes are).0 (from, under) in (
-      (λ i. let p = end-within id t hi range.end bytes unlimited e (start-from id t lo range.start.items bytes s i.0) i.1 in
-          let of = typed (p.0, sym is.bytes_are ∙ p.1) in
-          let here = subst (λ n. IsTerm bytes n value) of.0 is in (
-            of.0,
-            of.1,
-            (start-bound id t lo range.start.items bytes value s here p).0 i.0,
-            (end-bound id t hi range.end bytes value (λ ends. ((ends bytes are).1 p).1) e here).0 i.1,
-          )),
-      (λ b. let here = subst (λ n. IsTerm bytes n value) b.0 is in
-          let begins = (term-prefix id id t [] value small small).1 (refl, b.1, (payload value, refl)) in
-          let p : IsPrefix (typed_start id t) bytes = (begins.0, here.bytes_are ∙ begins.1) in
-          ((start-bound id t lo range.start.items bytes value s here p).1 b.2, (end-bound id t hi range.end bytes value (λ ends. ((ends bytes are).1 p).1) e here).1 b.3)),
+pub ends_behind : (all left : TermRange) (most next : List ℕ) → next ≡ most ++ 0 ∷ [] → LeavesTo all (Excluded next) left → LeavesTo all (Included most) left
+ends_behind all left most next is leaves bytes =
+    let same = ap (λ z. is_lt (slice_cmp nat_cmp bytes z)) is ∙ before-test bytes most in
+    let w = leaves bytes in ((λ i. let b = w.0 i in (b.0, sym same ∙ b.1)), (λ h. w.1 (h.0, same ∙ h.1)))
+
+pub unbounded_start : (all : TermRange) → LeavesFrom all Unbounded all
+unbounded_start all bytes = ((λ i. (i, tt)), (λ h. h.0))
+
+pub unbounded_end : (all : TermRange) → LeavesTo all Unbounded all
+unbounded_end all bytes = ((λ i. (i, tt)), (λ h. h.0))
+
+pub both_bounds : (all from left : TermRange) (start end : Bound (List ℕ)) → LeavesFrom all start from → LeavesTo from end left → LeavesBetween all start end left
+both_bounds all from left start end s e bytes =
+    let w = s bytes in
+    let v = e bytes in (
+      (λ i. let b = v.0 i in let a = w.0 b.0 in (a.0, a.1, b.1)),
+      (λ h. v.1 (w.1 (h.0, h.1), h.2)),
+    )
+
+-- ---- the terms between two bounds of values
+
+from_bound : (id : ℕ) (lo : Bound TermValue) (start : Bound (List ℕ)) (bytes : List ℕ) (value : TermValue) → AreTermsOf id lo start → IsTerm bytes id value → IsFromBytes start bytes ↔ IsFromBound lo value
+from_bound id (Included least) (Included start) bytes value s is = let order = ap is_le (values-order start bytes id least value s is) in ((λ h. sym order ∙ h), (λ h. order ∙ h))
+from_bound id (Excluded under) (Excluded start) bytes value s is = let order = ap is_lt (values-order start bytes id under value s is) in ((λ h. sym order ∙ h), (λ h. order ∙ h))
+from_bound id Unbounded Unbounded bytes value s is = ((λ h. tt), (λ h. tt))
+from_bound id (Included least) (Excluded start) bytes value s is = absurd s
+from_bound id (Included least) Unbounded bytes value s is = absurd s
+from_bound id (Excluded under) (Included start) bytes value s is = absurd s
+from_bound id (Excluded under) Unbounded bytes value s is = absurd s
+from_bound id Unbounded (Included start) bytes value s is = absurd s
+from_bound id Unbounded (Excluded start) bytes value s is = absurd s
+
+to_bound : (id : ℕ) (hi : Bound TermValue) (end : Bound (List ℕ)) (bytes : List ℕ) (value : TermValue) → AreTermsOf id hi end → IsTerm bytes id value → IsToBytes end bytes ↔ IsToBound hi value
+to_bound id (Included most) (Included end) bytes value e is = let order = ap is_le (values-order bytes end id value most is e) in ((λ h. sym order ∙ h), (λ h. order ∙ h))
+to_bound id (Excluded above) (Excluded end) bytes value e is = let order = ap is_lt (values-order bytes end id value above is e) in ((λ h. sym order ∙ h), (λ h. order ∙ h))
+to_bound id Unbounded Unbounded bytes value e is = ((λ h. tt), (λ h. tt))
+to_bound id (Included most) (Excluded end) bytes value e is = absurd e
+to_bound id (Included most) Unbounded bytes value e is = absurd e
+to_bound id (Excluded above) (Included end) bytes value e is = absurd e
+to_bound id (Excluded above) Unbounded bytes value e is = absurd e
+to_bound id Unbounded (Included end) bytes value e is = absurd e
+to_bound id Unbounded (Excluded end) bytes value e is = absurd e
+
+pub values_between : (all left : TermRange) (id : ℕ) (t : TypeTag) (lo hi : Bound TermValue) (start end : Bound (List ℕ)) → HasTerms (IsOfType id t) all → AreTermsOf id lo start → AreTermsOf id hi end → LeavesBetween all start end left
+    → HasTerms (IsBetween id t lo hi) left
+values_between all left id t lo hi start end has s e leaves bytes f value are is =
+    let w = leaves bytes in
+    let inside = has bytes f value are is in (
+      (λ i. let b = w.0 i in
+          let of = inside.0 b.0 in
+          let here = subst (λ n. IsTerm bytes n value) of.0 is in
+          (of.0, of.1, (from_bound id lo start bytes value s here).0 b.1, (to_bound id hi end bytes value e here).0 b.2)),
+      (λ q. let here = subst (λ n. IsTerm bytes n value) q.0 is in
+          w.1 (inside.1 (q.0, q.1), (from_bound id lo start bytes value s here).1 q.2, (to_bound id hi end bytes value e here).1 q.3)),
     )
 
 -- two maps of a bound, one after the other

@@ -1,5 +1,5 @@
 -- What a term stands for, its bytes, and the order of both.
-use Rattle.std.specs.Prelude.{◌≡◌, ℕ, ◌+◌, ◌-◌, ◌<◌, ◌^◌, Bool, if◌then◌else◌, List, [], ◌∷◌, ◌++◌, ℤ, pos, negsuc, FitsSigned, ◌≢◌, IsUtf8}
+use Rattle.std.specs.Prelude.{◌≡◌, nat_lt, ℕ, ◌+◌, ◌-◌, ◌<◌, ◌^◌, Bool, if◌then◌else◌, List, [], ◌∷◌, ◌++◌, ℤ, pos, negsuc, FitsSigned, ◌≢◌, IsUtf8}
 use Rattle.std.specs.List.{AllByRecursion}
 use Rattle.std.specs.Int.{to_be_bytes, w32, w64, w128}
 use Rattle.std.specs.Ordering.{nat_cmp, int_cmp, bool_cmp, ordering_then}
@@ -34,6 +34,10 @@ tag_of (Facet bytes) = tag.Facet
 tag_of (Bytes bytes) = tag.Bytes
 tag_of (Address n) = tag.IpAddr
 tag_of (Json path value) = tag.Json
+
+-- a number of a JSON value: one that fits a signed one of 64 bits stands as a signed one
+abbrev pub json_number : ℕ → TermValue
+json_number n = if nat_lt n (2 ^ 63) then Signed (pos n) else Unsigned n
 
 -- the letter of the value's type
 abbrev pub value_code : TermValue → ℕ

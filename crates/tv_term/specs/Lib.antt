@@ -1,4 +1,5 @@
 pub mod Key
+pub mod Within
 pub mod Reading
 pub mod Lending
 pub mod FastValue
@@ -6,6 +7,4 @@ pub mod FastValueLaws
 pub mod Range
 pub mod Segments
 pub mod Making
-pub mod FacetCounting
-pub mod ChildPlaces
 pub mod Printed

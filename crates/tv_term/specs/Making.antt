@@ -24,7 +24,10 @@ use Rattle.std.specs.Prelude.{◌≡◌, ◌≢◌, ◌↔◌, ℕ, ℤ, Bool, L
 use Rattle.std.specs.Borrow.{Bor}
 use Rattle.std.specs.declared.alloc.Global.{Global}
 use Rattle.tv_base.specs.JsonPath.{joined_path}
+use Rattle.std.specs.declared.ops.Bound.{Bound}
+use Rattle.std.specs.declared.ops.Bound.TheVariants.{Included, Excluded, Unbounded}
 use Rattle.tv_date.specs.DateTime.{truncated}
+use Rattle.tv_date.specs.declared.date_time.DateTime.{DateTime}
 use Rattle.tv_date.specs.declared.date_time.DateTimePrecision.TheVariants.{Seconds}
 use Rattle.tv_term.specs.Key.{TermValue, Date, Json, HasNoZero, IsTerm, IsJsonTerm, AppendsCoded}
 use Rattle.tv_term.specs.Range.{HasTerms, IsAtPath}
@@ -66,6 +69,15 @@ MakesSegmentsTerm old new field segments result = Makes (λ bytes. IsJsonTerm by
 -- A date is indexed as this value: it is cut to the second, towards 1970.
 abbrev pub indexed_date : ℤ → TermValue
 indexed_date nanoseconds = Date (truncated Seconds nanoseconds)
+
+abbrev pub date_value : DateTime → TermValue
+date_value date = Date date.nanoseconds
+
+-- the second of a bound of dates, which is within a range itself
+abbrev pub second_within : Bound DateTime → Bound TermValue
+second_within (Included date) = Included (indexed_date date.nanoseconds)
+second_within (Excluded date) = Included (indexed_date date.nanoseconds)
+second_within Unbounded = Unbounded
 
 pub record AppendsValue {E : Type 0} (old new : List ℕ) (value : TermValue) (result : Result (Unit {0}) E) : Type 0 where
   pub appended : OnOk result (AppendsCoded old new value)

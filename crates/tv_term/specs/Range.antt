@@ -1,5 +1,5 @@
 -- Ranges of byte strings by their order, and which terms are in one.
-use Rattle.std.specs.Prelude.{ℕ, ◌↔◌, ◌≡◌, ◌≢◌, ◌<◌, ◌^◌, List, [], ◌∷◌, ◌++◌, Option, Some, None, IsTrue}
+use Rattle.std.specs.Prelude.{ℕ, ◌↔◌, ◌≡◌, ◌≢◌, List, Option, Some, None, IsTrue}
 use Rattle.std.specs.Ordering.{is_le, is_lt, nat_cmp}
 use Rattle.std.specs.Cmp.Lexicographic.{slice_cmp}
 use Rattle.std.specs.Global.{Vec}
@@ -8,8 +8,6 @@ use Rattle.std.specs.declared.ops.Bound.TheVariants.{Included, Excluded, Unbound
 use Rattle.tv_base.specs.Facet.{Descends}
 use Rattle.tv_base.specs.Sink.{IsPrefix}
 use Rattle.tv_base.specs.Source.{AllBytes}
-use Rattle.std.specs.Int.{to_be_bytes, w32}
-use Rattle.tv_options.specs.Types.{code}
 use Rattle.tv_options.specs.declared.types.TypeTag.{TypeTag}
 use Rattle.tv_term.specs.Key.{TermValue, Text, Facet, Json, IsTerm, tag_of, payload, value_cmp}
 use Rattle.tv_term.specs.declared.range.TermRange.{TermRange}
@@ -87,30 +85,34 @@ IsToBound Unbounded value = Unit {0}
 abbrev pub IsBetween : ℕ → TypeTag → Bound TermValue → Bound TermValue → ℕ → TermValue → Type 0
 IsBetween id type_tag start end field value = (field ≡ id) × (tag_of value ≡ type_tag) × IsFromBound start value × IsToBound end value
 
--- ---- the bytes of bounds, for private clauses
+-- the terms of the values of a bound
+abbrev pub AreTermsOf : ℕ → Bound TermValue → Bound (List ℕ) → Type 0
+AreTermsOf id (Included value) (Included bytes) = IsTerm bytes id value
+AreTermsOf id (Excluded value) (Excluded bytes) = IsTerm bytes id value
+AreTermsOf id Unbounded Unbounded = Unit {0}
+AreTermsOf id value bytes = ⊥
 
--- the bytes of the term of a value of this type
-abbrev pub IsTypedTerm : ℕ → TypeTag → TermValue → List ℕ → Type 0
-IsTypedTerm id type_tag value bytes = IsTerm bytes id value × (tag_of value ≡ type_tag)
+-- ---- what is left of a range
 
--- the same, with a zero behind them
-abbrev pub IsBehindTerm : ℕ → TypeTag → TermValue → List ℕ → Type 0
-IsBehindTerm id type_tag value bytes = (before : List ℕ) × IsTypedTerm id type_tag value before × (bytes ≡ before ++ 0 ∷ [])
+-- bytes from a bound on
+abbrev pub IsFromBytes : Bound (List ℕ) → List ℕ → Type 0
+IsFromBytes (Included least) bytes = IsTrue (is_le (slice_cmp nat_cmp least bytes))
+IsFromBytes (Excluded below) bytes = IsTrue (is_lt (slice_cmp nat_cmp below bytes))
+IsFromBytes Unbounded bytes = Unit {0}
 
--- the first bytes of the terms of this field and type
-abbrev pub typed_start : ℕ → TypeTag → List ℕ
-typed_start id type_tag = to_be_bytes w32 id ++ code type_tag ∷ []
+-- bytes up to a bound
+abbrev pub IsToBytes : Bound (List ℕ) → List ℕ → Type 0
+IsToBytes (Included most) bytes = IsTrue (is_le (slice_cmp nat_cmp bytes most))
+IsToBytes (Excluded above) bytes = IsTrue (is_lt (slice_cmp nat_cmp bytes above))
+IsToBytes Unbounded bytes = Unit {0}
 
--- the least bytes of the terms from a bound on
-abbrev pub StartsAt : ℕ → TypeTag → Bound TermValue → List ℕ → Type 0
-StartsAt id type_tag (Included least) bytes = IsTypedTerm id type_tag least bytes
-StartsAt id type_tag (Excluded below) bytes = IsBehindTerm id type_tag below bytes
-StartsAt id type_tag Unbounded bytes = (bytes ≡ typed_start id type_tag) × (id < 2 ^ 32)
+-- just the byte strings that are in a range and within both bounds
+abbrev pub LeavesBetween : TermRange → Bound (List ℕ) → Bound (List ℕ) → TermRange → Type 0
+LeavesBetween all start end left = (bytes : List ℕ) → IsIn left bytes ↔ (IsIn all bytes × IsFromBytes start bytes × IsToBytes end bytes)
 
--- the least bytes above those of the terms up to a bound
-abbrev pub EndsAt : ℕ → TypeTag → Bound TermValue → Option (Vec ℕ) → Type 0
-EndsAt id type_tag (Included most) None = ⊥
-EndsAt id type_tag (Included most) (Some end) = IsBehindTerm id type_tag most end.items
-EndsAt id type_tag (Excluded above) None = ⊥
-EndsAt id type_tag (Excluded above) (Some end) = IsTypedTerm id type_tag above end.items
-EndsAt id type_tag Unbounded end = EndsPrefix (typed_start id type_tag) end
+-- those from a bound on, and those up to one
+abbrev pub LeavesFrom : TermRange → Bound (List ℕ) → TermRange → Type 0
+LeavesFrom all start left = (bytes : List ℕ) → IsIn left bytes ↔ (IsIn all bytes × IsFromBytes start bytes)
+
+abbrev pub LeavesTo : TermRange → Bound (List ℕ) → TermRange → Type 0
+LeavesTo all end left = (bytes : List ℕ) → IsIn left bytes ↔ (IsIn all bytes × IsToBytes end bytes)

@@ -1,7 +1,6 @@
 //! Terms: a field and a value as bytes, whose order is the order of values.
 #![tactic(auto)]
 
-pub mod facet_counts;
 pub mod fast_value;
 pub mod laws;
 pub mod range;
@@ -11,7 +10,6 @@ pub mod term_error;
 pub mod value_bytes;
 pub mod writer;
 
-pub use facet_counts::{FacetCount, FacetCountsError, count_child_facets};
 pub use fast_value::FastValue;
 pub use range::{TermRange, successor};
 pub use term::Term;

@@ -1,28 +1,68 @@
 //! Ranges of terms, as a term dictionary goes over them.
 
-ghost use Rattle.std.specs.Prelude.{◌≡◌, ◌↔◌, ◌≤◌, ◌<◌, ◌+◌, ℕ, IsTrue, IfOk, length, option_map};
-ghost use Rattle.std.specs.Prelude.{slice_index};
+ghost use Rattle.std.specs.Prelude.{◌≡◌, ◌↔◌, ◌≤◌, ◌<◌, ◌+◌, ◌++◌, ◌∷◌, [], ℕ, IsTrue, IfOk, length, option_map};
+ghost use Rattle.std.specs.Prelude.{false, slice_index, true};
+ghost use Rattle.std.specs.List.Sorted.{IsPartitionPoint};
 ghost use Rattle.tv_term.specs.Making.{GivesPathRange, GivesRange, GivesRangeIf};
+ghost use Rattle.tv_term.specs.Within.{HasJust, IsRising, ends_below, is_below};
 ghost use Rattle.tv_term.specs.Range.{EndsPrefix, HasPrefixed, HasTerms, IsIn, HasPayloadPrefix};
 ghost use Rattle.tv_term.specs.Range.{IsOfField, IsOfType, HasTextPrefix, IsBelowFacet, HasLonger};
-ghost use Rattle.tv_term.specs.Range.{IsBetween, IsTypedTerm, IsBehindTerm, StartsAt, EndsAt};
+ghost use Rattle.tv_term.specs.Range.{AreTermsOf, IsBetween, LeavesBetween, LeavesFrom, LeavesTo};
 ghost use Rattle.std.specs.Range.Bound.{bound_map};
+ghost use Rattle.std.specs.declared.ops.Bound.TheVariants.{Excluded, Included};
+ghost use Rattle.tv_options.specs.declared.types.TypeTag.TheVariants.{Date as DateTag};
+ghost use Rattle.tv_term.specs.Making.{date_value, second_within};
 
 use crate::fast_value::FastValue;
 use crate::term::Term;
 use crate::term_error::TermError;
 use std::alloc::{AllocError, Global};
+use std::convert::AsSlice;
+use std::fmt;
 use std::ops::{Bound, RangeBounds};
 use tv_base::{FACET_SEP_BYTE, Facet};
-use tv_options::Type;
+use tv_options::{DATE_TIME_PRECISION_INDEXED, Type};
+use tv_value::date_time::DateTime;
 use tv_value::field::Field;
 
 /// The byte strings from one on, up to another one, in the order of terms. (Not in tantivy.) A term dictionary looks for the start, and
 /// goes on up to the end.
-#[derive(Debug, PartialEq, Eq, Drop)]
+#[derive(PartialEq, Eq, Drop)]
 pub struct TermRange {
     start: Vec<u8>,
     end: Option<Vec<u8>>,
+}
+
+/// Prints both ends as byte strings: `TermRange(b"\x00\x00\x00\x01sa"..b"\x00\x00\x00\x01sb")`, and nothing for no end.
+impl fmt::Debug for TermRange {
+    fn fmt<W: fmt::Write>(&self, f: &mut fmt::Formatter<W>) -> fmt::Result {
+        write!(f, "TermRange(b\"{}\"..", self.start.escape_ascii())?;
+        if let Some(end) = &self.end {
+            write!(f, "b\"{}\"", end.escape_ascii())?;
+        }
+        f.write_str(")")
+    }
+}
+
+// Whether the first bytes are below the others.
+fn is_below(bytes: &[u8], others: &[u8]) -> bool
+    ensures { result ≡ is_below bytes.now others.now }
+{
+    bytes.cmp(others).is_lt()
+}
+
+// How many of the terms, which rise, are below these bytes.
+fn count_below<T: AsSlice<u8>>(terms: &[T], bytes: &[u8]) -> usize
+    ensures within { result ≤ length terms.now }
+    ensures exact { IsRising T.items terms.now
+        → IsPartitionPoint (λ term. is_below (T.items term) bytes.now ≡ true)
+        (λ term. is_below (T.items term) bytes.now ≡ false) terms.now result }
+{
+    terms.partition_point(
+        |term: &T| -> bool
+            ensures { result ≡ is_below (T.items term.now) bytes.entry.now }
+        { is_below(term.as_slice(), bytes) },
+    )
 }
 
 // How many of the bytes are left once those of 255 at the end are taken off.
@@ -59,9 +99,15 @@ impl TermRange {
     pub fn of_prefix(alloc: Global, prefix: &[u8]) -> Result<TermRange, AllocError>
         ensures { IfOk result (HasPrefixed prefix.now) }
     {
-        let end = successor(alloc, prefix)?;
-        let start = Vec::from_slice(alloc, prefix)?;
-        Ok(TermRange { start, end })
+        TermRange::from_prefix(alloc, Vec::from_slice(alloc, prefix)?)
+    }
+
+    // The byte strings that begin with these bytes, in whose memory the range starts.
+    fn from_prefix(alloc: Global, prefix: Vec<u8>) -> Result<TermRange, AllocError>
+        ensures { IfOk result (HasPrefixed prefix.items) }
+    {
+        let end = successor(alloc, prefix.as_slice())?;
+        Ok(TermRange { start: prefix, end })
     }
 
     // The byte strings that begin with these bytes and are longer.
@@ -85,7 +131,72 @@ impl TermRange {
         ensures { IfOk result (HasTerms (HasPayloadPrefix field.id value_type payload.now)) }
     {
         let least = Term::from_payload(alloc, field, value_type, payload)?;
-        TermRange::of_prefix(alloc, least.serialized_term())
+        TermRange::from_prefix(alloc, least.into_bytes())
+    }
+
+    // What of the range isn't below these bytes.
+    fn starting_at(self, least: Vec<u8>) -> TermRange
+        ensures { LeavesFrom self (Included least.items) result }
+    {
+        if is_below(self.start.as_slice(), least.as_slice()) {
+            return TermRange {
+                start: least,
+                end: self.end,
+            };
+        }
+        self
+    }
+
+    // Whether the range ends below these bytes.
+    fn ends_below(&self, bytes: &[u8]) -> bool
+        ensures { result ≡ ends_below self.now.end bytes.now }
+    {
+        match &self.end {
+            Some(end) => is_below(end.as_slice(), bytes),
+            None => false,
+        }
+    }
+
+    // What of the range is below these bytes.
+    fn ending_at(self, end: Vec<u8>) -> TermRange
+        ensures { LeavesTo self (Excluded end.items) result }
+    {
+        if self.ends_below(end.as_slice()) {
+            return self;
+        }
+        TermRange {
+            start: self.start,
+            end: Some(end),
+        }
+    }
+
+    // What of the range lies from a bound on.
+    fn from_bound(self, start: Bound<Term>) -> Result<TermRange, AllocError>
+        ensures { IfOk result (LeavesFrom self start) }
+    {
+        match start {
+            Bound::Included(term) => Ok(self.starting_at(term.into_bytes())),
+            Bound::Excluded(term) => Ok(self.starting_at(bytes_behind(term)?)),
+            Bound::Unbounded => Ok(self),
+        }
+    }
+
+    // What of the range lies up to a bound.
+    fn up_to_bound(self, end: Bound<Term>) -> Result<TermRange, AllocError>
+        ensures { IfOk result (LeavesTo self end) }
+    {
+        match end {
+            Bound::Included(term) => Ok(self.ending_at(bytes_behind(term)?)),
+            Bound::Excluded(term) => Ok(self.ending_at(term.into_bytes())),
+            Bound::Unbounded => Ok(self),
+        }
+    }
+
+    /// What of the range lies within two bounds, as bytes. Bounds that run backwards leave nothing. The only error is that memory was refused.
+    pub fn between(self, start: Bound<Term>, end: Bound<Term>) -> Result<TermRange, AllocError>
+        ensures { IfOk result (LeavesBetween self start end) }
+    {
+        self.from_bound(start)?.up_to_bound(end)
     }
 
     /// Where the range begins: the byte strings in it are not below this one.
@@ -103,6 +214,27 @@ impl TermRange {
             Some(end) => Some(end.as_slice()),
             None => None,
         }
+    }
+
+    /// The terms that are in the range, of terms in rising order, as a term dictionary has them. Equal ones may stand beside one another.
+    /// It takes two binary searches. Of terms in another order some of them are returned, one after the other.
+    ///
+    /// ```
+    /// pub fn terms_of_field<'t>(alloc: Global, terms: &'t [Term], field: Field) -> Result<&'t [Term]> {
+    ///     let range = Term::range_of_field(alloc, field)?;
+    ///     Ok(range.within(terms))
+    /// }
+    /// ```
+    pub fn within<'t, T: AsSlice<u8>>(&self, terms: &'t [T]) -> &'t [T]
+        ensures { IsRising T.items terms.now
+            → HasJust T.items (IsIn self.now) terms.now result.now }
+    {
+        let (_, from_start) = terms.split_at(count_below(terms, self.start.as_slice()));
+        let Some(end) = &self.end else {
+            return from_start;
+        };
+        let (within, _) = from_start.split_at(count_below(from_start, end.as_slice()));
+        within
     }
 
     /// Whether the range has a term of these bytes.
@@ -156,7 +288,7 @@ impl Term {
         ensures { GivesPathRange field.id expand_dots json_path.now result }
     {
         let least = Term::from_field_json_path(alloc, field, json_path, expand_dots)?;
-        Ok(TermRange::of_prefix(alloc, least.serialized_term())?)
+        Ok(TermRange::from_prefix(alloc, least.into_bytes())?)
     }
 
     /// The terms of a field of facets whose facets are below this one: those with its steps and at least one more. (Not in tantivy.)
@@ -174,11 +306,13 @@ impl Term {
         }
         let mut least = upper;
         least.append_bytes(&[FACET_SEP_BYTE])?;
-        Ok(TermRange::of_prefix(alloc, least.serialized_term())?)
+        Ok(TermRange::from_prefix(alloc, least.into_bytes())?)
     }
 
     /// The terms of a field whose values are numbers, truth values or dates within the bounds, as `3..7` or `..=9`. (Not in tantivy.)
     /// Bounds that run backwards give a range without terms. The only error is `Memory`.
+    ///
+    /// Dates are indexed to the second alone: a range that searches is `range_of_dates_for_search`'s.
     pub fn range_of_values<T: FastValue, B: RangeBounds<T>>(
         alloc: Global,
         field: Field,
@@ -188,63 +322,68 @@ impl Term {
             (IsBetween field.id T.type_tag (bound_map T.as_value (B.start_bound values.now))
             (bound_map T.as_value (B.end_bound values.now))) result }
     {
-        let start = start_at(alloc, field, values.start_bound())?;
-        let end = end_at(alloc, field, values.end_bound())?;
-        Ok(TermRange { start, end })
+        let start = term_of_bound(alloc, field, values.start_bound())?;
+        let end = term_of_bound(alloc, field, values.end_bound())?;
+        let all = Term::range_of_type(alloc, field, T::to_type())?;
+        Ok(all.between(start, end)?)
+    }
+
+    /// The terms of a field whose values are dates, as they are indexed, from the second of one bound to that of the other. (Not in tantivy.) A
+    /// term stands for all dates of its second, so the range has the terms of all dates within the bounds, and of those in the same second as
+    /// a bound, whether that one is within or not. Bounds that run backwards by a second or more give a range without terms. The only error
+    /// is `Memory`.
+    pub fn range_of_dates_for_search<B: RangeBounds<DateTime>>(
+        alloc: Global,
+        field: Field,
+        dates: &B,
+    ) -> Result<TermRange, TermError>
+        ensures { GivesRangeIf (B.has_bounds dates.now)
+            (IsBetween field.id DateTag (second_within (B.start_bound dates.now))
+            (second_within (B.end_bound dates.now))) result }
+    {
+        let start = second_of(dates.start_bound());
+        let end = second_of(dates.end_bound());
+        Term::range_of_values(alloc, field, &(start, end))
     }
 }
 
-// The bytes of the term of a value.
-fn bytes_of<T: FastValue>(alloc: Global, field: Field, value: T) -> Result<Vec<u8>, AllocError>
-    ensures { IfOk result
-        (λ bytes. IsTypedTerm field.id T.type_tag (T.as_value value) bytes.items) }
+// The second of a bound, which is within the range itself.
+fn second_of(bound: Bound<&DateTime>) -> Bound<DateTime>
+    ensures { bound_map date_value result ≡ second_within (bound_map (λ date. date.now) bound.entry) }
 {
-    Ok(Term::from_fast_value(alloc, field, value)?.into_bytes())
+    match bound {
+        Bound::Included(date) | Bound::Excluded(date) => {
+            Bound::Included(date.truncate(DATE_TIME_PRECISION_INDEXED))
+        }
+        Bound::Unbounded => Bound::Unbounded,
+    }
 }
 
-// The least byte string above the term of a value.
-fn bytes_behind<T: FastValue>(alloc: Global, field: Field, value: T) -> Result<Vec<u8>, AllocError>
-    ensures { IfOk result
-        (λ bytes. IsBehindTerm field.id T.type_tag (T.as_value value) bytes.items) }
-{
-    let mut term = Term::from_fast_value(alloc, field, value)?;
-    term.append_bytes(&[0])?;
-    Ok(term.into_bytes())
-}
-
-// The least bytes of the terms from a bound on.
-fn start_at<T: FastValue>(
+// The term of the value of a bound.
+fn term_of_bound<T: FastValue>(
     alloc: Global,
     field: Field,
     bound: Bound<&T>,
-) -> Result<Vec<u8>, AllocError>
-    ensures { IfOk result (λ start. StartsAt field.id T.type_tag
-        (bound_map (λ x. T.as_value x.now) bound.entry) start.items) }
+) -> Result<Bound<Term>, AllocError>
+    ensures { IfOk result
+        (AreTermsOf field.id (bound_map (λ x. T.as_value x.now) bound.entry)) }
 {
     match bound {
-        Bound::Included(value) => bytes_of(alloc, field, *value),
-        Bound::Excluded(value) => bytes_behind(alloc, field, *value),
-        Bound::Unbounded => {
-            Ok(Term::from_payload(alloc, field, T::to_type(), &[])?.into_bytes())
+        Bound::Included(value) => {
+            Ok(Bound::Included(Term::from_fast_value(alloc, field, *value)?))
         }
+        Bound::Excluded(value) => {
+            Ok(Bound::Excluded(Term::from_fast_value(alloc, field, *value)?))
+        }
+        Bound::Unbounded => Ok(Bound::Unbounded),
     }
 }
 
-// The least bytes above those of the terms up to a bound.
-fn end_at<T: FastValue>(
-    alloc: Global,
-    field: Field,
-    bound: Bound<&T>,
-) -> Result<Option<Vec<u8>>, AllocError>
-    ensures { IfOk result
-        (EndsAt field.id T.type_tag (bound_map (λ x. T.as_value x.now) bound.entry)) }
+// The least byte string above a term.
+fn bytes_behind(term: Term) -> Result<Vec<u8>, AllocError>
+    ensures { IfOk result (λ behind. behind.items ≡ term ++ 0 ∷ []) }
 {
-    match bound {
-        Bound::Included(value) => Ok(Some(bytes_behind(alloc, field, *value)?)),
-        Bound::Excluded(value) => Ok(Some(bytes_of(alloc, field, *value)?)),
-        Bound::Unbounded => {
-            let least = Term::from_payload(alloc, field, T::to_type(), &[])?;
-            successor(alloc, least.serialized_term())
-        }
-    }
+    let mut bytes = term.into_bytes();
+    bytes.push(0)?;
+    Ok(bytes)
 }

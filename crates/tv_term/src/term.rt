@@ -11,7 +11,7 @@ ghost use Rattle.tv_options.specs.Types.{code, type_of_code};
 ghost use Rattle.tv_term.specs.Key.{HasNoZero};
 ghost use Rattle.tv_term.specs.Segments.{HaveNoZero, joined_segments};
 ghost use Rattle.tv_term.specs.Key.{IsTerm, Text, Unsigned, Signed, Truth};
-ghost use Rattle.tv_term.specs.Key.{Date, Facet as FacetValue, Bytes, Address};
+ghost use Rattle.tv_term.specs.Key.{Date, Facet as FacetValue, Bytes, Address, json_number};
 ghost use Rattle.tv_term.specs.Making.{AppendsValue, GivesExactly, GivesPathTerm};
 ghost use Rattle.tv_term.specs.Making.{GivesSegmentsTerm, GivesTerm, indexed_date};
 ghost use Rattle.tv_term.specs.Reading.{field_of, value_of, ReadsPath, IsFullPathIn, dotted};
@@ -22,6 +22,7 @@ use crate::term_error::TermError;
 use crate::value_bytes::ValueBytes;
 use std::alloc::{AllocError, Global};
 use std::cmp::Ordering;
+use std::convert::AsSlice;
 use std::hash::{Hash, Hasher};
 use std::marker::Model;
 use std::net::Ipv6Addr;
@@ -31,6 +32,9 @@ use tv_options::{DATE_TIME_PRECISION_INDEXED, Type};
 use tv_schema::Schema;
 use tv_value::date_time::DateTime;
 use tv_value::field::Field;
+
+// The least number that fits no signed one of 64 bits.
+const SIGNED_END: u64 = 1 << 63;
 
 /// A field, and a value of it: the field's number in four bytes, the highest first, the code of the value's type, and the
 /// value's payload. Terms are compared as these bytes, and so by field, then by type, then by value.
@@ -58,6 +62,15 @@ impl Model for Term {
     ghost view = { λ term. term.bytes.items };
 
     ghost invariant = { λ term. 5 ≤ length term.bytes.items };
+}
+
+/// The bytes of a term, by which terms are ordered.
+impl AsSlice<u8> for Term {
+    ghost items = { λ term. term };
+
+    fn as_slice(&self) -> &[u8] {
+        self.serialized_term()
+    }
 }
 
 impl Term {
@@ -360,6 +373,21 @@ impl Term {
         ensures { AppendsValue self.old self.new (T.as_value value) result }
     {
         self.append_typed(T::to_type(), &value.to_u64().to_be_bytes())
+    }
+
+    /// Appends a number as the term of a JSON value has it: one up to `i64::MAX` as one with a sign, and only one above that as one without.
+    /// (Not in tantivy.) In a term of a JSON field it stands behind the path, and the term is then that of `term_values`. By
+    /// `append_type_and_fast_value` a `u64` has another term, which no document has.
+    ///
+    /// Errors: memory was refused. Then the term is as it was.
+    pub fn append_json_number(&mut self, number: u64) -> Result<(), AllocError>
+        ensures { AppendsValue self.old self.new (json_number number) result }
+    {
+        if number < SIGNED_END {
+            self.append_type_and_fast_value(number as i64)
+        } else {
+            self.append_type_and_fast_value(number)
+        }
     }
 
     /// Appends the code of texts and the text. In a term of a JSON field it stands behind the path.

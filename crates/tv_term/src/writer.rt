@@ -1,6 +1,6 @@
 //! Many terms, one after another in one buffer.
 
-ghost use Rattle.std.specs.Prelude.{◌≡◌, ◌≢◌, ◌<◌, ◌^◌, ◌++◌, ◌∷◌, ◌↔◌, [], OnErr, OnOk, IsTrue};
+ghost use Rattle.std.specs.Prelude.{◌≡◌, ◌≢◌, ◌<◌, ◌^◌, ◌++◌, ◌∷◌, ◌↔◌, [], OnErr, OnOk, IsTrue, MatchOption};
 ghost use Rattle.std.specs.Int.{to_be_bytes, w32};
 ghost use Rattle.std.specs.Net.Addr.{ipv6_bits};
 ghost use Rattle.tv_options.specs.Types.{code};
@@ -88,6 +88,13 @@ impl TermWriter {
             Some(term) => term,
             None => unreachable!(),
         }
+    }
+
+    /// The term, taken out of the writer, or `None` where there is none.
+    pub fn into_term(self) -> Option<Term>
+        ensures { MatchOption result (self ≡ []) (λ term. term ≡ self) }
+    {
+        self.term
     }
 
     /// Makes the term of a whole number without a sign.

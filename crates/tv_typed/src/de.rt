@@ -109,7 +109,8 @@ pub trait ValueDeserialize: Sized + Drop {
     /// whose code was read, the bytes behind that and those that are left in the end. By default it says nothing.
     ghost deep: { Version → ℕ → ValueType → List ℕ → List ℕ → Type 0 } = { λ _ _ _ _ _. Unit {0} };
 
-    /// How deep the values of any type in one nest that was read. It speaks of the same as `deep`, and says nothing by default.
+    /// What holds where a value was read: how deep the values of any type in it nest. It speaks of the same things as `deep`. By default it says
+    /// nothing.
     ghost within: { Version → ℕ → ValueType → List ℕ → List ℕ → Type 0 } = { λ _ _ _ _ _. Unit {0} };
 
     /// Reads the value whose code was read. The errors are those of `BinaryValueDeserializer`, and `Custom`.

@@ -23,8 +23,8 @@ pub fn block(alloc: Global, schema: &Schema, documents: &[TantivyDocument]) -> R
     Ok(sink.into_vec())
 }
 
-// Appends the stored pairs of a document, whose fields have to be the schema's.
-fn append(sink: &mut VecSink, schema: &Schema, document: &TantivyDocument) -> Result<()> {
+/// Appends the stored pairs of a document, whose fields have to be the schema's.
+pub fn append(sink: &mut VecSink, schema: &Schema, document: &TantivyDocument) -> Result<()> {
     if !document.fits(schema) {
         return Err(anyhow!("a field is not the schema's"));
     }

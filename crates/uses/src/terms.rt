@@ -3,15 +3,24 @@
 use anyhow::{Result, anyhow};
 use std::alloc::Global;
 use std::fmt::Write;
+use tantivy_schema::DateTime;
 use tantivy_schema::schema::{
-    Facet, FacetCount, Field, INDEXED, Schema, TEXT, TantivyDocument, Term, TermList, TermWriter,
-    count_child_facets, term_values,
+    DocumentFacet, Facet, FacetCount, Field, INDEXED, Schema, TEXT, TantivyDocument, Term,
+    TermList, TermRange, TermWriter, count_child_documents, count_child_facets, greatest_counts,
+    range_of_text, ranges_of_text, term_values, terms_of_text,
 };
 
 /// The term of a text at a path into the objects of a JSON field.
 pub fn of_path(alloc: Global, field: Field, path: &str, text: &str) -> Result<Term> {
     let mut term = Term::from_field_json_path(alloc, field, path, false)?;
     term.append_type_and_str(text)?;
+    Ok(term)
+}
+
+/// The term of a number at a path into the objects of a JSON field.
+pub fn of_number(alloc: Global, field: Field, path: &str, number: u64) -> Result<Term> {
+    let mut term = Term::from_field_json_path(alloc, field, path, false)?;
+    term.append_json_number(number)?;
     Ok(term)
 }
 
@@ -33,6 +42,22 @@ pub fn working_ages(alloc: Global, field: Field, dictionary: &[Term]) -> Result<
         .iter()
         .filter(|term| range.contains(term.serialized_term()));
     Ok(found.count())
+}
+
+/// The range of the terms of a field's dates from one date to another, as they are indexed.
+pub fn dates_between(
+    alloc: Global,
+    field: Field,
+    first: DateTime,
+    last: DateTime,
+) -> Result<TermRange> {
+    Ok(Term::range_of_dates_for_search(alloc, field, &(first..=last))?)
+}
+
+/// The terms of a dictionary, which rise, that are a field's.
+pub fn terms_of_field<'t>(alloc: Global, terms: &'t [Term], field: Field) -> Result<&'t [Term]> {
+    let range = Term::range_of_field(alloc, field)?;
+    Ok(range.within(terms))
 }
 
 /// The path of a term with the name of its field, and its value, where that is a text.
@@ -64,6 +89,20 @@ pub fn most_facets<'a>(
     Ok(counts.iter().copied().max_by_key(|entry| entry.count))
 }
 
+/// The children of a facet that most documents have a facet at or below, three at most, one a line with the number of documents.
+pub fn most_documents(
+    alloc: Global,
+    ancestor: &Facet,
+    facets: &[DocumentFacet<'_>],
+) -> Result<String> {
+    let counts = count_child_documents(alloc, ancestor.encoded_str().as_bytes(), facets)?;
+    let mut lines = String::new(alloc);
+    for entry in &greatest_counts(alloc, &counts, 3)? {
+        writeln!(lines, "{entry}")?;
+    }
+    Ok(lines)
+}
+
 /// The terms of a document's values, one a line, as their bytes.
 pub fn indexed_terms(alloc: Global) -> Result<String> {
     let mut builder = Schema::builder(alloc);
@@ -82,4 +121,35 @@ pub fn indexed_terms(alloc: Global) -> Result<String> {
         writeln!(lines, "{term:?}")?;
     }
     Ok(lines)
+}
+
+/// The terms that a query's text has in the field `price`.
+pub fn terms_of_price(alloc: Global, schema: &Schema) -> Result<TermList> {
+    let mut terms = TermList::new(alloc);
+    terms_of_text(alloc, schema, "price", "12", &mut terms)?;
+    Ok(terms)
+}
+
+/// The range of the terms that a query's text has in the field `price`: from 10 on, and below 20.
+pub fn range_of_prices(alloc: Global, schema: &Schema) -> Result<TermRange> {
+    Ok(range_of_text(alloc, schema, "price", "[10 TO 20}")?)
+}
+
+/// The ranges of the terms that a query's text has at `size` in the JSON objects of the field `more`: from 10 on.
+pub fn ranges_of_size(alloc: Global, schema: &Schema) -> Result<Vec<TermRange>> {
+    Ok(ranges_of_text(alloc, schema, "more.size", "[10 TO *]")?)
+}
+
+/// The terms of documents as a dictionary has them: in order, and each once.
+pub fn dictionary(
+    alloc: Global,
+    schema: &Schema,
+    documents: &[TantivyDocument],
+) -> Result<TermList> {
+    let mut terms = TermList::new(alloc);
+    for document in documents {
+        term_values(alloc, schema, document, &mut terms)?;
+    }
+    terms.sort_dedup();
+    Ok(terms)
 }

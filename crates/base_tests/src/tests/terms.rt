@@ -4,7 +4,11 @@ use std::alloc::Global;
 use std::net::Ipv6Addr;
 use std::test::Fail;
 use tv_base::Facet;
-use tv_term::{FacetCount, FacetCountsError, Term, TermError, TermWriter, count_child_facets};
+use tv_facets::{
+    DocumentFacet, FacetCount, FacetCountsError, count_child_documents, count_child_facets,
+    greatest_counts,
+};
+use tv_term::{Term, TermError, TermRange, TermWriter};
 use tv_value::date_time::DateTime;
 use tv_value::field::Field;
 
@@ -118,6 +122,50 @@ fn facets_are_counted(rt: HostRuntime) -> Result<(), Fail> {
     Ok(())
 }
 
+fn facet_of(document: u64, facet: &[u8]) -> DocumentFacet<'_> {
+    DocumentFacet { facet, document }
+}
+
+#[test]
+fn documents_are_counted(rt: HostRuntime) -> Result<(), Fail> {
+    let alloc = rt.alloc();
+    let facets = [
+        facet_of(7, b"shop\0shoes\0red"),
+        facet_of(3, b"shop\0hats"),
+        facet_of(7, b"shop\0shoes"),
+        facet_of(9, b"shop"),
+        facet_of(3, b"shop\0shoes"),
+        facet_of(7, b"shop\0shoes"),
+        facet_of(2, b"shopping\0list"),
+        facet_of(5, b"shop\0bags"),
+    ];
+    let counts = count_child_documents(alloc, b"shop", &facets)?;
+    let (bags, hats) = (counted(b"shop\0bags", 1), counted(b"shop\0hats", 1));
+    let shoes = counted(b"shop\0shoes", 2);
+    assert!(rt; counts.as_slice() == [bags, hats, shoes].as_slice());
+    let greatest = greatest_counts(alloc, &counts, 2)?;
+    assert!(rt; greatest.as_slice() == [shoes, bags].as_slice());
+    let all = greatest_counts(alloc, &counts, 9)?;
+    assert!(rt; all.as_slice() == [shoes, bags, hats].as_slice());
+    let counts = count_child_documents(alloc, b"", &facets)?;
+    let (shop, shopping) = (counted(b"shop", 4), counted(b"shopping", 1));
+    assert!(rt; counts.as_slice() == [shop, shopping].as_slice());
+    Ok(())
+}
+
+#[test]
+fn counts_are_printed(rt: HostRuntime) -> Result<(), Fail> {
+    let alloc = rt.alloc();
+    let (shoes, bytes) = (counted(b"shop\0a/b", 2), counted(b"\xff", 1));
+    let text = format!(in alloc; "{shoes} {bytes}")?;
+    assert!(rt; text.as_str() == "/shop/a\\/b: 2 [255]: 1");
+    let text = format!(in alloc; "{shoes:?} {bytes:?}")?;
+    let shown =
+        "FacetCount { child: Facet(/shop/a\\/b), count: 2 } FacetCount { child: [255], count: 1 }";
+    assert!(rt; text.as_str() == shown);
+    Ok(())
+}
+
 // Whether `Debug` prints this of a term, which is let go.
 fn is_shown(alloc: Global, term: Result<Term, TermError>, expected: &str) -> Result<bool, Fail> {
     Ok(format!(in alloc; "{:?}", term?)?.as_str() == expected)
@@ -140,6 +188,19 @@ fn terms_are_printed(rt: HostRuntime) -> Result<(), Fail> {
     assert!(rt; is_shown(alloc, address, "Term(field=1, type=IpAddr, ::1)")?);
     let empty = Term::with_capacity(alloc, 0);
     assert!(rt; is_shown(alloc, empty, "Term(field=0, type=0)")?);
+    Ok(())
+}
+
+#[test]
+fn ranges_are_printed(rt: HostRuntime) -> Result<(), Fail> {
+    let (alloc, field) = (rt.alloc(), Field::from_field_id(1));
+    let texts = Term::prefix_range(alloc, field, "a\"\u{ff}")?;
+    let text = format!(in alloc; "{texts:?}")?;
+    let shown = r#"TermRange(b"\x00\x00\x00\x01sa\"\xc3\xbf"..b"\x00\x00\x00\x01sa\"\xc3\xc0")"#;
+    assert!(rt; text.as_str() == shown);
+    let all = TermRange::of_prefix(alloc, &[255])?;
+    let text = format!(in alloc; "{all:?}")?;
+    assert!(rt; text.as_str() == r#"TermRange(b"\xff"..)"#);
     Ok(())
 }
 

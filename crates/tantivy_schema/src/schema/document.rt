@@ -39,7 +39,9 @@ pub use tv_doc::field_values::{FieldValueIterRef, GetAllIter};
 pub use tv_doc::named::{FieldNames, NamedFieldDocument};
 pub use tv_doc::named_back_error::NamedBackError;
 pub use tv_doc::parse_buffers::ParseBuffers;
+pub use tv_format::leaf_type::LeafType;
 pub use tv_heap::value::{CompactDocArrayIter, CompactDocObjectIter, CompactDocValue};
+pub use tv_heap::value_type::ValueType as HeapValueType;
 pub use tv_json::compact::push_json;
 pub use tv_json::json_value::{ToJsonValue, to_json_value, to_json_value_within};
 pub use tv_store::{

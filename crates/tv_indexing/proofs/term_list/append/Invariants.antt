@@ -1,5 +1,5 @@
 use Rattle.std.proofs.Common.{◌≡◌, ◌++◌, take}
-use Rattle.tv_indexing.specs.TermPieces.{joined_parts}
+use Rattle.tv_indexing.specs.TermPlaces.{joined_parts}
 use Rattle.tv_indexing.proofs.term_list.append.Given as goal
 
 -- so far the parts before this one have been appended

@@ -1,18 +1,24 @@
-use Rattle.std.proofs.Common.{◌≡◌, arith, ap, length, ◌∙◌, take}
-use Rattle.tv_indexing.specs.TermPieces.{start_at}
-use Rattle.tv_indexing.proofs.Pieces.{pieces-length, AreEnds-truncated, pieces-truncated}
+use Rattle.std.proofs.Common.{◌≡◌, ◌≤◌, length, take, arith, ap, ◌∙◌, sym}
+use Rattle.std.proofs.lemmas.List.{length-map}
+use Rattle.tv_indexing.specs.TermPlaces.{bytes_at}
+use Rattle.tv_indexing.proofs.Places.{AreHeld-truncated, kept_end, pieces-truncated}
 use Rattle.tv_indexing.proofs.term_list.TermList.truncate.Goals as goal
 
-pub start_at-end-requires : goal.start_at-end-requires
-start_at-end-requires c =
-    omega (arith, ap length c.self.view_is, pieces-length c.self.inside.bytes.items 0 c.self.inside.ends.items, ap length c.as_slice.ensures.value)
+few : (c : goal.After-truncate-2) → c.args.len ≤ length c.self.inside.places.items
+few c =
+    let same : length c.self.inside.places.items ≡ length c.args.self.now = sym (length-map c.self.inside.places.items (bytes_at c.self.inside.bytes.items)) ∙ ap length c.self.view_is in
+    omega (arith, same, c.requires)
+
+end_is : (c : goal.After-truncate-2) → c.end_of-end.result ≡ kept_end c.self.inside.moved c.self.inside.places.items c.args.len
+end_is c =
+    rw (c.min-self-inside.ensures, c.as_slice.ensures.value, c.truncate.ensures.items) at c.end_of-end.ensures
 
 pub invariant_of-self : goal.invariant_of-self
 invariant_of-self c =
-    let at : c.start_at-end.result ≡ start_at 0 c.self.inside.ends.items c.args.len = cc in
-    rw (c.truncate.ensures.items, c.truncate-2.ensures.items, at) (AreEnds-truncated c.self.inside.bytes.items 0 c.self.inside.ends.items c.args.len c.self.invariant)
+    rw (c.truncate-2.ensures.items, c.truncate.ensures.items, end_is c, c.min-self-inside.ensures)
+    (AreHeld-truncated c.self.inside.bytes.items c.self.inside.places.items c.self.inside.moved c.args.len (few c) c.self.invariant)
 
 pub returns : goal.returns
 returns c =
-    let at : c.start_at-end.result ≡ start_at 0 c.self.inside.ends.items c.args.len = cc in
-    rw (c.truncate.ensures.items, c.truncate-2.ensures.items, at) (pieces-truncated c.self.inside.bytes.items 0 c.self.inside.ends.items c.args.len c.self.invariant ∙ ap (take c.args.len) c.self.view_is)
+    rw (c.truncate-2.ensures.items, c.truncate.ensures.items, end_is c)
+    (pieces-truncated c.self.inside.bytes.items c.self.inside.places.items c.self.inside.moved c.args.len (few c) c.self.invariant ∙ ap (take c.args.len) c.self.view_is)

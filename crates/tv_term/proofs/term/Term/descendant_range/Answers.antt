@@ -23,8 +23,8 @@ returns c = record {
       let upper = c.args.facet.now in
       let made = c.in_ok-upper.ensures.made in
       let some : upper ≢ [] = λ none. let both = sym c.if-is_root.false ∙ c.is_root.ensures.1 none in cc in
-      terms-from c.in_ok-of_prefix.field-0 c.serialized_term-2.result.now (term id (Facet upper) ++ 0 ∷ []) (IsBelowFacet id upper)
-      (c.serialized_term-2.ensures ∙ c.in_ok-append_bytes.ensures.longer ∙ ap (λ (z : List ℕ). z ++ 0 ∷ []) made.bytes_are) c.in_ok-of_prefix.ensures
+      terms-from c.in_ok-from_prefix.field-0 c.into_bytes.result.items (term id (Facet upper) ++ 0 ∷ []) (IsBelowFacet id upper)
+      (c.into_bytes.ensures ∙ c.in_ok-append_bytes.ensures.longer ∙ ap (λ (z : List ℕ). z ++ 0 ∷ []) made.bytes_are) c.in_ok-from_prefix.ensures
       (λ f value small fits. of_facet id f upper value made.field_fits small some);
   errors = tt;
 }

@@ -12,7 +12,7 @@ returns c = record {
       let id = c.args.field.id in
       let path = joined_path c.args.expand_dots c.args.json_path.now in
       let made = c.in_ok-least.ensures.made in
-      terms-from c.in_ok-of_prefix.field-0 c.serialized_term.result.now (json_term id path) (IsAtPath id path) (c.serialized_term.ensures ∙ made.bytes_are) c.in_ok-of_prefix.ensures
+      terms-from c.in_ok-from_prefix.field-0 c.into_bytes.result.items (json_term id path) (IsAtPath id path) (c.into_bytes.ensures ∙ made.bytes_are) c.in_ok-from_prefix.ensures
       (λ f value small fits. of_path id f path value made.field_fits made.path_has_no_zero small fits);
   errors = without_nul _ c.in_ok-least.ensures.errors.has_no_nul tt;
 }

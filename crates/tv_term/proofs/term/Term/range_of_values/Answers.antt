@@ -1,8 +1,7 @@
 use Rattle.std.proofs.Common.{subst}
 use Rattle.std.specs.Range.Bound.{bound_map}
-use Rattle.tv_term.specs.Range.{StartsAt, EndsAt}
-use Rattle.tv_term.specs.declared.range.TermRange.{TermRange}
-use Rattle.tv_term.proofs.ValueRanges.{between, bound-values}
+use Rattle.tv_term.specs.Range.{AreTermsOf, HasTerms, IsOfType}
+use Rattle.tv_term.proofs.ValueRanges.{bound-values, values_between}
 use Rattle.tv_term.proofs.term.Term.range_of_values.Goals as goal
 
 pub returns : goal.returns
@@ -13,9 +12,9 @@ returns g c = record {
       let value = g.T.FastValue.as_value in
       let lo = g.B.RangeBounds.start_bound c.args.values.now in
       let hi = g.B.RangeBounds.end_bound c.args.values.now in
-      let range : TermRange = record { start = c.in_ok-start.start; end = c.in_ok-end.end } in
-      let starts = subst (λ b. StartsAt id t b range.start.items) (bound-values (λ x. x.now) value c.start_bound.result lo (c.start_bound.ensures has_bounds)) c.in_ok-start.ensures in
-      let ends = subst (λ b. EndsAt id t b range.end) (bound-values (λ x. x.now) value c.end_bound.result hi (c.end_bound.ensures has_bounds)) c.in_ok-end.ensures in
-      between range id t (bound_map value lo) (bound_map value hi) starts ends;
+      let starts = subst (λ b. AreTermsOf id b c.in_ok-start.start) (bound-values (λ x. x.now) value c.start_bound.result lo (c.start_bound.ensures has_bounds)) c.in_ok-start.ensures in
+      let ends = subst (λ b. AreTermsOf id b c.in_ok-end.end) (bound-values (λ x. x.now) value c.end_bound.result hi (c.end_bound.ensures has_bounds)) c.in_ok-end.ensures in
+      let all_typed = subst (λ z. HasTerms (IsOfType id z) c.in_ok-all.all) c.to_type.ensures c.in_ok-all.ensures.made in
+      values_between c.in_ok-all.all c.in_ok-between.field-0 id t (bound_map value lo) (bound_map value hi) c.in_ok-start.start c.in_ok-end.end all_typed starts ends c.in_ok-between.ensures;
   errors = tt;
 }

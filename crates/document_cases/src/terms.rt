@@ -1,0 +1,102 @@
+//! Terms of the values of documents, and of texts of queries.
+
+use anyhow::{Result, anyhow};
+use case_words as words;
+use case_words::schemas::schema;
+use std::alloc::Global;
+use std::fmt::Write;
+use tv_doc::document::CompactDoc;
+use tv_indexing::{TermList, range_of_text, ranges_of_text, term_values, terms_of_text};
+use tv_schema::Schema;
+
+/// What a call about terms returns.
+pub fn answer(alloc: Global, call: &[&str]) -> Result<String> {
+    let [kind, description, call @ ..] = call else {
+        return Err(anyhow!("an unknown call about terms"));
+    };
+    let schema = schema(alloc, description)?;
+    let answer = match (*kind, call) {
+        ("document", [json]) => of_document(alloc, &schema, json),
+        ("sorted", [json]) => sorted(alloc, &schema, json),
+        ("text", texts) => of_texts(alloc, &schema, texts),
+        ("range", [path, text]) => of_range(alloc, &schema, path, text),
+        ("ranges", [path, text]) => of_ranges(alloc, &schema, path, text),
+        _ => Err(anyhow!("an unknown call about terms")),
+    };
+    drop(schema);
+    answer
+}
+
+// The terms of the values of a JSON object's document, or why there are none.
+fn of_document(alloc: Global, schema: &Schema, json: &str) -> Result<String> {
+    let document = CompactDoc::parse_json(alloc, schema, json)?;
+    let mut terms = TermList::new(alloc);
+    match term_values(alloc, schema, &document, &mut terms) {
+        Ok(()) => shown(alloc, &terms),
+        Err(error) => words::error(alloc, error),
+    }
+}
+
+// The terms of the values of a JSON object's document in order, each once.
+fn sorted(alloc: Global, schema: &Schema, json: &str) -> Result<String> {
+    let document = CompactDoc::parse_json(alloc, schema, json)?;
+    let mut terms = TermList::new(alloc);
+    term_values(alloc, schema, &document, &mut terms)?;
+    terms.sort_dedup();
+    let mut digits = Vec::new(alloc);
+    for index in 0..terms.len() {
+        if let Some(term) = terms.term(alloc, index)? {
+            digits.push(hex::encode(alloc, term.serialized_term())?)?;
+        }
+    }
+    words::joined(alloc, digits.as_slice())
+}
+
+// Where the range of a text begins and ends, or why there is none.
+fn of_range(alloc: Global, schema: &Schema, path: &str, text: &str) -> Result<String> {
+    let (path, text) = (words::text(alloc, path)?, words::text(alloc, text)?);
+    match range_of_text(alloc, schema, path.as_str(), text.as_str()) {
+        Ok(range) => words::ends(alloc, range.start(), range.end()),
+        Err(error) => words::error(alloc, error),
+    }
+}
+
+// Where the ranges of a text begin and end, or why there are none.
+fn of_ranges(alloc: Global, schema: &Schema, path: &str, text: &str) -> Result<String> {
+    let (path, text) = (words::text(alloc, path)?, words::text(alloc, text)?);
+    let ranges = match ranges_of_text(alloc, schema, path.as_str(), text.as_str()) {
+        Ok(ranges) => ranges,
+        Err(error) => return words::error(alloc, error),
+    };
+    let mut ends = Vec::new(alloc);
+    for range in &ranges {
+        ends.push(words::ends(alloc, range.start(), range.end())?)?;
+    }
+    words::joined(alloc, ends.as_slice())
+}
+
+// Why texts are refused, and the terms of the other ones in one list.
+fn of_texts(alloc: Global, schema: &Schema, texts: &[&str]) -> Result<String> {
+    let mut terms = TermList::new(alloc);
+    let mut answer = String::new(alloc);
+    for pair in texts.chunks(2) {
+        let [path, text] = pair else {
+            return Err(anyhow!("a path and a text"));
+        };
+        let (path, text) = (words::text(alloc, path)?, words::text(alloc, text)?);
+        if let Err(error) = terms_of_text(alloc, schema, path.as_str(), text.as_str(), &mut terms) {
+            write!(answer, "error {error:?}, ")?;
+        }
+    }
+    answer.push_str(shown(alloc, &terms)?.as_str())?;
+    Ok(answer)
+}
+
+// The bytes of each term of a list.
+fn shown(alloc: Global, terms: &TermList) -> Result<String> {
+    let mut digits = Vec::new(alloc);
+    for term in terms.iter() {
+        digits.push(hex::encode(alloc, term)?)?;
+    }
+    words::joined(alloc, digits.as_slice())
+}

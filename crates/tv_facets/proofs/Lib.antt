@@ -1,0 +1,3 @@
+pub mod FacetCounts
+pub mod Documents
+pub mod Prints

@@ -1,0 +1,18 @@
+use Rattle.std.proofs.Common.{[], ◌∷◌, ◌++◌, ◌∙◌}
+use Rattle.tv_base.specs.JsonPath.{joined_path}
+use Rattle.tv_indexing.specs.JsonRanges.{IsTypedAt}
+use Rattle.tv_indexing.proofs.JsonRangeSteps.{typed_at}
+use Rattle.tv_options.specs.Types.{code}
+use Rattle.tv_term.specs.Key.{json_term}
+use Rattle.tv_term.proofs.TermRanges.{terms-from}
+use Rattle.tv_indexing.proofs.json_ranges.all_of_type.Goals as goal
+
+pub returns-in_ok-of_prefix-in-Ok-clause-made : goal.returns-in_ok-of_prefix-in-Ok-clause-made
+returns-in_ok-of_prefix-in-Ok-clause-made c =
+    let id = c.args.at.field.id in
+    let path = joined_path c.args.at.expand_dots c.args.path.now in
+    let t = c.args.value_type in
+    let made = c.in-Ok.ensures.made in
+    terms-from c.in_ok-of_prefix-in-Ok.field-0 c.serialized_term.result.now (json_term id path ++ code t ∷ []) (IsTypedAt id path t)
+    (c.serialized_term.ensures ∙ c.in_ok-append_bytes-in-Ok.ensures.longer ∙ (λ k. made.bytes_are k ++ c.to_code.ensures k ∷ [])) c.in_ok-of_prefix-in-Ok.ensures
+    (λ f value small fits. typed_at id f path t value made.field_fits made.path_has_no_zero small fits)

@@ -1,0 +1,13 @@
+use Rattle.std.proofs.Common.{drop}
+use Rattle.tv_indexing.proofs.TextSteps.{all_kept, all_written}
+use Rattle.tv_indexing.proofs.text_terms.push_all_written.Goals as goal
+
+pub returns-clause-made : goal.returns-clause-made
+returns-clause-made c =
+    all_written c.push_written-4.result c.args.field (drop 1 c.args.path.now) c.args.text.now _ _ _ _ _ _ c.number_written.ensures c.in_ok-push_written.ensures.made c.in_ok-push_written-2.ensures.made
+    (rw c.truth_written.ensures at c.in_ok-push_written-3.ensures.made) (rw c.date_written.ensures at c.push_written-4.ensures.made)
+
+pub returns-clause-kept : goal.returns-clause-kept
+returns-clause-kept c =
+    all_kept c.push_written-4.result c.args.field (drop 1 c.args.path.now) c.args.text.now _ _ _ _ _ _ c.in_ok-push_written.ensures.made c.in_ok-push_written-2.ensures.made
+    (rw c.truth_written.ensures at c.in_ok-push_written-3.ensures.made) c.push_written-4.ensures.unchanged

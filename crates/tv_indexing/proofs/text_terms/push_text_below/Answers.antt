@@ -1,0 +1,18 @@
+use Rattle.std.proofs.Common.{rules, ◌≡◌, ◌≢◌, ◌∷◌, [], false, drop, subst}
+use Rattle.tv_base.specs.JsonPath.{joined_path}
+use Rattle.tv_indexing.specs.DocumentTerms.{AreAppended, has_zero}
+use Rattle.tv_indexing.specs.TextTerms.{leaves_terms}
+use Rattle.tv_indexing.proofs.TextSteps.{appended}
+use Rattle.tv_indexing.proofs.text_terms.push_text_below.Goals as goal
+
+pub returns-in-Ok-clause-made : goal.returns-in-Ok-clause-made
+returns-in-Ok-clause-made c =
+    let at = c.args.at in
+    let path = c.args.path.now in
+    let keys : c.as_bytes-2.result.now ≡ 1 ∷ joined_path at.expand_dots path = search (rules, c.as_bytes-2.ensures.value, c.in_ok-push_joined_json_path.ensures.added, c.in_ok-push.ensures.bytes, c.in_ok-push.ensures.ascii, c.new-keys.ensures.bytes) in
+    let m = c.in-Ok.ensures.made in
+    let a = appended c.args.terms.now c.push_all_written.new.terms (leaves_terms at.field (joined_path at.expand_dots path) m.0)
+    (subst (λ bytes. AreAppended c.args.terms.now c.push_all_written.new.terms (leaves_terms at.field (drop 1 bytes) m.0)) keys m.2) in
+    let some : path ≢ [] = search (rules, c.if-is_empty.false, c.is_empty.ensures) in
+    let plain : has_zero path ≡ false = search (rules, c.if-contains.false, c.contains.ensures.value, c.as_bytes.ensures.value) in
+    (a.0, (some, plain, m.0, m.1, a.1), a.2)

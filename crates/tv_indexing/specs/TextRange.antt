@@ -1,0 +1,133 @@
+-- The range of a field's terms between two texts of a query.
+--
+-- The words of the public contracts:
+-- `AnswersBounds`: what two bounds have at a path in a schema, which are texts. A path that names no field is refused, and so is a field that isn't
+-- indexed, and one of JSON objects. Each bound is a value of the field as in `AnswersText`; the range has just the field's terms between the two. Of dates
+-- the second of a bound is within, since a term stands for all dates of its second.
+-- `WritesBounds`: the two bounds that one text writes, as `[10 TO 20]`.
+use Rattle.std.specs.Prelude.{◌≡◌, ◌≤◌, ◌++◌, ℕ, List, length, codes, bytes_eq, if◌then◌else◌, Bool, true, false, Option, Some, None, Result, Ok, Err}
+use Rattle.std.specs.Ordering.{is_lt, nat_cmp}
+use Rattle.std.specs.Cmp.Lexicographic.{slice_cmp}
+use Rattle.std.specs.declared.ops.Bound.{Bound}
+use Rattle.std.specs.declared.ops.Bound.TheVariants.{Included, Excluded, Unbounded}
+use Rattle.tv_field.specs.Entry.{Entry, value_type}
+use Rattle.tv_field.specs.JsonAnswer.{RefusesText, WritesValue}
+use Rattle.tv_field.specs.declared.field_type.FieldType.{FieldType}
+use Rattle.tv_field.specs.declared.field_type.FieldType.TheVariants as types
+use Rattle.tv_field.specs.declared.json_value.JsonRefusal.{JsonRefusal}
+use Rattle.tv_format.specs.Tree.{Leaf}
+use Rattle.tv_indexing.specs.IndexedField.{AtPath}
+use Rattle.tv_indexing.specs.LeafTerms.{leaf_value}
+use Rattle.tv_indexing.specs.TextTerms.{IsWrongRange, IsWrongText}
+use Rattle.tv_indexing.specs.declared.text_terms_error.TextTermsError.{TextTermsError}
+use Rattle.tv_indexing.specs.declared.text_terms_error.TextTermsError.TheVariants.{Backwards, NoRange}
+use Rattle.tv_term.specs.Key.{TermValue, value_cmp}
+use Rattle.tv_term.specs.Range.{HasTerms, IsBetween}
+use Rattle.tv_term.specs.declared.range.TermRange.{TermRange}
+use Rattle.tv_value.specs.declared.field.Field.{Field}
+
+-- ---- bounds
+
+-- the text is a value of the field, whose term stands for this one
+pub record WritesTerm (type : FieldType) (s : List ℕ) (l : Leaf) (value : TermValue) : Type 0 where
+  pub is_value : WritesValue type s l
+  pub has_term : leaf_value l ≡ Some value
+
+-- a bound that isn't within the range itself; of dates its second is
+abbrev pub outer_bound : FieldType → TermValue → Bound TermValue
+outer_bound (types.Date options) value = Included value
+outer_bound type value = Excluded value
+
+-- the texts of a bound are values of the field, and these their terms' values
+abbrev pub WritesBound : FieldType → Bound (List ℕ) → Bound TermValue → Type 0
+WritesBound type (Included s) bound = (l : Leaf) × (value : TermValue) × WritesTerm type s l value × (bound ≡ Included value)
+WritesBound type (Excluded s) bound = (l : Leaf) × (value : TermValue) × WritesTerm type s l value × (bound ≡ outer_bound type value)
+WritesBound type Unbounded bound = bound ≡ Unbounded
+
+-- the text of a bound is refused
+abbrev pub RefusesBound : Field → FieldType → Bound (List ℕ) → TextTermsError → Type 0
+RefusesBound field type (Included s) e = (why : JsonRefusal) × RefusesText type s why × IsWrongText field (value_type type) why s e
+RefusesBound field type (Excluded s) e = (why : JsonRefusal) × RefusesText type s why × IsWrongText field (value_type type) why s e
+RefusesBound field type Unbounded e = ⊥
+
+abbrev pub bounding : {A : Type 0} → Bound A → Option A
+bounding (Included value) = Some value
+bounding (Excluded value) = Some value
+bounding Unbounded = None
+
+-- whether the first value is above the second one, where there are two
+abbrev pub are_backwards : Option TermValue → Option TermValue → Bool
+are_backwards (Some start) (Some end) = is_lt (value_cmp end start)
+are_backwards start end = false
+
+-- the same of their terms' bytes, for private clauses
+abbrev pub bytes_run_backwards : Option (List ℕ) → Option (List ℕ) → Bool
+bytes_run_backwards (Some start) (Some end) = is_lt (slice_cmp nat_cmp end start)
+bytes_run_backwards start end = false
+
+-- ---- what two bounds have
+
+-- both are bounds of values of the field
+pub record WriteBoth (type : FieldType) (start end : Bound (List ℕ)) (lo hi : Bound TermValue) : Type 0 where
+  pub starts : WritesBound type start lo
+  pub ends : WritesBound type end hi
+
+-- why they bound no range: the first is refused, or only the second, or they run backwards
+pub data RefusesBoth (field : Field) (type : FieldType) (start end : Bound (List ℕ)) (e : TextTermsError) : Type 0 where
+  first : RefusesBound field type start e → RefusesBoth field type start end e
+  second : (lo : Bound TermValue) → WritesBound type start lo → RefusesBound field type end e → RefusesBoth field type start end e
+  backwards : (lo hi : Bound TermValue) → WriteBoth type start end lo hi → are_backwards (bounding lo) (bounding hi) ≡ true → e ≡ Backwards field → RefusesBoth field type start end e
+
+abbrev pub RangeAnswer : Type 0
+RangeAnswer = Result TermRange TextTermsError
+
+abbrev pub RangeOfTexts : Field → FieldType → Bound (List ℕ) → Bound (List ℕ) → RangeAnswer → Type 0
+RangeOfTexts field type start end (Ok range) =
+    (lo : Bound TermValue) × (hi : Bound TermValue) × WriteBoth type start end lo hi × (are_backwards (bounding lo) (bounding hi) ≡ false) × HasTerms (IsBetween field.id (value_type type) lo hi) range
+RangeOfTexts field type start end (Err e) = RefusesBoth field type start end e
+
+abbrev pub RangeInField : Field → FieldType → Bound (List ℕ) → Bound (List ℕ) → RangeAnswer → Type 0
+RangeInField field (types.JsonObject options) start end answer = answer ≡ Err (NoRange field)
+RangeInField field type start end answer = RangeOfTexts field type start end answer
+
+abbrev pub AnswersBounds : List Entry → List ℕ → Bound (List ℕ) → Bound (List ℕ) → RangeAnswer → Type 0
+AnswersBounds schema path start end answer = AtPath (λ field type rest. RangeInField field type start end) schema path answer
+
+-- ---- the bounds that a text writes
+
+abbrev pub opening_bracket : Bool → List ℕ
+opening_bracket true = codes "["
+opening_bracket false = codes "{"
+
+abbrev pub closing_bracket : Bool → List ℕ
+closing_bracket true = codes "]"
+closing_bracket false = codes "}"
+
+-- `*` is no bound
+abbrev pub bound_of : Bool → List ℕ → Bound (List ℕ)
+bound_of is_within s = if bytes_eq s (codes "*") then Unbounded else (if is_within then Included s else Excluded s)
+
+abbrev pub IsStartBound : List ℕ → Bound (List ℕ) → Type 0
+IsStartBound s start = (is_within : Bool) × (inner : List ℕ) × (s ≡ opening_bracket is_within ++ inner) × (start ≡ bound_of is_within inner)
+
+abbrev pub IsEndBound : List ℕ → Bound (List ℕ) → Type 0
+IsEndBound s end = (is_within : Bool) × (inner : List ℕ) × (s ≡ inner ++ closing_bracket is_within) × (end ≡ bound_of is_within inner)
+
+-- a bound in its bracket, the first ` TO ` of the text, and another bound in its bracket
+pub record ArePartedBounds (text : List ℕ) (start end : Bound (List ℕ)) : Type 0 where
+  pub before : List ℕ
+  pub behind : List ℕ
+  pub text_is : text ≡ before ++ (codes " TO " ++ behind)
+  pub is_first : (earlier later : List ℕ) → text ≡ earlier ++ (codes " TO " ++ later) → length before ≤ length earlier
+  pub starts : IsStartBound before start
+  pub ends : IsEndBound behind end
+
+-- such a text, or `*`, which has no bounds
+pub data WritesBounds (text : List ℕ) (start end : Bound (List ℕ)) : Type 0 where
+  no_bounds : text ≡ codes "*" → start ≡ Unbounded → end ≡ Unbounded → WritesBounds text start end
+  bounds : ArePartedBounds text start end → WritesBounds text start end
+
+-- what a text has that writes the bounds itself
+pub data AnswersRange (schema : List Entry) (path text : List ℕ) (answer : RangeAnswer) : Type 0 where
+  no_range : ((start end : Bound (List ℕ)) → ¬ WritesBounds text start end) → (e : TextTermsError) → IsWrongRange text e → answer ≡ Err e → AnswersRange schema path text answer
+  range : (start end : Bound (List ℕ)) → WritesBounds text start end → AnswersBounds schema path start end answer → AnswersRange schema path text answer

@@ -1,0 +1,87 @@
+-- The terms of a text of a query: those that a document has which holds a value that the text writes.
+--
+-- The words of the public contract:
+-- `AnswersText`: what a text at a path has in a schema. A path that names no field is refused, and so is a field that isn't indexed. In a field of a
+-- plain type the text is the value that it is in JSON to such a field that coerces, and has that value's term; or it is refused for the reason
+-- that JSON is. In a field of JSON objects, at a path below it, it writes itself as a text, and also a number, a truth value and a date, each
+-- where it is the text of one, and has the term of each there.
+use Rattle.std.specs.Prelude.{◌≡◌, ◌≢◌, ◌++◌, ℕ, ℤ, List, [], ◌∷◌, Bool, true, false, Option, Some, None, Result, Ok, Err}
+use Rattle.std.specs.Str.Parse.{digits_value, signed_digits_value, without_leading_plus}
+use Rattle.tv_base.specs.JsonPath.{joined_path}
+use Rattle.tv_date.specs.Rfc3339.{rfc}
+use Rattle.tv_date.specs.declared.date_error.DateError.{DateError}
+use Rattle.tv_field.specs.Entry.{Entry, value_type}
+use Rattle.tv_field.specs.JsonAnswer.{RefusesText, WritesValue}
+use Rattle.tv_field.specs.JsonTable.{IsSignedText, IsUnsignedText, truth_in}
+use Rattle.tv_field.specs.declared.field_type.FieldType.{FieldType}
+use Rattle.tv_field.specs.declared.json_value.JsonRefusal.{JsonRefusal}
+use Rattle.tv_options.specs.declared.types.TypeTag.{TypeTag}
+use Rattle.tv_field.specs.declared.field_type.FieldType.TheVariants as types
+use Rattle.tv_format.specs.Tree.{Leaf, text, unsigned, signed, date}
+use Rattle.tv_indexing.specs.DocumentTerms.{Terms, followed_by, has_zero, json_leaf_terms, plain_terms}
+use Rattle.tv_indexing.specs.IndexedField.{AtPath, IsStartOf}
+use Rattle.tv_indexing.specs.LeafTerms.{leaf_value}
+use Rattle.tv_indexing.specs.declared.text_terms_error.TextTermsError.{TextTermsError}
+use Rattle.tv_indexing.specs.declared.text_terms_error.TextTermsError.TheVariants.{PathEnds, NulInPath, WrongText, WrongRange}
+use Rattle.tv_value.specs.declared.field.Field.{Field}
+
+-- ---- the values that a text writes in a JSON value
+
+abbrev pub listed : {A : Type 0} → Option A → List A
+listed None = []
+listed (Some l) = l ∷ []
+
+-- a number that fits a signed one of 64 bits is one; else it is one without a sign, if it fits that
+abbrev pub WritesNumber : List ℕ → Option Leaf → Type 0
+WritesNumber s None = (¬ IsSignedText s) × (¬ IsUnsignedText s)
+WritesNumber s (Some (signed z)) = IsSignedText s × (z ≡ signed_digits_value 10 s)
+WritesNumber s (Some (unsigned n)) = (¬ IsSignedText s) × IsUnsignedText s × (n ≡ digits_value 10 (without_leading_plus s))
+WritesNumber s (Some l) = ⊥
+
+abbrev pub date_written_in : Result ℤ DateError → Option Leaf
+date_written_in (Ok z) = Some (date z)
+date_written_in (Err e) = None
+
+-- itself, and the number, the truth value and the date that it also writes
+abbrev pub WritesLeaves : List ℕ → List Leaf → Type 0
+WritesLeaves s ls = (number : Option Leaf) × WritesNumber s number × (ls ≡ text s ∷ (listed number ++ (listed (truth_in s) ++ listed (date_written_in (rfc s)))))
+
+-- the terms of values at one path
+abbrev pub leaves_terms : Field → List ℕ → List Leaf → Terms
+leaves_terms field path [] = Ok []
+leaves_terms field path (l ∷ ls) = followed_by (json_leaf_terms field path l) (leaves_terms field path ls)
+
+-- ---- what a text has
+
+-- the error for such a text
+abbrev pub IsWrongText : Field → TypeTag → JsonRefusal → List ℕ → TextTermsError → Type 0
+IsWrongText field type why s (WrongText f t w start) = (f ≡ field) × (t ≡ type) × (w ≡ why) × IsStartOf s start
+IsWrongText field type why s e = ⊥
+
+abbrev pub IsWrongRange : List ℕ → TextTermsError → Type 0
+IsWrongRange s (WrongRange start) = IsStartOf s start
+IsWrongRange s e = ⊥
+
+abbrev pub TermsAnswer : Type 0
+TermsAnswer = Result (List (List ℕ)) TextTermsError
+
+abbrev pub TermsBelow : Field → Bool → List ℕ → List ℕ → TermsAnswer → Type 0
+TermsBelow field expand_dots path s (Ok made) = (path ≢ []) × (has_zero path ≡ false) × (ls : List Leaf) × WritesLeaves s ls × (leaves_terms field (joined_path expand_dots path) ls ≡ Ok made)
+TermsBelow field expand_dots path s (Err (PathEnds f)) = (f ≡ field) × (path ≡ [])
+TermsBelow field expand_dots path s (Err (NulInPath f)) = (f ≡ field) × (has_zero path ≡ true)
+TermsBelow field expand_dots path s (Err e) = ⊥
+
+abbrev pub TermOfText : Field → FieldType → List ℕ → TermsAnswer → Type 0
+TermOfText field type s (Ok made) = (l : Leaf) × WritesValue type s l × (plain_terms field (value_type type) (leaf_value l) ≡ Ok made)
+TermOfText field type s (Err e) = (why : JsonRefusal) × RefusesText type s why × IsWrongText field (value_type type) why s e
+
+abbrev pub TermsInField : Field → FieldType → List ℕ → List ℕ → TermsAnswer → Type 0
+TermsInField field (types.JsonObject options) path s answer = TermsBelow field options.part.expand_dots_enabled path s answer
+TermsInField field type path s answer = TermOfText field type s answer
+
+abbrev pub AnswersText : List Entry → List ℕ → List ℕ → TermsAnswer → Type 0
+AnswersText schema path s answer = AtPath (λ field type rest. TermsInField field type rest s) schema path answer
+
+-- terms that are such an answer are appended
+abbrev pub AppendsAnswer : (TermsAnswer → Type 0) → List (List ℕ) → List (List ℕ) → Type 0
+AppendsAnswer Answers old new = (made : List (List ℕ)) × Answers (Ok made) × (new ≡ old ++ made)

@@ -1,0 +1,239 @@
+//! Terms of texts of queries, by the types of their fields.
+
+ghost use Rattle.std.specs.Prelude.{◌≡◌, ◌≢◌, drop, Err, IfErr, OnErr, OnOk, option_map, List};
+ghost use Rattle.tv_base.specs.JsonPath.{joined_path};
+ghost use Rattle.tv_date.specs.Rfc3339.{rfc};
+ghost use Rattle.tv_field.specs.JsonTable.{truth_in};
+ghost use Rattle.tv_format.specs.Tree.{Leaf};
+ghost use Rattle.tv_indexing.specs.DocumentTerms.{AreAppended};
+ghost use Rattle.tv_indexing.specs.JsonWalk.{Extends};
+ghost use Rattle.tv_indexing.specs.TextTerms.{TermsBelow, TermOfText, AnswersText, TermsInField};
+ghost use Rattle.tv_indexing.specs.TextTerms.{AppendsAnswer, WritesLeaves, WritesNumber};
+ghost use Rattle.tv_indexing.specs.TextTerms.{date_written_in, leaves_terms, listed};
+ghost use Rattle.tv_indexing.specs.declared.term_values_error.TermValuesError.TheVariants as values;
+ghost use Rattle.tv_indexing.specs.declared.text_terms_error.TextTermsError.TheVariants.{Memory};
+ghost use Rattle.tv_value.specs.Lent.{leaf_of};
+
+use crate::indexed_field::indexed_field;
+use crate::json_leaf::push_json_leaf;
+use crate::key_path::JsonField;
+use crate::plain::push_leaf;
+use crate::term_list::TermList;
+use crate::term_values_error::TermValuesError;
+use crate::text_terms_error::{TextTermsError, wrong_text};
+use std::alloc::Global;
+use tv_base::push_joined_json_path;
+use tv_date::DateTime;
+use tv_field::field_type::FieldType;
+use tv_field::json_value::{JsonRefusal, JsonScratch, lend_text};
+use tv_schema::Schema;
+use tv_value::field::Field;
+use tv_value::leaf::ReferenceValueLeaf;
+
+// The number that a text writes in a JSON value, if it writes one.
+pub(crate) fn number_written(text: &str) -> Option<ReferenceValueLeaf<'static>>
+    ensures { WritesNumber text.now (option_map leaf_of result) }
+{
+    if let Ok(signed) = text.parse::<i64>() {
+        return Some(ReferenceValueLeaf::I64(signed));
+    }
+    match text.parse::<u64>() {
+        Ok(unsigned) => Some(ReferenceValueLeaf::U64(unsigned)),
+        Err(_) => None,
+    }
+}
+
+// Appends the term of a value in a JSON value, if there is one, below these keys.
+fn push_written(
+    terms: &mut TermList,
+    field: Field,
+    path: &[u8],
+    leaf: Option<ReferenceValueLeaf<'_>>,
+) -> Result<(), TermValuesError>
+    ensures made { OnOk result (AreAppended terms.old terms.new
+        (leaves_terms field (drop 1 path.now) (listed (option_map leaf_of leaf.entry)))) }
+    ensures refused { IfErr result (λ e. e ≢ values.Memory
+        → leaves_terms field (drop 1 path.now) (listed (option_map leaf_of leaf.entry)) ≡ Err e) }
+    ensures unchanged { OnErr result (terms.new ≡ terms.old) }
+{
+    match leaf {
+        Some(leaf) => push_json_leaf(terms, field, path, leaf),
+        None => Ok(()),
+    }
+}
+
+// The truth value that a text writes in a JSON value, if it writes one.
+pub(crate) fn truth_written(text: &str) -> Option<ReferenceValueLeaf<'static>>
+    ensures { option_map leaf_of result ≡ truth_in text.now }
+{
+    match text.parse::<bool>() {
+        Ok(truth) => Some(ReferenceValueLeaf::Bool(truth)),
+        Err(_) => None,
+    }
+}
+
+// The date that a text writes in a JSON value, if it writes one.
+pub(crate) fn date_written(text: &str) -> Option<ReferenceValueLeaf<'static>>
+    ensures { option_map leaf_of result ≡ date_written_in (rfc text.now) }
+{
+    match DateTime::from_rfc3339(text) {
+        Ok(date) => Some(ReferenceValueLeaf::Date(date)),
+        Err(_) => None,
+    }
+}
+
+// Appends the terms of the values that a text writes in a JSON value, below these keys. After an error a beginning of them may be appended.
+fn push_all_written(
+    terms: &mut TermList,
+    field: Field,
+    path: &[u8],
+    text: &str,
+) -> Result<(), TermValuesError>
+    ensures made { OnOk result ((leaves : List Leaf) × WritesLeaves text.now leaves
+        × AreAppended terms.old terms.new (leaves_terms field (drop 1 path.now) leaves)) }
+    ensures kept { OnErr result (Extends terms.old terms.new) }
+{
+    push_written(terms, field, path, Some(ReferenceValueLeaf::Str(text)))?;
+    push_written(terms, field, path, number_written(text))?;
+    push_written(terms, field, path, truth_written(text))?;
+    push_written(terms, field, path, date_written(text))
+}
+
+// Appends the terms of a text at a path below a field of JSON objects. After an error a beginning of them may be appended.
+fn push_text_below(
+    alloc: Global,
+    terms: &mut TermList,
+    at: JsonField,
+    path: &str,
+    text: &str,
+) -> Result<(), TextTermsError>
+    ensures made { OnOk result (AppendsAnswer (TermsBelow at.field at.expand_dots path.now text.now)
+        terms.old terms.new) }
+    ensures refused { IfErr result
+        (λ e. e ≢ Memory → TermsBelow at.field at.expand_dots path.now text.now (Err e)) }
+    ensures kept { OnErr result (Extends terms.old terms.new) }
+{
+    if path.is_empty() {
+        return Err(TextTermsError::PathEnds(at.field));
+    }
+    if path.as_bytes().contains(&0) {
+        return Err(TextTermsError::NulInPath(at.field));
+    }
+    let mut keys = String::new(alloc);
+    keys.push('\u{1}')?;
+    push_joined_json_path(path, at.expand_dots, &mut keys)?;
+    match push_all_written(terms, at.field, keys.as_bytes(), text) {
+        Ok(()) => Ok(()),
+        Err(_) => Err(TextTermsError::Memory),
+    }
+}
+
+// Appends the term of a text in a field that isn't of JSON objects.
+fn push_plain_text(
+    alloc: Global,
+    terms: &mut TermList,
+    field: Field,
+    field_type: &FieldType,
+    text: &str,
+) -> Result<(), TextTermsError>
+    ensures made { OnOk result (AppendsAnswer (TermOfText field field_type.now text.now)
+        terms.old terms.new) }
+    ensures refused { IfErr result
+        (λ e. e ≢ Memory → TermOfText field field_type.now text.now (Err e)) }
+    ensures unchanged { OnErr result (terms.new ≡ terms.old) }
+{
+    let mut scratch = JsonScratch::new(alloc);
+    let value_type = field_type.value_type();
+    match lend_text(field_type, text, &mut scratch) {
+        Ok(leaf) => match push_leaf(terms, field, value_type, leaf) {
+            Ok(()) => Ok(()),
+            Err(_) => Err(TextTermsError::Memory),
+        },
+        Err(JsonRefusal::Memory) => Err(TextTermsError::Memory),
+        Err(refusal) => Err(wrong_text(alloc, field, value_type, refusal, text)),
+    }
+}
+
+// Appends the terms of a text in a field that is indexed. After an error a beginning of them may be appended.
+fn push_typed(
+    alloc: Global,
+    terms: &mut TermList,
+    field: Field,
+    field_type: &FieldType,
+    path: &str,
+    text: &str,
+) -> Result<(), TextTermsError>
+    ensures made { OnOk result (AppendsAnswer (TermsInField field field_type.now path.now text.now)
+        terms.old terms.new) }
+    ensures refused { IfErr result
+        (λ e. e ≢ Memory → TermsInField field field_type.now path.now text.now (Err e)) }
+    ensures kept { OnErr result (Extends terms.old terms.new) }
+{
+    match field_type {
+        FieldType::JsonObject(options) => {
+            let expand_dots = options.is_expand_dots_enabled();
+            push_text_below(alloc, terms, JsonField { field, expand_dots }, path, text)
+        }
+        other => push_plain_text(alloc, terms, field, other, text),
+    }
+}
+
+// Appends the terms of a text at what a path names. After an error a beginning of them may be appended.
+fn push_text(
+    alloc: Global,
+    schema: &Schema,
+    path: &str,
+    text: &str,
+    terms: &mut TermList,
+) -> Result<(), TextTermsError>
+    ensures made { OnOk result (AppendsAnswer (AnswersText schema.now path.now text.now)
+        terms.old terms.new) }
+    ensures refused { IfErr result
+        (λ e. e ≢ Memory → AnswersText schema.now path.now text.now (Err e)) }
+    ensures kept { OnErr result (Extends terms.old terms.new) }
+{
+    match indexed_field(alloc, schema, path) {
+        Ok(at) => push_typed(alloc, terms, at.field, at.field_type, at.rest, text),
+        Err(error) => Err(error),
+    }
+}
+
+/// Appends the terms of a text of a query: those that `term_values` gives to a value that the text writes. (Not in tantivy, whose query
+/// parser does so.)
+///
+/// The path names the field, as `Schema::find_field` reads it. In a field that isn't of JSON objects the text is what the same text in JSON
+/// is to such a field that coerces, as in a document: a number in decimal, `true` or `false`, a date by RFC 3339, a facet's path, base64, an
+/// address, or itself. It has the one term of that value; a text is whole, and a date is cut to the second. In a field of JSON objects, at a path
+/// below it, the text writes itself, and also a number, a truth value and a date where it is the text of one: it has the term of each of these.
+///
+/// Errors: `UnknownPath`, `NotIndexed`, `PathEnds`, `NulInPath`, `WrongText`; or `Memory`. After each the list is as it was.
+///
+/// ```
+/// pub fn terms_of_price(alloc: Global, schema: &Schema) -> Result<TermList> {
+///     let mut terms = TermList::new(alloc);
+///     terms_of_text(alloc, schema, "price", "12", &mut terms)?;
+///     Ok(terms)
+/// }
+/// ```
+pub fn terms_of_text(
+    alloc: Global,
+    schema: &Schema,
+    path: &str,
+    text: &str,
+    terms: &mut TermList,
+) -> Result<(), TextTermsError>
+    ensures made { OnOk result (AppendsAnswer (AnswersText schema.now path.now text.now)
+        terms.old terms.new) }
+    ensures refused { IfErr result
+        (λ e. e ≢ Memory → AnswersText schema.now path.now text.now (Err e)) }
+    ensures unchanged { OnErr result (terms.new ≡ terms.old) }
+{
+    let len = terms.len();
+    match push_text(alloc, schema, path, text, terms) {
+        Ok(()) => Ok(()),
+        Err(error) => {
+            terms.truncate(len);
+            Err(error)
+        }
+    }
+}

@@ -1,0 +1,99 @@
+//! Why a text of a query has no terms, or no range of them.
+
+ghost use Rattle.std.specs.Prelude.{◌≡◌, ◌≢◌, IfOk, string_bytes};
+ghost use Rattle.std.specs.Fmt.{take_chars};
+ghost use Rattle.tv_indexing.specs.IndexedField.{IsUnknownPath};
+ghost use Rattle.tv_indexing.specs.TextTerms.{IsWrongRange, IsWrongText};
+ghost use Rattle.tv_indexing.specs.declared.text_terms_error.TextTermsError.TheVariants.{Memory};
+
+use std::alloc::{AllocError, Global};
+use thiserror::Error;
+use tv_field::json_value::JsonRefusal;
+use tv_options::Type;
+use tv_value::field::Field;
+
+/// Why a text of a query has no terms, or no range of them. (Not in tantivy.)
+#[derive(Debug, PartialEq, Drop, Error)]
+pub enum TextTermsError {
+    /// The path names no field, or something below a field that isn't of JSON objects. These are its first 40 characters.
+    #[error("the path {0:?} names no field")]
+    UnknownPath(String),
+    /// The field isn't indexed, so it has no terms.
+    #[error("the field isn't indexed")]
+    NotIndexed(Field),
+    /// The path names a field of JSON objects, and nothing below it.
+    #[error("the path ends at a field of JSON objects")]
+    PathEnds(Field),
+    /// The path into JSON objects has U+0000, which ends the path in a term.
+    #[error("the path has U+0000")]
+    NulInPath(Field),
+    /// The text is no value of the field's type, which is given, and why. The last are its first 40 characters.
+    #[error("the text {3:?} is no value of its field's type, {1:?}")]
+    WrongText(Field, Type, JsonRefusal, String),
+    /// The text bounds no range: it is neither `*` nor two bounds with ` TO ` between them, in brackets. These are its first 40 characters.
+    #[error("the text {0:?} is no range")]
+    WrongRange(String),
+    /// The bounds of the range run backwards.
+    #[error("the bounds of the range run backwards")]
+    Backwards(Field),
+    /// The field is of JSON objects, whose values have terms of several types, so no one range has those between two bounds, but several:
+    /// `ranges_of_text`.
+    #[error("a field of JSON objects has no single range")]
+    NoRange(Field),
+    /// Memory was refused.
+    #[error("memory was refused")]
+    Memory,
+}
+
+impl From<AllocError> for TextTermsError {
+    ghost use Rattle.tv_indexing.specs.declared.text_terms_error.TextTermsError.TheVariants.{Memory};
+
+    ghost from_gives = { λ _ error. error ≡ Memory };
+
+    fn from(_: AllocError) -> TextTermsError {
+        TextTermsError::Memory
+    }
+}
+
+// The first 40 characters, or all where there are no more.
+pub(crate) fn start_of(alloc: Global, text: &str) -> Result<String, AllocError>
+    ensures { IfOk result (λ start. string_bytes start ≡ take_chars 40 text.now) }
+{
+    format!(in alloc; "{text:.40}")
+}
+
+// The error for a path that names no field.
+pub(crate) fn unknown_path(alloc: Global, path: &str) -> TextTermsError
+    ensures { result ≢ Memory → IsUnknownPath path.now result }
+{
+    match start_of(alloc, path) {
+        Ok(start) => TextTermsError::UnknownPath(start),
+        Err(_) => TextTermsError::Memory,
+    }
+}
+
+// The error for a text that is refused as a value of a field.
+pub(crate) fn wrong_text(
+    alloc: Global,
+    field: Field,
+    value_type: Type,
+    refusal: JsonRefusal,
+    text: &str,
+) -> TextTermsError
+    ensures { result ≢ Memory → IsWrongText field value_type refusal text.now result }
+{
+    match start_of(alloc, text) {
+        Ok(start) => TextTermsError::WrongText(field, value_type, refusal, start),
+        Err(_) => TextTermsError::Memory,
+    }
+}
+
+// The error for a text that is no range.
+pub(crate) fn wrong_range(alloc: Global, text: &str) -> TextTermsError
+    ensures { result ≢ Memory → IsWrongRange text.now result }
+{
+    match start_of(alloc, text) {
+        Ok(start) => TextTermsError::WrongRange(start),
+        Err(_) => TextTermsError::Memory,
+    }
+}
