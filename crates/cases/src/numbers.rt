@@ -8,7 +8,9 @@ use std::fmt::Write;
 use std::io;
 use std::io::Read;
 use std::str::FromStr;
-use tv_base::{BinarySerializable, ByteSink, ByteSource, Facet, SliceSource, VInt, VecSink};
+use tv_base::{
+    BinarySerializable, ByteSink, ByteSource, Facet, SliceSource, VInt, VecSink, WriteError,
+};
 use tv_io::{ReadSource, WriteSink};
 
 /// What a call about numbers returns.
@@ -213,7 +215,7 @@ fn write_all<K: ByteSink>(
     for pair in values.chunks(2) {
         if let [kind, value] = pair {
             if let Err(failure) = write_one(alloc, sink, kind, value)? {
-                return Ok(Some(failure));
+                return Ok(Some(failure.0));
             }
         }
     }
@@ -226,7 +228,7 @@ fn write_one<K: ByteSink>(
     sink: &mut K,
     kind: &str,
     value: &str,
-) -> Result<Result<(), io::ErrorKind>> {
+) -> Result<Result<(), WriteError>> {
     match kind {
         "vint" => Ok(VInt(words::number(value)?).serialize(sink)),
         "u8" => write_number::<u8, K>(sink, value),
@@ -240,7 +242,7 @@ fn write_one<K: ByteSink>(
 }
 
 // Writes a number, and returns what the sink answered.
-fn write_number<T, K: ByteSink>(sink: &mut K, digits: &str) -> Result<Result<(), io::ErrorKind>>
+fn write_number<T, K: ByteSink>(sink: &mut K, digits: &str) -> Result<Result<(), WriteError>>
 where
     T: FromStr + BinarySerializable + Drop,
     T::Err: Drop,
@@ -255,7 +257,7 @@ fn write_bytes<K: ByteSink>(
     sink: &mut K,
     kind: &str,
     value: &str,
-) -> Result<Result<(), io::ErrorKind>> {
+) -> Result<Result<(), WriteError>> {
     match kind {
         "text" => Ok(words::text(alloc, value)?.serialize(sink)),
         "bytes" => Ok(words::bytes(alloc, value)?.serialize(sink)),

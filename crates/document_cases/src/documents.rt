@@ -6,7 +6,7 @@ use case_words as words;
 use case_words::schemas::schema;
 use serde_json::Value as JsonValue;
 use std::alloc::Global;
-use std::fmt::Write;
+use std::fmt::{Display, Write};
 use tv_doc::doc_parsing_error::DocParsingError;
 use tv_doc::document::CompactDoc;
 use tv_doc::document_trait::Document;
@@ -24,6 +24,8 @@ use tv_value::owned_value::OwnedValue;
 pub fn answer(alloc: Global, call: &[&str]) -> Result<String> {
     match call {
         ["parse", description, json] => parse(alloc, description, json),
+        ["why", description, json] => why(alloc, description, json),
+        ["strict", description, json] => strict(alloc, description, json),
         ["print", description, words @ ..] => print(alloc, description, words),
         ["named", from, to, calls @ ..] => named(alloc, from, to, calls),
         ["same", calls @ ..] => same(alloc, calls),
@@ -82,6 +84,35 @@ fn parse(alloc: Global, description: &str, json: &str) -> Result<String> {
     }
 }
 
+// What a person is told of a JSON object that is refused.
+fn why(alloc: Global, description: &str, json: &str) -> Result<String> {
+    let schema = schema(alloc, description)?;
+    let outcome = CompactDoc::parse_json(alloc, &schema, json);
+    drop(schema);
+    match outcome {
+        Ok(document) => parsed(alloc, document),
+        Err(error) => printed(alloc, error),
+    }
+}
+
+// The document of a JSON object, each of whose keys is to name a field, or what a person is told.
+fn strict(alloc: Global, description: &str, json: &str) -> Result<String> {
+    let schema = schema(alloc, description)?;
+    let outcome = CompactDoc::parse_json_strict(alloc, &schema, json);
+    drop(schema);
+    match outcome {
+        Ok(document) => parsed(alloc, document),
+        Err(error) => printed(alloc, error),
+    }
+}
+
+// The text of an error. It is let go.
+fn printed<E: Display + Drop>(alloc: Global, error: E) -> Result<String> {
+    let text = format!(in alloc; "{error}");
+    drop(error);
+    Ok(text?)
+}
+
 // A document. It is let go.
 fn parsed(alloc: Global, document: CompactDoc) -> Result<String> {
     let answer = shown_by_parts(alloc, &document);
@@ -112,7 +143,7 @@ fn refused(alloc: Global, error: DocParsingError) -> Result<String> {
 // Why there is no document of a JSON object.
 fn refusal(alloc: Global, error: &DocParsingError) -> Result<String> {
     match error {
-        DocParsingError::InvalidJson(start) => invalid_json(alloc, start.as_str()),
+        DocParsingError::InvalidJson(start, _) => invalid_json(alloc, start.as_str()),
         DocParsingError::ValueError(name, error) => refused_value(alloc, name.as_str(), error),
         other => words::error(alloc, other),
     }

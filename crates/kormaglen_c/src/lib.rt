@@ -5,7 +5,7 @@
 
 ghost use Rattle.std.specs.Prelude.{◌≡◌, Some, IsUtf8, MatchOption};
 ghost use Rattle.tv_base.specs.Facet.{parse, printed};
-ghost use Rattle.tv_blocks.specs.Blocks.{IsExported, IsMigrated};
+ghost use Rattle.tv_blocks.specs.Blocks.{IsExported};
 ghost use Rattle.tv_blocks.specs.Fields.{FindsInText, IsPathAnswer};
 ghost use Rattle.tv_blocks.specs.Imports.{ImportsInto};
 ghost use Rattle.tv_blocks.specs.Refusals.{IsBlockRefusal, IsExportRefusal};
@@ -15,6 +15,7 @@ ghost use Rattle.kormaglen_c.specs.Answers.{AnswersFill, AnswersFound, AnswersIm
 ghost use Rattle.kormaglen_c.specs.Answers.{IsWrongVersion, TellsField, write_numbered};
 ghost use Rattle.tv_format.specs.WriteVersion.{written_version};
 ghost use Rattle.tv_reader.specs.Version.{version_of_number, version_of};
+ghost use Rattle.tv_store.specs.BlockMigration.{IsMigrated};
 
 pub mod documents;
 pub mod handles;

@@ -13,7 +13,7 @@ use tantivy_schema::schema::document::{
 use tantivy_schema::schema::{
     Field, JsonObjectOptions, OwnedValue, STORED, Schema, TantivyDocument,
 };
-use tantivy_schema::store::{DocStoreVersion, WriteVersion, migrate};
+use tantivy_schema::store::{DocStoreVersion, WriteVersion, migrate, migrate_block};
 
 // The bytes that are written of a document.
 fn written(alloc: Global, document: &TantivyDocument, schema: &Schema) -> Result<String> {
@@ -130,6 +130,19 @@ fn migrated(alloc: Global, from: &str, to: &str, word: &str) -> Result<String> {
     Ok(format!(in alloc; "{answer}, {left} left")?)
 }
 
+// What is written of a block that is carried over to another version, behind the number of its documents, or behind which of them isn't.
+fn migrated_block(alloc: Global, from: &str, to: &str, word: &str) -> Result<String> {
+    let block = reads::bytes(alloc, word)?;
+    let mut sink = VecSink::new(alloc);
+    let from = reads::version(from)?;
+    let answer = match migrate_block(alloc, &block, from, &mut sink, written_version(to)?) {
+        Ok(number) => format!(in alloc; "{number} documents")?,
+        Err(failed) => format!(in alloc; "error {:?} at {}", failed.error, failed.start)?,
+    };
+    let digits = words::digits(alloc, sink.as_slice())?;
+    Ok(format!(in alloc; "{answer}, {digits}")?)
+}
+
 /// What a call that writes returns.
 pub fn answer(alloc: Global, call: &[&str]) -> Result<String> {
     match call {
@@ -139,6 +152,7 @@ pub fn answer(alloc: Global, call: &[&str]) -> Result<String> {
             reads::document(alloc, DocStoreVersion::V2, Form::Written(&schema), &bytes)
         }
         ["migrate", from, to, word] => migrated(alloc, from, to, word),
+        ["block", from, to, word] => migrated_block(alloc, from, to, word),
         ["number", number] => words::plain(alloc, &written_version(number)?.to_u32()),
         ["value", word] => alone(alloc, word),
         ["kept", word] => kept(alloc, word),

@@ -4,6 +4,7 @@
 pub use Rattle.tv_base.specs.declared.cause.Cause
 pub use Rattle.tv_base.specs.declared.facet_parse_error.FacetParseError
 pub use Rattle.tv_base.specs.declared.read_error.ReadError
+pub use Rattle.tv_base.specs.declared.write_error.WriteError
 pub use Rattle.tv_date.specs.declared.date_error.DateError
 pub use Rattle.tv_builder.specs.declared.awaits.Awaits
 pub use Rattle.tv_builder.specs.declared.build_error.BuildError
@@ -16,6 +17,9 @@ pub use Rattle.tv_heap.specs.declared.place.Place
 pub use Rattle.tv_doc.specs.declared.builder.TreeBuilder
 pub use Rattle.tv_builder.specs.declared.add_error.AddError
 pub use Rattle.tv_doc.specs.declared.doc_parsing_error.DocParsingError
+pub use Rattle.tv_doc.specs.declared.json_fault.JsonFault
+pub use Rattle.tv_doc.specs.declared.json_fault.JsonFaultKind
+pub use Rattle.tv_doc.specs.declared.strict_parsing_error.StrictParsingError
 pub use Rattle.tv_field.specs.declared.json_value.JsonRefusal
 pub use Rattle.tv_field.specs.declared.schema_error.SchemaError
 pub use Rattle.tv_reader.specs.declared.error.DeserializeError
@@ -25,6 +29,7 @@ pub use Rattle.tv_writer.specs.declared.error.SerializeError
 pub use Rattle.tv_store.specs.declared.round_trip.RoundTrip
 pub use Rattle.tv_store.specs.declared.round_trip.RoundTripError
 pub use Rattle.tv_store.specs.declared.migration.MigrateError
+pub use Rattle.tv_store.specs.declared.block_migration.MigrateBlockError
 pub use Rattle.tv_store.specs.declared.limits.LimitedReadError
 pub use Rattle.tv_store.specs.declared.limits.ReadLimit
 pub use Rattle.tv_store.specs.declared.limits.ReadLimits

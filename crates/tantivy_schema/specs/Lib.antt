@@ -90,6 +90,7 @@ pub use Rattle.tv_indexing.specs.DocumentTerms
 pub use Rattle.tv_indexing.specs.IndexedField
 pub use Rattle.tv_indexing.specs.TextTerms
 pub use Rattle.tv_indexing.specs.TextRange
+pub use Rattle.tv_indexing.specs.JsonBounds
 pub use Rattle.tv_indexing.specs.JsonRanges
 -- facets that are counted
 pub use Rattle.tv_facets.specs.FacetCounting
@@ -110,6 +111,7 @@ pub use Rattle.tv_doc.specs.Grouped
 pub use Rattle.tv_heap.specs.Encoded as EncodedInHeap
 pub use Rattle.tv_heap.specs.Held
 pub use Rattle.tv_doc.specs.JsonObject
+pub use Rattle.tv_doc.specs.StrictJson
 pub use Rattle.tv_doc.specs.MapValue
 pub use Rattle.tv_doc.specs.Named
 pub use Rattle.tv_doc.specs.NamedPairs
@@ -136,6 +138,7 @@ pub use Rattle.tv_builder.specs.Weight as StateWeight
 pub use Rattle.tv_store.specs.Documents
 pub use Rattle.tv_store.specs.Reading
 pub use Rattle.tv_store.specs.Migrate
+pub use Rattle.tv_store.specs.BlockMigration
 pub use Rattle.tv_store.specs.Error as StoreError
 pub use Rattle.tv_store.specs.Decoder
 pub use Rattle.tv_store.specs.Blocks

@@ -2,6 +2,6 @@
 
 pub use tv_base::{
     BinarySerializable, ByteSink, ByteSource, Cause, ReadError, SliceSource, VInt, VecSink,
-    join_json_path, joined_json_path, push_joined_json_path, split_json_path,
+    WriteError, join_json_path, joined_json_path, push_joined_json_path, split_json_path,
 };
 pub use tv_io::{BufferedSource, FaultSink, FaultSource, LimitedSource, ReadSource, WriteSink};

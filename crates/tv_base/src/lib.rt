@@ -15,9 +15,11 @@ pub mod slice_source;
 pub mod source;
 pub mod take;
 mod text_rules;
+pub mod text_start;
 pub mod vec_sink;
 pub mod vint;
 pub mod write;
+pub mod write_error;
 
 pub use cause::Cause;
 pub use facet::{FACET_SEP_BYTE, FACET_SEP_CHAR, Facet};
@@ -30,3 +32,4 @@ pub use slice_source::SliceSource;
 pub use source::ByteSource;
 pub use vec_sink::VecSink;
 pub use vint::VInt;
+pub use write_error::WriteError;

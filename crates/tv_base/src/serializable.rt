@@ -25,8 +25,8 @@ use crate::write::{
     write_bool, write_i64, write_sized, write_text, write_u8, write_u32, write_u64, write_u128,
     write_vint,
 };
+use crate::write_error::WriteError;
 use std::alloc::Global;
-use std::io;
 
 /// A value that has an encoding in bytes: the shortest is written, and each is read.
 pub trait BinarySerializable: Sized {
@@ -47,7 +47,7 @@ pub trait BinarySerializable: Sized {
 
     /// Writes the shortest encoding. Errors: that of a write that failed. The sink then holds a beginning of the encoding
     /// behind what it held before.
-    fn serialize<K: ByteSink>(&self, sink: &mut K) -> Result<(), io::ErrorKind>
+    fn serialize<K: ByteSink>(&self, sink: &mut K) -> Result<(), WriteError>
         ensures { Writes K.ByteSink sink.old sink.new result (shortest (view self.now)) };
 
     /// Reads a value, and takes the bytes that encode it and no more.
@@ -71,7 +71,7 @@ impl BinarySerializable for VInt {
 
     ghost has_error = { ErrorInNumber };
 
-    fn serialize<K: ByteSink>(&self, sink: &mut K) -> Result<(), io::ErrorKind> {
+    fn serialize<K: ByteSink>(&self, sink: &mut K) -> Result<(), WriteError> {
         write_vint(sink, self.0)
     }
 
@@ -102,7 +102,7 @@ impl BinarySerializable for u8 {
 
     ghost has_error = { ErrorInBytes 1 };
 
-    fn serialize<K: ByteSink>(&self, sink: &mut K) -> Result<(), io::ErrorKind> {
+    fn serialize<K: ByteSink>(&self, sink: &mut K) -> Result<(), WriteError> {
         write_u8(sink, *self)
     }
 
@@ -126,7 +126,7 @@ impl BinarySerializable for u32 {
 
     ghost has_error = { ErrorInBytes 4 };
 
-    fn serialize<K: ByteSink>(&self, sink: &mut K) -> Result<(), io::ErrorKind> {
+    fn serialize<K: ByteSink>(&self, sink: &mut K) -> Result<(), WriteError> {
         write_u32(sink, *self)
     }
 
@@ -150,7 +150,7 @@ impl BinarySerializable for u64 {
 
     ghost has_error = { ErrorInBytes 8 };
 
-    fn serialize<K: ByteSink>(&self, sink: &mut K) -> Result<(), io::ErrorKind> {
+    fn serialize<K: ByteSink>(&self, sink: &mut K) -> Result<(), WriteError> {
         write_u64(sink, *self)
     }
 
@@ -174,7 +174,7 @@ impl BinarySerializable for String {
 
     ghost has_error = { ErrorInText };
 
-    fn serialize<K: ByteSink>(&self, sink: &mut K) -> Result<(), io::ErrorKind> {
+    fn serialize<K: ByteSink>(&self, sink: &mut K) -> Result<(), WriteError> {
         write_text(sink, self.as_str())
     }
 
@@ -195,7 +195,7 @@ impl BinarySerializable for u128 {
 
     ghost has_error = { ErrorInBytes 16 };
 
-    fn serialize<K: ByteSink>(&self, sink: &mut K) -> Result<(), io::ErrorKind> {
+    fn serialize<K: ByteSink>(&self, sink: &mut K) -> Result<(), WriteError> {
         write_u128(sink, *self)
     }
 
@@ -219,7 +219,7 @@ impl BinarySerializable for i64 {
 
     ghost has_error = { ErrorInBytes 8 };
 
-    fn serialize<K: ByteSink>(&self, sink: &mut K) -> Result<(), io::ErrorKind> {
+    fn serialize<K: ByteSink>(&self, sink: &mut K) -> Result<(), WriteError> {
         write_i64(sink, *self)
     }
 
@@ -243,7 +243,7 @@ impl BinarySerializable for bool {
 
     ghost has_error = { ErrorInTruth };
 
-    fn serialize<K: ByteSink>(&self, sink: &mut K) -> Result<(), io::ErrorKind> {
+    fn serialize<K: ByteSink>(&self, sink: &mut K) -> Result<(), WriteError> {
         write_bool(sink, *self)
     }
 
@@ -267,7 +267,7 @@ impl BinarySerializable for Vec<u8> {
 
     ghost has_error = { ErrorInSized };
 
-    fn serialize<K: ByteSink>(&self, sink: &mut K) -> Result<(), io::ErrorKind> {
+    fn serialize<K: ByteSink>(&self, sink: &mut K) -> Result<(), WriteError> {
         write_sized(sink, self.as_slice())
     }
 
@@ -288,7 +288,7 @@ impl BinarySerializable for Facet {
 
     ghost has_error = { ErrorInText };
 
-    fn serialize<K: ByteSink>(&self, sink: &mut K) -> Result<(), io::ErrorKind> {
+    fn serialize<K: ByteSink>(&self, sink: &mut K) -> Result<(), WriteError> {
         write_text(sink, self.encoded_str())
     }
 

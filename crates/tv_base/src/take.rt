@@ -4,7 +4,7 @@
 //! 2^64 - 1 it returns `Corrupted(TooLong)`: the bytes that were taken end too early. Every other error is what the bytes show, also
 //! where as many were taken. After an error `count` has risen by the number of the bytes that were taken up to there.
 
-ghost use Rattle.std.specs.Prelude.{◌≡◌, ◌⊎◌, ◌≤◌, ◌+◌, [], length, true, false, IfOk};
+ghost use Rattle.std.specs.Prelude.{◌<◌, ◌≡◌, ◌⊎◌, ◌≤◌, ◌+◌, [], length, true, false, IfOk};
 ghost use Rattle.std.specs.Prelude.{IfErr, IsErrOf, OnOk, OnErr, string_bytes};
 ghost use Rattle.std.specs.Str.{is_utf8};
 ghost use Rattle.tv_base.specs.declared.cause.Cause.{Cause};
@@ -227,6 +227,18 @@ fn take_groups<S: ByteSource>(source: &mut S, count: &mut u64) -> Result<u64, Re
 // No more than this is made room for before it is read.
 const PIECE: u64 = 4096;
 
+// So much is asked for at once even where less came before.
+const LEAST_PIECE: u64 = 64;
+
+// How much is asked for at once behind a read that gave this much: twice that, within bounds. So a source that gives little at a time doesn't have much
+// room cleared for each read.
+fn piece_behind(last: u64) -> u64
+    ensures some { 0 < result }
+    ensures most { result ≤ 4096 }
+{
+    last.saturating_mul(2).clamp(LEAST_PIECE, PIECE)
+}
+
 /// Takes the next `len` bytes, and puts them behind those that are there. Room is made only as they come.
 ///
 /// Errors: those of [`take`], and `Memory`. After an error what `bytes` holds is unspecified.
@@ -242,18 +254,20 @@ pub fn take_pieces<S: ByteSource>(
     ensures at_most { count.new ≤ count.old + len }
 {
     let mut missing = len;
+    let mut last = PIECE;
     while missing > 0 {
         let room = u64::MAX - *count;
         if room == 0 {
             return Err(ReadError::Corrupted(Cause::TooLong));
         }
-        let most = missing.min(room).min(PIECE);
+        let most = missing.min(room).min(piece_behind(last));
         let more = source.append(bytes, most as usize)? as u64;
         if more == 0 {
             return Err(ReadError::Corrupted(Cause::UnexpectedEnd));
         }
         *count += more;
         missing -= more;
+        last = more;
     }
     Ok(())
 }

@@ -11,11 +11,11 @@ ghost use Rattle.tv_base.specs.Writing.{Writes};
 
 use crate::sink::ByteSink;
 use crate::vint::VInt;
-use std::io;
+use crate::write_error::WriteError;
 
 /// Writes all of the bytes, in as many writes as it takes.
 #[inline]
-pub fn write_all<K: ByteSink>(sink: &mut K, bytes: &[u8]) -> Result<(), io::ErrorKind>
+pub fn write_all<K: ByteSink>(sink: &mut K, bytes: &[u8]) -> Result<(), WriteError>
     ensures { Writes K.ByteSink sink.old sink.new result bytes.now }
 {
     let mut rest = bytes;
@@ -29,7 +29,7 @@ pub fn write_all<K: ByteSink>(sink: &mut K, bytes: &[u8]) -> Result<(), io::Erro
 /// Writes one byte.
 #[inline]
 #[tactic(auto, unfolding(crate::specs::Number::one_byte))]
-pub fn write_u8<K: ByteSink>(sink: &mut K, number: u8) -> Result<(), io::ErrorKind>
+pub fn write_u8<K: ByteSink>(sink: &mut K, number: u8) -> Result<(), WriteError>
     ensures { Writes K.ByteSink sink.old sink.new result (one_byte number) }
 {
     write_all(sink, &[number])
@@ -38,7 +38,7 @@ pub fn write_u8<K: ByteSink>(sink: &mut K, number: u8) -> Result<(), io::ErrorKi
 /// Writes a number in four bytes, the lowest first.
 #[inline]
 #[tactic(auto, using(crate::proofs::Widths::four_bytes_is))]
-pub fn write_u32<K: ByteSink>(sink: &mut K, number: u32) -> Result<(), io::ErrorKind>
+pub fn write_u32<K: ByteSink>(sink: &mut K, number: u32) -> Result<(), WriteError>
     ensures { Writes K.ByteSink sink.old sink.new result (four_bytes number) }
 {
     let four = number.to_le_bytes();
@@ -48,7 +48,7 @@ pub fn write_u32<K: ByteSink>(sink: &mut K, number: u32) -> Result<(), io::Error
 /// Writes a number in eight bytes, the lowest first.
 #[inline]
 #[tactic(auto, using(crate::proofs::Widths::eight_bytes_is))]
-pub fn write_u64<K: ByteSink>(sink: &mut K, number: u64) -> Result<(), io::ErrorKind>
+pub fn write_u64<K: ByteSink>(sink: &mut K, number: u64) -> Result<(), WriteError>
     ensures { Writes K.ByteSink sink.old sink.new result (eight_bytes number) }
 {
     let eight = number.to_le_bytes();
@@ -58,7 +58,7 @@ pub fn write_u64<K: ByteSink>(sink: &mut K, number: u64) -> Result<(), io::Error
 /// Writes a number in sixteen bytes, the lowest first.
 #[inline]
 #[tactic(auto, using(crate::proofs::Widths::sixteen_bytes_is))]
-pub fn write_u128<K: ByteSink>(sink: &mut K, number: u128) -> Result<(), io::ErrorKind>
+pub fn write_u128<K: ByteSink>(sink: &mut K, number: u128) -> Result<(), WriteError>
     ensures { Writes K.ByteSink sink.old sink.new result (sixteen_bytes number) }
 {
     let sixteen = number.to_le_bytes();
@@ -67,7 +67,7 @@ pub fn write_u128<K: ByteSink>(sink: &mut K, number: u128) -> Result<(), io::Err
 
 /// Writes a signed number in eight bytes, the lowest first, in two's complement.
 #[inline]
-pub fn write_i64<K: ByteSink>(sink: &mut K, number: i64) -> Result<(), io::ErrorKind>
+pub fn write_i64<K: ByteSink>(sink: &mut K, number: i64) -> Result<(), WriteError>
     ensures { Writes K.ByteSink sink.old sink.new result (signed_bytes number) }
 {
     write_u64(sink, number.cast_unsigned())
@@ -76,7 +76,7 @@ pub fn write_i64<K: ByteSink>(sink: &mut K, number: i64) -> Result<(), io::Error
 /// Writes a truth value in one byte: 0 or 1.
 #[inline]
 #[tactic(auto, unfolding(crate::specs::Number::one_byte))]
-pub fn write_bool<K: ByteSink>(sink: &mut K, truth: bool) -> Result<(), io::ErrorKind>
+pub fn write_bool<K: ByteSink>(sink: &mut K, truth: bool) -> Result<(), WriteError>
     ensures { Writes K.ByteSink sink.old sink.new result (truth_byte truth) }
 {
     if truth {
@@ -89,7 +89,7 @@ pub fn write_bool<K: ByteSink>(sink: &mut K, truth: bool) -> Result<(), io::Erro
 /// Writes the shortest encoding of a number.
 // Most have one byte.
 #[inline(always)]
-pub fn write_vint<K: ByteSink>(sink: &mut K, number: u64) -> Result<(), io::ErrorKind>
+pub fn write_vint<K: ByteSink>(sink: &mut K, number: u64) -> Result<(), WriteError>
     ensures { Writes K.ByteSink sink.old sink.new result (vnum number) }
 {
     if number < 128 {
@@ -102,7 +102,7 @@ pub fn write_vint<K: ByteSink>(sink: &mut K, number: u64) -> Result<(), io::Erro
 /// Writes bytes behind their length.
 #[inline(always)]
 #[tactic(auto, using(crate::proofs::Written::Writes_then, crate::proofs::Written::Writes_prefix))]
-pub fn write_sized<K: ByteSink>(sink: &mut K, content: &[u8]) -> Result<(), io::ErrorKind>
+pub fn write_sized<K: ByteSink>(sink: &mut K, content: &[u8]) -> Result<(), WriteError>
     ensures { Writes K.ByteSink sink.old sink.new result (short_sized content.now) }
 {
     write_vint(sink, content.len() as u64)?;
@@ -111,7 +111,7 @@ pub fn write_sized<K: ByteSink>(sink: &mut K, content: &[u8]) -> Result<(), io::
 
 /// Writes a text behind its length in bytes.
 #[inline(always)]
-pub fn write_text<K: ByteSink>(sink: &mut K, text: &str) -> Result<(), io::ErrorKind>
+pub fn write_text<K: ByteSink>(sink: &mut K, text: &str) -> Result<(), WriteError>
     ensures { Writes K.ByteSink sink.old sink.new result (short_sized text.now) }
 {
     write_sized(sink, text.as_bytes())

@@ -1,5 +1,5 @@
 -- One document that bytes begin with, and the fields that a schema doesn't have.
-use Rattle.std.proofs.Common.{◌≡◌, ℕ, ◌-◌, ◌<◌, List, [], ◌∷◌, ◌++◌, length, refl, sym, ap, subst, ◌∙◌, append_assoc}
+use Rattle.std.proofs.Common.{◌≡◌, ℕ, ◌<◌, List, [], ◌∷◌, ◌++◌, length, refl, sym, ap, subst, ◌∙◌, append_assoc}
 use Rattle.tv_blocks.specs.Documents.{BelongsSoFar, IsUnread}
 use Rattle.tv_blocks.specs.Refusals.{document_refusal}
 use Rattle.tv_doc.specs.Belongs.{Belongs}

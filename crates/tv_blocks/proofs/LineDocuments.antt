@@ -70,14 +70,14 @@ said_for (values.OverflowError expected json) why is = ap (λ w. Some (refused_f
 said_for (values.TypeError expected json) why is = ap (λ w. Some (refused_for w)) (same_Some _ _ is)
 said_for (values.ParseError cause json) why is = ap (λ w. Some (refused_for w)) (same_Some _ _ is)
 said_for (values.InvalidBase64 text) why is = ap (λ w. Some (refused_for w)) (same_Some _ _ is)
-said_for values.FloatNumber why is = ap (λ w. Some (refused_for w)) (same_Some _ _ is)
+said_for (values.FloatNumber json) why is = ap (λ w. Some (refused_for w)) (same_Some _ _ is)
 said_for values.Memory why is = absurd cc
 
 pub no_text : (schema : List Entry) (line : List ℕ) → ¬ IsUtf8 line → IsUnparsed schema line (blocks.BadLine lines.InvalidJson)
 no_text schema line none = no_object (λ members h. none h.0) refl
 
 error_unparsed : (schema : List Entry) (line : List ℕ) (e : DocParsingError) → IsUtf8 line → Parses schema line (Err e) → IsUnparsed schema line (line_error schema e)
-error_unparsed schema line (errors.InvalidJson start) utf8 h = no_object (λ members is. h.0 members is.1) refl
+error_unparsed schema line (errors.InvalidJson start fault) utf8 h = no_object (λ members is. h.0 members is.1) refl
 error_unparsed schema line (errors.ValueError name e) utf8 h =
     let stop = h.2.2 in
     let why = stop.refused in

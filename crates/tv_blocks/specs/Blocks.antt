@@ -1,21 +1,14 @@
--- Blocks of documents that stand one behind the other, written in another version or printed.
+-- Blocks of documents that stand one behind the other, printed as lines of JSON.
 use Rattle.std.specs.Prelude.{◌≡◌, ℕ, List, [], ◌∷◌, ◌++◌}
-use Rattle.std.specs.List.{flat_map}
-use Rattle.tv_blocks.specs.Refusals.{EncodesBlock, IsBlockRefusal}
+use Rattle.tv_blocks.specs.Refusals.{IsBlockRefusal}
 use Rattle.tv_blocks.specs.declared.block_error.BlockError.{BlockError}
 use Rattle.tv_blocks.specs.declared.block_error.BlockError.TheVariants as errors
 use Rattle.tv_doc.specs.Named.{IsJsonText, field_names}
 use Rattle.tv_field.specs.Entry.{Entry}
-use Rattle.tv_format.specs.Short.{short_document}
 use Rattle.tv_format.specs.Tree.{Document}
 use Rattle.tv_format.specs.Version.{Version}
 use Rattle.tv_lines.specs.Answers.{ReadsSchema}
-
--- The block encodes documents in the one version, and these are their shortest encodings in the other.
-pub record IsMigrated (from to : Version) (block content : List ℕ) : Type 0 where
-  pub documents : List Document
-  pub encoded : EncodesBlock from block documents
-  pub written : content ≡ flat_map (short_document to) documents
+use Rattle.tv_store.specs.BlockMigration.{EncodesBlock}
 
 -- the text of JSON of each document, by the names of the fields, and a line feed behind each
 pub data ArePrintedLines (schema : List Entry) : List Document → List ℕ → Type 0 where
@@ -46,14 +39,7 @@ abbrev pub IsRefusedBlock : Version → List ℕ → BlockError → Type 0
 IsRefusedBlock v block errors.Memory = Unit {0}
 IsRefusedBlock v block e = IsBlockRefusal v block e
 
--- so far the documents before the rest of the block have been written
-pub record MigratedSoFar (from to : Version) (block rest content : List ℕ) : Type 0 where
-  pub before : List ℕ
-  pub joined : block ≡ before ++ rest
-  pub documents : List Document
-  pub encoded : EncodesBlock from before documents
-  pub written : content ≡ flat_map (short_document to) documents
-
+-- so far the documents before the rest of the block have been printed
 pub record PrintedSoFar (entries : List Entry) (v : Version) (block rest content : List ℕ) : Type 0 where
   pub before : List ℕ
   pub joined : block ≡ before ++ rest

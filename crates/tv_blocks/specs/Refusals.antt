@@ -1,24 +1,22 @@
 -- Why a call writes nothing.
-use Rattle.std.specs.Prelude.{◌≡◌, ℕ, List, ◌++◌, length, None, Err, IsUtf8}
+use Rattle.std.specs.Prelude.{◌≡◌, ◌≢◌, ℕ, List, [], ◌++◌, length, None, Err, IsUtf8}
 use Rattle.serde_json.specs.Data.{Data}
 use Rattle.tv_base.specs.Facet.{parse}
-use Rattle.tv_base.specs.Parts.{Each}
 use Rattle.tv_blocks.specs.declared.block_error.BlockError.{BlockError}
 use Rattle.tv_blocks.specs.declared.block_error.BlockError.TheVariants as errors
 use Rattle.tv_blocks.specs.declared.block_error.DocumentRefusal.{DocumentRefusal}
 use Rattle.tv_blocks.specs.declared.block_error.DocumentRefusal.TheVariants as documents
 use Rattle.tv_field.specs.Entry.{Entry}
-use Rattle.tv_format.specs.Encoding.{EncodesDocument}
 use Rattle.tv_format.specs.InputError.{corrupted, no_text_key}
 use Rattle.tv_format.specs.Tree.{Document}
 use Rattle.tv_format.specs.Version.{Version}
-use Rattle.tv_legacy.specs.Legacy.{Legacy}
 use Rattle.tv_lines.specs.Answers.{IsJson, ReadsSchema}
 use Rattle.tv_reader.specs.declared.error.DeserializeError.{DeserializeError}
 use Rattle.tv_reader.specs.declared.error.DeserializeError.TheVariants as reads
 use Rattle.tv_schema.specs.Path.{find}
 use Rattle.tv_schema.specs.SchemaJsonReading.{schema_by_key}
 use Rattle.tv_schema.specs.declared.json.error.SchemaJsonError.TheVariants.{BadKey, Refused, Other}
+use Rattle.tv_store.specs.BlockMigration.{EncodesBlock}
 use Rattle.tv_store.specs.Documents.{NoDocument, HasNoRoom}
 use Rattle.tv_store.specs.declared.migration.MigrateError.{MigrateError}
 use Rattle.tv_store.specs.declared.migration.MigrateError.TheVariants.{Read, Write}
@@ -47,22 +45,19 @@ IsSchemaRefusal text e = ⊥
 
 -- ---- documents of a block
 
--- these documents are encoded, one behind the other
-abbrev pub EncodesBlock : Version → List ℕ → List Document → Type 0
-EncodesBlock v block documents = Each (EncodesDocument Legacy v) block documents
-
 -- the document that begins there is refused for this
 abbrev pub RefusesDocument : Version → List ℕ → DocumentRefusal → Type 0
 RefusesDocument v bytes (documents.Corrupted cause) = NoDocument v bytes (corrupted cause)
 RefusesDocument v bytes documents.KeyIsNoText = (code : ℕ) × NoDocument v bytes (no_text_key code)
 RefusesDocument v bytes documents.HeapFull = HasNoRoom v bytes
 
--- This many bytes encode documents, and the document that begins behind them is refused.
+-- This many bytes encode documents, and the document that begins behind them is refused. Something stands there.
 pub record Breaks (v : Version) (block : List ℕ) (start : ℕ) (refusal : DocumentRefusal) : Type 0 where
   pub before : List ℕ
   pub behind : List ℕ
   pub joined : block ≡ before ++ behind
   pub measured : start ≡ length before
+  pub some : behind ≢ []
   pub documents : List Document
   pub encoded : EncodesBlock v before documents
   pub refused : RefusesDocument v behind refusal

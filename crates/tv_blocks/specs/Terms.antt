@@ -3,13 +3,13 @@ use Rattle.std.specs.Prelude.{◌≡◌, ℕ, suc, List, [], ◌∷◌, ◌++◌
 use Rattle.std.specs.Global.{Vec}
 use Rattle.std.specs.Int.{to_le_bytes, w64}
 use Rattle.std.specs.List.{flat_map}
-use Rattle.tv_blocks.specs.Refusals.{EncodesBlock}
 use Rattle.tv_blocks.specs.declared.block_error.BlockError.{BlockError}
 use Rattle.tv_blocks.specs.declared.block_error.BlockError.TheVariants as errors
 use Rattle.tv_doc.specs.FieldValues.{values_of}
 use Rattle.tv_format.specs.Tree.{Document}
 use Rattle.tv_format.specs.Version.{Version}
 use Rattle.tv_indexing.specs.LeafTerms.{tree_value}
+use Rattle.tv_store.specs.BlockMigration.{EncodesBlock}
 use Rattle.tv_term.specs.Key.{TermValue, Text, term}
 use Rattle.tv_term.specs.Range.{EndsPrefix}
 

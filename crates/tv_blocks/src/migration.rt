@@ -1,54 +1,50 @@
 //! Blocks of documents in another version of the store.
 
-ghost use Rattle.std.specs.Prelude.{◌≡◌, [], IfErr, OnOk};
-ghost use Rattle.tv_blocks.specs.Blocks.{IsMigrated, IsRefusedBlock};
+ghost use Rattle.std.specs.Prelude.{◌≡◌, IfErr, IfOk};
+ghost use Rattle.tv_blocks.specs.Blocks.{IsRefusedBlock};
 ghost use Rattle.tv_blocks.specs.Buffer.{FillsBuffer};
 ghost use Rattle.tv_blocks.specs.Refusals.{IsBlockRefusal, migration_refusal};
 ghost use Rattle.tv_format.specs.WriteVersion.{written_version};
 ghost use Rattle.tv_reader.specs.Version.{version_of};
+ghost use Rattle.tv_store.specs.BlockMigration.{IsMigrated};
 
 use crate::block_error::{BlockError, unread};
 use crate::buffer::put_whole;
 use std::alloc::Global;
-use tv_base::{SliceSource, VecSink};
+use tv_base::VecSink;
 use tv_format::version::WriteVersion;
-use tv_store::{DocStoreVersion, MigrateError, migrate};
+use tv_store::{DocStoreVersion, MigrateBlockError, MigrateError};
 
-// What is said where a document that begins at this byte isn't migrated.
-fn unmigrated(start: u64, error: MigrateError) -> BlockError
-    ensures { result ≡ migration_refusal start error }
+// What is said of a document that wasn't migrated.
+fn unmigrated(failed: &MigrateBlockError) -> BlockError
+    ensures { result ≡ migration_refusal failed.now.start failed.now.error }
 {
-    match error {
-        MigrateError::Read(error) => unread(start, &error),
+    match &failed.error {
+        MigrateError::Read(error) => unread(failed.start, error),
         MigrateError::Write(_) => BlockError::Memory,
     }
 }
 
-// Writes each document of the block in the other version.
-fn migrated_documents(
+// The documents of the block in the other version.
+fn migrated_bytes(
     alloc: Global,
     from: DocStoreVersion,
     block: &[u8],
     to: WriteVersion,
-    sink: &mut VecSink,
-) -> Result<(), BlockError>
-    requires { sink.old.bytes.items ≡ [] }
-    ensures ok { OnOk result
-        (IsMigrated (version_of from) (written_version to) block.now sink.new.bytes.items) }
+) -> Result<Vec<u8>, BlockError>
+    ensures ok { IfOk result (λ bytes.
+        IsMigrated (version_of from) (written_version to) block.now bytes.items) }
     ensures err { IfErr result (IsRefusedBlock (version_of from) block.now) }
 {
-    let mut source = SliceSource::new(block);
-    while !source.rest().is_empty() {
-        let start = (block.len() - source.rest().len()) as u64;
-        if let Err(error) = migrate(alloc, &mut source, from, sink, to) {
-            return Err(unmigrated(start, error));
-        }
+    let mut sink = VecSink::new(alloc);
+    match tv_store::migrate_block(alloc, block, from, &mut sink, to) {
+        Ok(_) => Ok(sink.into_vec()),
+        Err(failed) => Err(unmigrated(&failed)),
     }
-    Ok(())
 }
 
 /// Writes the documents of a block, which stand one behind the other in one version of the store, in the shortest encoding of the other, see
-/// `migrate`, and returns how many bytes these take.
+/// `tv_store::migrate_block`, and returns how many bytes these take.
 ///
 /// Errors: `BadDocument` for the first document that can't be read, `TooSmall`, `Memory`. The buffer then stays as it is.
 pub fn migrate_block(
@@ -61,7 +57,6 @@ pub fn migrate_block(
     ensures { FillsBuffer (IsMigrated (version_of from) (written_version to) block.now)
         (IsBlockRefusal (version_of from) block.now) migrated.old migrated.new result }
 {
-    let mut sink = VecSink::new(alloc);
-    migrated_documents(alloc, from, block, to, &mut sink)?;
-    put_whole(sink.as_slice(), migrated)
+    let bytes = migrated_bytes(alloc, from, block, to)?;
+    put_whole(bytes.as_slice(), migrated)
 }

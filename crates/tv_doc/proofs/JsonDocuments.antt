@@ -43,7 +43,7 @@ pub refused_value : (v : FieldJson) (d : CompactDoc) (r : JsonRefusal) (e : DocP
 refused_value v d r (error.ValueError copy e) (refusal, named, is, for) h short =
     (refusal, named, is, subst (λ o. IfSome o (λ x. Table v.field_type v.value (Err x))) for h)
 refused_value v d r error.HeapFull wrong h short = absurd wrong
-refused_value v d r (error.InvalidJson text) wrong h short = absurd wrong
+refused_value v d r (error.InvalidJson text fault) wrong h short = absurd wrong
 refused_value v d r error.Memory right h short = short_value v d r h short
 
 none_added : (d : CompactDoc) → AddsFieldValues [] d d
@@ -129,7 +129,7 @@ makes_document values start made none h =
 -- why no document is made of an object that is read
 stopped : (schema : List Entry) (text : List ℕ) (ms : Members) (start : CompactDoc) (e : DocParsingError) → read text ≡ Some (object ms) → IsEmpty start
     → (e ≢ error.Memory → StopsAt (object_values schema ms) start e) → Parses schema text (Err e)
-stopped schema text ms start (error.InvalidJson from) is none h = absurd (h (λ same. cc)).refused
+stopped schema text ms start (error.InvalidJson from fault) is none h = absurd (h (λ same. cc)).refused
 stopped schema text ms start (error.ValueError name e) is none h = (ms, is, (start, none, h (λ same. cc)))
 stopped schema text ms start error.HeapFull is none h = (ms, is, (start, none, h (λ same. cc)))
 stopped schema text ms start error.Memory is none h = tt

@@ -13,3 +13,6 @@ pub mod Belonging
 pub mod NamedErrors
 pub mod LentBorrowed
 mod RunNames
+pub mod KeysRead
+pub mod StrictKeys
+pub mod CheckedKeys

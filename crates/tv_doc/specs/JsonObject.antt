@@ -7,7 +7,7 @@
 -- `belongs`: each of its pairs has a field of the schema.
 -- `ParsesInto`: the same in the place of a document. `parses` and `belongs`: where the call returns no error, what is left in the place is the
 -- document of the text. `none`: where it returns an error, no pair is left in the place.
-use Rattle.std.specs.Prelude.{◌≡◌, ◌≢◌, ℕ, List, [], ◌∷◌, ◌++◌, Option, Some, None, Result, Ok, Err, IfOk, OnOk, OnErr, slice_get, string_bytes}
+use Rattle.std.specs.Prelude.{◌≡◌, ◌≢◌, ◌≤◌, ◌↔◌, length, IsSome, ℕ, List, [], ◌∷◌, ◌++◌, Option, Some, None, Result, Ok, Err, IfOk, OnOk, OnErr, slice_get, string_bytes}
 use Rattle.std.specs.Fmt.{take_chars}
 use Rattle.serde_json.specs.Data as json
 use Rattle.serde_json.specs.Data.{Data, Items, Members}
@@ -28,6 +28,8 @@ use Rattle.tv_builder.specs.declared.add_error.AddError.TheVariants as add_error
 use Rattle.tv_doc.specs.declared.doc_parsing_error.DocParsingError.{DocParsingError}
 use Rattle.tv_doc.specs.declared.doc_parsing_error.DocParsingError.TheVariants as error
 use Rattle.tv_doc.specs.declared.document.CompactDoc.{CompactDoc}
+use Rattle.tv_doc.specs.declared.json_fault.JsonFault.{JsonFault}
+use Rattle.tv_doc.specs.declared.json_fault.JsonFaultKind.TheVariants.{NoObject}
 use Rattle.tv_doc.specs.declared.named_field.NamedField.{NamedField}
 
 -- a JSON value for a field, with the field's name, number and type
@@ -90,7 +92,7 @@ abbrev pub IsRefused : FieldJson → CompactDoc → DocParsingError → Type 0
 IsRefused v d (error.ValueError name e) =
     (refusal : TableRefusal) × (string_bytes name ≡ v.name) × (error_of e ≡ Some refusal) × Table v.field_type v.value (Err refusal)
 IsRefused v d error.HeapFull = RefusesRow v d add_error.HeapFull
-IsRefused v d (error.InvalidJson text) = ⊥
+IsRefused v d (error.InvalidJson text fault) = ⊥
 IsRefused v d error.Memory = IsShort v d
 
 -- the error for a value that the type of the field with this name refuses for this
@@ -136,21 +138,25 @@ MakesDocument values (Ok made) = Pairs values (document_of made) × IsMade made
 MakesDocument values (Err e) = RefusesValues values e
 
 -- the error for a text that is no JSON object
-abbrev pub IsInvalidJson : List ℕ → DocParsingError → Type 0
-IsInvalidJson text (error.InvalidJson start) = string_bytes start ≡ take_chars 20 text
-IsInvalidJson text error.Memory = Unit {0}
-IsInvalidJson text e = ⊥
+abbrev pub IsInvalidJson : List ℕ → JsonFault → DocParsingError → Type 0
+IsInvalidJson text fault (error.InvalidJson start told) = (string_bytes start ≡ take_chars 20 text) × (told ≡ fault)
+IsInvalidJson text fault error.Memory = Unit {0}
+IsInvalidJson text fault e = ⊥
+
+-- the place lies within the text, and that there is no object is said exactly where the text is JSON
+abbrev pub IsFault : List ℕ → JsonFault → Type 0
+IsFault text fault = (fault.offset ≤ length text) × ((fault.kind ≡ NoObject) ↔ IsSome (read text))
 
 -- the text is no JSON object
 abbrev pub IsNoObject : List ℕ → Type 0
 IsNoObject text = (members : Members) → ¬ (read text ≡ Some (json.object members))
 
--- The document is that of the object that the text encodes, or the text is refused with its first 20 characters. Where memory is
--- refused, that may be as the text is read.
+-- The document is that of the object that the text encodes, or the text is refused with its first 20 characters and a place in it. Where
+-- memory is refused, that may be as the text is read.
 abbrev pub Parses : List Entry → List ℕ → Result CompactDoc DocParsingError → Type 0
 Parses schema text (Ok made) =
     (members : Members) × (read text ≡ Some (json.object members)) × MakesDocument (object_values schema members) (Ok made)
-Parses schema text (Err (error.InvalidJson start)) = IsNoObject text × (string_bytes start ≡ take_chars 20 text)
+Parses schema text (Err (error.InvalidJson start fault)) = IsNoObject text × (string_bytes start ≡ take_chars 20 text) × IsFault text fault
 Parses schema text (Err error.Memory) = Unit {0}
 Parses schema text (Err e) = (members : Members) × (read text ≡ Some (json.object members)) × RefusesValues (object_values schema members) e
 

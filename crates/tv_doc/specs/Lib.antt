@@ -8,6 +8,8 @@ pub mod Additions
 pub mod AdditionError
 pub mod AddsRow
 pub mod JsonObject
+pub mod StrictJson
+pub mod NotedFields
 pub mod Named
 pub mod NamedPairs
 pub mod SameTexts

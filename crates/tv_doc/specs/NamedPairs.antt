@@ -84,7 +84,7 @@ pub record KeepsNamed (schema : List Entry) (d : Document) (named : Named) : Typ
 abbrev pub IsConversionError : Document → DocParsingError → Type 0
 IsConversionError d errors.Memory = Unit {0}
 IsConversionError d errors.HeapFull = 4294967295 < document_room d
-IsConversionError d (errors.InvalidJson text) = ⊥
+IsConversionError d (errors.InvalidJson text fault) = ⊥
 IsConversionError d (errors.ValueError name e) = ⊥
 
 -- The error of both: that one, or memory was refused for the values by name, or one of them nests too deep.

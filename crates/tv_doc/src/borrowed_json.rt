@@ -13,7 +13,8 @@ ghost use Rattle.tv_format.specs.Tree.{leaf};
 
 use crate::doc_parsing_error::DocParsingError;
 use crate::document::CompactDoc;
-use crate::json::{add_value, invalid_json};
+use crate::json_fault::IS_NO_OBJECT;
+use crate::json_object::{add_value, invalid_json};
 use crate::lent_borrowed::LentBorrowed;
 use crate::named_field::NamedField;
 use crate::parse_buffers::{Adding, ParseBuffers};
@@ -223,7 +224,7 @@ impl CompactDoc {
                 let reading = Reading { schema, met_float };
                 add_members(self, adding, &reading, members.as_slice())
             }
-            _ => adding.refuse(invalid_json(alloc, text)),
+            _ => adding.refuse(invalid_json(alloc, text, IS_NO_OBJECT)),
         }
     }
 }

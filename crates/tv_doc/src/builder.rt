@@ -32,9 +32,16 @@ use tv_value::value::Value;
 ///     Ok(builder.into_doc())
 /// }
 /// ```
-#[derive(Debug, Drop)]
+#[derive(Debug)]
 pub struct TreeBuilder {
     builder: PairBuilder,
+}
+
+// By hand, so that a builder is let go by one call.
+impl Drop for TreeBuilder {
+    fn drop(self) {
+        let TreeBuilder { builder: _ } = self;
+    }
 }
 
 impl TreeBuilder {
@@ -51,7 +58,7 @@ impl TreeBuilder {
         ensures { IsNewBuilder doc result }
     {
         TreeBuilder {
-            builder: PairBuilder::new(doc.values),
+            builder: PairBuilder::new(doc.into_pairs()),
         }
     }
 
@@ -59,7 +66,8 @@ impl TreeBuilder {
     pub fn into_doc(self) -> CompactDoc
         ensures { IsDocumentOf self result }
     {
-        CompactDoc::from_pairs(self.builder.into_pairs())
+        let TreeBuilder { builder } = self;
+        CompactDoc::from_pairs(builder.into_pairs())
     }
 
     /// The length of the heap, in bytes: at most what the finished pairs and the value that comes next weigh.

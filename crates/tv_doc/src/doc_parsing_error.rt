@@ -4,6 +4,7 @@ ghost use Rattle.std.specs.Prelude.{◌≡◌};
 ghost use Rattle.tv_doc.specs.declared.doc_parsing_error.DocParsingError.TheVariants.{Memory};
 
 use crate::add_error::AddError;
+use crate::json_fault::JsonFault;
 use std::alloc::AllocError;
 use thiserror::Error;
 use tv_field::ValueParsingError;
@@ -11,11 +12,11 @@ use tv_field::ValueParsingError;
 /// Why there is no document of a JSON object.
 #[derive(Debug, PartialEq, Drop, Error)]
 pub enum DocParsingError {
-    /// The text is no JSON object. These are its first 20 characters.
-    #[error("no JSON object: {0}")]
-    InvalidJson(String),
+    /// The text is no JSON object. These are its first 20 characters, and where and why it is none.
+    #[error("no JSON object: {0:?}: {1}")]
+    InvalidJson(String, JsonFault),
     /// The value of the field with this name is refused.
-    #[error("the value of the field {0} is refused: {1}")]
+    #[error("field {0:?}: {1}")]
     ValueError(String, ValueParsingError),
     /// The values need more room than 4294967295 bytes.
     #[error("the values need more room than 4294967295 bytes")]

@@ -42,9 +42,16 @@ use tv_value::value::Value;
 ///     Ok(document)
 /// }
 /// ```
-#[derive(Debug, Drop)]
+#[derive(Debug)]
 pub struct CompactDoc {
     pub(crate) values: HeapPairs,
+}
+
+// By hand, so that a document is let go by one call.
+impl Drop for CompactDoc {
+    fn drop(self) {
+        let CompactDoc { values: _ } = self;
+    }
 }
 
 impl CompactDoc {
@@ -84,7 +91,8 @@ impl CompactDoc {
     pub fn into_pairs(self) -> HeapPairs
         ensures { result ≡ self.values }
     {
-        self.values
+        let CompactDoc { values } = self;
+        values
     }
 
     /// Takes all pairs off, and keeps the memory for more. (Not in tantivy.)

@@ -9,7 +9,8 @@ pub mod document;
 pub mod document_trait;
 pub mod field_values;
 mod grouped;
-pub mod json;
+pub mod json_fault;
+pub mod json_object;
 pub mod laws;
 pub mod lent_borrowed;
 mod lent_names;
@@ -20,5 +21,7 @@ mod named_field;
 pub mod parse_buffers;
 mod recent_fields;
 mod same;
+pub mod strict_json;
+pub mod strict_parsing_error;
 
 pub use tv_builder::add_error;

@@ -8,20 +8,32 @@ use std::alloc::Global;
 use tv_borrowed::Scratch;
 use tv_field::json_value::JsonScratch;
 
-/// Memory that `CompactDoc::parse_json_into` uses as it reads: for texts with escapes, for values that their fields have in another form, and for the
-/// fields that were named last. (Not in tantivy.) One serves any number of documents, one after the other.
+/// Memory that `CompactDoc::parse_json_into` and `parse_json_strict_into` use as they read: for texts with escapes, for values that their fields have
+/// in another form, and for the fields that were named. (Not in tantivy.) One serves any number of documents, one after the other.
 #[derive(Drop)]
 pub struct ParseBuffers {
     pub(crate) texts: Scratch,
     pub(crate) adding: Adding,
+    // By its number, whether a key named the field, see `CompactDoc::parse_json_strict_into`.
+    pub(crate) noted: Vec<bool>,
 }
 
 // What adding the values of an object needs, and why it ended where a value was refused.
-#[derive(Drop)]
 pub(crate) struct Adding {
     pub(crate) scratch: JsonScratch,
     pub(crate) recent: RecentFields,
     pub(crate) refused: Option<DocParsingError>,
+}
+
+// By hand, so that it is let go by one call.
+impl Drop for Adding {
+    fn drop(self) {
+        let Adding {
+            scratch: _,
+            recent: _,
+            refused: _,
+        } = self;
+    }
 }
 
 impl Adding {
@@ -56,6 +68,7 @@ impl ParseBuffers {
                 recent,
                 refused: None,
             },
+            noted: Vec::new(alloc),
         }
     }
 }

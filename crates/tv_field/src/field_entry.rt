@@ -23,10 +23,20 @@ pub fn is_valid_field_name(name: &str) -> bool
 }
 
 /// A valid name, and a type with its options.
-#[derive(Debug, Drop)]
+#[derive(Debug)]
 pub struct FieldEntry {
     name: String,
     field_type: FieldType,
+}
+
+// By hand, so that an entry is let go by one call.
+impl Drop for FieldEntry {
+    fn drop(self) {
+        let FieldEntry {
+            name: _,
+            field_type: _,
+        } = self;
+    }
 }
 
 impl Model for FieldEntry {

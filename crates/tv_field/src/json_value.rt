@@ -410,7 +410,7 @@ impl JsonRefusal {
                     base64: String::new(alloc),
                 },
             },
-            JsonRefusal::FloatNumber => ValueParsingError::FloatNumber,
+            JsonRefusal::FloatNumber => ValueParsingError::FloatNumber { json },
             JsonRefusal::Memory => ValueParsingError::Memory,
         }
     }
@@ -448,7 +448,7 @@ impl FieldType {
     /// - `OverflowError`: a number doesn't fit the type,
     /// - `ParseError`: the text is no IP address or no facet, or its date's nanoseconds don't fit 64 bits,
     /// - `InvalidBase64`: the text isn't the standard base64 of any bytes,
-    /// - `FloatNumber`: a number isn't whole, or doesn't fit 64 bits,
+    /// - `FloatNumber`: a number, or one in an object, isn't whole or doesn't fit 64 bits,
     /// - `Memory`: memory was refused, and the value handed in is given up.
     pub fn value_from_json(
         &self,

@@ -1,7 +1,10 @@
 //! Why a JSON value is no value of a field.
 
 use serde_json::Value;
-use thiserror::Error;
+use std::error::Error;
+use std::fmt;
+use std::fmt::InlineText;
+use tv_value::json::has_float;
 
 /// What a text isn't, or why it is none.
 #[derive(Clone, Copy, Debug, PartialEq, Eq, Drop)]
@@ -14,11 +17,21 @@ pub enum ParseCause {
     DateOutOfRange,
 }
 
-/// Why a JSON value is no value of a field.
-#[derive(Debug, PartialEq, Drop, Error)]
+impl ParseCause {
+    // What is said of a text that is refused for this.
+    fn words(self) -> &'static str {
+        match self {
+            ParseCause::Ip => "is no IP address",
+            ParseCause::Facet => "is no facet, which begins with a slash",
+            ParseCause::DateOutOfRange => "is out of the range of dates",
+        }
+    }
+}
+
+/// Why a JSON value is no value of a field. Its text has at most 40 characters of the value.
+#[derive(Debug, PartialEq, Drop)]
 pub enum ValueParsingError {
     /// A number doesn't fit the field's type.
-    #[error("{expected} is expected, a number of another range was found")]
     OverflowError {
         /// What is wanted.
         expected: &'static str,
@@ -26,7 +39,6 @@ pub enum ValueParsingError {
         json: Value,
     },
     /// The value is of another kind.
-    #[error("{expected} is expected, another value was found")]
     TypeError {
         /// What is wanted.
         expected: &'static str,
@@ -34,7 +46,6 @@ pub enum ValueParsingError {
         json: Value,
     },
     /// The text can't be read.
-    #[error("the text can't be read: {cause:?}")]
     ParseError {
         /// What it isn't.
         cause: ParseCause,
@@ -42,15 +53,83 @@ pub enum ValueParsingError {
         json: Value,
     },
     /// The text isn't the standard base64 of any bytes.
-    #[error("not base64: {base64}")]
     InvalidBase64 {
         /// The text.
         base64: String,
     },
     /// A number isn't whole, or doesn't fit 64 bits.
-    #[error("a number that isn't a whole number of 64 bits")]
-    FloatNumber,
+    FloatNumber {
+        /// The number, or the object that it stands in.
+        json: Value,
+    },
     /// Memory was refused.
-    #[error("memory was refused")]
     Memory,
 }
+
+// The kind of a JSON value, in words.
+fn kind_of(json: &Value) -> &'static str {
+    match json {
+        Value::Null => "the value",
+        Value::Bool(_) => "the truth value",
+        Value::Number(_) => "the number",
+        Value::String(_) => "the string",
+        Value::Array(_) => "the array",
+        Value::Object(_) => "the object",
+    }
+}
+
+// The length of the longest 40 characters in UTF-8.
+const LONGEST: usize = 160;
+
+// The first 40 characters of the JSON text of a value.
+#[derive(Drop)]
+struct Start<'a>(&'a Value);
+
+impl fmt::Display for Start<'_> {
+    fn fmt<W: fmt::Write>(&self, f: &mut fmt::Formatter<W>) -> fmt::Result {
+        let text = InlineText::<LONGEST>::of(self.0);
+        write!(f, "{:.40}", text.as_str())
+    }
+}
+
+// What is said of a float, or of an object in which one stands.
+fn write_float<W: fmt::Write>(f: &mut fmt::Formatter<W>, json: &Value) -> fmt::Result {
+    let has = match json {
+        Value::Number(_) => "",
+        _ => " has a number that",
+    };
+    write!(f, "{}{has} is not a whole number of 64 bits", Start(json))
+}
+
+/// `-5 is out of range, u64 is expected`, `the string "abc" is given, where a u64 or a u64 as string is expected`, `"1.2.3" is no IP address`,
+/// `12.5 is not a whole number of 64 bits`.
+impl fmt::Display for ValueParsingError {
+    fn fmt<W: fmt::Write>(&self, f: &mut fmt::Formatter<W>) -> fmt::Result {
+        match self {
+            ValueParsingError::OverflowError { json, .. } if has_float(json) => write_float(
+                f, json,
+            ),
+            ValueParsingError::OverflowError { expected, json } => {
+                write!(f, "{} is out of range, {expected} is expected", Start(json))
+            }
+            ValueParsingError::TypeError { expected, json } => {
+                let start = Start(json);
+                write!(
+                    f,
+                    "{} {start} is given, where {expected} is expected",
+                    kind_of(json)
+                )
+            }
+            ValueParsingError::ParseError { cause, json } => {
+                write!(f, "{} {}", Start(json), cause.words())
+            }
+            ValueParsingError::InvalidBase64 { base64 } => {
+                write!(f, "{:.40?} is not in base64", base64.as_str())
+            }
+            ValueParsingError::FloatNumber { json } => write_float(f, json),
+            ValueParsingError::Memory => f.write_str("memory was refused"),
+        }
+    }
+}
+
+impl Error for ValueParsingError {}

@@ -7,9 +7,8 @@ ghost use Rattle.tv_value.specs.Lent.{leaf_of, tree_of};
 ghost use Rattle.tv_heap.specs.Reads.{leaf_type_byte, tree_type};
 
 use std::alloc::Global;
-use std::io;
 use tv_base::write::write_u8;
-use tv_base::{BinarySerializable, ByteSink, ByteSource, Cause, ReadError};
+use tv_base::{BinarySerializable, ByteSink, ByteSource, Cause, ReadError, WriteError};
 use tv_format::leaf_type::LeafType;
 use tv_value::leaf::ReferenceValueLeaf;
 use tv_value::value::{ReferenceValue, Value};
@@ -84,7 +83,7 @@ impl BinarySerializable for ValueType {
 
     ghost has_error = { ErrorInType };
 
-    fn serialize<K: ByteSink>(&self, sink: &mut K) -> Result<(), io::ErrorKind> {
+    fn serialize<K: ByteSink>(&self, sink: &mut K) -> Result<(), WriteError> {
         write_u8(sink, self.to_code())
     }
 

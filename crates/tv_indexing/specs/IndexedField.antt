@@ -1,11 +1,12 @@
 -- The field that a path of a query names, where it is indexed.
-use Rattle.std.specs.Prelude.{◌≡◌, ℕ, List, slice_get, true, false, Some, None, Result, Err, String, string_bytes}
+use Rattle.std.specs.Prelude.{◌≡◌, ◌≢◌, ℕ, List, [], slice_get, true, false, Some, None, Result, Err, String, string_bytes}
 use Rattle.std.specs.Fmt.{take_chars}
 use Rattle.std.specs.declared.alloc.Global.{Global}
 use Rattle.tv_field.specs.Entry.{Entry, is_indexed_type}
 use Rattle.tv_field.specs.declared.field_type.FieldType.{FieldType}
+use Rattle.tv_indexing.specs.DocumentTerms.{has_zero}
 use Rattle.tv_indexing.specs.declared.text_terms_error.TextTermsError.{TextTermsError}
-use Rattle.tv_indexing.specs.declared.text_terms_error.TextTermsError.TheVariants.{NotIndexed, UnknownPath}
+use Rattle.tv_indexing.specs.declared.text_terms_error.TextTermsError.TheVariants.{NotIndexed, NulInPath, PathEnds, UnknownPath}
 use Rattle.tv_schema.specs.Path.{find_or}
 use Rattle.tv_value.specs.declared.field.Field.{Field}
 
@@ -24,6 +25,12 @@ pub record Names (schema : List Entry) (path : List ℕ) (field : Field) (type :
 abbrev pub IsUnknownPath : List ℕ → TextTermsError → Type 0
 IsUnknownPath path (UnknownPath start) = IsStartOf path start
 IsUnknownPath path e = ⊥
+
+-- What there is at a path below a field of JSON objects: the path is empty or has U+0000, or there is what a path that is neither has.
+abbrev pub BelowJson : {T : Type 0} → (Result T TextTermsError → Type 0) → Field → List ℕ → Result T TextTermsError → Type 0
+BelowJson Answers field path (Err (PathEnds f)) = (f ≡ field) × (path ≡ [])
+BelowJson Answers field path (Err (NulInPath f)) = (f ≡ field) × (has_zero path ≡ true)
+BelowJson Answers field path answer = (path ≢ []) × (has_zero path ≡ false) × Answers answer
 
 -- it names none, or one that isn't indexed
 pub data RefusesPath (schema : List Entry) (path : List ℕ) (e : TextTermsError) : Type 0 where

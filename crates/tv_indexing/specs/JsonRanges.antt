@@ -4,7 +4,7 @@
 -- `AnswersRange`. At a path into JSON objects it is a range of each kind of value that both bounds write: of dates, of numbers that fit signed ones of 64 bits,
 -- of truth values, of texts, which each text writes, and of numbers from 2^63 on. A number that is a bound of the one kind bounds no number of the other: it is above all
 -- of these, or below.
-use Rattle.std.specs.Prelude.{◌≡◌, ◌≢◌, ◌++◌, ℕ, List, [], ◌∷◌, Bool, true, false, Option, Some, None, Result, Ok, Err}
+use Rattle.std.specs.Prelude.{◌≡◌, ◌++◌, ℕ, List, [], ◌∷◌, Bool, true, false, Option, Some, None, Result, Ok, Err}
 use Rattle.std.specs.Option.{option_map}
 use Rattle.std.specs.declared.ops.Bound.{Bound}
 use Rattle.std.specs.declared.ops.Bound.TheVariants.{Included, Excluded, Unbounded}
@@ -15,15 +15,15 @@ use Rattle.tv_field.specs.JsonTable.{truth_in}
 use Rattle.tv_field.specs.declared.field_type.FieldType.{FieldType}
 use Rattle.tv_field.specs.declared.field_type.FieldType.TheVariants as types
 use Rattle.tv_format.specs.Tree.{Leaf, text, unsigned, signed}
-use Rattle.tv_indexing.specs.DocumentTerms.{has_zero}
-use Rattle.tv_indexing.specs.IndexedField.{AtPath}
+use Rattle.tv_indexing.specs.IndexedField.{AtPath, BelowJson}
+use Rattle.tv_indexing.specs.JsonBounds.{RunBackwards}
 use Rattle.tv_indexing.specs.LeafTerms.{leaf_value}
-use Rattle.tv_indexing.specs.TextRange.{RangeOfTexts, WritesBounds}
+use Rattle.tv_indexing.specs.TextRange.{RangeOfTexts, WritesBounds, bounding}
 use Rattle.tv_indexing.specs.TextTerms.{IsWrongRange, WritesNumber, date_written_in}
 use Rattle.tv_indexing.specs.declared.json_ranges.JsonKind.{JsonKind}
 use Rattle.tv_indexing.specs.declared.json_ranges.JsonKind.TheVariants as kinds
 use Rattle.tv_indexing.specs.declared.text_terms_error.TextTermsError.{TextTermsError}
-use Rattle.tv_indexing.specs.declared.text_terms_error.TextTermsError.TheVariants.{NulInPath, PathEnds}
+use Rattle.tv_indexing.specs.declared.text_terms_error.TextTermsError.TheVariants.{Backwards}
 use Rattle.tv_options.specs.declared.types.TypeTag.{TypeTag}
 use Rattle.tv_options.specs.declared.types.TypeTag.TheVariants as tag
 use Rattle.tv_term.specs.Key.{TermValue, Json, IsTerm, tag_of}
@@ -128,11 +128,13 @@ pub record AreOfAllKinds (field : Field) (path : List ℕ) (start end : Bound (L
 abbrev pub RangesAnswer : Type 0
 RangesAnswer = Result (List TermRange) TextTermsError
 
+-- those at a joined path, unless the bounds run backwards
+abbrev pub RangesAt : Field → List ℕ → Bound (List ℕ) → Bound (List ℕ) → RangesAnswer → Type 0
+RangesAt field path start end (Ok ranges) = RunBackwards (bounding start) (bounding end) false × AreOfAllKinds field path start end ranges
+RangesAt field path start end (Err e) = RunBackwards (bounding start) (bounding end) true × (e ≡ Backwards field)
+
 abbrev pub RangesBelow : Field → Bool → List ℕ → Bound (List ℕ) → Bound (List ℕ) → RangesAnswer → Type 0
-RangesBelow field expand_dots path start end (Ok ranges) = (path ≢ []) × (has_zero path ≡ false) × AreOfAllKinds field (joined_path expand_dots path) start end ranges
-RangesBelow field expand_dots path start end (Err (PathEnds f)) = (f ≡ field) × (path ≡ [])
-RangesBelow field expand_dots path start end (Err (NulInPath f)) = (f ≡ field) × (has_zero path ≡ true)
-RangesBelow field expand_dots path start end (Err e) = ⊥
+RangesBelow field expand_dots path start end answer = BelowJson (RangesAt field (joined_path expand_dots path) start end) field path answer
 
 -- the one range of a field that isn't of JSON objects
 abbrev pub OneRange : Field → FieldType → Bound (List ℕ) → Bound (List ℕ) → RangesAnswer → Type 0

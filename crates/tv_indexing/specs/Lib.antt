@@ -7,4 +7,5 @@ pub mod JsonWalk
 pub mod IndexedField
 pub mod TextTerms
 pub mod TextRange
+pub mod JsonBounds
 pub mod JsonRanges

@@ -5,7 +5,7 @@
 -- plain type the text is the value that it is in JSON to such a field that coerces, and has that value's term; or it is refused for the reason
 -- that JSON is. In a field of JSON objects, at a path below it, it writes itself as a text, and also a number, a truth value and a date, each
 -- where it is the text of one, and has the term of each there.
-use Rattle.std.specs.Prelude.{◌≡◌, ◌≢◌, ◌++◌, ℕ, ℤ, List, [], ◌∷◌, Bool, true, false, Option, Some, None, Result, Ok, Err}
+use Rattle.std.specs.Prelude.{◌≡◌, ◌≢◌, ◌++◌, ℕ, ℤ, List, [], ◌∷◌, Bool, Option, Some, None, Result, Ok, Err}
 use Rattle.std.specs.Str.Parse.{digits_value, signed_digits_value, without_leading_plus}
 use Rattle.tv_base.specs.JsonPath.{joined_path}
 use Rattle.tv_date.specs.Rfc3339.{rfc}
@@ -15,14 +15,15 @@ use Rattle.tv_field.specs.JsonAnswer.{RefusesText, WritesValue}
 use Rattle.tv_field.specs.JsonTable.{IsSignedText, IsUnsignedText, truth_in}
 use Rattle.tv_field.specs.declared.field_type.FieldType.{FieldType}
 use Rattle.tv_field.specs.declared.json_value.JsonRefusal.{JsonRefusal}
+use Rattle.tv_field.specs.declared.json_value.JsonRefusal.TheVariants.{Memory as NoMemory}
 use Rattle.tv_options.specs.declared.types.TypeTag.{TypeTag}
 use Rattle.tv_field.specs.declared.field_type.FieldType.TheVariants as types
 use Rattle.tv_format.specs.Tree.{Leaf, text, unsigned, signed, date}
-use Rattle.tv_indexing.specs.DocumentTerms.{Terms, followed_by, has_zero, json_leaf_terms, plain_terms}
-use Rattle.tv_indexing.specs.IndexedField.{AtPath, IsStartOf}
+use Rattle.tv_indexing.specs.DocumentTerms.{Terms, followed_by, json_leaf_terms, plain_terms}
+use Rattle.tv_indexing.specs.IndexedField.{AtPath, BelowJson, IsStartOf}
 use Rattle.tv_indexing.specs.LeafTerms.{leaf_value}
 use Rattle.tv_indexing.specs.declared.text_terms_error.TextTermsError.{TextTermsError}
-use Rattle.tv_indexing.specs.declared.text_terms_error.TextTermsError.TheVariants.{PathEnds, NulInPath, WrongText, WrongRange}
+use Rattle.tv_indexing.specs.declared.text_terms_error.TextTermsError.TheVariants.{WrongText, WrongRange}
 use Rattle.tv_value.specs.declared.field.Field.{Field}
 
 -- ---- the values that a text writes in a JSON value
@@ -53,9 +54,9 @@ leaves_terms field path (l ∷ ls) = followed_by (json_leaf_terms field path l) 
 
 -- ---- what a text has
 
--- the error for such a text
+-- the error for such a text; want of memory is no reason of a text
 abbrev pub IsWrongText : Field → TypeTag → JsonRefusal → List ℕ → TextTermsError → Type 0
-IsWrongText field type why s (WrongText f t w start) = (f ≡ field) × (t ≡ type) × (w ≡ why) × IsStartOf s start
+IsWrongText field type why s (WrongText f t w start) = (f ≡ field) × (t ≡ type) × (w ≡ why) × (why ≢ NoMemory) × IsStartOf s start
 IsWrongText field type why s e = ⊥
 
 abbrev pub IsWrongRange : List ℕ → TextTermsError → Type 0
@@ -65,11 +66,13 @@ IsWrongRange s e = ⊥
 abbrev pub TermsAnswer : Type 0
 TermsAnswer = Result (List (List ℕ)) TextTermsError
 
+-- the terms of all that a text writes at a joined path
+abbrev pub WritesTerms : Field → List ℕ → List ℕ → TermsAnswer → Type 0
+WritesTerms field path s (Ok made) = (ls : List Leaf) × WritesLeaves s ls × (leaves_terms field path ls ≡ Ok made)
+WritesTerms field path s (Err e) = ⊥
+
 abbrev pub TermsBelow : Field → Bool → List ℕ → List ℕ → TermsAnswer → Type 0
-TermsBelow field expand_dots path s (Ok made) = (path ≢ []) × (has_zero path ≡ false) × (ls : List Leaf) × WritesLeaves s ls × (leaves_terms field (joined_path expand_dots path) ls ≡ Ok made)
-TermsBelow field expand_dots path s (Err (PathEnds f)) = (f ≡ field) × (path ≡ [])
-TermsBelow field expand_dots path s (Err (NulInPath f)) = (f ≡ field) × (has_zero path ≡ true)
-TermsBelow field expand_dots path s (Err e) = ⊥
+TermsBelow field expand_dots path s answer = BelowJson (WritesTerms field (joined_path expand_dots path) s) field path answer
 
 abbrev pub TermOfText : Field → FieldType → List ℕ → TermsAnswer → Type 0
 TermOfText field type s (Ok made) = (l : Leaf) × WritesValue type s l × (plain_terms field (value_type type) (leaf_value l) ≡ Ok made)

@@ -23,6 +23,7 @@ ghost use Rattle.tv_term.specs.declared.range.TermRange.{TermRange};
 ghost use Rattle.tv_value.specs.Lent.{leaf_of};
 
 use crate::indexed_field::indexed_field;
+use crate::json_bounds::run_backwards;
 use crate::key_path::JsonField;
 use crate::text_range::{bounds_of_text, plain_range};
 use crate::text_terms::{date_written, number_written, truth_written};
@@ -366,6 +367,9 @@ fn ranges_below(
     if path.as_bytes().contains(&0) {
         return Err(TextTermsError::NulInPath(at.field));
     }
+    if run_backwards(start, end) {
+        return Err(TextTermsError::Backwards(at.field));
+    }
     let mut ranges = Vec::new(alloc);
     push_kind(alloc, at, path, JsonKind::Date, start, end, &mut ranges)?;
     push_kind(alloc, at, path, JsonKind::Signed, start, end, &mut ranges)?;
@@ -430,9 +434,10 @@ fn typed_ranges(
 /// In a field that isn't of JSON objects that is the one range of `range_between_texts`. At a path into JSON objects there is a range for each kind of
 /// value that both bounds write, in the order of their terms: of dates, of numbers below 2^63, of truth values, of texts, which each text
 /// writes, and of numbers from 2^63 on. So a number above 10 is in one of two ranges, and a text that lies between the bounds as a text is in another
-/// one. A bound that runs before the other leaves a range without terms.
+/// one. Two bounds that are both numbers, dates or truth values run backwards as these do, and all others as texts.
 ///
-/// Errors: `UnknownPath`, `NotIndexed`; of a path into JSON objects `PathEnds`, `NulInPath`; of other fields `WrongText`, `Backwards`; or `Memory`.
+/// Errors: `UnknownPath`, `NotIndexed`; of a path into JSON objects `PathEnds`, `NulInPath`; of other fields `WrongText`; `Backwards`, where the start is above the
+/// end; or `Memory`.
 pub fn ranges_between_texts(
     alloc: Global,
     schema: &Schema,

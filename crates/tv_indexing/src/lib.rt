@@ -4,6 +4,7 @@
 pub mod document;
 mod indexed_field;
 mod json;
+mod json_bounds;
 mod json_leaf;
 pub mod json_ranges;
 mod key_path;

@@ -35,12 +35,22 @@ struct MovedTerms {
 ///
 /// A term that is added takes memory only where the buffer is full. `clear` keeps the buffer, so a list that serves for many documents
 /// grows to what the largest of them needs, and takes no more. `sort_dedup` makes a list of each term once and in order, as a term dictionary has them.
-#[derive(Drop)]
 pub struct TermList {
     bytes: Vec<u8>,
     places: Vec<TermPlace>,
     // The others stand one behind the other.
     moved: MovedTerms,
+}
+
+// By hand, so that a list is let go by one call.
+impl Drop for TermList {
+    fn drop(self) {
+        let TermList {
+            bytes: _,
+            places: _,
+            moved: _,
+        } = self;
+    }
 }
 
 impl Model for TermList {

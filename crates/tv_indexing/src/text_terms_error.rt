@@ -1,13 +1,14 @@
 //! Why a text of a query has no terms, or no range of them.
 
-ghost use Rattle.std.specs.Prelude.{◌≡◌, ◌≢◌, IfOk, string_bytes};
-ghost use Rattle.std.specs.Fmt.{take_chars};
+ghost use Rattle.std.specs.Prelude.{◌≡◌, ◌≢◌};
+ghost use Rattle.tv_field.specs.declared.json_value.JsonRefusal.TheVariants.{Memory as NoMemory};
 ghost use Rattle.tv_indexing.specs.IndexedField.{IsUnknownPath};
 ghost use Rattle.tv_indexing.specs.TextTerms.{IsWrongRange, IsWrongText};
 ghost use Rattle.tv_indexing.specs.declared.text_terms_error.TextTermsError.TheVariants.{Memory};
 
 use std::alloc::{AllocError, Global};
 use thiserror::Error;
+use tv_base::text_start::text_start;
 use tv_field::json_value::JsonRefusal;
 use tv_options::Type;
 use tv_value::field::Field;
@@ -55,24 +56,17 @@ impl From<AllocError> for TextTermsError {
     }
 }
 
-// The first 40 characters, or all where there are no more.
-pub(crate) fn start_of(alloc: Global, text: &str) -> Result<String, AllocError>
-    ensures { IfOk result (λ start. string_bytes start ≡ take_chars 40 text.now) }
-{
-    format!(in alloc; "{text:.40}")
-}
-
 // The error for a path that names no field.
 pub(crate) fn unknown_path(alloc: Global, path: &str) -> TextTermsError
     ensures { result ≢ Memory → IsUnknownPath path.now result }
 {
-    match start_of(alloc, path) {
+    match text_start(alloc, path, 40) {
         Ok(start) => TextTermsError::UnknownPath(start),
         Err(_) => TextTermsError::Memory,
     }
 }
 
-// The error for a text that is refused as a value of a field.
+// The error for a text that is refused as a value of a field, and not for want of memory.
 pub(crate) fn wrong_text(
     alloc: Global,
     field: Field,
@@ -80,9 +74,10 @@ pub(crate) fn wrong_text(
     refusal: JsonRefusal,
     text: &str,
 ) -> TextTermsError
+    requires { refusal ≢ NoMemory }
     ensures { result ≢ Memory → IsWrongText field value_type refusal text.now result }
 {
-    match start_of(alloc, text) {
+    match text_start(alloc, text, 40) {
         Ok(start) => TextTermsError::WrongText(field, value_type, refusal, start),
         Err(_) => TextTermsError::Memory,
     }
@@ -92,7 +87,7 @@ pub(crate) fn wrong_text(
 pub(crate) fn wrong_range(alloc: Global, text: &str) -> TextTermsError
     ensures { result ≢ Memory → IsWrongRange text.now result }
 {
-    match start_of(alloc, text) {
+    match text_start(alloc, text, 40) {
         Ok(start) => TextTermsError::WrongRange(start),
         Err(_) => TextTermsError::Memory,
     }

@@ -35,7 +35,7 @@ pub type FaultSource<S> = Faulty<S>;
 /// A call whose buffer is empty passes, and isn't counted.
 ///
 /// ```
-/// pub fn write_failing(alloc: Global, passes: u64) -> (Result<(), io::ErrorKind>, VecSink) {
+/// pub fn write_failing(alloc: Global, passes: u64) -> (Result<(), WriteError>, VecSink) {
 ///     let mut sink = FaultSink::new(VecSink::new(alloc), passes, io::ErrorKind::StorageFull);
 ///     let written = 20u64.serialize(&mut sink);
 ///     (written, sink.into_inner())

@@ -36,7 +36,7 @@ named_by (values.OverflowError expected json) refusal is = rw (← same_Some _ _
 named_by (values.TypeError expected json) refusal is = rw (← same_Some _ _ is)
 named_by (values.ParseError cause json) refusal is = rw (← same_Some _ _ is)
 named_by (values.InvalidBase64 text) refusal is = rw (← same_Some _ _ is)
-named_by values.FloatNumber refusal is = rw (← same_Some _ _ is)
+named_by (values.FloatNumber json) refusal is = rw (← same_Some _ _ is)
 named_by values.Memory refusal is = absurd (cc)
 
 pub pairs-snoc : (before : List FieldJson) (at : FieldJson) (tree : Tree) (pairs : Document) → Pairs before pairs → Table at.field_type at.value (Ok tree)
@@ -54,7 +54,7 @@ full_room pairs start mid field t none adds full =
 -- ---- the answer for an error
 
 pub refusal_answers : (schema : List Entry) (line : List ℕ) (error : DocParsingError) → IsUtf8 line → Parses schema line (Err error) → Answer schema line (error_text error)
-refusal_answers schema line (errors.InvalidJson start) utf8 h = answered (no_object (λ members is. h.0 members is.1) refl)
+refusal_answers schema line (errors.InvalidJson start fault) utf8 h = answered (no_object (λ members is. h.0 members is.1) refl)
 refusal_answers schema line (errors.ValueError name e) utf8 h =
     let stop = h.2.2 in
     let why = stop.refused in

@@ -33,7 +33,10 @@ fn write_line<K: ByteSink>(sink: &mut K, line: &[u8]) -> Result<(), io::ErrorKin
     ensures is_known { K.is_known sink.old → K.is_known sink.new }
     ensures failures { CountsFailure result (K.failures sink.old) (K.failures sink.new) }
 {
-    write_all(sink, line)
+    match write_all(sink, line) {
+        Ok(()) => Ok(()),
+        Err(failed) => Err(failed.0),
+    }
 }
 
 // Answers each line that the reader has left.

@@ -117,11 +117,22 @@ impl BitOr for FastFieldTextOptions {
 }
 
 /// How texts are indexed. By default the tokenizer is `default`, the documents alone are kept, and field norms are.
-#[derive(Debug, Drop, PartialEq, Eq)]
+#[derive(Debug, PartialEq, Eq)]
 pub struct TextFieldIndexing {
     record: IndexRecordOption,
     fieldnorms: bool,
     tokenizer: TokenizerName,
+}
+
+// By hand, so that it is let go by one call.
+impl Drop for TextFieldIndexing {
+    fn drop(self) {
+        let TextFieldIndexing {
+            record: _,
+            fieldnorms: _,
+            tokenizer: _,
+        } = self;
+    }
 }
 
 impl Default for TextFieldIndexing {

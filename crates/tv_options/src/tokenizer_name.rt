@@ -7,9 +7,16 @@ use std::borrow::CowStr;
 use std::marker::Model;
 
 /// The name of a tokenizer: a text of its own, or one of the program. By default it is `default`.
-#[derive(Debug, Drop)]
+#[derive(Debug)]
 pub struct TokenizerName {
     pub(crate) text: CowStr<'static>,
+}
+
+// By hand, so that a name is let go by one call.
+impl Drop for TokenizerName {
+    fn drop(self) {
+        let TokenizerName { text: _ } = self;
+    }
 }
 
 impl Model for TokenizerName {

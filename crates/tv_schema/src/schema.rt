@@ -38,10 +38,17 @@ const MAX_FIELDS: usize = 4294967295;
 ///     Ok(builder.build()?)
 /// }
 /// ```
-#[derive(Debug, Drop)]
+#[derive(Debug)]
 pub struct SchemaBuilder {
     table: FieldTable,
     alloc: Global,
+}
+
+// By hand, so that a builder is let go by one call.
+impl Drop for SchemaBuilder {
+    fn drop(self) {
+        let SchemaBuilder { table: _, alloc: _ } = self;
+    }
 }
 
 impl Model for SchemaBuilder {

@@ -13,12 +13,23 @@ use std::marker::Model;
 use tv_field::field_entry::FieldEntry;
 
 // The entries, and the number of each name.
-#[derive(Debug, Drop)]
+#[derive(Debug)]
 pub(crate) struct FieldTable {
     entries: Vec<FieldEntry>,
     numbers: HashMap<String, u32>,
     // The length of the longest name.
     longest: usize,
+}
+
+// By hand, so that a table is let go by one call.
+impl Drop for FieldTable {
+    fn drop(self) {
+        let FieldTable {
+            entries: _,
+            numbers: _,
+            longest: _,
+        } = self;
+    }
 }
 
 impl Model for FieldTable {

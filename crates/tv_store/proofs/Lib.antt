@@ -7,6 +7,7 @@ pub mod StoredLaws
 pub mod WriterSteps
 pub mod RoundTrips
 pub mod Migrations
+pub mod BlockMigration
 mod InPlace
 mod Blocks
 mod BlocksWithin

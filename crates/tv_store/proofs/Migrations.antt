@@ -10,7 +10,7 @@ use Rattle.tv_base.specs.Stop.{CountsStop}
 use Rattle.tv_doc.specs.Document.{document_of}
 use Rattle.tv_doc.specs.declared.document.CompactDoc.{CompactDoc}
 use Rattle.tv_format.specs.Encoding.{EncodesDocument}
-use Rattle.tv_format.specs.Short.{short_document, IsDocument}
+use Rattle.tv_format.specs.Short.{short_document}
 use Rattle.tv_format.specs.Tree.{Document}
 use Rattle.tv_format.specs.Version.{Version, IsWritten}
 use Rattle.tv_format.specs.WriteVersion.{written_version}
@@ -21,7 +21,8 @@ use Rattle.tv_legacy.specs.Legacy.{Legacy}
 use Rattle.tv_reader.specs.Error.{store_stop}
 use Rattle.tv_reader.specs.declared.error.DeserializeError.{DeserializeError}
 use Rattle.tv_reader.specs.declared.error.DeserializeError.TheVariants as errors
-use Rattle.tv_store.specs.Documents.{BeginsWithDocument, SaysNothing}
+use Rattle.tv_store.specs.BlockMigration.{Transcribes}
+use Rattle.tv_store.specs.Documents.{SaysNothing}
 use Rattle.tv_store.specs.Migrate.{IsMemory, Migrates, Rewrites, sink_stop}
 use Rattle.tv_store.specs.Reading.{ReadsDocument}
 use Rattle.tv_store.specs.declared.migration.MigrateError.{MigrateError}
@@ -41,14 +42,6 @@ pub unwritten : {K : Type 0} {sink : Sink K} {old new : K} {e : SerializeError} 
 unwritten h = record { appends = h.appends; stays_known = h.stays_known; counts = h.counts }
 
 -- ---- what the promise of migrating gives
-
--- A prefix of the bytes encodes a document in the one version, and the rest is left. The document has an encoding in the other, and this
--- text is its shortest.
-pub record Transcribes (from to : Version) (bytes rest text : List ℕ) : Type 0 where
-  pub document : Document
-  pub read : BeginsWithDocument from bytes rest document
-  pub valid : IsDocument document
-  pub written : text ≡ short_document to document
 
 read_is : {T : Type 0} (e f : DeserializeError) → IsErrOf {T = T} (Err (Read e)) (Read f) → e ≡ f
 read_is e f is = cc

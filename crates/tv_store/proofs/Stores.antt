@@ -3,11 +3,11 @@ use Rattle.std.proofs.Common.{◌≡◌, ℕ, suc, ◌≤◌, Bool, true, false,
 use Rattle.std.specs.List.{filter, flat_map}
 use Rattle.std.proofs.lemmas.List.{append-nil}
 use Rattle.std.proofs.lemmas.List.Concat.{flat_map-cons}
-use Rattle.std.specs.declared.io.ErrorKind.{ErrorKind}
 use Rattle.tv_base.specs.Number.{four_bytes}
 use Rattle.tv_base.specs.Source.{Failures}
 use Rattle.tv_base.specs.Sink.{WritesBy}
 use Rattle.tv_base.specs.Writing.{io_stop}
+use Rattle.tv_base.specs.declared.write_error.WriteError.{WriteError}
 use Rattle.tv_field.specs.Entry.{Entry}
 use Rattle.tv_format.specs.Tree.{Tree, Document}
 use Rattle.tv_format.specs.Short.{short, short_pair}
@@ -52,8 +52,8 @@ pub pair_next : (v : Version) (field : ℕ) (t : Tree) (bytes : List ℕ) (rest 
 pair_next v field t bytes rest d cut is = ap (flat_map (short_pair v)) cut ∙ flat_map-cons (short_pair v) (field, t) rest ∙ ap (λ z. (four_bytes field ++ z) ++ flat_map (short_pair v) rest) (sym is)
 
 -- what the sink told, in the words of the store
-pub writes_for : {S T U : Type 0} {is_known : S → Type 0} {held : S → List ℕ} {failures : S → Failures} {old new : S} {kind : ErrorKind} {text : List ℕ}
-    → WritesBy {T = T} io_stop is_known held failures old new (Err kind) (Ok text) → WritesBy {T = U} write_stop is_known held failures old new (Err (write_error kind)) (Ok text)
+pub writes_for : {S T U : Type 0} {is_known : S → Type 0} {held : S → List ℕ} {failures : S → Failures} {old new : S} {failed : WriteError} {text : List ℕ}
+    → WritesBy {T = T} io_stop is_known held failures old new (Err failed) (Ok text) → WritesBy {T = U} write_stop is_known held failures old new (Err (write_error failed)) (Ok text)
 writes_for w = record { appends = w.appends; stays_known = w.stays_known; counts = w.counts }
 
 pub writes_all : {S T U : Type 0} {is_known : S → Type 0} {held : S → List ℕ} {failures : S → Failures} {old new : S} {x : T} {y : U} {text : List ℕ}

@@ -8,6 +8,7 @@ pub mod Pairs
 pub mod PairsGiven
 pub mod RoundTrip
 pub mod Migrate
+pub mod BlockMigration
 pub mod Nested
 pub mod Limits
 pub use Rattle.tv_writer.specs.Serialized

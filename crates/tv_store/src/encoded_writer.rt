@@ -19,9 +19,8 @@ ghost use Rattle.tv_value.specs.Nesting.{NestsWithin};
 use crate::error::SerializeError;
 use crate::type_codes::{ARRAY_CODE, BOOL_CODE, EXT_CODE, NULL_CODE, TOK_STR_EXT_CODE};
 use std::alloc::Global;
-use std::io;
-use tv_base::ByteSink;
 use tv_base::write::write_all;
+use tv_base::{ByteSink, WriteError};
 use tv_format::version::WriteVersion;
 use tv_heap::encoded::Encoded;
 use tv_heap::value::{CompactDocArrayIter, CompactDocObjectIter, CompactDocValue};
@@ -32,7 +31,7 @@ use tv_writer::value_writer::{write_child_key, write_key, write_object_head};
 // A code, and the bytes behind it.
 #[inline]
 #[tactic(auto, using(tv_writer::proofs::Coded::Coded_then))]
-fn write_behind<K: ByteSink>(sink: &mut K, code: u8, content: &[u8]) -> Result<(), io::ErrorKind>
+fn write_behind<K: ByteSink>(sink: &mut K, code: u8, content: &[u8]) -> Result<(), WriteError>
     ensures { Writes K.ByteSink sink.old sink.new result (code ∷ content.now) }
 {
     write_code(sink, code)?;
@@ -41,7 +40,7 @@ fn write_behind<K: ByteSink>(sink: &mut K, code: u8, content: &[u8]) -> Result<(
 
 // A text and its tokens, as they are encoded behind their two codes.
 #[tactic(auto, using(tv_base::proofs::Written::Writes_then, tv_base::proofs::Written::Writes_prefix))]
-fn write_encoded_tokens<K: ByteSink>(sink: &mut K, content: &[u8]) -> Result<(), io::ErrorKind>
+fn write_encoded_tokens<K: ByteSink>(sink: &mut K, content: &[u8]) -> Result<(), WriteError>
     ensures { Writes K.ByteSink sink.old sink.new result (7 ∷ 0 ∷ content.now) }
 {
     write_all(sink, &[EXT_CODE, TOK_STR_EXT_CODE])?;
@@ -50,7 +49,7 @@ fn write_encoded_tokens<K: ByteSink>(sink: &mut K, content: &[u8]) -> Result<(),
 
 // A value without children.
 #[inline(always)]
-fn write_single<K: ByteSink>(sink: &mut K, encoded: Encoded<'_>) -> Result<(), io::ErrorKind>
+fn write_single<K: ByteSink>(sink: &mut K, encoded: Encoded<'_>) -> Result<(), WriteError>
     requires { HoldsNoList encoded }
     ensures { (v : Version) → Writes K.ByteSink sink.old sink.new result
         (encoded_bytes v encoded.entry) }
@@ -72,7 +71,7 @@ fn write_head<'a, K: ByteSink>(
     sink: &mut K,
     version: WriteVersion,
     encoded: Encoded<'a>,
-) -> Result<Option<Children<CompactDocValue<'a>>>, io::ErrorKind>
+) -> Result<Option<Children<CompactDocValue<'a>>>, WriteError>
     requires { HasFewEntries encoded }
     ensures writes { Writes K.ByteSink sink.old sink.new result
         (head_bytes (written_version version) encoded.entry) }

@@ -2,6 +2,7 @@
 #![tactic(auto)]
 
 pub mod block;
+pub mod block_migration;
 pub mod de;
 mod depth;
 pub mod direct_decoder;
@@ -20,6 +21,7 @@ pub mod skip;
 pub mod stepped;
 
 pub use block::BlockReader;
+pub use block_migration::{MigrateBlockError, migrate_block};
 pub use de::{DocStoreVersion, read_document, read_document_into};
 pub use direct_decoder::{DirectDecoder, Step};
 pub use error::{DeserializeError, SerializeError, ValueType};

@@ -11,9 +11,8 @@ use crate::de::{DocStoreVersion, read_document};
 use crate::error::{DeserializeError, SerializeError};
 use crate::pair_writer::write_document;
 use std::alloc::Global;
-use std::io;
 use thiserror::Error;
-use tv_base::{ByteSink, ByteSource};
+use tv_base::{ByteSink, ByteSource, WriteError};
 use tv_doc::laws::documents_are_valid;
 use tv_format::version::WriteVersion;
 
@@ -36,11 +35,11 @@ impl From<DeserializeError> for MigrateError {
     }
 }
 
-impl From<io::ErrorKind> for MigrateError {
-    ghost from_gives = { λ kind told. told ≡ MigrateError.Write (SerializeError.Io kind) };
+impl From<WriteError> for MigrateError {
+    ghost from_gives = { λ failed told. told ≡ MigrateError.Write (SerializeError.Io failed.0) };
 
-    fn from(kind: io::ErrorKind) -> MigrateError {
-        MigrateError::Write(SerializeError::Io(kind))
+    fn from(failed: WriteError) -> MigrateError {
+        MigrateError::Write(SerializeError::Io(failed.0))
     }
 }
 

@@ -24,9 +24,8 @@ use crate::encoded_writer::write_encoded;
 use crate::error::SerializeError;
 use crate::type_codes::TEXT_CODE;
 use std::alloc::Global;
-use std::io;
-use tv_base::ByteSink;
 use tv_base::write::{write_all, write_u32, write_vint};
+use tv_base::{ByteSink, WriteError};
 use tv_doc::document::CompactDoc;
 use tv_format::version::WriteVersion;
 use tv_heap::encoded::Encoded;
@@ -45,7 +44,7 @@ fn write_field_bytes<K: ByteSink>(
     field: Field,
     code: u8,
     content: &[u8],
-) -> Result<(), io::ErrorKind>
+) -> Result<(), WriteError>
     ensures { Writes K.ByteSink sink.old sink.new result
         (four_bytes field.id ++ (code ∷ content.now)) }
 {
@@ -61,7 +60,7 @@ fn write_field_u64<K: ByteSink>(
     field: Field,
     code: u8,
     number: u64,
-) -> Result<(), io::ErrorKind>
+) -> Result<(), WriteError>
     ensures { Writes K.ByteSink sink.old sink.new result
         (four_bytes field.id ++ (code ∷ eight_bytes number)) }
 {
@@ -116,7 +115,7 @@ pub(crate) fn write_pair<K: ByteSink>(
 fn write_stored_leaf<K: ByteSink>(
     sink: &mut K,
     leaf: &ReferenceValueLeaf<'_>,
-) -> Result<(), io::ErrorKind>
+) -> Result<(), WriteError>
     ensures { Writes K.ByteSink sink.old sink.new result
         (short_leaf (leaf_written (leaf_of leaf.now))) }
 {
@@ -132,7 +131,7 @@ fn write_field_text<K: ByteSink>(
     sink: &mut K,
     field: Field,
     value: CompactDocValue<'_>,
-) -> Result<(), io::ErrorKind>
+) -> Result<(), WriteError>
     requires { IsTokenized (tree_of value) }
     ensures { (v : Version) → Writes K.ByteSink sink.old sink.new result
         (short_pair v (field.id, tree_written (tree_of value.entry))) }

@@ -6,8 +6,8 @@ ghost use Rattle.tv_base.specs.ErrorInPart.{ErrorInBytes};
 ghost use Rattle.tv_base.specs.ReadsAs.{ReadsLean};
 
 use std::alloc::Global;
-use std::{fmt, io};
-use tv_base::{BinarySerializable, ByteSink, ByteSource, ReadError};
+use std::fmt;
+use tv_base::{BinarySerializable, ByteSink, ByteSource, ReadError, WriteError};
 
 /// A field of a schema, by its number. Any 32-bit number names one; which of them a schema has is the schema's matter.
 #[derive(Clone, Copy, PartialEq, Eq, PartialOrd, Ord, Hash)]
@@ -52,7 +52,7 @@ impl BinarySerializable for Field {
 
     ghost has_error = { ErrorInBytes 4 };
 
-    fn serialize<K: ByteSink>(&self, sink: &mut K) -> Result<(), io::ErrorKind> {
+    fn serialize<K: ByteSink>(&self, sink: &mut K) -> Result<(), WriteError> {
         self.id.serialize(sink)
     }
 

@@ -1,15 +1,15 @@
 -- Why a writer of the store stops.
 use Rattle.std.specs.Prelude.{ℕ, Result, List}
-use Rattle.std.specs.declared.io.ErrorKind.{ErrorKind}
 use Rattle.tv_base.specs.declared.sink.ByteSink.{Ghosts}
+use Rattle.tv_base.specs.declared.write_error.WriteError.{WriteError}
 use Rattle.tv_base.specs.Sink.{WritesBy}
 use Rattle.tv_base.specs.Stop.{Stop}
 use Rattle.tv_base.specs.Stop.Stop.{InputError, Failed, Short}
 use Rattle.tv_writer.specs.declared.error.SerializeError.{SerializeError}
 use Rattle.tv_writer.specs.declared.error.SerializeError.TheVariants as writes
 
-abbrev pub write_error : ErrorKind → SerializeError
-write_error kind = writes.Io kind
+abbrev pub write_error : WriteError → SerializeError
+write_error failed = writes.Io failed.0
 
 -- why a writer of the store refuses what it was given
 pub data Unwritten : Type 0 where

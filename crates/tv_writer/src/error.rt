@@ -6,6 +6,7 @@ ghost use Rattle.tv_writer.specs.Error.{write_error};
 use std::alloc::AllocFailed;
 use std::io;
 use thiserror::Error;
+use tv_base::WriteError;
 
 /// Why a value or a document couldn't be written.
 #[derive(Clone, Copy, Debug, PartialEq, Eq, Error)]
@@ -27,11 +28,11 @@ pub enum SerializeError {
     Memory,
 }
 
-impl From<io::ErrorKind> for SerializeError {
-    ghost from_gives = { λ kind told. told ≡ write_error kind };
+impl From<WriteError> for SerializeError {
+    ghost from_gives = { λ failed told. told ≡ write_error failed };
 
-    fn from(kind: io::ErrorKind) -> SerializeError {
-        SerializeError::Io(kind)
+    fn from(failed: WriteError) -> SerializeError {
+        SerializeError::Io(failed.0)
     }
 }
 

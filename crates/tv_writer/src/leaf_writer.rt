@@ -14,11 +14,10 @@ ghost use Rattle.tv_value.specs.PreTokenized.{text_of, tokens_left, tokens_of};
 ghost use Rattle.tv_format.specs.Short.{short_token, short_tokenized, short_content, short_leaf};
 ghost use Rattle.tv_value.specs.TokenRef.{ref_of};
 
-use std::io;
-use tv_base::ByteSink;
 use tv_base::write::{
     write_all, write_bool, write_sized, write_text, write_u8, write_u128, write_vint,
 };
+use tv_base::{ByteSink, WriteError};
 use tv_format::type_codes::TOK_STR_EXT_CODE;
 use tv_value::content::LeafContent;
 use tv_value::leaf::ReferenceValueLeaf;
@@ -29,7 +28,7 @@ use tv_value::pre_tokenized::{PreTokenizedStr, TokenIter, TokenRef};
 /// The only error is the kind with which the write failed, and then the sink holds what it held before. (Not in tantivy.)
 #[inline]
 #[tactic(auto, unfolding(tv_base::specs::Number::one_byte))]
-pub fn write_code<K: ByteSink>(sink: &mut K, code: u8) -> Result<(), io::ErrorKind>
+pub fn write_code<K: ByteSink>(sink: &mut K, code: u8) -> Result<(), WriteError>
     ensures { Writes K.ByteSink sink.old sink.new result (code ∷ []) }
 {
     write_u8(sink, code)
@@ -40,11 +39,7 @@ pub fn write_code<K: ByteSink>(sink: &mut K, code: u8) -> Result<(), io::ErrorKi
 /// The only error is the kind with which a write failed. The sink then holds what it held before, and a beginning of these bytes.
 /// (Not in tantivy.)
 #[inline(always)]
-pub fn write_coded_text<K: ByteSink>(
-    sink: &mut K,
-    code: u8,
-    text: &str,
-) -> Result<(), io::ErrorKind>
+pub fn write_coded_text<K: ByteSink>(sink: &mut K, code: u8, text: &str) -> Result<(), WriteError>
     ensures { Writes K.ByteSink sink.old sink.new result (code ∷ short_sized text.now) }
 {
     write_coded_bytes(sink, code, text.as_bytes())
@@ -53,11 +48,7 @@ pub fn write_coded_text<K: ByteSink>(
 // A code, and bytes behind their length. A length of one byte is written with the code.
 #[inline(always)]
 #[tactic(auto, using(crate::proofs::Coded::Coded_then))]
-fn write_coded_bytes<K: ByteSink>(
-    sink: &mut K,
-    code: u8,
-    content: &[u8],
-) -> Result<(), io::ErrorKind>
+fn write_coded_bytes<K: ByteSink>(sink: &mut K, code: u8, content: &[u8]) -> Result<(), WriteError>
     ensures { Writes K.ByteSink sink.old sink.new result (code ∷ short_sized content.now) }
 {
     let len = content.len();
@@ -75,11 +66,7 @@ fn write_coded_bytes<K: ByteSink>(
 /// (Not in tantivy.)
 #[inline]
 #[tactic(auto, using(crate::proofs::Coded::Coded_then))]
-pub fn write_coded_u64<K: ByteSink>(
-    sink: &mut K,
-    code: u8,
-    number: u64,
-) -> Result<(), io::ErrorKind>
+pub fn write_coded_u64<K: ByteSink>(sink: &mut K, code: u8, number: u64) -> Result<(), WriteError>
     ensures { Writes K.ByteSink sink.old sink.new result (code ∷ eight_bytes number) }
 {
     let [a, b, c, d, e, f, g, h] = number.to_le_bytes();
@@ -89,7 +76,7 @@ pub fn write_coded_u64<K: ByteSink>(
 // A code, and a signed number in eight bytes.
 #[inline]
 #[tactic(auto, using(crate::proofs::Coded::Coded_then))]
-fn write_coded_i64<K: ByteSink>(sink: &mut K, code: u8, number: i64) -> Result<(), io::ErrorKind>
+fn write_coded_i64<K: ByteSink>(sink: &mut K, code: u8, number: i64) -> Result<(), WriteError>
     ensures { Writes K.ByteSink sink.old sink.new result (code ∷ signed_bytes number) }
 {
     write_coded_u64(sink, code, number.cast_unsigned())
@@ -98,7 +85,7 @@ fn write_coded_i64<K: ByteSink>(sink: &mut K, code: u8, number: i64) -> Result<(
 // A code, and a number in sixteen bytes.
 #[inline]
 #[tactic(auto, using(crate::proofs::Coded::Coded_then))]
-fn write_coded_u128<K: ByteSink>(sink: &mut K, code: u8, number: u128) -> Result<(), io::ErrorKind>
+fn write_coded_u128<K: ByteSink>(sink: &mut K, code: u8, number: u128) -> Result<(), WriteError>
     ensures { Writes K.ByteSink sink.old sink.new result (code ∷ sixteen_bytes number) }
 {
     write_code(sink, code)?;
@@ -111,11 +98,7 @@ fn write_coded_u128<K: ByteSink>(sink: &mut K, code: u8, number: u128) -> Result
 /// (Not in tantivy.)
 #[inline]
 #[tactic(auto, using(crate::proofs::Coded::Coded_then))]
-pub fn write_coded_bool<K: ByteSink>(
-    sink: &mut K,
-    code: u8,
-    truth: bool,
-) -> Result<(), io::ErrorKind>
+pub fn write_coded_bool<K: ByteSink>(sink: &mut K, code: u8, truth: bool) -> Result<(), WriteError>
     ensures { Writes K.ByteSink sink.old sink.new result (code ∷ truth_byte truth) }
 {
     write_code(sink, code)?;
@@ -128,11 +111,7 @@ pub fn write_coded_bool<K: ByteSink>(
 /// (Not in tantivy.)
 #[inline]
 #[tactic(auto, using(crate::proofs::Coded::Coded_then))]
-pub fn write_coded_count<K: ByteSink>(
-    sink: &mut K,
-    code: u8,
-    count: u64,
-) -> Result<(), io::ErrorKind>
+pub fn write_coded_count<K: ByteSink>(sink: &mut K, code: u8, count: u64) -> Result<(), WriteError>
     ensures { Writes K.ByteSink sink.old sink.new result (code ∷ vnum count) }
 {
     if count < 128 {
@@ -144,7 +123,7 @@ pub fn write_coded_count<K: ByteSink>(
 
 // A token: where it begins and ends, its position, its text, and how many positions it takes.
 #[tactic(auto, using(tv_base::proofs::Written::Writes_then, tv_base::proofs::Written::Writes_prefix))]
-fn write_token<K: ByteSink>(sink: &mut K, token: TokenRef<'_>) -> Result<(), io::ErrorKind>
+fn write_token<K: ByteSink>(sink: &mut K, token: TokenRef<'_>) -> Result<(), WriteError>
     ensures { Writes K.ByteSink sink.old sink.new result (short_token (ref_of token.entry)) }
 {
     write_vint(sink, token.offset_from as u64)?;
@@ -155,7 +134,7 @@ fn write_token<K: ByteSink>(sink: &mut K, token: TokenRef<'_>) -> Result<(), io:
 }
 
 // The tokens that are left, in order.
-fn write_tokens<K: ByteSink>(sink: &mut K, tokens: TokenIter<'_>) -> Result<(), io::ErrorKind>
+fn write_tokens<K: ByteSink>(sink: &mut K, tokens: TokenIter<'_>) -> Result<(), WriteError>
     ensures { Writes K.ByteSink sink.old sink.new result
         (flat_map short_token (tokens_left tokens.entry)) }
 {
@@ -167,10 +146,7 @@ fn write_tokens<K: ByteSink>(sink: &mut K, tokens: TokenIter<'_>) -> Result<(), 
 
 // A text, how many tokens it has, and each.
 #[tactic(auto, using(tv_base::proofs::Written::Writes_then, tv_base::proofs::Written::Writes_prefix))]
-fn write_tokenized<K: ByteSink>(
-    sink: &mut K,
-    text: PreTokenizedStr<'_>,
-) -> Result<(), io::ErrorKind>
+fn write_tokenized<K: ByteSink>(sink: &mut K, text: PreTokenizedStr<'_>) -> Result<(), WriteError>
     ensures { Writes K.ByteSink sink.old sink.new result
         (short_tokenized (text_of text.entry) (tokens_of text.entry)) }
 {
@@ -185,7 +161,7 @@ fn write_extension<K: ByteSink>(
     sink: &mut K,
     code: u8,
     text: PreTokenizedStr<'_>,
-) -> Result<(), io::ErrorKind>
+) -> Result<(), WriteError>
     ensures { Writes K.ByteSink sink.old sink.new result
         (code ∷ 0 ∷ short_tokenized (text_of text.entry) (tokens_of text.entry)) }
 {
@@ -199,7 +175,7 @@ fn write_content<K: ByteSink>(
     sink: &mut K,
     code: u8,
     content: LeafContent<'_>,
-) -> Result<(), io::ErrorKind>
+) -> Result<(), WriteError>
     ensures { Writes K.ByteSink sink.old sink.new result
         (code ∷ short_content (content_of content.entry)) }
 {
@@ -224,7 +200,7 @@ fn write_content<K: ByteSink>(
 pub fn write_leaf<K: ByteSink>(
     sink: &mut K,
     leaf: &ReferenceValueLeaf<'_>,
-) -> Result<(), io::ErrorKind>
+) -> Result<(), WriteError>
     ensures { Writes K.ByteSink sink.old sink.new result (short_leaf (leaf_of leaf.now)) }
 {
     let code = leaf.leaf_type().store_code();

@@ -14,9 +14,8 @@ ghost use Rattle.tv_format.specs.WriteVersion.{written_version};
 use crate::encoding::has_encoding;
 use crate::error::SerializeError;
 use crate::value_writer::{write_key, write_value};
-use std::io;
-use tv_base::ByteSink;
 use tv_base::write::write_vint;
+use tv_base::{ByteSink, WriteError};
 use tv_format::version::WriteVersion;
 use tv_value::nesting::{MAX_DEPTH, nests_within};
 use tv_value::value::Value;
@@ -48,7 +47,7 @@ fn write_key_and_value<'a, K: ByteSink, V: Value<'a>>(
     key: &str,
     value: &V,
     version: WriteVersion,
-) -> Result<(), io::ErrorKind>
+) -> Result<(), WriteError>
     requires { IsValue (V.tree value.now) }
     ensures { Writes K.ByteSink sink.old sink.new result
         (short_key (written_version version) key.now

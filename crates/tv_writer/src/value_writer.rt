@@ -15,9 +15,8 @@ ghost use Rattle.tv_writer.specs.Children.{AreValues, child_count, short_childre
 
 use crate::leaf_writer::{write_coded_count, write_coded_text, write_leaf};
 use std::convert::AsStr;
-use std::io;
-use tv_base::ByteSink;
 use tv_base::write::write_text;
+use tv_base::{ByteSink, WriteError};
 use tv_format::type_codes::{ARRAY_CODE, OBJECT_CODE, TEXT_CODE};
 use tv_format::version::WriteVersion;
 use tv_value::children::Children;
@@ -33,7 +32,7 @@ pub fn write_key<K: ByteSink>(
     sink: &mut K,
     version: WriteVersion,
     key: &str,
-) -> Result<(), io::ErrorKind>
+) -> Result<(), WriteError>
     ensures { Writes K.ByteSink sink.old sink.new result
         (short_key (written_version version) key.now) }
 {
@@ -52,7 +51,7 @@ pub fn write_object_head<K: ByteSink>(
     sink: &mut K,
     version: WriteVersion,
     entries: u64,
-) -> Result<(), io::ErrorKind>
+) -> Result<(), WriteError>
     requires { entries < 2 ^ 63 }
     ensures { Writes K.ByteSink sink.old sink.new result
         (13 ∷ vnum (entry_total (written_version version) entries)) }
@@ -88,7 +87,7 @@ pub fn write_child_key<K: ByteSink, T: AsStr + Drop>(
     sink: &mut K,
     version: WriteVersion,
     key: Option<T>,
-) -> Result<(), io::ErrorKind>
+) -> Result<(), WriteError>
     ensures { Writes K.ByteSink sink.old sink.new result
         (short_key_of (written_version version) (option_map T.text key)) }
 {
@@ -106,7 +105,7 @@ fn write_nested<K: ByteSink, N: Nested>(
     value: NestedValue<'_, N>,
     count: u64,
     version: WriteVersion,
-) -> Result<(), io::ErrorKind>
+) -> Result<(), WriteError>
     requires valid { IsValue (nested_tree N.array_rest N.object_rest value) }
     requires counted { count ≡ child_count (nested_tree N.array_rest N.object_rest value) }
     ensures { Writes K.ByteSink sink.old sink.new result
@@ -132,7 +131,7 @@ fn write_children<K: ByteSink, N: Nested>(
     sink: &mut K,
     children: Children<N>,
     version: WriteVersion,
-) -> Result<(), io::ErrorKind>
+) -> Result<(), WriteError>
     requires { AreValues (children_left N.array_rest N.object_rest children) }
     ensures { Writes K.ByteSink sink.old sink.new result
         (short_children (written_version version)
@@ -154,7 +153,7 @@ pub fn write_value<'a, K: ByteSink, V: Value<'a>>(
     sink: &mut K,
     value: &V,
     version: WriteVersion,
-) -> Result<(), io::ErrorKind>
+) -> Result<(), WriteError>
     requires { IsValue (V.tree value.now) }
     ensures { Writes K.ByteSink sink.old sink.new result
         (short (written_version version) (V.tree value.now)) }

@@ -20,6 +20,11 @@ pub fn parsed(alloc: Global, schema: &Schema, json: &str) -> Result<TantivyDocum
     Ok(TantivyDocument::parse_json(alloc, schema, json)?)
 }
 
+/// The document of a JSON object, where each key has to name a field, and none may stand twice.
+pub fn parsed_strictly(alloc: Global, schema: &Schema, json: &str) -> Result<TantivyDocument> {
+    Ok(TantivyDocument::parse_json_strict(alloc, schema, json)?)
+}
+
 /// How many values the documents of JSON objects have, each made in the memory of the one before.
 pub fn values_parsed(alloc: Global, schema: &Schema, lines: &[&str]) -> Result<usize> {
     let mut document = TantivyDocument::new(alloc);

@@ -3,7 +3,7 @@
 use std::alloc::Global;
 use std::io;
 use tantivy_schema::common::{
-    BinarySerializable, FaultSink, FaultSource, ReadError, SliceSource, VecSink,
+    BinarySerializable, FaultSink, FaultSource, ReadError, SliceSource, VecSink, WriteError,
 };
 
 pub fn read_failing(alloc: Global, bytes: &[u8], passes: u64) -> Result<u64, ReadError> {
@@ -12,7 +12,7 @@ pub fn read_failing(alloc: Global, bytes: &[u8], passes: u64) -> Result<u64, Rea
     u64::deserialize(alloc, &mut source)
 }
 
-pub fn write_failing(alloc: Global, passes: u64) -> (Result<(), io::ErrorKind>, VecSink) {
+pub fn write_failing(alloc: Global, passes: u64) -> (Result<(), WriteError>, VecSink) {
     let mut sink = FaultSink::new(VecSink::new(alloc), passes, io::ErrorKind::StorageFull);
     let written = 20u64.serialize(&mut sink);
     (written, sink.into_inner())

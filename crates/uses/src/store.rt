@@ -10,8 +10,9 @@ use tantivy_schema::common::{
 use tantivy_schema::schema::document::{BinaryDocumentSerializer, StoreReader};
 use tantivy_schema::schema::{Field, Schema, TantivyDocument};
 use tantivy_schema::store::{
-    BlockReader, DirectDecoder, DocStoreVersion, LimitedReadError, ReadLimits, Step, read_document,
-    read_document_into, read_document_within, read_fields, skip_document,
+    BlockReader, DirectDecoder, DocStoreVersion, LimitedReadError, MigrateBlockError, ReadLimits,
+    Step, WriteVersion, migrate_block, read_document, read_document_into, read_document_within,
+    read_fields, skip_document,
 };
 
 /// The bytes of documents, one after the other.
@@ -63,6 +64,14 @@ pub fn values_of_block(alloc: Global, block: &[u8]) -> Result<usize> {
         values = values.saturating_add(reader.document().len());
     }
     Ok(values)
+}
+
+/// The documents of a block in version 3.
+pub fn to_version_3(alloc: Global, block: &[u8]) -> Result<Vec<u8>, MigrateBlockError> {
+    let mut sink = VecSink::new(alloc);
+    let (from, to) = (DocStoreVersion::V2, WriteVersion::V3);
+    migrate_block(alloc, block, from, &mut sink, to)?;
+    Ok(sink.into_vec())
 }
 
 /// The document at a place of a block, if the block has that many.

@@ -8,7 +8,7 @@ use tv_base::take::{take, take_text, take_u8, take_u32, take_u64, take_vint};
 use tv_base::write::{
     write_all, write_sized, write_text, write_u8, write_u32, write_u64, write_vint,
 };
-use tv_base::{ByteSink, ByteSource, Cause, ReadError, SliceSource, VecSink};
+use tv_base::{ByteSink, ByteSource, Cause, ReadError, SliceSource, VecSink, WriteError};
 use tv_io::ReadSource;
 
 // The largest number.
@@ -127,7 +127,7 @@ impl ByteSink for SmallSink {
     }
 }
 
-fn write_each<K: ByteSink>(sink: &mut K) -> Result<(), io::ErrorKind> {
+fn write_each<K: ByteSink>(sink: &mut K) -> Result<(), WriteError> {
     write_vint(sink, 127)?;
     write_vint(sink, 128)?;
     write_u8(sink, 0x55)?;
@@ -146,7 +146,7 @@ fn what_fits_is_written(rt: HostRuntime) {
         failures: 0,
         last: None,
     };
-    assert!(rt; write_each(&mut small) == Err(io::ErrorKind::StorageFull));
+    assert!(rt; write_each(&mut small) == Err(WriteError(io::ErrorKind::StorageFull)));
     let first = b"\xff\0\x81\x55\xff\xff\0\0\x14\0\0\0\0\0\0\0\x8aChi";
     assert!(rt; small.held.as_slice() == first.as_slice());
     assert!(rt; small.failures == 1);

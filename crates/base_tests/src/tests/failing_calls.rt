@@ -7,7 +7,9 @@ use std::io;
 use std::test::Fail;
 use tv_base::take::{take_text, take_u32, take_vint};
 use tv_base::write::{write_text, write_u32, write_vint};
-use tv_base::{BinarySerializable, ByteSink, ByteSource, ReadError, SliceSource, VecSink};
+use tv_base::{
+    BinarySerializable, ByteSink, ByteSource, ReadError, SliceSource, VecSink, WriteError,
+};
 use tv_io::{FaultSink, FaultSource};
 
 // The first read fails, whatever the source inside, and reads nothing of it.
@@ -83,7 +85,7 @@ const KINDS: [io::ErrorKind; 3] = [
 // The numbers 128 and 65535, and a text.
 const PARTS: &[u8] = b"\0\x81\xff\xff\0\0\x8aChillFish8";
 
-fn write_parts<K: ByteSink>(sink: &mut K) -> Result<(), io::ErrorKind> {
+fn write_parts<K: ByteSink>(sink: &mut K) -> Result<(), WriteError> {
     write_vint(sink, 128)?;
     write_u32(sink, 65535)?;
     write_text(sink, "ChillFish8")
@@ -128,7 +130,11 @@ fn parts_are_written_up_to_the_call_that_fails(rt: HostRuntime) {
             let mut sink = FaultSink::new(VecSink::new(rt.alloc()), place as u64, kind);
             let answer = write_parts(&mut sink);
             let is_whole = place == PARTS.len();
-            let expected = if is_whole { Ok(()) } else { Err(kind) };
+            let expected = if is_whole {
+                Ok(())
+            } else {
+                Err(WriteError(kind))
+            };
             let calls = place as u64 + u64::from(!is_whole);
             assert!(rt; (answer, sink.calls()) == (expected, calls), "at {place}");
             assert!(rt; Some(sink.into_inner().as_slice()) == PARTS.get(..place));
@@ -144,7 +150,7 @@ fn read_failing(alloc: Global, bytes: &[u8], passes: u64) -> Result<u64, ReadErr
 }
 
 // What is written of a number, where one write fails.
-fn write_failing(alloc: Global, passes: u64) -> (Result<(), io::ErrorKind>, VecSink) {
+fn write_failing(alloc: Global, passes: u64) -> (Result<(), WriteError>, VecSink) {
     let mut sink = FaultSink::new(VecSink::new(alloc), passes, io::ErrorKind::StorageFull);
     let written = 20u64.serialize(&mut sink);
     (written, sink.into_inner())
@@ -152,7 +158,7 @@ fn write_failing(alloc: Global, passes: u64) -> (Result<(), io::ErrorKind>, VecS
 
 #[test]
 fn numbers_fail_with_their_call(rt: HostRuntime) -> Result<(), Fail> {
-    let full = Err(io::ErrorKind::StorageFull);
+    let full = Err(WriteError(io::ErrorKind::StorageFull));
     let (written, sink) = write_failing(rt.alloc(), 3);
     assert!(rt; (written, sink.as_slice()) == (full, [20, 0, 0].as_slice()));
     let (written, sink) = write_failing(rt.alloc(), 8);

@@ -66,10 +66,27 @@ fn a_document_has_no_pairs_after_a_refusal(rt: HostRuntime) -> Result<(), Fail> 
     let refused = document.parse_json_into(alloc, &schema, float, &mut buffers);
     let is_float = matches!(
         refused,
-        Err(DocParsingError::ValueError(_, ValueParsingError::FloatNumber))
+        Err(DocParsingError::ValueError(_, ValueParsingError::FloatNumber { .. }))
     );
     assert!(rt; is_float && document.is_empty() && document.node_data().is_empty());
     document.parse_json_into(alloc, &schema, TEXTS[2], &mut buffers)?;
     assert!(rt; document.len() == 2);
+    Ok(())
+}
+
+// Where a text is refused, if it is no JSON object.
+fn refused_at(alloc: Global, schema: &Schema, text: &str) -> Option<usize> {
+    match CompactDoc::parse_json(alloc, schema, text) {
+        Err(DocParsingError::InvalidJson(_, fault)) => Some(fault.offset),
+        _ => None,
+    }
+}
+
+#[test]
+fn a_place_counts_the_lines_before_it(rt: HostRuntime) -> Result<(), Fail> {
+    let alloc = rt.alloc();
+    let schema = schema(alloc)?;
+    assert!(rt; refused_at(alloc, &schema, "{\n\n\"u\": x}") == Some(8));
+    assert!(rt; refused_at(alloc, &schema, "{\n\"u\": 1\n") == Some(9));
     Ok(())
 }

@@ -3,7 +3,7 @@ use Rattle.tv_blocks.specs.Documents.{IsUnread}
 use Rattle.tv_reader.specs.Version.{version_of}
 use Rattle.tv_store.specs.Documents.{HasNoRoom, NoDocument}
 use Rattle.tv_store.proofs.Promises.{refusal_is_true}
-use Rattle.tv_blocks.proofs.Blocks.{no_more_left}
+use Rattle.tv_store.proofs.BlockMigration.{no_more_left}
 use Rattle.tv_blocks.proofs.Documents.{unread_first}
 use Rattle.tv_blocks.proofs.document.read_first_document.Goals as goal
 

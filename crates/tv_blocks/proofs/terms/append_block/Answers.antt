@@ -1,15 +1,16 @@
-use Rattle.std.proofs.Common.{◌≡◌, ◌-◌, ◌^◌, ◌<◌, ◌++◌, length, Ok, refl, sym, subst, ap, ◌∙◌, arith}
+use Rattle.std.proofs.Common.{◌≡◌, ◌-◌, ◌^◌, ◌<◌, ◌++◌, [], length, Ok, refl, sym, subst, ap, ◌∙◌, arith}
 use Rattle.tv_blocks.specs.Blocks.{IsRefusedBlock}
 use Rattle.tv_blocks.specs.Terms.{document_records}
 use Rattle.tv_doc.specs.Document.{document_of}
 use Rattle.tv_reader.specs.Version.{version_of}
 use Rattle.tv_reader.specs.declared.version.DocStoreVersion.{DocStoreVersion}
 use Rattle.tv_reader.specs.declared.error.DeserializeError.TheVariants.{AlreadyFailed}
-use Rattle.tv_store.specs.Documents.{BeginsWithDocument, NoDocument, HasNoRoom}
+use Rattle.tv_store.specs.Documents.{BeginsWithDocument, NoDocument, HasNoRoom, SaysNothing}
 use Rattle.tv_store.specs.Reading.{reading}
 use Rattle.tv_store.proofs.Promises.{refusal_is_true}
 use Rattle.tv_store.proofs.Resuming.{reads_live}
-use Rattle.tv_blocks.proofs.Blocks.{breaks, no_more_left, rest_at}
+use Rattle.tv_store.proofs.BlockMigration.{no_more_left, rest_at}
+use Rattle.tv_blocks.proofs.Blocks.{breaks}
 use Rattle.tv_blocks.proofs.Records.{terms_more}
 use Rattle.tv_blocks.proofs.terms.append_block.Goals as goal
 
@@ -21,8 +22,9 @@ returns-in-Err-clause-err c =
     let v = version_of c.args.version in
     let rest = c.loop-writer.source.rest.now in
     let known : length rest < 2 ^ 64 - 1 = no_more_left c.args.block.now m.before rest m.joined (omega arith) in
+    let some : rest ≡ [] → SaysNothing c.in-Err.error = λ empty. c.in-Err.ensures.ended i.live tt empty in
     subst (IsRefusedBlock v c.args.block.now) (sym c.unread.ensures)
-    (breaks v c.args.block.now m.before rest m.documents _ c.in-Err.error m.joined (ap (λ n. length c.args.block.now - n) (ap length c.rest.ensures) ∙ rest_at c.args.block.now m.before rest m.joined) m.encoded
+    (breaks v c.args.block.now m.before rest m.documents _ c.in-Err.error m.joined (ap (λ n. length c.args.block.now - n) (ap length c.rest.ensures) ∙ rest_at c.args.block.now m.before rest m.joined) some m.encoded
     (λ r refusal. subst (λ (w : DocStoreVersion). NoDocument (version_of w) rest r) i.version (refusal_is_true (tt, known) reads c.in-Err.error r refl refusal))
     (λ full. subst (λ (w : DocStoreVersion). HasNoRoom (version_of w) rest) i.version (reads.full tt c.in-Err.error refl full)) reads.errors)
 

@@ -15,4 +15,4 @@ returns-in-Ok-clause-made c =
     (subst (λ bytes. AreAppended c.args.terms.now c.push_all_written.new.terms (leaves_terms at.field (drop 1 bytes) m.0)) keys m.2) in
     let some : path ≢ [] = search (rules, c.if-is_empty.false, c.is_empty.ensures) in
     let plain : has_zero path ≡ false = search (rules, c.if-contains.false, c.contains.ensures.value, c.as_bytes.ensures.value) in
-    (a.0, (some, plain, m.0, m.1, a.1), a.2)
+    (a.0, (some, plain, (m.0, m.1, a.1)), a.2)

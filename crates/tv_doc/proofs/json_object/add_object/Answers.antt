@@ -6,7 +6,7 @@ use Rattle.std.specs.declared.alloc.Global.{Global}
 use Rattle.serde_json.specs.declared.value.Value.{Value}
 use Rattle.tv_doc.specs.JsonObject.{FieldJson, AddsFieldValues, StopsAt, object_values, values_at}
 use Rattle.tv_doc.proofs.JsonDocuments.{SoFar, none_so_far, more_so_far, all_so_far, stops_later}
-use Rattle.tv_doc.proofs.json.add_object.Goals as goal
+use Rattle.tv_doc.proofs.json_object.add_object.Goals as goal
 
 pub loop-key-init : goal.loop-key-init
 loop-key-init c =

@@ -3,7 +3,7 @@ use Rattle.serde_json.specs.View.{view as data_of}
 use Rattle.tv_field.specs.JsonAnswer.{lent_tree}
 use Rattle.tv_doc.specs.JsonObject.{IsRefused, value_for}
 use Rattle.tv_doc.proofs.JsonDocuments.{stops_at_one, one_added, refused_value, refused_addition}
-use Rattle.tv_doc.proofs.json.add_value.Goals as goal
+use Rattle.tv_doc.proofs.json_object.add_value.Goals as goal
 
 pub returns-in-Ok : goal.returns-in-Ok
 returns-in-Ok c =

@@ -3,7 +3,7 @@ use Rattle.serde_json.proofs.Views.{view-Object}
 use Rattle.serde_json.specs.View.{view, members_view}
 use Rattle.tv_doc.specs.Additions.{IsEmpty}
 use Rattle.tv_doc.proofs.JsonDocuments.{parses_object}
-use Rattle.tv_doc.proofs.json.parse_value.Goals as goal
+use Rattle.tv_doc.proofs.json_object.parse_value.Goals as goal
 
 pub returns-in-Object : goal.returns-in-Object
 returns-in-Object c =

@@ -5,7 +5,7 @@ use Rattle.serde_json.specs.View.{view as data_of, items_view}
 use Rattle.serde_json.specs.declared.value.Value.{Value}
 use Rattle.tv_doc.specs.JsonObject.{FieldJson, items_for, value_for}
 use Rattle.tv_doc.proofs.JsonDocuments.{more_so_far, stops_later}
-use Rattle.tv_doc.proofs.json.add_items.Goals as goal
+use Rattle.tv_doc.proofs.json_object.add_items.Goals as goal
 
 pub loop-item-preserved : goal.loop-item-preserved
 loop-item-preserved c =

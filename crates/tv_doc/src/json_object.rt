@@ -6,17 +6,18 @@ ghost use Rattle.tv_schema.specs.Schema.{field_named};
 ghost use Rattle.tv_field.specs.JsonAnswer.{lent_tree};
 ghost use Rattle.tv_doc.specs.JsonObject.{object_values, values_at, AddsValues, IsInvalidJson, IsValueError, items_for, value_for};
 ghost use Rattle.tv_doc.specs.JsonObject.{MakesFromObject, Parses, ParsesDocument, ParsesInto, ParsesOrTells};
-ghost use Rattle.std.specs.Fmt.{take_chars};
 ghost use Rattle.tv_doc.specs.Document.{Adds};
 ghost use Rattle.tv_doc.specs.InPlace.{in_place};
 
 use crate::add_error::AddError;
 use crate::doc_parsing_error::DocParsingError;
 use crate::document::CompactDoc;
+use crate::json_fault::{IS_NO_OBJECT, JsonFault, fault_of};
 use crate::named_field::NamedField;
 use crate::parse_buffers::{Adding, ParseBuffers};
 use serde_json::{Map, Value};
-use std::alloc::{AllocError, Global};
+use std::alloc::Global;
+use tv_base::text_start::text_start;
 use tv_field::json_value::{JsonRefusal, JsonScratch, LentFieldValue};
 use tv_schema::Schema;
 use tv_value::field::Field;
@@ -109,19 +110,12 @@ fn add_member(
     }
 }
 
-// The first 20 characters, or all where it has no more.
-fn start_of(alloc: Global, text: &str) -> Result<String, AllocError>
-    ensures { IfOk result (λ start. string_bytes start ≡ take_chars 20 text.now) }
-{
-    format!(in alloc; "{text:.20}")
-}
-
 // The error for a text that is no JSON object.
-pub(crate) fn invalid_json(alloc: Global, text: &str) -> DocParsingError
-    ensures { IsInvalidJson text.now result }
+pub(crate) fn invalid_json(alloc: Global, text: &str, fault: JsonFault) -> DocParsingError
+    ensures { IsInvalidJson text.now fault result }
 {
-    match start_of(alloc, text) {
-        Ok(start) => DocParsingError::InvalidJson(start),
+    match text_start(alloc, text, 20) {
+        Ok(start) => DocParsingError::InvalidJson(start, fault),
         Err(_) => DocParsingError::Memory,
     }
 }
@@ -161,20 +155,21 @@ fn parse_value(
     match Value::from_str(alloc, text) {
         Ok(json) => match json {
             Value::Object(object) => add_object(document, &mut adding.scratch, schema, object),
-            _ => Err(invalid_json(alloc, text)),
+            _ => Err(invalid_json(alloc, text, IS_NO_OBJECT)),
         },
         Err(error) => {
             if error.is_memory() {
                 return Err(DocParsingError::Memory);
             }
-            Err(invalid_json(alloc, text))
+            Err(invalid_json(alloc, text, fault_of(&error, text)))
         }
     }
 }
 
 impl CompactDoc {
     /// The document of the JSON object that the text encodes, see `from_json_object`. Errors: `InvalidJson` with the text's first 20
-    /// characters where it isn't JSON or no object, or lists in it nest deeper than 127; else those of `from_json_object`.
+    /// characters and the place where it is refused, where it isn't JSON or no object, or lists in it nest deeper than 127; else those of
+    /// `from_json_object`.
     ///
     /// ```
     /// pub fn parsed(alloc: Global, schema: &Schema, json: &str) -> Result<TantivyDocument> {
