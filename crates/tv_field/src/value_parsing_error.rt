@@ -92,6 +92,16 @@ impl fmt::Display for Start<'_> {
     }
 }
 
+// The first 40 characters of a text, which `Debug` would print whole.
+#[derive(Drop)]
+struct TextStart<'a>(&'a str);
+
+impl fmt::Display for TextStart<'_> {
+    fn fmt<W: fmt::Write>(&self, f: &mut fmt::Formatter<W>) -> fmt::Result {
+        write!(f, "{:.40}", self.0)
+    }
+}
+
 // What is said of a float, or of an object in which one stands.
 fn write_float<W: fmt::Write>(f: &mut fmt::Formatter<W>, json: &Value) -> fmt::Result {
     let has = match json {
@@ -124,7 +134,8 @@ impl fmt::Display for ValueParsingError {
                 write!(f, "{} {}", Start(json), cause.words())
             }
             ValueParsingError::InvalidBase64 { base64 } => {
-                write!(f, "{:.40?} is not in base64", base64.as_str())
+                let text = InlineText::<LONGEST>::of(TextStart(base64.as_str()));
+                write!(f, "{:?} is not in base64", text.as_str())
             }
             ValueParsingError::FloatNumber { json } => write_float(f, json),
             ValueParsingError::Memory => f.write_str("memory was refused"),

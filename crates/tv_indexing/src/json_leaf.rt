@@ -61,6 +61,6 @@ pub(crate) fn push_json_leaf(
     let [first, second, third, fourth] = field.field_id().to_be_bytes();
     let start = [first, second, third, fourth, Type::Json.to_code()];
     let code = [0, value_type.to_code()];
-    terms.push(&start, joined(path), &code, payload.as_slice())?;
+    terms.push_at_path(&start, joined(path), &code, payload.as_slice())?;
     Ok(())
 }

@@ -36,9 +36,9 @@ pub(crate) fn push_leaf(
     if value_type.to_code() != wanted.to_code() {
         return Err(TermValuesError::WrongType(field));
     }
-    let number = field.field_id().to_be_bytes();
-    let code = [value_type.to_code()];
-    terms.push(&number, &[], &code, payload.as_slice())?;
+    let [first, second, third, fourth] = field.field_id().to_be_bytes();
+    let start = [first, second, third, fourth, value_type.to_code()];
+    terms.push(&start, payload.as_slice())?;
     Ok(())
 }
 

@@ -168,16 +168,26 @@ impl TermList {
         self.dedup();
     }
 
-    // Appends a term: how it starts, the path in it, the code of a value's type, and the value. Errors: memory was refused, and then the list is
+    // Appends a term: the field's number and the code of the value's type, and the value. Errors: memory was refused, and then the list is
     // as it was.
-    pub(crate) fn push<'p>(
+    pub(crate) fn push<'p>(&mut self, start: &'p [u8], payload: &'p [u8]) -> Result<(), AllocError>
+        requires { 5 ≤ length start.now }
+        ensures made { OnOk result (self.new ≡ self.old ++ (start.now ++ payload.now) ∷ []) }
+        ensures unchanged { OnErr result (self.new ≡ self.old) }
+    {
+        self.push_parts(&[start, payload])
+    }
+
+    // Appends a term at a path: how it starts, the path, the code of the value's type, and the value. Errors: memory was refused, and then the
+    // list is as it was.
+    pub(crate) fn push_at_path<'p>(
         &mut self,
         start: &'p [u8],
         path: &'p [u8],
         code: &'p [u8],
         payload: &'p [u8],
     ) -> Result<(), AllocError>
-        requires { 5 ≤ length start.now + length code.now }
+        requires { 5 ≤ length start.now }
         ensures made { OnOk result
             (self.new ≡ self.old ++ (start.now ++ (path.now ++ (code.now ++ payload.now))) ∷ []) }
         ensures unchanged { OnErr result (self.new ≡ self.old) }
