@@ -2,7 +2,8 @@
 //! promise. No crate below is used, so what follows here follows from public contracts alone.
 //!
 //! Each edit in `must-fail/` is a wrong body of one of these functions, and the prover must refuse it. A body here has the shape that its
-//! wrong bodies have, with the same `match` or `if`, so that a refused edit is refused for what it returns and not for its shape.
+//! wrong bodies have, with the same `match` or `if`, so that a refused edit is refused for what it returns and not for its shape. Code to copy
+//! stands in the crate `uses`, and the contract of each call at the call, which `docs/API.md` finds.
 #![tactic(auto)]
 
 pub mod adding;

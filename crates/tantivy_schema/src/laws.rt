@@ -37,6 +37,7 @@ pub use tv_format::laws::{
     short_values_encode, values_have_one_reading,
 };
 pub use tv_heap::laws::places_read_as_one_tree;
+pub use tv_indexing::laws::terms_of_texts_are_of_no_other_value;
 /// The laws of legacy objects, and of values and documents that have them.
 pub use tv_legacy::laws as legacy;
 pub use tv_options::laws::{

@@ -56,10 +56,10 @@ pair_added v old new whole prefix value rest mid len small at s f w k =
 
 -- ---- as many as there are
 
-start_here : (d : HeapPairs) → IsStart d d
+pub start_here : (d : HeapPairs) → IsStart d d
 start_here d = record { heap = ([], sym (append-nil (heap_of d))); later = []; pairs = sym (append-nil d.pairs.items) }
 
-start_then : (old mid new : HeapPairs) → IsStart old mid → IsStart mid new → IsStart old new
+pub start_then : (old mid new : HeapPairs) → IsStart old mid → IsStart mid new → IsStart old new
 start_then old mid new a b = record {
   heap = prefix_then (heap_of old) (heap_of mid) (heap_of new) a.heap b.heap;
   later = a.later ++ b.later;
@@ -67,7 +67,7 @@ start_then old mid new a b = record {
 }
 
 -- nothing more was added
-start_same : (old mid new : HeapPairs) → IsStart old mid → heap_of new ≡ heap_of mid → new.pairs.items ≡ mid.pairs.items → IsStart old new
+pub start_same : (old mid new : HeapPairs) → IsStart old mid → heap_of new ≡ heap_of mid → new.pairs.items ≡ mid.pairs.items → IsStart old new
 start_same old mid new a heap pairs = record { heap = (a.heap.0, heap ∙ a.heap.1); later = a.later; pairs = pairs ∙ a.pairs }
 
 pub none_encoded : (v : Version) (d : HeapPairs) (whole : List ℕ) → AddsEncoded v d d whole whole 0

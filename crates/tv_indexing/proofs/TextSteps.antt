@@ -1,5 +1,5 @@
 -- Terms of a text of a query, appended one value after the other.
-use Rattle.std.proofs.Common.{◌≡◌, ℕ, List, [], ◌∷◌, ◌++◌, Option, Result, Ok, Err, OnOk, OnErr, refl, sym, ap, subst, ◌∙◌, append_assoc}
+use Rattle.std.proofs.Common.{◌≡◌, ℕ, List, [], ◌∷◌, ◌++◌, Option, None, Some, IfSome, Result, Ok, Err, OnOk, OnErr, refl, sym, ap, subst, ◌∙◌, append_assoc}
 use Rattle.tv_date.specs.Rfc3339.{rfc}
 use Rattle.tv_field.specs.JsonTable.{truth_in}
 use Rattle.tv_format.specs.Tree.{Leaf, text}
@@ -7,6 +7,9 @@ use Rattle.tv_indexing.specs.DocumentTerms.{AreAppended, Terms, followed_by, jso
 use Rattle.tv_indexing.specs.JsonWalk.{Extends}
 use Rattle.tv_indexing.specs.TextTerms.{WritesLeaves, WritesNumber, date_written_in, leaves_terms, listed}
 use Rattle.tv_indexing.proofs.Following.{extends_by, extends_on, nothing_before, regrouped}
+use Rattle.std.specs.List.{AllByRecursion}
+use Rattle.tv_indexing.specs.LeafTerms.{json_value}
+use Rattle.tv_term.specs.Key.{Fits}
 use Rattle.tv_value.specs.declared.field.Field.{Field}
 
 pub appended : (old new : List (List ℕ)) (t : Terms) → AreAppended old new t → (made : List (List ℕ)) × (t ≡ Ok made) × (new ≡ old ++ made)
@@ -30,16 +33,33 @@ leaves_appended field path ls ms a b c h g =
 
 -- ---- what a text writes in a JSON value
 
-pub all_written : {E : Type 0} (result : Result (Unit {0}) E) (field : Field) (path s : List ℕ) (number : Option Leaf) (a b c d e : List (List ℕ)) → WritesNumber s number → AreAppended a b (leaves_terms field path (text s ∷ [])) → AreAppended b c (leaves_terms field path (listed number))
-    → AreAppended c d (leaves_terms field path (listed (truth_in s))) → OnOk result (AreAppended d e (leaves_terms field path (listed (date_written_in (rfc s))))) → OnOk result ((ls : List Leaf) × WritesLeaves s ls × AreAppended a e (leaves_terms field path ls))
-all_written (Ok x) field path s number a b c d e writes itself numbers truths dates =
+-- each of these fits
+abbrev AllFit : List Leaf → Type 0
+AllFit ls = AllByRecursion (λ l. IfSome (json_value l) Fits) ls
+
+all_fit : (ls ms : List Leaf) → AllFit ls → AllFit ms → AllFit (ls ++ ms)
+all_fit [] ms h g = g
+all_fit (l ∷ ls) ms h g = (h.0, all_fit ls ms h.1 g)
+
+listed_fits : (l : Option Leaf) → IfSome l (λ l. IfSome (json_value l) Fits) → AllFit (listed l)
+listed_fits None h = tt
+listed_fits (Some l) h = (h, tt)
+
+pub leaves_fit : (s : List ℕ) (number truth date : Option Leaf) → IfSome number (λ l. IfSome (json_value l) Fits) → IfSome truth (λ l. IfSome (json_value l) Fits) → IfSome date (λ l. IfSome (json_value l) Fits) → AllFit (text s ∷ (listed number ++ (listed truth ++ listed date)))
+leaves_fit s number truth date n t d = (tt, all_fit (listed number) (listed truth ++ listed date) (listed_fits number n) (all_fit (listed truth) (listed date) (listed_fits truth t) (listed_fits date d)))
+
+pub all_written : {E : Type 0} (result : Result (Unit {0}) E) (field : Field) (path s : List ℕ) (number : Option Leaf) (a b c d e : List (List ℕ)) → WritesNumber s number → AllFit (text s ∷ (listed number ++ (listed (truth_in s) ++ listed (date_written_in (rfc s)))))
+    → AreAppended a b (leaves_terms field path (text s ∷ [])) → AreAppended b c (leaves_terms field path (listed number)) → AreAppended c d (leaves_terms field path (listed (truth_in s))) → OnOk result (AreAppended d e (leaves_terms field path (listed (date_written_in (rfc s)))))
+    → OnOk result ((ls : List Leaf) × WritesLeaves s ls × AllFit ls × AreAppended a e (leaves_terms field path ls))
+all_written (Ok x) field path s number a b c d e writes fit itself numbers truths dates =
     let behind = listed (truth_in s) ++ listed (date_written_in (rfc s)) in (
       text s ∷ (listed number ++ behind),
       (number, writes, refl),
+      fit,
       leaves_appended field path (text s ∷ []) (listed number ++ behind) a b e itself
           (leaves_appended field path (listed number) behind b c e numbers (leaves_appended field path (listed (truth_in s)) (listed (date_written_in (rfc s))) c d e truths dates)),
     )
-all_written (Err error) field path s number a b c d e writes itself numbers truths dates = tt
+all_written (Err error) field path s number a b c d e writes fit itself numbers truths dates = tt
 
 pub all_kept : {E : Type 0} (result : Result (Unit {0}) E) (field : Field) (path s : List ℕ) (number : Option Leaf) (a b c d e : List (List ℕ)) → AreAppended a b (leaves_terms field path (text s ∷ [])) → AreAppended b c (leaves_terms field path (listed number))
     → AreAppended c d (leaves_terms field path (listed (truth_in s))) → OnErr result (e ≡ d) → OnErr result (Extends a e)

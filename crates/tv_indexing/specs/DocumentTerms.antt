@@ -1,5 +1,5 @@
 -- The terms of a document's values, in the document's order.
-use Rattle.std.specs.Prelude.{◌≡◌, ◌==◌, ◌^◌, ℕ, pos, if◌then◌else◌, List, [], ◌∷◌, ◌++◌, Bool, Option, Some, None, Result, Ok, Err, nat_lt, slice_get}
+use Rattle.std.specs.Prelude.{◌≡◌, ◌==◌, ℕ, if◌then◌else◌, List, [], ◌∷◌, ◌++◌, Bool, Option, Some, None, Result, Ok, Err, slice_get}
 use Rattle.std.specs.List.{list_any}
 use Rattle.tv_base.specs.JsonPath.{joined}
 use Rattle.tv_date.specs.DateTime.{truncated}
@@ -13,7 +13,7 @@ use Rattle.tv_indexing.specs.declared.term_values_error.TermValuesError.{TermVal
 use Rattle.tv_indexing.specs.declared.term_values_error.TermValuesError.TheVariants.{UnknownField, WrongType, NulInPath, NoJsonTerm}
 use Rattle.tv_options.specs.Types.{code}
 use Rattle.tv_options.specs.declared.types.TypeTag.{TypeTag}
-use Rattle.tv_term.specs.Key.{TermValue, Text, Unsigned, Signed, Truth, Date, Json, term, value_code}
+use Rattle.tv_term.specs.Key.{TermValue, Text, Signed, Truth, Date, Json, json_number, term, value_code}
 use Rattle.tv_value.specs.declared.field.Field.{Field}
 
 -- terms in their order, or why there are none
@@ -31,10 +31,6 @@ followed_by (Ok made) (Ok others) = Ok (made ++ others)
 -- the one term of a value at this path
 abbrev pub json_term_of : Field → List ℕ → TermValue → Terms
 json_term_of field path value = Ok (term field.id (Json path value) ∷ [])
-
--- a number that fits a signed one of 64 bits stands as a signed one
-abbrev pub json_number : ℕ → TermValue
-json_number n = if nat_lt n (2 ^ 63) then Signed (pos n) else Unsigned n
 
 abbrev pub json_leaf_terms : Field → List ℕ → Leaf → Terms
 json_leaf_terms field path null = Ok []

@@ -3,7 +3,7 @@ use Rattle.std.specs.Prelude.{◌≢◌, ℕ, Bool, true, false, List, [], Optio
 use Rattle.tv_date.specs.DateTime.{truncated}
 use Rattle.tv_date.specs.declared.date_time.DateTimePrecision.TheVariants.{Seconds}
 use Rattle.tv_format.specs.Tree.{Tree, leaf, array, object, Leaf, null, text, unsigned, signed, boolean, date, facet, bytes, ip_address, tokenized}
-use Rattle.tv_term.specs.Key.{TermValue, Text, Unsigned, Signed, Truth, Date, Facet, Bytes, Address, IsTerm}
+use Rattle.tv_term.specs.Key.{TermValue, Text, Unsigned, Signed, Truth, Date, Facet, Bytes, Address, IsTerm, json_number}
 
 -- The value that the term of a leaf stands for, as it is indexed: a date is cut to the second, a text is whole. Null has none.
 abbrev pub leaf_value : Leaf → Option TermValue
@@ -17,6 +17,15 @@ leaf_value (facet f) = Some (Facet f)
 leaf_value (bytes bs) = Some (Bytes bs)
 leaf_value (ip_address n) = Some (Address n)
 leaf_value (tokenized t ts) = Some (Text t)
+
+-- The value that the term of a leaf in a JSON value stands for behind its path: a number that fits a signed one is one. The others have none.
+abbrev pub json_value : Leaf → Option TermValue
+json_value (text t) = Some (Text t)
+json_value (unsigned n) = Some (json_number n)
+json_value (signed z) = Some (Signed z)
+json_value (boolean b) = Some (Truth b)
+json_value (date z) = Some (Date (truncated Seconds z))
+json_value other = None
 
 -- arrays and objects have none
 abbrev pub tree_value : Tree → Option TermValue

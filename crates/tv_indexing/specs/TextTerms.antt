@@ -5,7 +5,8 @@
 -- plain type the text is the value that it is in JSON to such a field that coerces, and has that value's term; or it is refused for the reason
 -- that JSON is. In a field of JSON objects, at a path below it, it writes itself as a text, and also a number, a truth value and a date, each
 -- where it is the text of one, and has the term of each there.
-use Rattle.std.specs.Prelude.{◌≡◌, ◌≢◌, ◌++◌, ℕ, ℤ, List, [], ◌∷◌, Bool, Option, Some, None, Result, Ok, Err}
+use Rattle.std.specs.Prelude.{◌≡◌, ◌≢◌, ◌++◌, ℕ, ℤ, List, [], ◌∷◌, Bool, Option, Some, None, IfSome, Result, Ok, Err}
+use Rattle.std.specs.List.{AllByRecursion}
 use Rattle.std.specs.Str.Parse.{digits_value, signed_digits_value, without_leading_plus}
 use Rattle.tv_base.specs.JsonPath.{joined_path}
 use Rattle.tv_date.specs.Rfc3339.{rfc}
@@ -21,9 +22,10 @@ use Rattle.tv_field.specs.declared.field_type.FieldType.TheVariants as types
 use Rattle.tv_format.specs.Tree.{Leaf, text, unsigned, signed, date}
 use Rattle.tv_indexing.specs.DocumentTerms.{Terms, followed_by, json_leaf_terms, plain_terms}
 use Rattle.tv_indexing.specs.IndexedField.{AtPath, BelowJson, IsStartOf}
-use Rattle.tv_indexing.specs.LeafTerms.{leaf_value}
+use Rattle.tv_indexing.specs.LeafTerms.{json_value, leaf_value}
 use Rattle.tv_indexing.specs.declared.text_terms_error.TextTermsError.{TextTermsError}
 use Rattle.tv_indexing.specs.declared.text_terms_error.TextTermsError.TheVariants.{WrongText, WrongRange}
+use Rattle.tv_term.specs.Key.{Fits}
 use Rattle.tv_value.specs.declared.field.Field.{Field}
 
 -- ---- the values that a text writes in a JSON value
@@ -68,14 +70,14 @@ TermsAnswer = Result (List (List ℕ)) TextTermsError
 
 -- the terms of all that a text writes at a joined path
 abbrev pub WritesTerms : Field → List ℕ → List ℕ → TermsAnswer → Type 0
-WritesTerms field path s (Ok made) = (ls : List Leaf) × WritesLeaves s ls × (leaves_terms field path ls ≡ Ok made)
+WritesTerms field path s (Ok made) = (ls : List Leaf) × WritesLeaves s ls × AllByRecursion (λ l. IfSome (json_value l) Fits) ls × (leaves_terms field path ls ≡ Ok made)
 WritesTerms field path s (Err e) = ⊥
 
 abbrev pub TermsBelow : Field → Bool → List ℕ → List ℕ → TermsAnswer → Type 0
 TermsBelow field expand_dots path s answer = BelowJson (WritesTerms field (joined_path expand_dots path) s) field path answer
 
 abbrev pub TermOfText : Field → FieldType → List ℕ → TermsAnswer → Type 0
-TermOfText field type s (Ok made) = (l : Leaf) × WritesValue type s l × (plain_terms field (value_type type) (leaf_value l) ≡ Ok made)
+TermOfText field type s (Ok made) = (l : Leaf) × WritesValue type s l × IfSome (leaf_value l) Fits × (plain_terms field (value_type type) (leaf_value l) ≡ Ok made)
 TermOfText field type s (Err e) = (why : JsonRefusal) × RefusesText type s why × IsWrongText field (value_type type) why s e
 
 abbrev pub TermsInField : Field → FieldType → List ℕ → List ℕ → TermsAnswer → Type 0

@@ -1,10 +1,11 @@
 //! Terms of values without children in values of fields of JSON objects.
 
-ghost use Rattle.std.specs.Prelude.{◌≡◌, ◌≢◌, ◌^◌, ℕ, List, drop, Err, IfErr, IfOk, OnErr, OnOk};
+ghost use Rattle.std.specs.Prelude.{◌≡◌, ◌≢◌, ◌^◌, ℕ, List, drop, Err, IfErr, IfOk, IfSome, None, OnErr, OnOk};
 ghost use Rattle.tv_indexing.specs.DocumentTerms.{AreAppended, json_leaf_terms};
 ghost use Rattle.tv_indexing.specs.JsonLeaves.{value_terms};
-ghost use Rattle.tv_indexing.specs.LeafTerms.{leaf_value};
+ghost use Rattle.tv_indexing.specs.LeafTerms.{json_value, leaf_value};
 ghost use Rattle.tv_indexing.specs.declared.term_values_error.TermValuesError.TheVariants.{Memory};
+ghost use Rattle.tv_term.specs.Key.{Fits};
 ghost use Rattle.tv_value.specs.Lent.{leaf_of};
 
 use crate::key_path::joined;
@@ -26,6 +27,9 @@ fn json_leaf(
     ensures stands { IfOk result
         (λ value. (path : List ℕ) → json_leaf_terms field path (leaf_of leaf.entry)
         ≡ value_terms field path (leaf_value (leaf_of value))) }
+    ensures value { IfOk result
+        (λ value. json_value (leaf_of leaf.entry) ≡ leaf_value (leaf_of value)) }
+    ensures no_value { OnErr result (json_value (leaf_of leaf.entry) ≡ None) }
     ensures refused { IfErr result
         (λ e. (path : List ℕ) → json_leaf_terms field path (leaf_of leaf.entry) ≡ Err e) }
 {
@@ -53,6 +57,7 @@ pub(crate) fn push_json_leaf(
         (json_leaf_terms field (drop 1 path.now) (leaf_of leaf.entry))) }
     ensures refused { IfErr result
         (λ e. e ≢ Memory → json_leaf_terms field (drop 1 path.now) (leaf_of leaf.entry) ≡ Err e) }
+    ensures fits { IfSome (json_value (leaf_of leaf.entry)) Fits }
     ensures unchanged { OnErr result (terms.new ≡ terms.old) }
 {
     let Some((value_type, payload)) = payload_of(json_leaf(field, leaf)?) else {

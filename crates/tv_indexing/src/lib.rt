@@ -8,6 +8,7 @@ mod json_bounds;
 mod json_leaf;
 pub mod json_ranges;
 mod key_path;
+pub mod laws;
 pub mod leaf;
 mod payload;
 mod plain;

@@ -1,9 +1,10 @@
 //! What stands in a term for a value without children.
 
-ghost use Rattle.std.specs.Prelude.{◌≡◌, option_map};
+ghost use Rattle.std.specs.Prelude.{◌≡◌, IfSome, option_map};
 ghost use Rattle.std.specs.Int.{to_be_bytes, w64};
 ghost use Rattle.tv_indexing.specs.LeafTerms.{leaf_value};
 ghost use Rattle.tv_indexing.specs.Payloads.{part_seen, payload_bytes, value_parts};
+ghost use Rattle.tv_term.specs.Key.{Fits};
 ghost use Rattle.tv_value.specs.Lent.{leaf_of};
 
 use tv_options::{DATE_TIME_PRECISION_INDEXED, Type};
@@ -32,15 +33,17 @@ impl<'a> Payload<'a> {
 
 // The eight bytes of a number that stands for a value.
 fn eight<'a, T: FastValue>(value: T) -> Payload<'a>
-    ensures { payload_bytes result ≡ to_be_bytes w64 (T.as_number value) }
+    ensures bytes { payload_bytes result ≡ to_be_bytes w64 (T.as_number value) }
+    ensures fits { Fits (T.as_value value) }
 {
     Payload::Eight(value.to_u64().to_be_bytes())
 }
 
 // The type of the value that the term of a leaf stands for, and what stands behind its code, or `None` where the leaf has no term.
 pub(crate) fn payload_of(leaf: ReferenceValueLeaf<'_>) -> Option<(Type, Payload<'_>)>
-    ensures { option_map part_seen result
+    ensures parts { option_map part_seen result
         ≡ option_map value_parts (leaf_value (leaf_of leaf.entry)) }
+    ensures fits { IfSome (leaf_value (leaf_of leaf.entry)) Fits }
 {
     match leaf {
         ReferenceValueLeaf::Null => None,

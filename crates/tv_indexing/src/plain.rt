@@ -1,10 +1,11 @@
 //! Terms of values of fields that aren't of JSON objects.
 
-ghost use Rattle.std.specs.Prelude.{◌≡◌, ◌≢◌, Err, IfErr, OnErr, OnOk};
+ghost use Rattle.std.specs.Prelude.{◌≡◌, ◌≢◌, Err, IfErr, IfSome, OnErr, OnOk};
 ghost use Rattle.tv_heap.specs.Value.{tree_of};
 ghost use Rattle.tv_indexing.specs.DocumentTerms.{AreAppended, plain_terms};
 ghost use Rattle.tv_indexing.specs.LeafTerms.{leaf_value, tree_value};
 ghost use Rattle.tv_indexing.specs.declared.term_values_error.TermValuesError.TheVariants.{Memory};
+ghost use Rattle.tv_term.specs.Key.{Fits};
 ghost use Rattle.tv_value.specs.Lent.{leaf_of};
 
 use crate::payload::payload_of;
@@ -28,6 +29,7 @@ pub(crate) fn push_leaf(
         (plain_terms field wanted (leaf_value (leaf_of leaf.entry)))) }
     ensures refused { IfErr result
         (λ e. e ≢ Memory → plain_terms field wanted (leaf_value (leaf_of leaf.entry)) ≡ Err e) }
+    ensures fits { IfSome (leaf_value (leaf_of leaf.entry)) Fits }
     ensures unchanged { OnErr result (terms.new ≡ terms.old) }
 {
     let Some((value_type, payload)) = payload_of(leaf) else {

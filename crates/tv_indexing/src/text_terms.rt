@@ -1,17 +1,20 @@
 //! Terms of texts of queries, by the types of their fields.
 
-ghost use Rattle.std.specs.Prelude.{◌≡◌, ◌≢◌, drop, Err, IfErr, OnErr, OnOk, option_map, List};
+ghost use Rattle.std.specs.Prelude.{◌≡◌, ◌≢◌, drop, Err, IfErr, IfSome, OnErr, OnOk, option_map, List};
+ghost use Rattle.std.specs.List.{AllByRecursion};
 ghost use Rattle.tv_base.specs.JsonPath.{joined_path};
 ghost use Rattle.tv_date.specs.Rfc3339.{rfc};
 ghost use Rattle.tv_field.specs.JsonTable.{truth_in};
 ghost use Rattle.tv_format.specs.Tree.{Leaf};
 ghost use Rattle.tv_indexing.specs.DocumentTerms.{AreAppended};
 ghost use Rattle.tv_indexing.specs.JsonWalk.{Extends};
+ghost use Rattle.tv_indexing.specs.LeafTerms.{json_value};
 ghost use Rattle.tv_indexing.specs.TextTerms.{TermsBelow, TermOfText, AnswersText, TermsInField};
 ghost use Rattle.tv_indexing.specs.TextTerms.{AppendsAnswer, WritesLeaves, WritesNumber};
 ghost use Rattle.tv_indexing.specs.TextTerms.{date_written_in, leaves_terms, listed};
 ghost use Rattle.tv_indexing.specs.declared.term_values_error.TermValuesError.TheVariants as values;
 ghost use Rattle.tv_indexing.specs.declared.text_terms_error.TextTermsError.TheVariants.{Memory};
+ghost use Rattle.tv_term.specs.Key.{Fits};
 ghost use Rattle.tv_value.specs.Lent.{leaf_of};
 
 use crate::indexed_field::indexed_field;
@@ -54,6 +57,7 @@ fn push_written(
         (leaves_terms field (drop 1 path.now) (listed (option_map leaf_of leaf.entry)))) }
     ensures refused { IfErr result (λ e. e ≢ values.Memory
         → leaves_terms field (drop 1 path.now) (listed (option_map leaf_of leaf.entry)) ≡ Err e) }
+    ensures fits { IfSome (option_map leaf_of leaf.entry) (λ l. IfSome (json_value l) Fits) }
     ensures unchanged { OnErr result (terms.new ≡ terms.old) }
 {
     match leaf {
@@ -90,6 +94,7 @@ fn push_all_written(
     text: &str,
 ) -> Result<(), TermValuesError>
     ensures made { OnOk result ((leaves : List Leaf) × WritesLeaves text.now leaves
+        × AllByRecursion (λ l. IfSome (json_value l) Fits) leaves
         × AreAppended terms.old terms.new (leaves_terms field (drop 1 path.now) leaves)) }
     ensures kept { OnErr result (Extends terms.old terms.new) }
 {

@@ -1,5 +1,5 @@
 -- Whole pairs that a source has buffered.
-use Rattle.std.proofs.Common.{◌≡◌, ℕ, ◌+◌, ◌-◌, List, [], ◌∷◌, ◌++◌, length, take, Some, None, refl, sym, ◌∙◌, ap, subst, arith, length-append, take_at, inl, inr}
+use Rattle.std.proofs.Common.{◌≡◌, ℕ, ◌-◌, List, [], ◌∷◌, ◌++◌, length, take, Some, None, refl, sym, ◌∙◌, ap, subst, arith, length-append, take_at, inl, inr}
 use Rattle.std.proofs.lemmas.List.{append-nil}
 use Rattle.tv_base.specs.Parts.{Each}
 use Rattle.tv_builder.specs.Behind.{pairs_parts, document_parts}
@@ -72,7 +72,7 @@ extended_goes v r n d more taken announced none is each bytes p =
     (pairs_behind v n (built r.builder) more bytes taken each (subst (λ z. Encoded Legacy v bytes z) (parts_of_pairs r n announced none) p))
 
 -- the bytes before those that are left over
-taken_prefix : (whole prefix rest : List ℕ) → whole ≡ prefix ++ rest → take (length whole - length rest) whole ≡ prefix
+pub taken_prefix : (whole prefix rest : List ℕ) → whole ≡ prefix ++ rest → take (length whole - length rest) whole ≡ prefix
 taken_prefix whole prefix rest joined = ap (take (length whole - length rest)) joined ∙ take_at prefix rest (length whole - length rest) (omega (arith, ap length joined, length-append prefix rest))
 
 -- none at all

@@ -1,11 +1,11 @@
 -- One pair after the other, of which the chosen ones are kept.
-use Rattle.std.proofs.Common.{◌≡◌, ℕ, zero, suc, ◌+◌, ◌<◌, ◌≤◌, Bool, true, false, nat_eq, List, [], ◌∷◌, ◌++◌, length, Result, Ok, Err, refl, sym, ◌∙◌, ap, subst, append_assoc, arith, inl, inr}
+use Rattle.std.proofs.Common.{◌≡◌, ℕ, zero, suc, ◌<◌, ◌≤◌, Bool, true, false, nat_eq, List, [], ◌∷◌, ◌++◌, length, Result, Ok, Err, refl, sym, ◌∙◌, ap, subst, append_assoc, arith, inl, inr}
 use Rattle.std.specs.Prelude.{get_or, take, drop}
 use Rattle.std.specs.Int.{w32, from_le_bytes}
 use Rattle.std.proofs.lemmas.Bool.{cond-true, cond-false}
 use Rattle.std.proofs.lemmas.List.{append-nil, length-take-le}
 use Rattle.tv_base.specs.Number.{Fixed}
-use Rattle.tv_base.specs.Parts.{Each}
+use Rattle.tv_base.specs.Parts.{Begins, Each}
 use Rattle.tv_base.specs.Source.{Failures}
 use Rattle.tv_base.specs.declared.cause.Cause.TheVariants.{UnexpectedEnd}
 use Rattle.tv_base.proofs.Numbers.{one_fixed}
@@ -39,10 +39,13 @@ end = corrupted UnexpectedEnd
 
 -- ---- fields
 
-pub field_found : (bytes prefix rest : List ℕ) (n : ℕ) → ((i : ℕ) → get_or bytes i 0 < 256) → prefix ≡ take 4 bytes → rest ≡ drop 4 bytes → 4 ≤ length bytes → n ≡ from_le_bytes w32 prefix → BeginsAsPair bytes n
-field_found bytes prefix rest n small is after l worth =
+pub field_stands : (bytes prefix rest : List ℕ) (n : ℕ) → ((i : ℕ) → get_or bytes i 0 < 256) → prefix ≡ take 4 bytes → rest ≡ drop 4 bytes → 4 ≤ length bytes → n ≡ from_le_bytes w32 prefix → Begins (λ b. Fixed 4 b n) bytes rest
+field_stands bytes prefix rest n small is after l worth =
     let fixed : Fixed 4 (take 4 bytes) n = subst (Fixed 4 (take 4 bytes)) (sym (worth ∙ ap (from_le_bytes w32) is)) (fixed_4 (take 4 bytes) (length-take-le 4 bytes l) (small_take 4 bytes small)) in
-    (rest, begins_cut (λ b. Fixed 4 b n) 4 bytes (take 4 bytes) rest refl after fixed)
+    begins_cut (λ b. Fixed 4 b n) 4 bytes (take 4 bytes) rest refl after fixed
+
+pub field_found : (bytes prefix rest : List ℕ) (n : ℕ) → ((i : ℕ) → get_or bytes i 0 < 256) → prefix ≡ take 4 bytes → rest ≡ drop 4 bytes → 4 ≤ length bytes → n ≡ from_le_bytes w32 prefix → BeginsAsPair bytes n
+field_found bytes prefix rest n small is after l worth = (rest, field_stands bytes prefix rest n small is after l worth)
 
 pub chosen-one : (fields : List Field) (pair : ℕ × Tree) → is_among fields pair.0 ≡ true → chosen fields (pair ∷ []) ≡ pair ∷ []
 chosen-one fields pair among = cond-true (is_among fields pair.0) (pair ∷ []) [] among

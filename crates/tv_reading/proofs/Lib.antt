@@ -20,3 +20,4 @@ pub mod TokenParts
 pub mod ChosenPairs
 pub mod ChosenDocuments
 pub mod RoomChosen
+pub mod ChosenRuns

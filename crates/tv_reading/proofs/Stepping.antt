@@ -29,7 +29,6 @@ use Rattle.tv_format.specs.Leaves.{type_of, content, scale}
 use Rattle.tv_format.specs.Encoding.{ContentBody, Encodes, NoLegacy}
 use Rattle.tv_format.specs.Tree.{Tree, leaf, array, object, Entries}
 use Rattle.tv_format.specs.Version.{Version, V1, V2, V3, Scale}
-use Rattle.tv_format.specs.Version as scales
 use Rattle.tv_format.specs.declared.leaf_type.LeafType.TheVariants as leaves
 use Rattle.tv_reading.proofs.Putting.{same_grows}
 use Rattle.tv_reading.specs.Prefix.{parts_at, parts_read, IsBetweenParts, IsPlace, IsSound, LacksPair, IsMalformedNext, NoRoomBehind, ValueNext}

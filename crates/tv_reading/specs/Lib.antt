@@ -11,3 +11,4 @@ pub mod PairValue
 pub mod Skip
 pub mod ChosenFields
 pub mod ChosenPair
+pub mod ChosenBuffered

@@ -12,6 +12,7 @@ ghost use Rattle.tv_reader.specs.Version.{version_of};
 ghost use Rattle.tv_reader.specs.declared.error.DeserializeError.TheVariants.{HeapFull};
 
 use crate::buffered::take_buffered_pairs;
+use crate::chosen_buffered::take_buffered_chosen;
 use crate::document::take_pair_value;
 use crate::items::pass_value;
 use std::alloc::Global;
@@ -23,7 +24,7 @@ use tv_reader::{DeserializeError, DocStoreVersion};
 use tv_value::field::Field;
 
 // Whether a field is among these, which are few: they are looked through.
-fn is_among(fields: &[Field], field: u32) -> bool
+pub(crate) fn is_among(fields: &[Field], field: u32) -> bool
     ensures { result ≡ is_among fields.now field }
 {
     fields.iter().any(|chosen| chosen.field_id() == field)
@@ -140,8 +141,9 @@ pub fn take_chosen_into<S: ByteSource>(
 {
     let announced = take_document_head(source, count)?;
     let mut document = empty;
+    let taken = take_buffered_chosen(&mut document, source, count, version, fields, announced);
     let mut bytes = Vec::new(alloc);
-    for _ in 0..announced {
+    for _ in taken..announced {
         document = take_chosen_pair(alloc, document, source, count, version, fields, &mut bytes)?;
     }
     Ok(document)

@@ -46,7 +46,7 @@ fn behind_before(kind: ItemKind, bytes: &[u8], version: WriteVersion) -> Option<
 // What follows the value at the start. None where there is none, or one as older stores hold it, or lists are nested deeper than this many levels.
 #[inline(always)]
 #[cycle(encoded)]
-fn behind_value(bytes: &[u8], version: WriteVersion, levels: u32) -> Option<&[u8]>
+pub(crate) fn behind_value(bytes: &[u8], version: WriteVersion, levels: u32) -> Option<&[u8]>
     ensures { IfSome result
         (λ rest. Begins (IsValueEncoding (written_version version)) bytes.now rest.now) }
 {

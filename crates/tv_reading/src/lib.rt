@@ -4,6 +4,7 @@
 
 pub mod buffered;
 pub mod chosen;
+mod chosen_buffered;
 pub mod document;
 mod encoded;
 mod errors;

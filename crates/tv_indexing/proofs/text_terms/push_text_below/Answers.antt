@@ -12,7 +12,7 @@ returns-in-Ok-clause-made c =
     let keys : c.as_bytes-2.result.now ≡ 1 ∷ joined_path at.expand_dots path = search (rules, c.as_bytes-2.ensures.value, c.in_ok-push_joined_json_path.ensures.added, c.in_ok-push.ensures.bytes, c.in_ok-push.ensures.ascii, c.new-keys.ensures.bytes) in
     let m = c.in-Ok.ensures.made in
     let a = appended c.args.terms.now c.push_all_written.new.terms (leaves_terms at.field (joined_path at.expand_dots path) m.0)
-    (subst (λ bytes. AreAppended c.args.terms.now c.push_all_written.new.terms (leaves_terms at.field (drop 1 bytes) m.0)) keys m.2) in
+    (subst (λ bytes. AreAppended c.args.terms.now c.push_all_written.new.terms (leaves_terms at.field (drop 1 bytes) m.0)) keys m.3) in
     let some : path ≢ [] = search (rules, c.if-is_empty.false, c.is_empty.ensures) in
     let plain : has_zero path ≡ false = search (rules, c.if-contains.false, c.contains.ensures.value, c.as_bytes.ensures.value) in
-    (a.0, (some, plain, (m.0, m.1, a.1)), a.2)
+    (a.0, (some, plain, (m.0, m.1, m.2, a.1)), a.2)

@@ -5,6 +5,7 @@ use Rattle.tv_reader.proofs.Finding.{finds_any, finds_fails}
 use Rattle.tv_reading.specs.Documents.{NoDocument}
 use Rattle.tv_reading.specs.ChosenFields.{EncodesChosen}
 use Rattle.tv_reading.proofs.ChosenDocuments.{number_taken, pair_taken, pair_refused, pair_has_none, all_taken}
+use Rattle.tv_reading.proofs.ChosenRuns.{run_taken}
 use Rattle.tv_reading.proofs.chosen.take_chosen_into.Goals as goal
 
 pub returns-in_err-announced-clause-finds : goal.returns-in_err-announced-clause-finds
@@ -14,7 +15,10 @@ returns-in_err-announced-clause-finds g c =
     rw (p.1, p.2) (finds_fails (EncodesChosen v c.args.fields.now) (NoDocument v) (λ w e f. inl f) (finds_any (λ e n may. may.0.0) c.in_err-announced.ensures.finds))
 
 pub loop-init : goal.loop-init
-loop-init g c = number_taken (version_of c.args.version) c.args.fields.now c.in_ok-announced.announced c.args.empty c.requires c.in_ok-announced.ensures.finds
+loop-init g c =
+    let v = version_of c.args.version in
+    let number = number_taken v c.args.fields.now c.in_ok-announced.announced c.args.empty c.requires c.in_ok-announced.ensures.finds in
+    run_taken v c.args.fields.now c.in_ok-announced.announced c.args.empty c.take_buffered_chosen-taken.new.document c.take_buffered_chosen-taken.result number c.take_buffered_chosen-taken.ensures.finds
 
 pub loop-preserved : goal.loop-preserved
 loop-preserved g c =

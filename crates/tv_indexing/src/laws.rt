@@ -1,0 +1,30 @@
+//! Laws of the terms of texts of queries, each the contract of a function that does nothing.
+
+ghost use Rattle.std.specs.Prelude.{◌≡◌, ◌<◌, ◌^◌, ℕ, List, Ok, Some};
+ghost use Rattle.std.specs.List.{Contains};
+ghost use Rattle.tv_field.specs.JsonAnswer.{WritesValue};
+ghost use Rattle.tv_field.specs.declared.field_type.FieldType.{FieldType};
+ghost use Rattle.tv_format.specs.Tree.{Leaf};
+ghost use Rattle.tv_indexing.specs.LeafTerms.{json_value, leaf_value};
+ghost use Rattle.tv_indexing.specs.TextTerms.{TermOfText, WritesLeaves, WritesTerms};
+ghost use Rattle.tv_term.specs.Key.{Fits, HasNoZero, Json, TermValue, term};
+ghost use Rattle.tv_value.specs.declared.field.Field.{Field};
+
+use tv_term::laws::{comparisons_of_terms_agree, equal_terms_have_equal_keys};
+
+/// No other value's term is among the terms that a text has: a value whose term is one of them is a value that the text writes, as it is
+/// indexed. So what a search for these terms finds has a value that the text writes.
+pub fn terms_of_texts_are_of_no_other_value()
+    ensures plain { (field : Field) (field_type : FieldType) (text : List ℕ)
+        (made : List (List ℕ)) (value : TermValue) → field.id < 2 ^ 32 → Fits value
+        → TermOfText field field_type text (Ok made) → Contains made (term field.id value)
+        → (l : Leaf) × WritesValue field_type text l × (leaf_value l ≡ Some value) }
+    ensures at_path { (field : Field) (path text : List ℕ) (made : List (List ℕ))
+        (value : TermValue) → field.id < 2 ^ 32 → HasNoZero path → Fits value
+        → WritesTerms field path text (Ok made) → Contains made (term field.id (Json path value))
+        → (leaves : List Leaf) × (l : Leaf) × WritesLeaves text leaves × Contains leaves l
+        × (json_value l ≡ Some value) }
+{
+    comparisons_of_terms_agree();
+    equal_terms_have_equal_keys();
+}
