@@ -1,7 +1,8 @@
 -- The terms that are in a range, of terms in rising order.
-use Rattle.std.proofs.Common.{◌≡◌, ◌∙◌, ℕ, ◌+◌, ◌-◌, ◌≤◌, ◌<◌, Bool, true, false, List, length, take, drop, get_or, Some, None, refl, sym, ap, subst, arith}
+use Rattle.std.proofs.Common.{◌≡◌, ◌∙◌, ℕ, ◌+◌, ◌-◌, ◌≤◌, ◌<◌, inl, inr, Bool, true, false, List, length, take, drop, get_or, Some, None, refl, sym, ap, subst, arith}
+use Rattle.std.proofs.lemmas.Bool.{cases_lt}
 use Rattle.std.proofs.lemmas.Cmp.{nat_list_cmp_total}
-use Rattle.std.proofs.lemmas.List.{get_or-drop, length-drop, take_all}
+use Rattle.std.proofs.lemmas.List.{get_or-drop, get_or-take, length-drop, length-take, take_all}
 use Rattle.std.specs.Global.{Vec}
 use Rattle.std.specs.List.Sorted.{IsPartitionedBy, IsPartitionPoint}
 use Rattle.std.specs.Ordering.{is_le, is_lt, nat_cmp, ordering_reverse}
@@ -32,6 +33,48 @@ rising_behind bytes terms n rising i j d order within =
     let far : n + j < length terms = omega (arith, within, length-drop n terms) in
     rw (get_or-drop n terms i d, get_or-drop n terms j d) (rising (n + i) (n + j) d (omega (arith, order)) far)
 
+not_true : (test : Bool) → (test ≡ true → ⊥) → test ≡ false
+not_true true h = absurd (h refl)
+not_true false h = refl
+
+pub rising_before : {T : Type 0} (bytes : T → List ℕ) (terms : List T) (n : ℕ) → IsRising bytes terms → IsRising bytes (take n terms)
+rising_before bytes terms n rising i j d order within =
+    let near : j < n = omega (arith, within, length-take n terms) in
+    let nearer : i < n = omega (arith, order, near) in
+    rw (get_or-take n terms i d nearer, get_or-take n terms j d near) (rising i j d order (omega (arith, within, length-take n terms)))
+
+-- a part's first element that fails is the first of all, where the element before the part passes, and the one behind it fails or there is none
+pub point_in_part : {T : Type 0} (p : T → Bool) (terms : List T) (start size m : ℕ) → IsPartitionedBy p terms → start ≤ length terms → ((k : ℕ) (d : T) → k + 1 ≡ start → p (get_or terms k d) ≡ true)
+    → ((d : T) → start + size < length terms → p (get_or terms (start + size) d) ≡ false) → m ≤ length (take size (drop start terms))
+    → IsPartitionPoint (λ t. p t ≡ true) (λ t. p t ≡ false) (take size (drop start terms)) m → IsPartitionPoint (λ t. p t ≡ true) (λ t. p t ≡ false) terms (start + m)
+point_in_part {T} p terms start size m parted inside before behind within point = (front, back)
+  where
+    len : length (take size (drop start terms)) ≤ size
+    len = omega (arith, length-take size (drop start terms))
+
+    in_part : (k : ℕ) (d : T) (b : Bool) → start ≤ k → k < start + size → p (get_or (take size (drop start terms)) (k - start) d) ≡ b → p (get_or terms k d) ≡ b
+    in_part k d b low high h =
+        let near : k - start < size = omega (arith, low, high) in
+        let same : start + (k - start) ≡ k = omega (arith, low) in
+        sym (ap p (get_or-take size (drop start terms) (k - start) d near ∙ get_or-drop start terms (k - start) d ∙ ap (λ i. get_or terms i d) same)) ∙ h
+
+    front : (k : ℕ) (d : T) → 0 ≤ k → k < start + m → p (get_or terms k d) ≡ true
+    front k d low high =
+        elim (cases_lt k start) [
+          | inl less ↦ parted k (start - 1) d (omega (arith, less)) (omega (arith, less, inside)) (before (start - 1) d (omega (arith, less)))
+          | inr more ↦ in_part k d true more (omega (arith, high, within, len)) (point.0 (k - start) d (omega arith) (omega (arith, more, high)))
+        ]
+
+    back : (k : ℕ) (d : T) → start + m ≤ k → k < length terms → p (get_or terms k d) ≡ false
+    back k d low high =
+        elim (cases_lt k (start + size)) [
+          | inl near ↦ in_part k d false (omega (arith, low)) near (point.1 (k - start) d (omega (arith, low)) (omega (arith, low, near, high, length-take size (drop start terms), length-drop start terms)))
+          | inr far ↦ not_true (p (get_or terms k d)) (λ passes.
+              let first = behind d (omega (arith, far, high)) in
+              let both : true ≡ false = sym (parted (start + size) k d far high passes) ∙ first in
+              cc)
+        ]
+
 from_by : (start bytes : List ℕ) (o : Ordering) → cmp bytes start ≡ o → is_lt o ≡ false → IsFrom start bytes
 from_by start bytes Less e h = absurd cc
 from_by start bytes Equal e h = ap is_le (nat_list_cmp_total.antisymm start bytes ∙ ap ordering_reverse e)
@@ -55,10 +98,6 @@ upto_of Greater h = absurd cc
 
 pub upto_then : (a b c : List ℕ) → IsFrom a b → IsFrom b c → IsFrom a c
 upto_then a b c h k = is_from a c (not_true (is_below c a) (λ past. not_from a b (below_by b c a _ refl k past) h))
-  where
-    not_true : (test : Bool) → (test ≡ true → ⊥) → test ≡ false
-    not_true true h = absurd (h refl)
-    not_true false h = refl
 
 pub below_then : (a b c : List ℕ) → is_below a b ≡ true → IsFrom b c → is_below a c ≡ true
 below_then a b c h k = is_true (is_below a c) (λ not_below. not_from b a h (upto_then b c a k (is_from c a not_below)))

@@ -27,10 +27,17 @@ use tv_value::field::Field;
 
 /// The byte strings from one on, up to another one, in the order of terms. (Not in tantivy.) A term dictionary looks for the start, and
 /// goes on up to the end.
-#[derive(PartialEq, Eq, Drop)]
+#[derive(PartialEq, Eq)]
 pub struct TermRange {
     start: Vec<u8>,
     end: Option<Vec<u8>>,
+}
+
+// By hand, so that a range is let go by one call.
+impl Drop for TermRange {
+    fn drop(self) {
+        let TermRange { start: _, end: _ } = self;
+    }
 }
 
 /// Prints both ends as byte strings: `TermRange(b"\x00\x00\x00\x01sa"..b"\x00\x00\x00\x01sb")`, and nothing for no end.
@@ -63,6 +70,25 @@ fn count_below<T: AsSlice<u8>>(terms: &[T], bytes: &[u8]) -> usize
             ensures { result ≡ is_below (T.items term.now) bytes.entry.now }
         { is_below(term.as_slice(), bytes) },
     )
+}
+
+// The same in steps that double from the start on, so that few terms are looked at where few are below these bytes.
+fn count_below_by_doubling<T: AsSlice<u8>>(terms: &[T], bytes: &[u8]) -> usize
+    ensures within { result ≤ length terms.now }
+    ensures exact { IsRising T.items terms.now
+        → IsPartitionPoint (λ term. is_below (T.items term) bytes.now ≡ true)
+        (λ term. is_below (T.items term) bytes.now ≡ false) terms.now result }
+{
+    let mut below: usize = 0;
+    let mut step: usize = 1;
+    while step <= terms.len() - below && is_below(terms[below + (step - 1)].as_slice(), bytes) {
+        below += step;
+        step = step.saturating_mul(2);
+    }
+    // The last term of the step isn't below the bytes, or there is none.
+    let (_, rest) = terms.split_at(below);
+    let (part, _) = rest.split_at((step - 1).min(rest.len()));
+    below + count_below(part, bytes)
 }
 
 // How many of the bytes are left once those of 255 at the end are taken off.
@@ -139,10 +165,8 @@ impl TermRange {
         ensures { LeavesFrom self (Included least.items) result }
     {
         if is_below(self.start.as_slice(), least.as_slice()) {
-            return TermRange {
-                start: least,
-                end: self.end,
-            };
+            let TermRange { start: _, end } = self;
+            return TermRange { start: least, end };
         }
         self
     }
@@ -164,8 +188,9 @@ impl TermRange {
         if self.ends_below(end.as_slice()) {
             return self;
         }
+        let TermRange { start, end: _ } = self;
         TermRange {
-            start: self.start,
+            start,
             end: Some(end),
         }
     }
@@ -217,7 +242,8 @@ impl TermRange {
     }
 
     /// The terms that are in the range, of terms in rising order, as a term dictionary has them. Equal ones may stand beside one another.
-    /// It takes two binary searches. Of terms in another order some of them are returned, one after the other.
+    /// A binary search finds the first of them, and steps from there that double find the last, so that few terms are looked at where the
+    /// range has few. Of terms in another order some of them are returned, one after the other.
     ///
     /// ```
     /// pub fn terms_of_field<'t>(alloc: Global, terms: &'t [Term], field: Field) -> Result<&'t [Term]> {
@@ -233,7 +259,7 @@ impl TermRange {
         let Some(end) = &self.end else {
             return from_start;
         };
-        let (within, _) = from_start.split_at(count_below(from_start, end.as_slice()));
+        let (within, _) = from_start.split_at(count_below_by_doubling(from_start, end.as_slice()));
         within
     }
 

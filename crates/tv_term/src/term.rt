@@ -49,9 +49,15 @@ const SIGNED_END: u64 = 1 << 63;
 ///     Ok(term)
 /// }
 /// ```
-#[derive(Drop)]
 pub struct Term {
     bytes: Vec<u8>,
+}
+
+// By hand, so that a term is let go by one call.
+impl Drop for Term {
+    fn drop(self) {
+        let Term { bytes: _ } = self;
+    }
 }
 
 impl Model for Term {
@@ -103,7 +109,8 @@ impl Term {
     pub(crate) fn into_bytes(self) -> Vec<u8>
         ensures { result.items ≡ self }
     {
-        self.bytes
+        let Term { bytes } = self;
+        bytes
     }
 
     /// A term of field 0 with the type's code 0, which is no type's, and no value bytes, with room for as many value bytes.

@@ -38,12 +38,23 @@ use tv_value::field::Field;
 ///     Ok(longest)
 /// }
 /// ```
-#[derive(Debug, Drop)]
+#[derive(Debug)]
 pub struct TermWriter {
     alloc: Global,
     term: Option<Term>,
     // The path that is written, before it stands in the term.
     path: String,
+}
+
+// By hand, so that a writer is let go by one call.
+impl Drop for TermWriter {
+    fn drop(self) {
+        let TermWriter {
+            alloc: _,
+            term: _,
+            path: _,
+        } = self;
+    }
 }
 
 impl Model for TermWriter {
@@ -94,7 +105,12 @@ impl TermWriter {
     pub fn into_term(self) -> Option<Term>
         ensures { MatchOption result (self ≡ []) (λ term. term ≡ self) }
     {
-        self.term
+        let TermWriter {
+            alloc: _,
+            term,
+            path: _,
+        } = self;
+        term
     }
 
     /// Makes the term of a whole number without a sign.
