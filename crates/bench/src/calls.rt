@@ -216,7 +216,7 @@ impl Call {
             Call::ReadFields => layer::read_fields_each(alloc, inputs, documents),
             Call::SkipDocument => layer::skip_each(alloc, inputs, documents),
             Call::SkipValue => layer::skip_values_each(alloc, inputs, documents),
-            Call::Run => Ok(layer::run_lines(alloc, inputs, documents)),
+            Call::Run => layer::run_lines(alloc, inputs, documents),
             Call::ReadSchema => layer::read_schema(alloc, inputs),
             Call::FindField => Ok(layer::find_each(workload, inputs)),
             Call::Terms => layer::make_terms(alloc, workload),

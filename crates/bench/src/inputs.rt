@@ -78,7 +78,8 @@ impl Inputs {
     }
 }
 
-fn json_of(alloc: Global, schema: &Schema) -> Result<String> {
+/// The JSON of a schema.
+pub fn json_of(alloc: Global, schema: &Schema) -> Result<String> {
     let json = schema.to_json_value(alloc)?;
     let text = json.to_string(alloc);
     drop(json);

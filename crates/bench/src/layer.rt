@@ -2,26 +2,25 @@
 
 use crate::calls::Round;
 use crate::inputs::Inputs;
-use crate::workload::{Pair, Workload};
-use anyhow::Result;
+use crate::workload::{Pair, Workload, schema_of};
+use anyhow::{Result, anyhow};
 use embedding::PacketSource;
-use serde_json::Value;
 use std::alloc::Global;
 use tantivy_schema::common::{
     BinarySerializable, BufferedSource, ByteSource, ReadSource, SliceSource, VInt, VecSink,
 };
-use tantivy_schema::run;
 use tantivy_schema::schema::document::{
     BinaryDocumentDeserializer, CompactDoc, DeserializeError, DocumentDeserializer, OwnedValue,
     StoreReader,
 };
 use tantivy_schema::schema::{
-    Facet, Field, Schema, Term, TermError, TermList, TermWriter, count_child_facets, term_values,
+    Facet, Field, Term, TermError, TermList, TermWriter, count_child_facets, term_values,
 };
 use tantivy_schema::store::{
     BlockReader, DirectDecoder, DocStoreVersion, Step, read_document, read_fields_into,
     skip_document, skip_value,
 };
+use tantivy_schema::{RunEnd, run};
 
 // This many bytes are read of a file at a time.
 const PIECE: usize = 65536;
@@ -66,8 +65,11 @@ pub fn decode_each(alloc: Global, inputs: &Inputs, documents: usize) -> Result<R
     Ok(round)
 }
 
-// The next document, by steps.
-fn decoded<S: ByteSource>(alloc: Global, source: &mut S) -> Result<CompactDoc, DeserializeError> {
+/// The next document, by steps.
+pub fn decoded<S: ByteSource>(
+    alloc: Global,
+    source: &mut S,
+) -> Result<CompactDoc, DeserializeError> {
     let mut decoder = DirectDecoder::new(alloc, DocStoreVersion::V2);
     for _ in 0..u64::MAX {
         if decoder.step(source)? == Step::Done {
@@ -161,10 +163,8 @@ pub fn skip_values_each(alloc: Global, inputs: &Inputs, documents: usize) -> Res
 /// From its JSON to a schema: a call for each of its fields.
 pub fn read_schema(alloc: Global, inputs: &Inputs) -> Result<Round> {
     let mut round = Round::new();
-    let json = Value::from_str(alloc, inputs.schema_json.as_str())?;
-    let schema = Schema::from_json_value(alloc, &json);
-    drop(json);
-    for _ in 0..schema?.num_fields() {
+    let schema = schema_of(alloc, inputs.schema_json.as_str())?;
+    for _ in 0..schema.num_fields() {
         round.made(1);
     }
     Ok(round)
@@ -286,14 +286,22 @@ pub fn count_facets(alloc: Global, inputs: &Inputs) -> Result<Round> {
 }
 
 /// From lines of JSON to answers, by `run`.
-pub fn run_lines(alloc: Global, inputs: &Inputs, documents: usize) -> Round {
+pub fn run_lines(alloc: Global, inputs: &Inputs, documents: usize) -> Result<Round> {
     let mut round = Round::new();
-    let mut sink = VecSink::new(alloc);
-    let mut source = SliceSource::new(inputs.lines.as_slice());
-    let _end = run(alloc, &mut source, &mut sink);
+    let bytes = answers_len(alloc, inputs.lines.as_slice())?;
     for _ in 0..documents {
         round.made(0);
     }
-    round.bytes = sink.as_slice().len();
-    round
+    round.bytes = bytes;
+    Ok(round)
+}
+
+/// How many bytes the answers to lines of JSON have.
+pub fn answers_len(alloc: Global, lines: &[u8]) -> Result<usize> {
+    let mut source = SliceSource::new(lines);
+    let mut sink = VecSink::new(alloc);
+    match run(alloc, &mut source, &mut sink) {
+        RunEnd::Done => Ok(sink.as_slice().len()),
+        _ => Err(anyhow!("a run that ends early")),
+    }
 }

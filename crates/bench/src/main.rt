@@ -1,38 +1,80 @@
-//! Measures the calls that a document store makes most, on a schema and documents that it is given.
+//! Measures the calls that a document store makes most, on a schema and documents that it is given, and calls on documents of many values,
+//! members or levels.
 //!
-//! Standard input holds the schema as JSON on its first line, and a document as JSON on each other line. Standard output says how
-//! many documents were accepted, how many bytes of JSON these have, and how many stored bytes. With the arguments `time N` standard
-//! error says for each call how many nanoseconds a document takes, or a field, path, term, text, range or facet: the mean over N rounds, and
-//! that of the best round. `time N CALL` makes that call alone.
+//! Standard input has two parts, with an empty line between them; each may be missing. The first holds a schema as JSON on its first line,
+//! and a document as JSON on each other line. Standard output says how many documents were accepted, how many bytes of JSON these have, and
+//! how many stored bytes. With the arguments `time N` standard error says for each call how many nanoseconds a document takes, or a field,
+//! path, term, text, range or facet: the mean over N rounds, and that of the best round. `time N CALL` makes that call alone.
+//!
+//! Each line of the second part has a shape's name and a number, as in `levels 1000000`: what there are many of, and how many. For each call
+//! that the shape has, standard output has the line, the call's name and how many bytes or fields its answer has, or that the values nest
+//! too deep for it. With arguments as above standard error says how many nanoseconds the call took, which is made once.
 #![tactic(auto)]
 
 mod calls;
+mod growth;
 mod inputs;
 mod layer;
 mod term_calls;
 mod workload;
 
 use crate::calls::{Call, Round};
+use crate::growth::answer_rows;
 use crate::inputs::Inputs;
 use crate::workload::Workload;
 use anyhow::{Context, Result};
 use std::env;
+use std::io::{BufRead, BufReader};
 use std::rt::{Clock, Env};
 use std::time::Instant;
 
 fn main(rt: HostRuntime) -> Result<()> {
-    let workload = Workload::read(&rt)?;
+    let wanted = rounds_wanted(&rt)?;
+    let is_timed = wanted.is_some();
+    let (documents, rows) = parts(&rt)?;
+    if !documents.is_empty() {
+        measure_documents(&rt, documents, wanted)?;
+    }
+    answer_rows(&rt, rows.as_slice(), is_timed)
+}
+
+// The lines of standard input before its first empty line, and those behind it.
+fn parts(rt: &(impl Input + AllocGlobal)) -> Result<(Vec<String>, Vec<String>)> {
+    let alloc = rt.alloc();
+    let mut before = Vec::new(alloc);
+    let mut behind = Vec::new(alloc);
+    let mut is_behind = false;
+    for line in BufReader::new(alloc, rt.reader())?.lines(alloc) {
+        let line = line?;
+        if is_behind {
+            behind.push(line)?;
+        } else if line.is_empty() {
+            is_behind = true;
+        } else {
+            before.push(line)?;
+        }
+    }
+    Ok((before, behind))
+}
+
+// Says how many documents a schema on the first line accepts, and measures each call that is wanted on them.
+fn measure_documents(
+    rt: &(impl Clock + Print + Eprint + AllocGlobal),
+    lines: Vec<String>,
+    wanted: Option<(u32, String)>,
+) -> Result<()> {
+    let workload = Workload::of(rt.alloc(), lines)?;
     let documents = workload.documents.len();
     let json_len = workload.json_len();
     let stored_len = workload.stored_len();
     println!(rt;
         "{documents} accepted documents, {json_len} bytes of JSON, {stored_len} stored bytes"
     )?;
-    if let Some((rounds, name)) = rounds_wanted(&rt)? {
+    if let Some((rounds, name)) = wanted {
         let inputs = Inputs::of(rt.alloc(), &workload)?;
         for call in Call::ALL {
             if name.is_empty() || name.as_str() == call.name() {
-                measure(&rt, &workload, &inputs, call, rounds)?;
+                measure(rt, &workload, &inputs, call, rounds)?;
             }
         }
     }

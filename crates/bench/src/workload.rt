@@ -2,7 +2,6 @@
 
 use anyhow::{Context, Result};
 use std::alloc::Global;
-use std::io::{BufRead, BufReader};
 use tantivy_schema::common::VecSink;
 use tantivy_schema::schema::document::{BinaryDocumentSerializer, CompactDoc, OwnedValue};
 use tantivy_schema::schema::{Field, Schema};
@@ -48,17 +47,16 @@ impl Drop for Workload {
 }
 
 impl Workload {
-    /// Reads a schema and documents from standard input. A line that is refused is left out.
+    /// The schema of the first line and the documents of the others. A line that is refused is left out.
     ///
     /// Each form is made of all documents before the next one, so that what a call goes over stands in memory one behind the
     /// other, as in a block of a document store.
-    pub fn read(rt: &(impl Input + AllocGlobal)) -> Result<Workload> {
-        let alloc = rt.alloc();
-        let mut input = BufReader::new(alloc, rt.reader())?.lines(alloc);
-        let first = input.next().context("a schema on the first line")??;
+    pub fn of(alloc: Global, lines: Vec<String>) -> Result<Workload> {
+        let mut lines = lines.into_iter();
+        let first = lines.next().context("a schema on the first line")?;
         let mut workload = Workload::empty(alloc, schema_of(alloc, first.as_str())?);
-        for line in input {
-            workload.put_accepted(alloc, line?)?;
+        for line in lines {
+            workload.put_accepted(alloc, line)?;
         }
         workload.fill(alloc)?;
         Ok(workload)
@@ -116,8 +114,8 @@ impl Workload {
     }
 }
 
-// The schema of its JSON.
-fn schema_of(alloc: Global, text: &str) -> Result<Schema> {
+/// The schema of its JSON.
+pub fn schema_of(alloc: Global, text: &str) -> Result<Schema> {
     let json = serde_json::Value::from_str(alloc, text)?;
     let schema = Schema::from_json_value(alloc, &json);
     drop(json);
@@ -149,11 +147,21 @@ fn stored_of(
 ) -> Result<Vec<Vec<u8>>> {
     let mut stored = Vec::new(alloc);
     for document in documents {
-        let mut sink = VecSink::new(alloc);
-        write_stored(&mut sink, schema, document, version)?;
-        stored.push(sink.into_vec())?;
+        stored.push(stored_bytes(alloc, schema, document, version)?)?;
     }
     Ok(stored)
+}
+
+/// The stored bytes of a document whose fields belong to the schema; none of another.
+pub fn stored_bytes(
+    alloc: Global,
+    schema: &Schema,
+    document: &CompactDoc,
+    version: WriteVersion,
+) -> Result<Vec<u8>> {
+    let mut sink = VecSink::new(alloc);
+    write_stored(&mut sink, schema, document, version)?;
+    Ok(sink.into_vec())
 }
 
 /// Writes the stored bytes of a document whose fields belong to the schema; nothing of another.

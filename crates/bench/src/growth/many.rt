@@ -1,29 +1,24 @@
 //! Calls on many lines, terms and facets.
 
-use crate::shape::Workload;
+use crate::growth::sample::Sample;
+use crate::layer::answers_len;
 use anyhow::{Context, Result, anyhow};
 use std::alloc::Global;
-use tantivy_schema::common::{SliceSource, VecSink};
+use tantivy_schema::common::SliceSource;
 use tantivy_schema::schema::{Facet, Field, Term};
 use tantivy_schema::store::{BlockReader, DocStoreVersion};
-use tantivy_schema::{RunEnd, run};
 
 /// From lines of JSON to answers; how many bytes these have.
-pub fn run_lines(alloc: Global, workload: &Workload) -> Result<usize> {
-    let mut source = SliceSource::new(workload.lines.as_slice());
-    let mut sink = VecSink::new(alloc);
-    match run(alloc, &mut source, &mut sink) {
-        RunEnd::Done => Ok(sink.as_slice().len()),
-        _ => Err(anyhow!("a run that ends early")),
-    }
+pub fn run_lines(alloc: Global, sample: &Sample) -> Result<usize> {
+    answers_len(alloc, sample.lines.as_slice())
 }
 
 /// Documents of a block, each in the memory of the one before; how many values they have.
-pub fn read_block(alloc: Global, workload: &Workload) -> Result<usize> {
-    let mut source = SliceSource::new(workload.block.as_slice());
+pub fn read_block(alloc: Global, sample: &Sample) -> Result<usize> {
+    let mut source = SliceSource::new(sample.block.as_slice());
     let mut reader = BlockReader::new(alloc, DocStoreVersion::V2);
     let mut values: usize = 0;
-    for _ in 0..workload.count {
+    for _ in 0..sample.count {
         if !reader.advance(&mut source)? {
             return Err(anyhow!("a block that ends early"));
         }
@@ -36,10 +31,10 @@ pub fn read_block(alloc: Global, workload: &Workload) -> Result<usize> {
 }
 
 /// Terms of this many numbers, put in order; how many there are.
-pub fn order_terms(alloc: Global, workload: &Workload) -> Result<usize> {
+pub fn order_terms(alloc: Global, sample: &Sample) -> Result<usize> {
     let mut terms = Vec::new(alloc);
     let field = Field::from_field_id(0);
-    for number in 0..workload.count {
+    for number in 0..sample.count {
         let shuffled = u64::from(number) * 2_654_435_761 % u64::from(u32::MAX);
         terms.push(Term::from_field_u64(alloc, field, shuffled)?)?;
     }
@@ -61,10 +56,10 @@ fn is_rising(terms: &[Term]) -> Result<()> {
 }
 
 /// This many facets; how many are below one of them.
-pub fn count_facets(alloc: Global, workload: &Workload) -> Result<usize> {
+pub fn count_facets(alloc: Global, sample: &Sample) -> Result<usize> {
     let upper = Facet::from_text(alloc, "/3")?;
     let mut below: usize = 0;
-    for number in 0..workload.count {
+    for number in 0..sample.count {
         let text = format!(in alloc; "/{}/{number}", number % 10)?;
         let facet = Facet::from_text(alloc, text.as_str())?;
         if upper.is_prefix_of(&facet) {

@@ -1,13 +1,13 @@
 //! The calls that are made.
 
-use crate::shape::Workload;
-use crate::{layer, nested};
-use anyhow::{Context, Result, anyhow};
+use crate::growth::sample::Sample;
+use crate::growth::{many, nested};
+use crate::workload::{schema_of, stored_bytes};
+use anyhow::{Result, anyhow};
 use serde_json::Value;
 use std::alloc::Global;
 use tantivy_schema::common::{SliceSource, VecSink, split_json_path};
-use tantivy_schema::schema::Schema;
-use tantivy_schema::schema::document::{BinaryDocumentSerializer, CompactDoc, Document};
+use tantivy_schema::schema::document::{CompactDoc, Document};
 use tantivy_schema::store::{DocStoreVersion, WriteVersion, migrate, read_document};
 
 /// A call.
@@ -114,58 +114,58 @@ impl Call {
 
     /// Makes the call, and says how many bytes, values, fields or steps its answer has; `None` where values that nest in too many lists
     /// are refused.
-    pub fn make(self, alloc: Global, workload: &Workload) -> Result<Option<usize>> {
+    pub fn make(self, alloc: Global, sample: &Sample) -> Result<Option<usize>> {
         match self {
-            Call::ReadWithin => nested::read_within(alloc, workload),
-            Call::Name => nested::name(alloc, workload),
-            Call::Copy => nested::copy(alloc, workload),
-            Call::JsonValue => nested::json_value(alloc, workload),
-            Call::Same => nested::same(workload),
-            Call::ReadOwned => nested::read_owned(alloc, workload),
-            Call::WriteValue => nested::write_value(alloc, workload),
-            other => Ok(Some(other.make_any(alloc, workload)?)),
+            Call::ReadWithin => nested::read_within(alloc, sample),
+            Call::Name => nested::name(alloc, sample),
+            Call::Copy => nested::copy(alloc, sample),
+            Call::JsonValue => nested::json_value(alloc, sample),
+            Call::Same => nested::same(sample),
+            Call::ReadOwned => nested::read_owned(alloc, sample),
+            Call::WriteValue => nested::write_value(alloc, sample),
+            other => Ok(Some(other.make_any(alloc, sample)?)),
         }
     }
 
     // The same of the calls that take values of any depth.
-    fn make_any(self, alloc: Global, workload: &Workload) -> Result<usize> {
+    fn make_any(self, alloc: Global, sample: &Sample) -> Result<usize> {
         match self {
-            Call::Parse => parse(alloc, workload),
-            Call::Read => read(alloc, workload),
-            Call::Serialize => serialize(alloc, workload),
-            Call::Migrate => migrated(alloc, workload),
-            Call::Print => print(alloc, workload),
-            Call::Compare => compare(alloc, workload),
-            Call::ReadSchema => read_schema(alloc, workload),
-            Call::FindFields => find_fields(alloc, workload),
-            Call::FindPath => find_path(workload),
-            Call::SplitPath => Ok(split_json_path(alloc, workload.path.as_str())?.len()),
-            Call::Add => nested::add(alloc, workload),
-            Call::Build => nested::build(alloc, workload),
-            Call::Equal => nested::equal(alloc, workload),
-            Call::Step => nested::step(alloc, workload),
-            Call::ReadInto => nested::read_into(alloc, workload),
-            Call::Skip => nested::skip(alloc, workload),
-            Call::ReadFields => nested::read_chosen(alloc, workload),
-            Call::BlockWithin => nested::block_within(alloc, workload),
-            Call::TermValues => nested::list_terms(alloc, workload),
-            Call::Run => layer::run_lines(alloc, workload),
-            Call::ReadBlock => layer::read_block(alloc, workload),
-            Call::OrderTerms => layer::order_terms(alloc, workload),
-            Call::CountFacets => layer::count_facets(alloc, workload),
+            Call::Parse => parse(alloc, sample),
+            Call::Read => read(alloc, sample),
+            Call::Serialize => serialize(alloc, sample),
+            Call::Migrate => migrated(alloc, sample),
+            Call::Print => print(alloc, sample),
+            Call::Compare => compare(alloc, sample),
+            Call::ReadSchema => read_schema(alloc, sample),
+            Call::FindFields => find_fields(alloc, sample),
+            Call::FindPath => find_path(sample),
+            Call::SplitPath => Ok(split_json_path(alloc, sample.path.as_str())?.len()),
+            Call::Add => nested::add(alloc, sample),
+            Call::Build => nested::build(alloc, sample),
+            Call::Equal => nested::equal(alloc, sample),
+            Call::Step => nested::step(alloc, sample),
+            Call::ReadInto => nested::read_into(alloc, sample),
+            Call::Skip => nested::skip(alloc, sample),
+            Call::ReadFields => nested::read_chosen(alloc, sample),
+            Call::BlockWithin => nested::block_within(alloc, sample),
+            Call::TermValues => nested::list_terms(alloc, sample),
+            Call::Run => many::run_lines(alloc, sample),
+            Call::ReadBlock => many::read_block(alloc, sample),
+            Call::OrderTerms => many::order_terms(alloc, sample),
+            Call::CountFacets => many::count_facets(alloc, sample),
             _ => Err(anyhow!("this call refuses what nests too deep")),
         }
     }
 }
 
-fn read(alloc: Global, workload: &Workload) -> Result<usize> {
-    let mut source = SliceSource::new(workload.stored.as_slice());
+fn read(alloc: Global, sample: &Sample) -> Result<usize> {
+    let mut source = SliceSource::new(sample.stored.as_slice());
     let read = read_document(alloc, &mut source, DocStoreVersion::V2)?;
     Ok(read.node_data().len())
 }
 
-fn migrated(alloc: Global, workload: &Workload) -> Result<usize> {
-    let mut source = SliceSource::new(workload.stored.as_slice());
+fn migrated(alloc: Global, sample: &Sample) -> Result<usize> {
+    let mut source = SliceSource::new(sample.stored.as_slice());
     let mut sink = VecSink::new(alloc);
     migrate(
         alloc,
@@ -177,8 +177,8 @@ fn migrated(alloc: Global, workload: &Workload) -> Result<usize> {
     Ok(sink.as_slice().len())
 }
 
-fn compare(alloc: Global, workload: &Workload) -> Result<usize> {
-    let document = &workload.document;
+fn compare(alloc: Global, sample: &Sample) -> Result<usize> {
+    let document = &sample.document;
     if document.same_as(alloc, document)? {
         Ok(document.len())
     } else {
@@ -186,56 +186,57 @@ fn compare(alloc: Global, workload: &Workload) -> Result<usize> {
     }
 }
 
-fn find_path(workload: &Workload) -> Result<usize> {
-    let found = workload.schema.find_field(workload.path.as_str());
-    Ok(found.context("a field")?.1.len())
+fn find_path(sample: &Sample) -> Result<usize> {
+    match sample.schema.find_field(sample.path.as_str()) {
+        Some((_, rest)) => Ok(rest.len()),
+        None => Err(anyhow!("a field")),
+    }
 }
 
-fn parse(alloc: Global, workload: &Workload) -> Result<usize> {
-    let parsed = CompactDoc::parse_json(alloc, &workload.schema, workload.json.as_str())?;
+fn parse(alloc: Global, sample: &Sample) -> Result<usize> {
+    let parsed = CompactDoc::parse_json(alloc, &sample.schema, sample.json.as_str())?;
     Ok(parsed.node_data().len())
 }
 
-fn serialize(alloc: Global, workload: &Workload) -> Result<usize> {
-    let mut sink = VecSink::new(alloc);
-    if workload.document.fits(&workload.schema) {
-        BinaryDocumentSerializer::new(&mut sink, &workload.schema).serialize_doc(
-            &workload.document,
-        )?;
-    }
-    if sink.as_slice() != workload.stored.as_slice() {
+fn serialize(alloc: Global, sample: &Sample) -> Result<usize> {
+    let written = stored_bytes(alloc, &sample.schema, &sample.document, WriteVersion::V2)?;
+    if written.as_slice() != sample.stored.as_slice() {
         return Err(anyhow!("other bytes are written than were read"));
     }
-    Ok(sink.as_slice().len())
+    Ok(written.len())
 }
 
 // Prints the document. Where it was made of JSON objects, the JSON library prints its values in the same way.
-fn print(alloc: Global, workload: &Workload) -> Result<usize> {
-    let printed = workload.document.to_json(alloc, &workload.schema)?;
-    if let Ok(json) = Value::from_str(alloc, workload.json.as_str()) {
-        if let Some(tree) = json.get("tree") {
-            let other = format!(in alloc; "{{\"tree\":[{}]}}", tree.to_string(alloc)?)?;
-            if printed.as_str() != other.as_str() {
-                return Err(anyhow!("the JSON library prints another text"));
-            }
+fn print(alloc: Global, sample: &Sample) -> Result<usize> {
+    let printed = sample.document.to_json(alloc, &sample.schema)?;
+    if let Ok(json) = Value::from_str(alloc, sample.json.as_str()) {
+        let other = text_of_tree(alloc, &json);
+        drop(json);
+        if other?.is_some_and(|other| printed.as_str() != other.as_str()) {
+            return Err(anyhow!("the JSON library prints another text"));
         }
     }
     Ok(printed.len())
 }
 
-fn read_schema(alloc: Global, workload: &Workload) -> Result<usize> {
-    let json = Value::from_str(alloc, workload.schema_json.as_str())?;
-    let schema = Schema::from_json_value(alloc, &json)?;
-    drop(json);
-    Ok(schema.num_fields())
+// The JSON of a document with this object's tree, as the JSON library prints it.
+fn text_of_tree(alloc: Global, json: &Value) -> Result<Option<String>> {
+    match json.get("tree") {
+        Some(tree) => Ok(Some(format!(in alloc; "{{\"tree\":[{}]}}", tree.to_string(alloc)?)?)),
+        None => Ok(None),
+    }
 }
 
-fn find_fields(alloc: Global, workload: &Workload) -> Result<usize> {
+fn read_schema(alloc: Global, sample: &Sample) -> Result<usize> {
+    Ok(schema_of(alloc, sample.schema_json.as_str())?.num_fields())
+}
+
+fn find_fields(alloc: Global, sample: &Sample) -> Result<usize> {
     let mut found: usize = 0;
-    for (_, entry) in workload.schema.fields() {
+    for (_, entry) in sample.schema.fields() {
         let path = format!(in alloc; "{}.step", entry.name())?;
-        if workload.schema.find_field(entry.name()).is_some()
-            && workload.schema.find_field(path.as_str()).is_some()
+        if sample.schema.find_field(entry.name()).is_some()
+            && sample.schema.find_field(path.as_str()).is_some()
         {
             found = found.saturating_add(1);
         }
