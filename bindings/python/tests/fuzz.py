@@ -168,10 +168,10 @@ class Fuzzer:
             "encoded": values.buffer,
             "prefix": values.buffer,
             "values": values.mapping,
-            "path": values.text,
+            "path": values.path,
             "name": values.text,
             "value": values.text,
-            "text": values.text,
+            "text": values.query,
             "moment": lambda: datetime.datetime(
                 values.rng.choice([1, 1677, 2024, 9999]), 1, 1, tzinfo=datetime.timezone.utc
             ),

@@ -276,6 +276,15 @@ class Values:
             return self.data().decode("utf-8", "surrogateescape")
         return self.rng.choice(plain)
 
+    def path(self) -> Any:
+        """A path that names an indexed field, or a text of any kind."""
+        return self.text() if self.chance(0.4) else self.rng.choice(["age", "age", "group"])
+
+    def query(self) -> Any:
+        """A text of a query, or one of any kind."""
+        plain = ["*", "36", "7", "[1 TO 36}", "{36 TO *]", "[2 TO 1]", "/a/b", "[/a TO /b]"]
+        return self.text() if self.chance(0.3) else self.rng.choice(plain)
+
     def number(self) -> Any:
         """A number of any size, or what is none."""
         if self.chance(0.7):
