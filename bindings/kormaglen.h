@@ -49,6 +49,7 @@ enum kormaglen_status {
     KORMAGLEN_NO_END = 10,       /* no byte string is above all that begin with the prefix */
     KORMAGLEN_BAD_LINE = 11,     /* a line has no document; detail is of kormaglen_line_status, place is the field whose value is refused */
     KORMAGLEN_FOREIGN_FIELD = 12,/* a document has a field that the schema does not have; place is its number */
+    KORMAGLEN_BAD_QUERY = 13,    /* a text of a query has no terms, or no ranges; detail says why, place is the field, or 0 for NO_RANGE */
     KORMAGLEN_CLOSED = 15,       /* a handle holds nothing */
     KORMAGLEN_BAD_ARGUMENT = 16  /* a pointer can't be used; detail says why, place is its number among the call's pointers, from 1 */
 };
@@ -107,6 +108,20 @@ enum kormaglen_line_status {
     KORMAGLEN_LINE_BAD_BASE64 = 5,
     KORMAGLEN_LINE_FLOAT = 6,        /* a number is not whole, or does not fit 64 bits */
     KORMAGLEN_LINE_NO_ROOM = 7       /* the values need more than 4294967295 bytes */
+};
+
+/* With KORMAGLEN_BAD_QUERY: kormaglen_answer.detail. From 12 on the text, or a bound of the range, is no value of the field's type. */
+enum kormaglen_query_detail {
+    KORMAGLEN_QUERY_NOT_INDEXED = 1, /* the field is not indexed */
+    KORMAGLEN_QUERY_PATH_ENDS = 2,   /* the path ends at a field of JSON objects */
+    KORMAGLEN_QUERY_NUL_IN_PATH = 3, /* the path below a field of JSON objects has U+0000 */
+    KORMAGLEN_QUERY_NO_RANGE = 4,    /* the text is neither '*' nor two bounds in brackets with ' TO ' between them */
+    KORMAGLEN_QUERY_BACKWARDS = 5,   /* the range's start is above its end */
+    KORMAGLEN_QUERY_OVERFLOW = 12,   /* a number does not fit the field's type; kept for numbers that are no texts */
+    KORMAGLEN_QUERY_WRONG_TYPE = 13, /* it is no number that fits, no truth value or no date, whichever the field has */
+    KORMAGLEN_QUERY_BAD_TEXT = 14,   /* a date is out of its range, or a text is no address or facet */
+    KORMAGLEN_QUERY_BAD_BASE64 = 15,
+    KORMAGLEN_QUERY_FLOAT = 16       /* a number is not whole, or does not fit 64 bits; kept for numbers that are no texts */
 };
 
 /* With KORMAGLEN_BAD_ARGUMENT: kormaglen_answer.detail. */
@@ -261,6 +276,32 @@ kormaglen_answer kormaglen_schema_find_field(
     kormaglen_schema *schema,
     const uint8_t *path, size_t path_len,
     kormaglen_found_field *found);
+
+/* Writes the terms that a text of a query has at what the path names by the handle's schema, in their order: each behind its own length in
+ * eight bytes, the lowest first. In a field that is not of JSON objects it is the one term of the value that the text writes: a number in
+ * decimal, true or false, a date by RFC 3339, a facet's path, base64, an address, or the text itself. At a path into JSON objects the text has
+ * the term of itself, and also those of the number, the truth value and the date that it writes. The terms are those that documents have
+ * which hold such a value; a text is whole, and a date is cut to the second.
+ * Refusals: TOO_SMALL, NO_MEMORY, NOT_UTF8, NO_FIELD, BAD_QUERY, CLOSED. */
+kormaglen_answer kormaglen_schema_terms_of_text(
+    kormaglen_schema *schema,
+    const uint8_t *path, size_t path_len,
+    const uint8_t *text, size_t text_len,
+    uint8_t *terms, size_t terms_len);
+
+/* Writes the ranges of terms that a text of a query bounds at what the path names by the handle's schema, in their order: for each range the
+ * length of its start and the length of its end, both in eight bytes, the lowest first, then the start and then the end. Terms from the start on
+ * and below the end are in the range. The length of an end is 2^64 - 1 where the range has none, and then no bytes stand for it. The text is
+ * '*', or two bounds with ' TO ' between them: '[' and ']' stand by a bound that is within the range, '{' and '}' by one that is not, and '*' is no
+ * bound, as '[10 TO 20}' and '{2019-10-12T07:20:50Z TO *]'. A field that is not of JSON objects has one range; of dates the second of a bound is
+ * within. At a path into JSON objects there is a range for each kind of value that both bounds write: dates, numbers below 2^63, truth values,
+ * texts, numbers from 2^63 on.
+ * Refusals: TOO_SMALL, NO_MEMORY, NOT_UTF8, NO_FIELD, BAD_QUERY, CLOSED. */
+kormaglen_answer kormaglen_schema_ranges_of_text(
+    kormaglen_schema *schema,
+    const uint8_t *path, size_t path_len,
+    const uint8_t *text, size_t text_len,
+    uint8_t *ranges, size_t ranges_len);
 
 /* Reads the document with which the bytes begin, of version 1, 2 or 3, and has the handle hold it, in the memory of what it held before.
  * bytes is how many bytes the document takes. After a refusal the handle is closed.

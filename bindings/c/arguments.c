@@ -51,12 +51,20 @@ static void test_null(void) {
     expect_refused("schema", kormaglen_schema_find_field(NULL, bytes_of("a"), 1, &found), KORMAGLEN_ARGUMENT_NULL, 1);
     expect_refused("schema", kormaglen_schema_import_lines(NULL, NULL, 0, NULL, 0, NULL, 0), KORMAGLEN_ARGUMENT_NULL, 1);
     expect_refused("schema", kormaglen_schema_export_block(NULL, 2, NULL, 0, NULL, 0), KORMAGLEN_ARGUMENT_NULL, 1);
+    expect_refused("schema", kormaglen_schema_terms_of_text(NULL, bytes_of("age"), 3, bytes_of("7"), 1, buffer, 64), KORMAGLEN_ARGUMENT_NULL, 1);
+    expect_refused("schema", kormaglen_schema_ranges_of_text(NULL, bytes_of("age"), 3, bytes_of("*"), 1, buffer, 64), KORMAGLEN_ARGUMENT_NULL, 1);
     expect_refused("document", kormaglen_document_read(2, buffer, 1, NULL), KORMAGLEN_ARGUMENT_NULL, 2);
     kormaglen_schema schema = {0};
     kormaglen_document document = {0};
     expect_refused("document", kormaglen_document_parse(&schema, bytes_of("{}"), 2, NULL), KORMAGLEN_ARGUMENT_NULL, 3);
     expect_refused("schema", kormaglen_document_to_json(&document, NULL, buffer, 64), KORMAGLEN_ARGUMENT_NULL, 2);
     expect_refused("bytes", kormaglen_document_write(&document, &schema, 2, NULL, 1), KORMAGLEN_ARGUMENT_NULL, 3);
+    expect_refused("path", kormaglen_schema_terms_of_text(&schema, NULL, 3, bytes_of("7"), 1, buffer, 64), KORMAGLEN_ARGUMENT_NULL, 2);
+    expect_refused("text", kormaglen_schema_terms_of_text(&schema, bytes_of("age"), 3, NULL, 1, buffer, 64), KORMAGLEN_ARGUMENT_NULL, 3);
+    expect_refused("terms", kormaglen_schema_terms_of_text(&schema, bytes_of("age"), 3, bytes_of("7"), 1, NULL, 1), KORMAGLEN_ARGUMENT_NULL, 4);
+    expect_refused("path", kormaglen_schema_ranges_of_text(&schema, NULL, 3, bytes_of("*"), 1, buffer, 64), KORMAGLEN_ARGUMENT_NULL, 2);
+    expect_refused("text", kormaglen_schema_ranges_of_text(&schema, bytes_of("age"), 3, NULL, 1, buffer, 64), KORMAGLEN_ARGUMENT_NULL, 3);
+    expect_refused("ranges", kormaglen_schema_ranges_of_text(&schema, bytes_of("age"), 3, bytes_of("*"), 1, NULL, 1), KORMAGLEN_ARGUMENT_NULL, 4);
     kormaglen_schema_close(NULL);
     kormaglen_document_close(NULL);
 }
@@ -83,6 +91,11 @@ static void test_empty(void) {
     expect("no bytes", kormaglen_document_read(2, NULL, 0, &document).status == KORMAGLEN_BAD_DOCUMENT);
     expect("open", kormaglen_schema_open(bytes_of(SCHEMA), strlen(SCHEMA), &schema).status == KORMAGLEN_OK);
     expect("no path", kormaglen_schema_find_field(&schema, NULL, 0, &found).status == KORMAGLEN_NO_FIELD);
+    expect("no path", kormaglen_schema_terms_of_text(&schema, NULL, 0, NULL, 0, NULL, 0).status == KORMAGLEN_NO_FIELD);
+    kormaglen_answer no_number = kormaglen_schema_terms_of_text(&schema, bytes_of("age"), 3, NULL, 0, NULL, 0);
+    expect("no number", no_number.status == KORMAGLEN_BAD_QUERY && no_number.detail == KORMAGLEN_QUERY_WRONG_TYPE && no_number.place == 0);
+    kormaglen_answer no_range = kormaglen_schema_ranges_of_text(&schema, NULL, 0, NULL, 0, NULL, 0);
+    expect("no range", no_range.status == KORMAGLEN_BAD_QUERY && no_range.detail == KORMAGLEN_QUERY_NO_RANGE && no_range.place == 0);
     expect("no line", kormaglen_document_parse(&schema, NULL, 0, &document).status == KORMAGLEN_BAD_LINE);
     kormaglen_schema_close(&schema);
 }
@@ -102,6 +115,12 @@ static void test_overlap(void) {
     } shared = {{0}};
     expect_refused("a handle", kormaglen_schema_to_json(&shared.schema, shared.bytes, 64), KORMAGLEN_ARGUMENT_OVERLAP, 2);
     expect_refused("a handle", kormaglen_schema_open(shared.bytes, 64, &shared.schema), KORMAGLEN_ARGUMENT_OVERLAP, 2);
+    expect_refused("a handle", kormaglen_schema_terms_of_text(&shared.schema, shared.bytes, 3, NULL, 0, NULL, 0), KORMAGLEN_ARGUMENT_OVERLAP, 2);
+    expect_refused("a handle", kormaglen_schema_ranges_of_text(&shared.schema, NULL, 0, shared.bytes, 3, NULL, 0), KORMAGLEN_ARGUMENT_OVERLAP, 3);
+    kormaglen_schema closed = {0};
+    expect_refused("path and terms", kormaglen_schema_terms_of_text(&closed, both, 4, NULL, 0, both, 64), KORMAGLEN_ARGUMENT_OVERLAP, 4);
+    expect_refused("text and ranges", kormaglen_schema_ranges_of_text(&closed, NULL, 0, both, 4, both + 3, 60), KORMAGLEN_ARGUMENT_OVERLAP, 4);
+    expect("inputs may", kormaglen_schema_terms_of_text(&closed, both, 4, both, 4, both + 4, 60).status == KORMAGLEN_CLOSED);
     kormaglen_line_answer answers[4];
     expect_refused("block and answers",
         kormaglen_import_lines(bytes_of(SCHEMA), strlen(SCHEMA), bytes_of("{}"), 2, (uint8_t *)answers, sizeof answers, answers, 4),
@@ -143,6 +162,8 @@ static void test_closed(void) {
     expect("closed", kormaglen_schema_find_field(&schema, bytes_of("age"), 3, &found).status == KORMAGLEN_CLOSED);
     expect("closed", kormaglen_schema_import_lines(&schema, NULL, 0, NULL, 0, NULL, 0).status == KORMAGLEN_CLOSED);
     expect("closed", kormaglen_schema_export_block(&schema, 2, NULL, 0, NULL, 0).status == KORMAGLEN_CLOSED);
+    expect("closed", kormaglen_schema_terms_of_text(&schema, bytes_of("age"), 3, bytes_of("7"), 1, buffer, 64).status == KORMAGLEN_CLOSED);
+    expect("closed", kormaglen_schema_ranges_of_text(&schema, bytes_of("age"), 3, bytes_of("*"), 1, buffer, 64).status == KORMAGLEN_CLOSED);
     expect("closed", kormaglen_document_parse(&schema, bytes_of("{}"), 2, &document).status == KORMAGLEN_CLOSED);
     expect("open", kormaglen_schema_open(bytes_of(SCHEMA), strlen(SCHEMA), &schema).status == KORMAGLEN_OK);
     expect("closed", kormaglen_document_to_json(&document, &schema, buffer, 64).status == KORMAGLEN_CLOSED);
@@ -154,15 +175,16 @@ static void test_closed(void) {
 static void test_texts(void) {
     expect("version", strncmp(kormaglen_version(), KORMAGLEN_VERSION, strlen(KORMAGLEN_VERSION)) == 0);
     for (uint32_t status = 0; status < 20; status++) {
-        int is_known = (status <= KORMAGLEN_FOREIGN_FIELD) || status == KORMAGLEN_CLOSED || status == KORMAGLEN_BAD_ARGUMENT;
+        int is_known = status <= KORMAGLEN_BAD_QUERY || status == KORMAGLEN_CLOSED || status == KORMAGLEN_BAD_ARGUMENT;
         expect("status", is_known != (strcmp(kormaglen_status_text(status), "unknown status") == 0));
         expect("line", (status <= KORMAGLEN_LINE_NO_ROOM) != (strcmp(kormaglen_line_status_text(status), "unknown status of a line") == 0));
     }
     static const uint32_t last[] = {0, 0, 0, 0, 0, 0, KORMAGLEN_SCHEMA_EXPAND_DOTS, 0, KORMAGLEN_DOCUMENT_TOO_LONG, 0, 0, KORMAGLEN_LINE_NO_ROOM,
-        0, 0, 0, 0, KORMAGLEN_ARGUMENT_OVERLAP};
+        0, KORMAGLEN_QUERY_FLOAT, 0, 0, KORMAGLEN_ARGUMENT_OVERLAP};
     for (uint32_t status = 0; status < sizeof last / sizeof *last; status++) {
         for (uint32_t detail = 0; detail < 30; detail++) {
-            int is_known = detail >= 1 && detail <= last[status];
+            int is_gap = status == KORMAGLEN_BAD_QUERY && detail > KORMAGLEN_QUERY_BACKWARDS && detail < KORMAGLEN_QUERY_OVERFLOW;
+            int is_known = detail >= 1 && detail <= last[status] && !is_gap;
             expect("detail", is_known == (kormaglen_detail_text(status, detail)[0] != 0));
         }
     }

@@ -198,6 +198,20 @@ kormaglen_answer kormaglen_schema_export_block(
     return raw_schema_export_block(schema, version, input(block), block_len, output(lines), lines_len);
 }
 
+kormaglen_answer kormaglen_schema_terms_of_text(
+    kormaglen_schema *schema, const uint8_t *path, size_t path_len, const uint8_t *text, size_t text_len,
+    uint8_t *terms, size_t terms_len) {
+    REFUSE_UNLESS_GOOD(uses_schema(schema), reads(path, path_len), reads(text, text_len), writes(terms, terms_len));
+    return raw_schema_terms_of_text(schema, input(path), path_len, input(text), text_len, output(terms), terms_len);
+}
+
+kormaglen_answer kormaglen_schema_ranges_of_text(
+    kormaglen_schema *schema, const uint8_t *path, size_t path_len, const uint8_t *text, size_t text_len,
+    uint8_t *ranges, size_t ranges_len) {
+    REFUSE_UNLESS_GOOD(uses_schema(schema), reads(path, path_len), reads(text, text_len), writes(ranges, ranges_len));
+    return raw_schema_ranges_of_text(schema, input(path), path_len, input(text), text_len, output(ranges), ranges_len);
+}
+
 kormaglen_answer kormaglen_document_read(
     uint32_t version, const uint8_t *bytes, size_t bytes_len, kormaglen_document *document) {
     REFUSE_UNLESS_GOOD(reads(bytes, bytes_len), uses_document(document));

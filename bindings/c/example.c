@@ -1,5 +1,5 @@
 /* Imports lines of JSON into a block of stored documents, reads them back, sorts the terms of a field and finds those of a range, finds a
- * field and a facet, and handles one document alone. */
+ * field and a facet, finds documents by texts of queries, and handles one document alone. */
 #include "kormaglen.h"
 
 #include <stdio.h>
@@ -132,6 +132,44 @@ static void find_paths(kormaglen_schema *schema) {
     }
 }
 
+/* Prints the documents that have, in a field that is not of JSON objects, a value between the bounds of a text. */
+static void print_between(kormaglen_schema *schema, const uint8_t *block, size_t block_len, const char *path, const char *text) {
+    kormaglen_found_field found;
+    expect_ok("find", kormaglen_schema_find_field(schema, bytes_of(path), strlen(path), &found));
+    uint8_t range[64], terms[256];
+    expect_ok("ranges", kormaglen_schema_ranges_of_text(schema, bytes_of(path), strlen(path), bytes_of(text), strlen(text), range, sizeof range));
+    uint64_t start_len = number_at(range), end_len = number_at(range + 8);
+    const uint8_t *start = range + 16, *end = start + start_len;
+
+    kormaglen_answer listed = kormaglen_terms_of_block(found.field, 2, block, block_len, terms, sizeof terms);
+    expect_ok("terms", listed);
+    for (uint64_t at = 0; at < listed.bytes; at += 16 + number_at(terms + at + 8)) {
+        const uint8_t *term = terms + at + 16;
+        uint64_t len = number_at(terms + at + 8);
+        /* (a range without an end has this length of it) */
+        int is_below = end_len == UINT64_MAX || compare_bytes(term, len, end, end_len) < 0;
+        if (is_below && compare_bytes(term, len, start, start_len) >= 0) {
+            printf("%s %s: document %llu\n", path, text, (unsigned long long)number_at(terms + at));
+        }
+    }
+}
+
+/* Prints how many terms a text of a query has, or why it has none. */
+static void print_query(kormaglen_schema *schema, const char *path, const char *text) {
+    uint8_t terms[256];
+    kormaglen_answer listed = kormaglen_schema_terms_of_text(schema, bytes_of(path), strlen(path), bytes_of(text), strlen(text), terms, sizeof terms);
+    if (listed.status == KORMAGLEN_BAD_QUERY) {
+        printf("field %llu: %s\n", (unsigned long long)listed.place, kormaglen_detail_text(listed.status, listed.detail));
+        return;
+    }
+    expect_ok("terms", listed);
+    int count = 0;
+    for (uint64_t at = 0; at < listed.bytes; at += 8 + number_at(terms + at)) {
+        count += 1;
+    }
+    printf("%s %s: %d term, %llu bytes\n", path, text, count, (unsigned long long)listed.bytes);
+}
+
 /* One document at a time: of a line, written in version 3, and read back. */
 static void handle_one(kormaglen_schema *schema) {
     kormaglen_document document = {0};
@@ -177,6 +215,9 @@ int main(void) {
     printf("version 2 takes %llu bytes, version 3 %llu\n", (unsigned long long)stored, (unsigned long long)moved.bytes);
 
     find_paths(&schema);
+    print_between(&schema, block, stored, "age", "[7 TO 36}");
+    print_query(&schema, "age", "36");
+    print_query(&schema, "more.tags", "new");
     handle_one(&schema);
     print_facet();
     kormaglen_schema_close(&schema);

@@ -19,6 +19,23 @@ static const char SCHEMA[] =
     "{\"name\":\"y\",\"type\":\"bytes\",\"options\":{\"indexed\":false,\"fast\":false,\"stored\":true}},"
     "{\"name\":\"j\",\"type\":\"json_object\",\"options\":{\"stored\":true,\"fast\":false}}]";
 
+/* The same types, indexed. */
+static const char INDEXED[] =
+    "[{\"name\":\"s\",\"type\":\"text\",\"options\":{\"indexing\":{\"record\":\"basic\",\"fieldnorms\":true,\"tokenizer\":\"raw\"},\"stored\":true}},"
+    "{\"name\":\"u\",\"type\":\"u64\",\"options\":{\"indexed\":true,\"stored\":true}},"
+    "{\"name\":\"i\",\"type\":\"i64\",\"options\":{\"indexed\":true,\"stored\":true}},"
+    "{\"name\":\"f\",\"type\":\"facet\",\"options\":{\"stored\":true}},"
+    "{\"name\":\"d\",\"type\":\"date\",\"options\":{\"indexed\":true,\"fieldnorms\":false,\"stored\":true}},"
+    "{\"name\":\"p\",\"type\":\"ip_addr\",\"options\":{\"indexed\":true,\"fieldnorms\":false,\"fast\":false,\"stored\":true}},"
+    "{\"name\":\"y\",\"type\":\"bytes\",\"options\":{\"indexed\":true,\"fast\":false,\"stored\":true}},"
+    "{\"name\":\"j\",\"type\":\"json_object\",\"options\":{\"stored\":true,\"fast\":false,"
+    "\"indexing\":{\"record\":\"basic\",\"fieldnorms\":true,\"tokenizer\":\"raw\"}}},"
+    "{\"name\":\"n\",\"type\":\"u64\",\"options\":{\"indexed\":false,\"stored\":true}}]";
+
+/* Paths of queries, and texts, of which two are the bounds of a range. */
+static const char *const PATHS[] = {"s", "u", "i", "f", "d", "p", "y", "j.a.b", "j", "n", "none"};
+static const char *const TEXTS[] = {"*", "7", "-7", "18446744073709551615", "true", "2019-10-12T07:20:50Z", "/a/b", "::1", "AA==", "text"};
+
 static const char *const LINES[] = {
     "{\"s\":\"text\",\"u\":7,\"i\":-7}",
     "{\"f\":\"/a/b\",\"d\":\"2019-10-12T07:20:50.52Z\",\"p\":\"::1\"}",
@@ -28,7 +45,7 @@ static const char *const LINES[] = {
 };
 
 static uint64_t state = 0x9E3779B97F4A7C15u;
-enum { CALLS = 19 };
+enum { CALLS = 21 };
 
 static uint64_t calls[CALLS];
 static uint64_t accepted[CALLS];
@@ -98,7 +115,7 @@ static void check(int call, kormaglen_answer answer, const uint8_t *buffer, size
         fail("an unknown status");
     }
     int has_detail = answer.status == KORMAGLEN_BAD_SCHEMA || answer.status == KORMAGLEN_BAD_DOCUMENT || answer.status == KORMAGLEN_BAD_LINE
-        || answer.status == KORMAGLEN_BAD_ARGUMENT;
+        || answer.status == KORMAGLEN_BAD_QUERY || answer.status == KORMAGLEN_BAD_ARGUMENT;
     if (has_detail != (kormaglen_detail_text(answer.status, answer.detail)[0] != 0) || (!has_detail && answer.detail != 0)) {
         fail("a detail without words, or words without a detail");
     }
@@ -265,6 +282,94 @@ static void expect_closed(int closed, kormaglen_answer answer) {
     if ((answer.status == KORMAGLEN_CLOSED) != closed) {
         fail("a closed handle was used, or an open one refused");
     }
+}
+
+static uint64_t number_at(const uint8_t *bytes) {
+    uint64_t number = 0;
+    for (int i = 7; i >= 0; i--) {
+        number = number << 8 | bytes[i];
+    }
+    return number;
+}
+
+/* Each term stands behind its length, and the last ends where the answer says. */
+static void check_terms(const uint8_t *terms, uint64_t len) {
+    uint64_t at = 0;
+    while (len - at >= 8 && number_at(terms + at) <= len - at - 8) {
+        at += 8 + number_at(terms + at);
+    }
+    if (at != len) {
+        fail("terms that do not end where the answer says");
+    }
+}
+
+/* Start and end of each range stand behind their lengths, and the last end is where the answer says. */
+static void check_ranges(const uint8_t *ranges, uint64_t len) {
+    uint64_t at = 0;
+    while (at < len) {
+        if (len - at < 16) {
+            fail("a range without its lengths");
+        }
+        uint64_t start = number_at(ranges + at), end = number_at(ranges + at + 8);
+        at += 16;
+        end = end == UINT64_MAX ? 0 : end;
+        if (start > len - at || end > len - at - start) {
+            fail("a range that does not end where the answer says");
+        }
+        at += start + end;
+    }
+}
+
+/* A text of a query: one text, or two as bounds of a range. */
+static size_t some_text(uint8_t *bytes) {
+    const char *first = TEXTS[below(sizeof TEXTS / sizeof *TEXTS)], *second = TEXTS[below(sizeof TEXTS / sizeof *TEXTS)];
+    char text[LARGEST];
+    switch (below(3)) {
+    case 0:
+        snprintf(text, sizeof text, "%s", first);
+        break;
+    case 1:
+        snprintf(text, sizeof text, "[%s TO %s}", first, second);
+        break;
+    default:
+        snprintf(text, sizeof text, "{%s TO %s]", first, second);
+    }
+    memcpy(bytes, text, strlen(text));
+    return strlen(text);
+}
+
+/* The terms and the ranges of a text, by a schema whose fields are indexed, by one whose fields mostly aren't, and by none. */
+static void query_once(void) {
+    static kormaglen_schema handles[3];
+    if (handles[0].at == NULL) {
+        kormaglen_schema_open((const uint8_t *)INDEXED, strlen(INDEXED), &handles[0]);
+        kormaglen_schema_open((const uint8_t *)SCHEMA, strlen(SCHEMA), &handles[1]);
+    }
+    kormaglen_schema *handle = &handles[below(16) == 0 ? 1 + below(2) : 0];
+    uint8_t path[LARGEST], text[2 * LARGEST];
+    const char *named = PATHS[below(sizeof PATHS / sizeof *PATHS)];
+    size_t path_len = strlen(named), text_len = below(8) == 0 ? random_bytes(text) : some_text(text);
+    memcpy(path, named, path_len);
+    path_len = below(8) == 0 ? random_bytes(path) : below(4) == 0 ? changed(path, path_len) : path_len;
+    text_len = below(4) == 0 ? changed(text, text_len) : text_len;
+    size_t room = below(256);
+    uint8_t *p = copy_of(path, path_len), *t = copy_of(text, text_len), *terms = fresh(room), *ranges = fresh(room);
+    kormaglen_answer listed = kormaglen_schema_terms_of_text(handle, p, path_len, t, text_len, terms, room);
+    check(19, listed, terms, room);
+    expect_closed(handle->at == NULL, listed);
+    kormaglen_answer bounded = kormaglen_schema_ranges_of_text(handle, p, path_len, t, text_len, ranges, room);
+    check(20, bounded, ranges, room);
+    expect_closed(handle->at == NULL, bounded);
+    if (listed.status == KORMAGLEN_OK) {
+        check_terms(terms, listed.bytes);
+    }
+    if (bounded.status == KORMAGLEN_OK) {
+        check_ranges(ranges, bounded.bytes);
+    }
+    free(p);
+    free(t);
+    free(terms);
+    free(ranges);
 }
 
 /* Prints the schema of a handle, and opens another one by what was printed, which prints the same. */
@@ -494,6 +599,7 @@ int main(int count, char **words) {
             term_once(7);
             term_once(8);
             handle_once();
+            query_once();
             documents_once();
             arguments_once();
         }
@@ -501,7 +607,8 @@ int main(int count, char **words) {
     static const char *const NAMES[] = {"import_lines", "export_block", "migrate_block", "find_field", "facet_of_text", "text_of_facet",
                                          "terms_of_block", "term_of_text", "end_of_prefix", "schema_open", "schema_import_lines",
                                          "schema_export_block", "schema_find_field", "document_read", "document_parse",
-                                         "document_to_json", "document_write", "schema_to_json", "arguments"};
+                                         "document_to_json", "document_write", "schema_to_json", "arguments", "terms_of_text",
+                                         "ranges_of_text"};
     for (int i = 0; i < CALLS; i++) {
         printf("%-19s %10llu calls, %10llu accepted\n", NAMES[i], (unsigned long long)calls[i], (unsigned long long)accepted[i]);
     }

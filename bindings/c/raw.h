@@ -33,6 +33,12 @@ kormaglen_answer raw_schema_import_lines(
 kormaglen_answer raw_schema_export_block(
     kormaglen_schema *schema, uint32_t version, const uint8_t *block, size_t block_len,
     uint8_t *lines, size_t lines_len);
+kormaglen_answer raw_schema_terms_of_text(
+    kormaglen_schema *schema, const uint8_t *path, size_t path_len, const uint8_t *text, size_t text_len,
+    uint8_t *terms, size_t terms_len);
+kormaglen_answer raw_schema_ranges_of_text(
+    kormaglen_schema *schema, const uint8_t *path, size_t path_len, const uint8_t *text, size_t text_len,
+    uint8_t *ranges, size_t ranges_len);
 
 kormaglen_answer raw_document_read(
     uint32_t version, const uint8_t *bytes, size_t bytes_len, kormaglen_document *document);

@@ -24,6 +24,7 @@ const char *kormaglen_status_text(uint32_t status) {
     case KORMAGLEN_NO_END: return "no byte string is above all that begin with the prefix";
     case KORMAGLEN_BAD_LINE: return "a line has no document";
     case KORMAGLEN_FOREIGN_FIELD: return "a document has a field that the schema does not have";
+    case KORMAGLEN_BAD_QUERY: return "a text of a query has no terms, or no ranges";
     case KORMAGLEN_CLOSED: return "a handle is closed";
     case KORMAGLEN_BAD_ARGUMENT: return "an argument can't be used";
     default: return "unknown status";
@@ -79,6 +80,22 @@ static const char *document_text(uint32_t detail) {
     }
 }
 
+static const char *query_text(uint32_t detail) {
+    switch (detail) {
+    case KORMAGLEN_QUERY_NOT_INDEXED: return "the field is not indexed";
+    case KORMAGLEN_QUERY_PATH_ENDS: return "the path ends at a field of JSON objects";
+    case KORMAGLEN_QUERY_NUL_IN_PATH: return "the path has U+0000";
+    case KORMAGLEN_QUERY_NO_RANGE: return "a range is * or two bounds as in [10 TO 20}";
+    case KORMAGLEN_QUERY_BACKWARDS: return "the bounds of the range run backwards";
+    case KORMAGLEN_QUERY_OVERFLOW: return "a number does not fit the field's type";
+    case KORMAGLEN_QUERY_WRONG_TYPE: return "a text is not the number, the truth value or the date that the field wants";
+    case KORMAGLEN_QUERY_BAD_TEXT: return "a date is out of its range, or a text is not an address or a facet";
+    case KORMAGLEN_QUERY_BAD_BASE64: return "a text is not base64";
+    case KORMAGLEN_QUERY_FLOAT: return "a number is not whole, or does not fit 64 bits";
+    default: return "";
+    }
+}
+
 static const char *argument_text(uint32_t detail) {
     switch (detail) {
     case KORMAGLEN_ARGUMENT_NULL: return "a pointer is NULL";
@@ -109,6 +126,7 @@ const char *kormaglen_detail_text(uint32_t status, uint32_t detail) {
     case KORMAGLEN_BAD_DOCUMENT: return document_text(detail);
     case KORMAGLEN_BAD_LINE:
         return detail >= KORMAGLEN_LINE_INVALID_JSON && detail <= KORMAGLEN_LINE_NO_ROOM ? kormaglen_line_status_text(detail) : "";
+    case KORMAGLEN_BAD_QUERY: return query_text(detail);
     case KORMAGLEN_BAD_ARGUMENT: return argument_text(detail);
     default: return "";
     }

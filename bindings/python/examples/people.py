@@ -1,5 +1,6 @@
 """Imports lines of JSON into a block of stored documents, reads them back, sorts the terms of a field and
-finds those of a range, finds a field and a facet, and handles one document alone."""
+finds those of a range, finds a field and a facet, finds documents by texts of queries, and handles one
+document alone."""
 
 import kormaglen
 
@@ -17,6 +18,26 @@ def print_range(block: bytes, prefix: str) -> None:
     found = [(term, document) for document, term in kormaglen.terms(0, block) if start <= term < end]
     for term, document in sorted(found):
         print(f"document {document}: {term[5:].decode()}")
+
+
+def print_between(schema: kormaglen.Schema, block: bytes, path: str, text: str) -> None:
+    """Prints the documents that have a value between the bounds of a text."""
+    ranges = schema.ranges_of_text(path, text)
+    for document, term in kormaglen.terms(schema.find_field(path).field, block):
+        if any(start <= term and (end is None or term < end) for start, end in ranges):
+            print(f"{path} {text}: document {document}")
+
+
+def print_query(schema: kormaglen.Schema, path: str, text: str) -> None:
+    """Prints how many terms a text of a query has, or why it has none."""
+    try:
+        terms = schema.terms_of_text(path, text)
+    except kormaglen.QueryRefused as refused:
+        words = str(refused).split(": ", 1)[1]  # (behind the name of the field)
+        print(f"field {refused.field_number}: {words}")
+    else:
+        # In a list of the library's each term stands behind its length.
+        print(f"{path} {text}: {len(terms)} term, {sum(8 + len(term) for term in terms)} bytes")
 
 
 def print_one(schema: kormaglen.Schema) -> None:
@@ -45,6 +66,9 @@ def main() -> None:
         for path in ["more.tags", "age"]:
             field, rest = schema.find_field(path)
             print(f"field {field}, path '{rest}'")
+        print_between(schema, imported.block, "age", "[7 TO 36}")
+        print_query(schema, "age", "36")
+        print_query(schema, "more.tags", "new")
         print_one(schema)
     encoded = kormaglen.facet_of_text("/staff/research")
     print(f"{kormaglen.text_of_facet(encoded)} takes {len(encoded)} bytes")

@@ -70,6 +70,8 @@ _SIGNATURES: Dict[str, Tuple[List[Any], Any]] = {
     "schema_import_lines": ([_SCHEMA] + _GIVEN + _WRITTEN + _WRITTEN, Answer),
     "schema_export_block": ([_SCHEMA, _NUMBER] + _GIVEN + _WRITTEN, Answer),
     "schema_find_field": ([_SCHEMA] + _GIVEN + [ctypes.POINTER(FoundField)], Answer),
+    "schema_terms_of_text": ([_SCHEMA] + _GIVEN + _GIVEN + _WRITTEN, Answer),
+    "schema_ranges_of_text": ([_SCHEMA] + _GIVEN + _GIVEN + _WRITTEN, Answer),
     "document_read": ([_NUMBER] + _GIVEN + [_DOCUMENT], Answer),
     "document_parse": ([_SCHEMA] + _GIVEN + [_DOCUMENT], Answer),
     "document_to_json": ([_DOCUMENT, _SCHEMA] + _WRITTEN, Answer),

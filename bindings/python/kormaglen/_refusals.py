@@ -48,6 +48,7 @@ class Status(_Numbers):
     NO_END = 10
     BAD_LINE = 11
     FOREIGN_FIELD = 12
+    BAD_QUERY = 13
     CLOSED = 15
     BAD_ARGUMENT = 16
 
@@ -140,14 +141,33 @@ class LineStatus(_Numbers):
         return LineStatus.OVERFLOW <= self <= LineStatus.FLOAT
 
 
-Reason = Union[Status, SchemaFault, DocumentFault, LineStatus]
+class QueryFault(_Numbers):
+    """Why a text of a query has no terms, or no ranges of them: `kormaglen_query_detail` of the header.
+
+    >>> QueryFault(5).name
+    'BACKWARDS'
+    """
+
+    NOT_INDEXED = 1
+    PATH_ENDS = 2
+    NUL_IN_PATH = 3
+    NO_RANGE = 4
+    BACKWARDS = 5
+    OVERFLOW = 12
+    WRONG_TYPE = 13
+    BAD_TEXT = 14
+    BAD_BASE64 = 15
+    FLOAT = 16
+
+
+Reason = Union[Status, SchemaFault, DocumentFault, LineStatus, QueryFault]
 
 
 class Refused(ValueError):
     """A call was refused. What it was given stays as it was, and so does what its handles hold.
 
-    `reason` is the most precise name that there is: of `Status`, or of `SchemaFault`, `DocumentFault`
-    or `LineStatus` in the classes below. A number that this package has no name for is `UNKNOWN_` and
+    `reason` is the most precise name that there is: of `Status`, or of `SchemaFault`, `DocumentFault`,
+    `LineStatus` or `QueryFault` in the classes below. A number that this package has no name for is `UNKNOWN_` and
     the number. `place` is the number that the library says where; each class says what it is.
 
     >>> try:
@@ -205,6 +225,22 @@ class LineRefused(Refused):
     field: Optional[str] = None
     field_number: Optional[int] = None
     text: str = ""
+
+
+class QueryRefused(Refused):
+    """A text of a query has no terms, or no ranges of them. `field` and `field_number` are the field
+    that the path names, or None where the text is no range; `place` is the field's number, or 0.
+
+    >>> schema = Schema('[{"name":"age","type":"u64","options":{"indexed":true,"stored":true}}]')
+    >>> try:
+    ...     schema.ranges_of_text("age", "[20 TO 10]")
+    ... except QueryRefused as refused:
+    ...     print(refused.reason.name, refused.field, refused.field_number)
+    BACKWARDS age 0
+    """
+
+    field: Optional[str] = None
+    field_number: Optional[int] = None
 
 
 class FieldRefused(Refused, LookupError):
@@ -319,6 +355,16 @@ def beginning(line: bytes) -> str:
     return line[: 4 * SHOWN].decode("utf-8", "replace")[:SHOWN]
 
 
+def query_refused(detail: int, place: int, field: Optional[str] = None) -> QueryRefused:
+    """That a text of a query has no terms, or no ranges. The field is its name, where it is known."""
+    reason = QueryFault(detail)
+    about = "" if field is None else f'field "{field[:SHOWN]}": '
+    error = QueryRefused(f"{about}{detail_text(Status.BAD_QUERY, detail)}", reason, place)
+    error.field = field
+    error.field_number = None if reason == QueryFault.NO_RANGE else place
+    return error
+
+
 def field_refused(name: str) -> FieldRefused:
     """That a name is no field's."""
     return FieldRefused(f'no field has the name "{name[:SHOWN]}"', Status.NO_FIELD)
@@ -336,5 +382,7 @@ def refused(answer: Answer) -> Exception:
         return MemoryError(status_text(answer.status))
     if answer.status == Status.BAD_DOCUMENT:
         return document_refused(answer.detail, answer.place)
+    if answer.status == Status.BAD_QUERY:
+        return query_refused(answer.detail, answer.place)
     reason = Status(answer.status)
     return _KINDS.get(reason, Refused)(status_text(answer.status), reason, answer.place)

@@ -2,7 +2,7 @@
 
 from __future__ import annotations
 
-from typing import Any, Callable, Iterator, Mapping, Optional, Tuple
+from typing import Any, Callable, Iterator, List, Mapping, Optional, Tuple
 
 import kormaglen._streams as _streams
 from kormaglen._arguments import Lent, View, filled, number
@@ -11,6 +11,7 @@ from kormaglen._fields import HeldSchema
 from kormaglen._handles import opened
 from kormaglen._import import ImportCounts, Imported, imported, joined
 from kormaglen._library import CALLS, LINE_ANSWER_SIZE
+from kormaglen._queries import answered, ranges_in, terms_in
 from kormaglen._refusals import LineRefused
 from kormaglen._types import Block, BlockFile, Buffer, Lines, LinesFile, TextOrBuffer
 
@@ -162,6 +163,41 @@ class Schema(HeldSchema):
         return _streams.documents(
             block, chunk_size, lambda at, size: Document._read_at(self, at, size, stored)
         )
+
+    def terms_of_text(self, path: str, text: str) -> List[bytes]:
+        """The terms that a text of a query has at what the path names, in their order. In a field that
+        isn't of JSON objects it is the one term of the value that the text writes: a number in decimal,
+        true or false, a date by RFC 3339, a facet's path, base64, an address, or the text itself. At a
+        path into JSON objects the text has the term of itself, and also those of the number, the truth
+        value and the date that it writes.
+
+        Raises FieldRefused where the path names no field, QueryRefused where the field isn't indexed,
+        the path ends at a field of JSON objects or has U+0000, or the text is no value of the field's
+        type; Closed where the schema is closed, TypeError where an argument is no `str`, ValueError for
+        a lone surrogate, MemoryError where memory is refused.
+
+        >>> Schema(SCHEMA).terms_of_text("age", "36")
+        [b'\\x00\\x00\\x00\\x00u\\x00\\x00\\x00\\x00\\x00\\x00\\x00$']
+        """
+        return list(terms_in(answered(self, path, text, CALLS.kormaglen_schema_terms_of_text)))
+
+    def ranges_of_text(self, path: str, text: str) -> List[Tuple[bytes, Optional[bytes]]]:
+        """The ranges of terms that a text of a query bounds at what the path names, in their order: the
+        terms of each are those from its start on and below its end, which is None where there is no
+        end. The text is `*`, or two bounds with ` TO ` between them: `[` and `]` stand by a bound that
+        is within the range, `{` and `}` by one that isn't, and `*` is no bound. A field that isn't of
+        JSON objects has one range. At a path into JSON objects there is a range for each kind of value
+        that both bounds write: dates, numbers below 2^63, truth values, texts, numbers from 2^63 on.
+
+        Errors are those of `terms_of_text`, and QueryRefused also where the text bounds no range or its
+        bounds run backwards.
+
+        >>> schema = Schema(SCHEMA)
+        >>> [(start, end)] = schema.ranges_of_text("age", "[10 TO 20}")
+        >>> [start <= schema.terms_of_text("age", text)[0] < end for text in ("9", "10", "19", "20")]
+        [False, True, True, False]
+        """
+        return list(ranges_in(answered(self, path, text, CALLS.kormaglen_schema_ranges_of_text)))
 
 
 def _imported(schema: Schema, piece: bytes, first: int) -> Imported:

@@ -46,6 +46,8 @@ class WrongHandles(unittest.TestCase):
     def test_methods_of_the_other_class(self) -> None:
         for call in (
             "K.Schema.find_field(document, 'age')",
+            "K.Schema.terms_of_text(document, 'age', '1')",
+            "K.Schema.ranges_of_text(document, 'age', '*')",
             "K.Schema.import_lines(document, b'{}')",
             "K.Schema.export_block(document, b'')",
             "K.Schema.to_json(document)",
@@ -214,6 +216,8 @@ print(schema.parse(Lying(b'{"age":36}')).write().hex(), K.migrate_block(2, Lying
             K.facet_of_text,
             K.Schema(SCHEMA).parse,
             K.Schema(SCHEMA).find_field,
+            lambda t: K.Schema(SCHEMA).terms_of_text(t, "1"),
+            lambda t: K.Schema(SCHEMA).ranges_of_text("age", t),
             lambda t: K.term_of_text(0, t),
         ):
             with self.assertRaises(ValueError):
@@ -277,6 +281,8 @@ class HalfMade(unittest.TestCase):
                 each.to_json,
                 lambda: each.parse("{}"),
                 lambda: each.find_field("a"),
+                lambda: each.terms_of_text("a", "b"),
+                lambda: each.ranges_of_text("a", "*"),
                 each.__enter__,
                 lambda: hash(each),
             ):

@@ -20,12 +20,14 @@ ENUMS: Dict[str, Type[enum.IntEnum]] = {
     "kormaglen_schema_detail": K.SchemaFault,
     "kormaglen_document_detail": K.DocumentFault,
     "kormaglen_line_status": K.LineStatus,
+    "kormaglen_query_detail": K.QueryFault,
 }
 PREFIXES = {
     "kormaglen_status": "KORMAGLEN_",
     "kormaglen_schema_detail": "KORMAGLEN_SCHEMA_",
     "kormaglen_document_detail": "KORMAGLEN_DOCUMENT_",
     "kormaglen_line_status": "KORMAGLEN_LINE_",
+    "kormaglen_query_detail": "KORMAGLEN_QUERY_",
 }
 # The package makes a handle for one call instead.
 BY_A_HANDLE = {"import_lines", "find_field"}

@@ -150,6 +150,75 @@ class Fields(unittest.TestCase):
         with self.assertRaises(TypeError):
             schema.find_field(b"age")
 
+    def test_terms_of_text(self) -> None:
+        schema = K.Schema(SCHEMA)
+        # The number of the field with its highest byte first, the letter of the type, and the value's bytes.
+        self.assertEqual(schema.terms_of_text("age", "258"), [b"\0\0\0\x01u\0\0\0\0\0\0\x01\x02"])
+        self.assertEqual(schema.terms_of_text("group", "/a/b"), [b"\0\0\0\x05ha\0b"])
+
+    def test_terms_below_json(self) -> None:
+        # A text that is a number has the term of both, of a signed number with its highest bit turned.
+        below = b"\0\0\0\0ja\x01b\0"
+        with K.SchemaBuilder().json_object("j", indexing=K.STRING).build() as schema:
+            self.assertEqual(
+                schema.terms_of_text("j.a.b", "7"), [below + b"s7", below + b"i\x80\0\0\0\0\0\0\x07"]
+            )
+            ranges = schema.ranges_of_text("j.a.b", "[7 TO 9]")
+            self.assertEqual(len(ranges), 2)
+            for text, places in (("6", []), ("7", [0, 1]), ("9", [0, 1]), ("89", [1])):
+                within = {
+                    place
+                    for place, (start, end) in enumerate(ranges)
+                    for term in schema.terms_of_text("j.a.b", text)
+                    if start <= term and (end is None or term < end)
+                }
+                self.assertEqual(sorted(within), places, text)
+
+    def test_ranges_of_text(self) -> None:
+        schema = K.Schema(SCHEMA)
+        for text, numbers in (
+            ("*", [9, 10, 19, 20, 21]),
+            ("[10 TO 20]", [10, 19, 20]),
+            ("[10 TO 20}", [10, 19]),
+            ("{10 TO *]", [19, 20, 21]),
+            ("{* TO 10}", [9]),
+        ):
+            [(start, end)] = schema.ranges_of_text("age", text)
+            terms = {number: schema.terms_of_text("age", str(number))[0] for number in (9, 10, 19, 20, 21)}
+            found = [
+                number for number, term in terms.items() if start <= term and (end is None or term < end)
+            ]
+            self.assertEqual(found, numbers, text)
+
+    def test_refused_queries(self) -> None:
+        schema = K.Schema(SCHEMA)
+        rows = [
+            ("height", "[1 TO 2]", K.QueryFault.NOT_INDEXED, "height", 2),
+            ("age", "[x TO 2]", K.QueryFault.WRONG_TYPE, "age", 1),
+            ("age", "[2 TO 1]", K.QueryFault.BACKWARDS, "age", 1),
+            ("group", "[a TO *]", K.QueryFault.BAD_TEXT, "group", 5),
+            ("age", "1", K.QueryFault.NO_RANGE, None, None),
+        ]
+        for path, text, reason, field, number in rows:
+            with self.subTest(text), self.assertRaises(K.QueryRefused) as caught:
+                schema.ranges_of_text(path, text)
+            error = caught.exception
+            self.assertEqual((error.reason, error.field, error.field_number), (reason, field, number))
+            self.assertEqual(error.place, number or 0)
+        with K.SchemaBuilder().json_object("j", indexing=K.STRING).build() as other:
+            for path, fault in (("j", K.QueryFault.PATH_ENDS), ("j.\0", K.QueryFault.NUL_IN_PATH)):
+                for call in (other.terms_of_text, other.ranges_of_text):
+                    with self.assertRaises(K.QueryRefused) as refused:
+                        call(path, "*")
+                    self.assertEqual((refused.exception.reason, refused.exception.field), (fault, "j"))
+        for call in (schema.terms_of_text, schema.ranges_of_text):
+            with self.assertRaisesRegex(K.FieldRefused, "nothing"):
+                call("nothing", "*")
+            with self.assertRaisesRegex(TypeError, "^text: "):
+                call("age", b"1")  # type: ignore[arg-type]
+            with self.assertRaisesRegex(TypeError, "^path: "):
+                call(1, "1")  # type: ignore[arg-type]
+
     def test_equality(self) -> None:
         one, other = K.Schema(SCHEMA), K.Schema(json.dumps(ENTRIES, indent=2))
         self.assertEqual(one, other)

@@ -62,6 +62,7 @@ class Threads(unittest.TestCase):
                 assert schema.import_lines('{"age":%d}' % age).block[6:14] == age.to_bytes(8, "little")
                 assert schema.export_block(AGE_36) == b'{"age":[36]}\n'
                 assert schema.find_field("more.k") == (7, "k")
+                assert schema.terms_of_text("age", str(age))[0][5:] == age.to_bytes(8, "big")
 
         self.assertEqual(in_threads(2, work), [])
 

@@ -64,6 +64,9 @@ def streams(by: K.Schema) -> Dict[str, int]:
     fields: Tuple[K.Field, ...] = by.fields
     number, rest = by.find_field("more.k")
     assert rest == "k" and fields[number].name == "more"
+    terms: List[bytes] = by.terms_of_text("age", "1")
+    ranges: List[Tuple[bytes, Optional[bytes]]] = by.ranges_of_text("age", "[1 TO 2}")
+    assert ranges[0][0] <= terms[0]
     return {
         "parts": len(list(parts)),
         "lines": counts.lines,

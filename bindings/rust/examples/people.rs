@@ -1,5 +1,6 @@
 //! Imports lines of JSON into a block of stored documents, reads them back, sorts the terms of a
-//! field and finds those of a range, finds a field and a facet, and handles one document alone.
+//! field and finds those of a range, finds a field and a facet, finds documents by texts of queries,
+//! and handles one document alone.
 
 use kormaglen::{
     end_of_prefix, facet_of_text, migrate_block, term_of_text, terms, text_of_facet, Document,
@@ -35,6 +36,9 @@ fn main() -> Result<(), Refusal> {
         let field = schema.find_field(path)?;
         println!("field {}, path '{}'", field.number, field.rest);
     }
+    print_between(&mut schema, &imported.block, "age", "[7 TO 36}")?;
+    print_query(&mut schema, "age", "36")?;
+    print_query(&mut schema, "more.tags", "new")?;
     print_one(&mut schema)?;
     let encoded = facet_of_text("/staff/research")?;
     println!("{} takes {} bytes", text_of_facet(&encoded)?, encoded.len());
@@ -51,6 +55,34 @@ fn print_range(block: &[u8], prefix: &str) -> Result<(), Refusal> {
     for term in found {
         // The text stands behind the field's number and the code of texts.
         println!("document {}: {}", term.document, String::from_utf8_lossy(&term.bytes[5..]));
+    }
+    Ok(())
+}
+
+/// Prints the documents that have a value between the bounds of a text.
+fn print_between(schema: &mut Schema, block: &[u8], path: &str, text: &str) -> Result<(), Refusal> {
+    let field = schema.find_field(path)?.number;
+    let ranges = schema.ranges_of_text(path, text)?;
+    for term in terms(field, Version::V2, block) {
+        let term = term?;
+        if ranges.iter().any(|range| range.contains(&term.bytes)) {
+            println!("{path} {text}: document {}", term.document);
+        }
+    }
+    Ok(())
+}
+
+/// Prints how many terms a text of a query has, or why it has none.
+fn print_query(schema: &mut Schema, path: &str, text: &str) -> Result<(), Refusal> {
+    match schema.terms_of_text(path, text) {
+        Ok(terms) => {
+            // In a list of the library's each term stands behind its length.
+            let bytes: usize = terms.iter().map(|term| 8 + term.len()).sum();
+            println!("{path} {text}: {} term, {bytes} bytes", terms.len());
+        }
+        // It prints the field and the reason.
+        Err(Refusal::BadQuery(refusal)) => println!("{refusal}"),
+        Err(other) => return Err(other),
     }
     Ok(())
 }

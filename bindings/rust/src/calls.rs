@@ -153,6 +153,24 @@ mod c {
             path_len: usize,
             found: *mut FoundField,
         ) -> Answer;
+        pub(super) fn kormaglen_schema_terms_of_text(
+            schema: *mut Handle,
+            path: *const u8,
+            path_len: usize,
+            text: *const u8,
+            text_len: usize,
+            terms: *mut u8,
+            terms_len: usize,
+        ) -> Answer;
+        pub(super) fn kormaglen_schema_ranges_of_text(
+            schema: *mut Handle,
+            path: *const u8,
+            path_len: usize,
+            text: *const u8,
+            text_len: usize,
+            ranges: *mut u8,
+            ranges_len: usize,
+        ) -> Answer;
         pub(super) fn kormaglen_document_read(
             version: u32,
             bytes: *const u8,
@@ -351,6 +369,38 @@ impl SchemaHandle {
         let handle = &mut self.0;
         // SAFETY: the slice is read, and `found` is written. The handle is lent to this call alone.
         unsafe { c::kormaglen_schema_find_field(handle, path.as_ptr(), path.len(), found) }
+    }
+
+    pub(crate) fn terms_of_text(&mut self, path: &[u8], text: &[u8], terms: &mut [u8]) -> Answer {
+        // SAFETY: all three are slices, and the one that is written overlaps no other. The handle
+        // is lent to this call alone.
+        unsafe {
+            c::kormaglen_schema_terms_of_text(
+                &mut self.0,
+                path.as_ptr(),
+                path.len(),
+                text.as_ptr(),
+                text.len(),
+                terms.as_mut_ptr(),
+                terms.len(),
+            )
+        }
+    }
+
+    pub(crate) fn ranges_of_text(&mut self, path: &[u8], text: &[u8], ranges: &mut [u8]) -> Answer {
+        // SAFETY: all three are slices, and the one that is written overlaps no other. The handle
+        // is lent to this call alone.
+        unsafe {
+            c::kormaglen_schema_ranges_of_text(
+                &mut self.0,
+                path.as_ptr(),
+                path.len(),
+                text.as_ptr(),
+                text.len(),
+                ranges.as_mut_ptr(),
+                ranges.len(),
+            )
+        }
     }
 }
 

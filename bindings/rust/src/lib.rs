@@ -22,6 +22,7 @@
 //! | read its documents one by one | [`documents()`] |
 //! | list the terms of a field | [`terms()`], all at once [`terms_of_block`] |
 //! | find the terms of a prefix | [`term_of_text`], [`end_of_prefix`] |
+//! | find those of a query's text | [`Schema::terms_of_text`], [`Schema::ranges_of_text`] |
 //!
 //! A [`Document`] is one document at a time. [`Schema::find_field`] finds the field that a path
 //! names, and [`facet_of_text`] and [`text_of_facet`] encode and print facets.
@@ -49,6 +50,7 @@ mod calls;
 mod document;
 mod documents;
 mod facets;
+mod queries;
 mod reader;
 mod reasons;
 mod refusal;
@@ -59,9 +61,10 @@ pub use blocks::{export_block, import_lines, migrate_block, Imported, Version};
 pub use document::Document;
 pub use documents::{documents, Documents};
 pub use facets::{facet_of_text, text_of_facet};
+pub use queries::TermRange;
 pub use reader::{ImportError, ImportedBlocks};
-pub use reasons::{ArgumentReason, DocumentReason, LineReason, SchemaReason};
-pub use refusal::{LineRefusal, Refusal};
+pub use reasons::{ArgumentReason, DocumentReason, LineReason, QueryReason, SchemaReason};
+pub use refusal::{LineRefusal, QueryRefusal, Refusal};
 pub use schema::{find_field, Field, Schema};
 pub use terms::{end_of_prefix, term_of_text, terms, terms_of_block, Term, Terms};
 

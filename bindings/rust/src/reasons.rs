@@ -9,6 +9,8 @@ pub(crate) const BAD_SCHEMA: u32 = 6;
 pub(crate) const BAD_DOCUMENT: u32 = 8;
 /// The library's status of a line that is refused.
 pub(crate) const BAD_LINE: u32 = 11;
+/// The library's status of a text of a query that is refused.
+pub(crate) const BAD_QUERY: u32 = 13;
 /// The library's status of a pointer that is refused.
 pub(crate) const BAD_ARGUMENT: u32 = 16;
 
@@ -202,6 +204,46 @@ reasons! {
 }
 
 reasons! {
+    /// Why a text of a query has no terms, or no ranges of them.
+    ///
+    /// ```
+    /// use kormaglen::{QueryReason, Refusal, Schema};
+    ///
+    /// let json = br#"[{"name":"age","type":"u64","options":{"indexed":true,"stored":true}}]"#;
+    /// let mut schema = Schema::open(json)?;
+    /// match schema.ranges_of_text("age", "[20 TO 10]") {
+    ///     Err(Refusal::BadQuery(refusal)) => {
+    ///         assert_eq!(refusal.reason, QueryReason::Backwards);
+    ///         assert_eq!(refusal.reason.number(), 5);
+    ///     }
+    ///     other => panic!("{other:?}"),
+    /// }
+    /// # Ok::<(), Refusal>(())
+    /// ```
+    QueryReason, of BAD_QUERY;
+    /// The field isn't indexed.
+    NotIndexed = 1,
+    /// The path ends at a field of JSON objects.
+    PathEnds = 2,
+    /// The path below a field of JSON objects has U+0000.
+    NulInPath = 3,
+    /// The text is neither `*` nor two bounds in brackets with ` TO ` between them.
+    NoRange = 4,
+    /// The range's start is above its end.
+    Backwards = 5,
+    /// A number doesn't fit the field's type. Kept for numbers that are no texts.
+    Overflow = 12,
+    /// A text is no number that fits, no truth value or no date, whichever the field has.
+    WrongType = 13,
+    /// A date is out of its range, or a text is no address or facet.
+    BadText = 14,
+    /// A text isn't the standard base64 of any bytes.
+    BadBase64 = 15,
+    /// A number isn't whole, or doesn't fit 64 bits. Kept for numbers that are no texts.
+    Float = 16,
+}
+
+reasons! {
     /// Why a pointer of a call is refused. What this crate hands over is never refused so.
     ///
     /// ```
@@ -219,6 +261,13 @@ reasons! {
     Unaligned = 3,
     /// The buffer overlaps one that stands before it in the call, and one of the two is written.
     Overlap = 4,
+}
+
+impl QueryReason {
+    /// Whether the reason is about one field.
+    pub(crate) fn has_field(self) -> bool {
+        self != QueryReason::NoRange
+    }
 }
 
 impl LineReason {

@@ -1,8 +1,8 @@
 //! Why a call was refused.
 
 use crate::calls::{self, Answer};
-use crate::reasons::{ArgumentReason, DocumentReason, LineReason, SchemaReason};
-use crate::reasons::{BAD_ARGUMENT, BAD_DOCUMENT, BAD_LINE, BAD_SCHEMA};
+use crate::reasons::{ArgumentReason, DocumentReason, LineReason, QueryReason, SchemaReason};
+use crate::reasons::{BAD_ARGUMENT, BAD_DOCUMENT, BAD_LINE, BAD_QUERY, BAD_SCHEMA};
 use std::error::Error;
 use std::fmt;
 
@@ -73,6 +73,8 @@ pub enum Refusal {
         /// The field's number.
         field: u32,
     },
+    /// A text of a query has no terms, or no ranges of them.
+    BadQuery(QueryRefusal),
     /// The document's value holds nothing.
     Closed,
     /// A pointer of the call is refused. What this crate hands over is never refused so.
@@ -113,6 +115,7 @@ impl Refusal {
             Refusal::NoEnd => NO_END,
             Refusal::BadLine(_) => BAD_LINE,
             Refusal::ForeignField { .. } => FOREIGN_FIELD,
+            Refusal::BadQuery(_) => BAD_QUERY,
             Refusal::Closed => CLOSED,
             Refusal::BadArgument { .. } => BAD_ARGUMENT,
             Refusal::Unknown { status, .. } => *status,
@@ -141,6 +144,7 @@ impl fmt::Display for Refusal {
             Refusal::BadDocument { reason, start } => write!(f, ": at byte {start}: {reason}"),
             Refusal::BadLine(line) => write!(f, ": {line}"),
             Refusal::ForeignField { field } => write!(f, ": field {field}"),
+            Refusal::BadQuery(query) => write!(f, ": {query}"),
             Refusal::BadArgument { reason, pointer } => write!(f, ": pointer {pointer}: {reason}"),
             Refusal::Unknown { status, detail, place } => {
                 write!(f, ": status {status}, detail {detail}, place {place}")
@@ -193,6 +197,50 @@ impl fmt::Display for LineRefusal {
 
 impl Error for LineRefusal {}
 
+/// Why a text of a query has no terms, or no ranges of them. It prints as the number of the field,
+/// and the library's words for the reason.
+///
+/// ```
+/// use kormaglen::{QueryReason, Refusal, Schema};
+///
+/// let json = br#"[{"name":"age","type":"u64","options":{"indexed":true,"stored":true}}]"#;
+/// match Schema::open(json)?.terms_of_text("age", "old") {
+///     Err(Refusal::BadQuery(refusal)) => {
+///         assert_eq!(refusal.reason, QueryReason::WrongType);
+///         assert_eq!(refusal.field, Some(0));
+///         assert!(refusal.to_string().starts_with("field 0: "));
+///     }
+///     other => panic!("{other:?}"),
+/// }
+/// # Ok::<(), Refusal>(())
+/// ```
+#[non_exhaustive]
+#[derive(Clone, Copy, Debug, PartialEq, Eq, Hash)]
+pub struct QueryRefusal {
+    /// Why it hasn't.
+    pub reason: QueryReason,
+    /// The number of the field that the path names, unless the text is no range.
+    pub field: Option<u32>,
+}
+
+impl QueryRefusal {
+    fn of_numbers(detail: u32, field: u32) -> QueryRefusal {
+        let reason = QueryReason::of_number(detail);
+        QueryRefusal { reason, field: reason.has_field().then_some(field) }
+    }
+}
+
+impl fmt::Display for QueryRefusal {
+    fn fmt(&self, f: &mut fmt::Formatter<'_>) -> fmt::Result {
+        match self.field {
+            Some(field) => write!(f, "field {field}: {}", self.reason),
+            None => write!(f, "{}", self.reason),
+        }
+    }
+}
+
+impl Error for QueryRefusal {}
+
 impl Answer {
     /// The answer itself, unless it is a refusal.
     pub(crate) fn accepted(self) -> Result<Answer, Refusal> {
@@ -227,6 +275,7 @@ impl Answer {
             (NO_END, _) => Refusal::NoEnd,
             (BAD_LINE, Ok(field)) => Refusal::BadLine(LineRefusal::of_numbers(detail, field)),
             (FOREIGN_FIELD, Ok(field)) => Refusal::ForeignField { field },
+            (BAD_QUERY, Ok(field)) => Refusal::BadQuery(QueryRefusal::of_numbers(detail, field)),
             (CLOSED, _) => Refusal::Closed,
             (BAD_ARGUMENT, _) => {
                 Refusal::BadArgument { reason: ArgumentReason::of_number(detail), pointer: place }
@@ -239,7 +288,7 @@ impl Answer {
 #[cfg(test)]
 mod tests {
     use super::{calls, Answer, Refusal};
-    use crate::reasons::{ArgumentReason, DocumentReason, LineReason, SchemaReason};
+    use crate::reasons::{ArgumentReason, DocumentReason, LineReason, QueryReason, SchemaReason};
 
     fn refused(status: u32, detail: u32, place: u64) -> Refusal {
         Answer { status, detail, place, bytes: 7, lines: 0 }.accepted().unwrap_err()
@@ -263,6 +312,7 @@ mod tests {
                 (6, matches!(SchemaReason::of_number(number), SchemaReason::Unknown(_))),
                 (8, matches!(DocumentReason::of_number(number), DocumentReason::Unknown(_))),
                 (11, matches!(LineReason::of_number(number), LineReason::Unknown(_))),
+                (13, matches!(QueryReason::of_number(number), QueryReason::Unknown(_))),
                 (16, matches!(ArgumentReason::of_number(number), ArgumentReason::Unknown(_))),
             ];
             for (status, is_unknown) in names {
@@ -286,6 +336,7 @@ mod tests {
         let unknown = Refusal::Unknown { status: 12, detail: 0, place };
         assert_eq!(refused(12, 0, place), unknown);
         assert_eq!(refused(11, 3, place), Refusal::Unknown { status: 11, detail: 3, place });
+        assert_eq!(refused(13, 1, place), Refusal::Unknown { status: 13, detail: 1, place });
         assert_eq!(refused(12, 0, place - 1), Refusal::ForeignField { field: u32::MAX });
     }
 

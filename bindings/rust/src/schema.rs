@@ -1,8 +1,9 @@
 //! A schema that is read once, and the field that a path names.
 
 use crate::blocks::{exported, imported, Imported, Version};
-use crate::buffer::{filled_text, size};
+use crate::buffer::{filled, filled_text, size};
 use crate::calls::{self, Answer, FoundField, SchemaHandle};
+use crate::queries::{ranges_in, terms_in, TermRange};
 use crate::reader::ImportedBlocks;
 use crate::refusal::Refusal;
 use std::fmt;
@@ -10,6 +11,9 @@ use std::io::Read;
 
 /// How many bytes of a schema's JSON are asked for at first.
 const FIRST_ROOM: usize = 4096;
+
+/// How many bytes of terms or ranges are asked for at first.
+const QUERY_ROOM: usize = 256;
 
 /// A schema whose JSON is read once, for any number of calls, and the memory that reading lines
 /// needs. It is given up where its value ends.
@@ -170,6 +174,61 @@ impl Schema {
     /// `NoField` where the path names none.
     pub fn find_field<'p>(&mut self, path: &'p str) -> Result<Field<'p>, Refusal> {
         found(path, |found| self.handle.find_field(path.as_bytes(), found))
+    }
+
+    /// The terms that a text of a query has at what the path names, in their order. In a field that
+    /// isn't of JSON objects it is the one term of the value that the text writes: a number in
+    /// decimal, true or false, a date by RFC 3339, a facet's path, base64, an address, or the text
+    /// itself. At a path into JSON objects the text has the term of itself, and also those of the
+    /// number, the truth value and the date that it writes.
+    ///
+    /// ```
+    /// let mut schema = kormaglen::Schema::open(
+    ///     br#"[{"name":"age","type":"u64","options":{"indexed":true,"stored":true}}]"#,
+    /// )?;
+    /// let terms = schema.terms_of_text("age", "258")?;
+    /// // The number of the field, the code of numbers, and the number with its highest byte first.
+    /// assert_eq!(terms, [b"\0\0\0\0u\0\0\0\0\0\0\x01\x02"]);
+    /// # Ok::<(), kormaglen::Refusal>(())
+    /// ```
+    ///
+    /// # Errors
+    ///
+    /// `NoField` where the path names none, `BadQuery` where the field isn't indexed, the path ends
+    /// at a field of JSON objects or has U+0000, or the text is no value of the field's type;
+    /// `Memory`, `TooLarge`.
+    pub fn terms_of_text(&mut self, path: &str, text: &str) -> Result<Vec<Vec<u8>>, Refusal> {
+        let (path, text) = (path.as_bytes(), text.as_bytes());
+        terms_in(&filled(QUERY_ROOM, |terms| self.handle.terms_of_text(path, text, terms))?)
+    }
+
+    /// The ranges of terms that a text of a query bounds at what the path names, in their order.
+    /// The text is `*`, or two bounds with ` TO ` between them: `[` and `]` stand by a bound that is
+    /// within the range, `{` and `}` by one that isn't, and `*` is no bound. A field that isn't of
+    /// JSON objects has one range. At a path into JSON objects there is a range for each kind of
+    /// value that both bounds write: dates, numbers below 2^63, truth values, texts, and numbers
+    /// from 2^63 on.
+    ///
+    /// ```
+    /// let mut schema = kormaglen::Schema::open(
+    ///     br#"[{"name":"age","type":"u64","options":{"indexed":true,"stored":true}}]"#,
+    /// )?;
+    /// let ranges = schema.ranges_of_text("age", "[10 TO 20}")?;
+    /// assert_eq!(ranges.len(), 1);
+    /// for (text, is_within) in [("9", false), ("10", true), ("19", true), ("20", false)] {
+    ///     let term = &schema.terms_of_text("age", text)?[0];
+    ///     assert_eq!(ranges[0].contains(term), is_within);
+    /// }
+    /// # Ok::<(), kormaglen::Refusal>(())
+    /// ```
+    ///
+    /// # Errors
+    ///
+    /// Those of `terms_of_text` for the path and each bound, and `BadQuery` where the text bounds no
+    /// range or the bounds run backwards.
+    pub fn ranges_of_text(&mut self, path: &str, text: &str) -> Result<Vec<TermRange>, Refusal> {
+        let (path, text) = (path.as_bytes(), text.as_bytes());
+        ranges_in(&filled(QUERY_ROOM, |ranges| self.handle.ranges_of_text(path, text, ranges))?)
     }
 
     pub(crate) fn handle(&mut self) -> &mut SchemaHandle {

@@ -70,6 +70,49 @@ fn the_terms_of_a_prefix_have_ends() {
     assert_eq!(end_of_prefix(b"a\xff\xff").unwrap(), b"b");
 }
 
+/// Fields that are indexed: 0 of texts, 1 of numbers, 2 of JSON objects.
+const INDEXED: &[u8] = br#"[{"name":"s","type":"text","options":{"indexing":{}}},
+{"name":"u","type":"u64","options":{"indexed":true,"stored":true}},
+{"name":"j","type":"json_object","options":{"stored":true,"fast":false,"indexing":{}}}]"#;
+
+#[test]
+fn texts_of_queries_have_terms() {
+    let mut schema = Schema::open(INDEXED).unwrap();
+    assert_eq!(schema.terms_of_text("s", "Ada L").unwrap(), [b"\0\0\0\0sAda L"]);
+    let number = schema.terms_of_text("u", "258").unwrap();
+    assert_eq!(number, [b"\0\0\0\x01u\0\0\0\0\0\0\x01\x02"]);
+    // Below JSON objects the keys stand behind the field, and a text that is a number has both
+    // terms. Of a signed number the highest bit is turned.
+    let below = schema.terms_of_text("j.a.b", "7").unwrap();
+    let (text, signed) =
+        (&b"\0\0\0\x02ja\x01b\0s7"[..], &b"\0\0\0\x02ja\x01b\0i\x80\0\0\0\0\0\0\x07"[..]);
+    assert_eq!(below, [text, signed]);
+    // This needs more room than the first buffer has.
+    let long = "n".repeat(5000);
+    assert_eq!(schema.terms_of_text("s", &long).unwrap()[0][5..], *long.as_bytes());
+}
+
+#[test]
+fn texts_of_queries_bound_ranges() {
+    let mut schema = Schema::open(INDEXED).unwrap();
+    for (text, wanted) in [
+        ("*", [true; 4]),
+        ("[10 TO 20}", [false, true, true, false]),
+        ("{10 TO *]", [false, false, true, true]),
+        ("{* TO 10}", [true, false, false, false]),
+    ] {
+        let ranges = schema.ranges_of_text("u", text).unwrap();
+        assert_eq!(ranges.len(), 1);
+        let within = ["9", "10", "19", "20"].map(|number| {
+            let term = schema.terms_of_text("u", number).unwrap().remove(0);
+            ranges[0].contains(&term)
+        });
+        assert_eq!(within, wanted, "{text}");
+    }
+    // Of numbers, and of texts.
+    assert_eq!(schema.ranges_of_text("j.a", "[7 TO 9]").unwrap().len(), 2);
+}
+
 #[test]
 fn a_schema_is_used_many_times() {
     let mut schema = Schema::open(SCHEMA).unwrap();

@@ -5,8 +5,8 @@ mod common;
 use common::SCHEMA;
 use kormaglen::{
     end_of_prefix, export_block, facet_of_text, find_field, import_lines, migrate_block,
-    terms_of_block, text_of_facet, Document, DocumentReason, LineReason, Refusal, Schema,
-    SchemaReason, Version,
+    terms_of_block, text_of_facet, Document, DocumentReason, LineReason, QueryReason, Refusal,
+    Schema, SchemaReason, Version,
 };
 use std::error::Error;
 use std::fmt::Display;
@@ -205,6 +205,52 @@ fn a_foreign_field_is_refused_with_its_number() {
     assert!(refusal.to_string().contains("258"));
     // The document stays, and is printed without the field.
     assert_eq!(document.to_json(&mut schema).unwrap(), "{}");
+}
+
+fn expect_query(
+    refused: Option<Refusal>,
+    wanted: QueryReason,
+    number: u32,
+    wanted_field: Option<u32>,
+) {
+    let Some(Refusal::BadQuery(refusal)) = refused else { panic!("{refused:?}") };
+    assert_eq!((refusal.reason, refusal.field), (wanted, wanted_field));
+    assert_eq!(refusal.reason.number(), number);
+    expect_words(refusal);
+    expect_status(Refusal::BadQuery(refusal), 13);
+    let named = wanted_field.map(|field| format!("field {field}: "));
+    assert!(named.map_or(true, |named| refusal.to_string().starts_with(&named)));
+}
+
+#[test]
+fn a_query_is_refused_with_the_reason_and_the_field() {
+    let mut schema = Schema::open(
+        br#"[{"name":"s","type":"text","options":{}},
+{"name":"u","type":"u64","options":{"indexed":true,"stored":true}},
+{"name":"f","type":"facet","options":{"stored":true}},
+{"name":"y","type":"bytes","options":{"indexed":true,"fast":false,"stored":true}},
+{"name":"j","type":"json_object","options":{"stored":true,"fast":false,"indexing":{}}}]"#,
+    )
+    .unwrap();
+    let rows = [
+        ("s", "x", QueryReason::NotIndexed, 1, 0),
+        ("j", "x", QueryReason::PathEnds, 2, 4),
+        ("j.a\0", "x", QueryReason::NulInPath, 3, 4),
+        ("u", "x", QueryReason::WrongType, 13, 1),
+        ("u", "18446744073709551616", QueryReason::WrongType, 13, 1),
+        ("f", "x", QueryReason::BadText, 14, 2),
+        ("y", "!", QueryReason::BadBase64, 15, 3),
+    ];
+    for (path, text, reason, number, field) in rows {
+        expect_query(schema.terms_of_text(path, text).err(), reason, number, Some(field));
+        let range = format!("[{text} TO *]");
+        expect_query(schema.ranges_of_text(path, &range).err(), reason, number, Some(field));
+    }
+    let backwards = schema.ranges_of_text("u", "[2 TO 1]").err();
+    expect_query(backwards, QueryReason::Backwards, 5, Some(1));
+    expect_query(schema.ranges_of_text("none", "1").err(), QueryReason::NoRange, 4, None);
+    assert_eq!(schema.ranges_of_text("none", "*"), Err(Refusal::NoField));
+    assert_eq!(schema.terms_of_text("none", "1"), Err(Refusal::NoField));
 }
 
 #[test]

@@ -19,6 +19,7 @@ ghost use Rattle.tv_store.specs.BlockMigration.{IsMigrated};
 
 pub mod documents;
 pub mod handles;
+pub mod queries;
 
 use std::alloc::Global;
 use tv_blocks::status::{Answer, error_answer, import_answer, written_answer, wrong_version};

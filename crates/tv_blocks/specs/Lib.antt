@@ -6,5 +6,7 @@ pub mod Schemas
 pub mod Fields
 pub mod Blocks
 pub mod Imports
+pub mod QueryRefusals
+pub mod Query
 pub mod Status
 pub mod Terms

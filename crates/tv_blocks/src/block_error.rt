@@ -5,6 +5,7 @@ ghost use Rattle.tv_blocks.specs.declared.block_error.BlockError.TheVariants.{Me
 ghost use Rattle.tv_blocks.specs.Refusals.{document_refusal};
 
 use crate::line_refusal::LineRefusal;
+use crate::query_refusal::QueryRefusal;
 use std::alloc::AllocError;
 use thiserror::Error;
 use tv_base::Cause;
@@ -92,6 +93,9 @@ pub enum BlockError {
         /// The field's number.
         field: u32,
     },
+    /// A text of a query has no terms, or no ranges of them.
+    #[error("{0}")]
+    BadQuery(QueryRefusal),
 }
 
 impl From<TermError> for BlockError {

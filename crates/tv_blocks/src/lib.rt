@@ -15,6 +15,8 @@ pub mod line_document;
 pub mod line_refusal;
 mod lines;
 pub mod migration;
+pub mod query;
+pub mod query_refusal;
 pub mod schema_text;
 pub mod status;
 pub mod terms;
@@ -28,6 +30,8 @@ pub use import::{Imported, LineAnswer, LineOutcome, import_lines, import_lines_b
 pub use line_document::parse_line;
 pub use line_refusal::{LineRefusal, ValueRefusal};
 pub use migration::migrate_block;
+pub use query::{ranges_of_text, terms_of_text};
+pub use query_refusal::QueryRefusal;
 pub use schema_text::{print_schema, read_schema};
 pub use status::Answer;
 pub use terms::{end_of_prefix, term_of_text, terms_of_block};

@@ -25,6 +25,21 @@ pub enum ValueRefusal {
     FloatNumber,
 }
 
+impl ValueRefusal {
+    /// Its number, from 2, in the order of the variants.
+    pub fn number(self) -> u32
+        ensures { result ≡ value_number self }
+    {
+        match self {
+            ValueRefusal::Overflow => 2,
+            ValueRefusal::WrongType => 3,
+            ValueRefusal::BadText => 4,
+            ValueRefusal::BadBase64 => 5,
+            ValueRefusal::FloatNumber => 6,
+        }
+    }
+}
+
 /// Why there is no document of a line. (Not in tantivy.)
 #[derive(Clone, Copy, Debug, PartialEq, Eq, Drop, Error)]
 pub enum LineRefusal {
@@ -44,19 +59,6 @@ pub enum LineRefusal {
     HeapFull,
 }
 
-// The number of a value's refusal.
-fn value_number(refusal: ValueRefusal) -> u32
-    ensures { result ≡ value_number refusal }
-{
-    match refusal {
-        ValueRefusal::Overflow => 2,
-        ValueRefusal::WrongType => 3,
-        ValueRefusal::BadText => 4,
-        ValueRefusal::BadBase64 => 5,
-        ValueRefusal::FloatNumber => 6,
-    }
-}
-
 impl LineRefusal {
     /// Its number: 1 where the line is no JSON object, 2 to 6 for the refusals of a value in the order of `ValueRefusal`, 7 where the values
     /// have no room.
@@ -65,7 +67,7 @@ impl LineRefusal {
     {
         match self {
             LineRefusal::InvalidJson => 1,
-            LineRefusal::BadValue { refusal, .. } => value_number(refusal),
+            LineRefusal::BadValue { refusal, .. } => refusal.number(),
             LineRefusal::HeapFull => 7,
         }
     }
