@@ -33,8 +33,11 @@ static bool append_field(call *it, buffer *to, field_terms *of) {
 
 static bool fill(call *it, cursor *to) {
     field_terms of = {0};
-    if (!version_argument(it, 1, 1, &of.version) || !blob_argument(it, 2, &of.blob)
-        || !read_document(it, of.version, of.blob, &it->schema->document) || !read_names(it)) {
+    if (!version_argument(it, 1, 1, &of.version) || !blob_argument(it, 2, &of.blob)) {
+        return false;
+    }
+    note_size(it->schema, of.blob.len);
+    if (!read_document(it, of.version, of.blob, &it->schema->document) || !read_names(it)) {
         return false;
     }
     for (size_t field = 0; field < it->schema->fields; field++) {

@@ -50,6 +50,7 @@ void store_line(call *it) {
         return;
     }
     opened_schema *schema = it->schema;
+    note_size(schema, line.len);
     kormaglen_answer parsed = kormaglen_document_parse(&schema->schema, line.start, line.len, &schema->document);
     if (parsed.status != KORMAGLEN_OK) {
         refuse(it, parsed);
@@ -61,8 +62,11 @@ void store_line(call *it) {
 void print_document(call *it) {
     uint32_t version;
     bytes blob;
-    if (schema_argument(it) && version_argument(it, 1, 1, &version) && blob_argument(it, 2, &blob)
-        && read_document(it, version, blob, &it->schema->document)) {
+    if (!schema_argument(it) || !version_argument(it, 1, 1, &version) || !blob_argument(it, 2, &blob)) {
+        return;
+    }
+    note_size(it->schema, blob.len);
+    if (read_document(it, version, blob, &it->schema->document)) {
         give_text(it, write_json, it->schema, 3 * blob.len + 128);
     }
 }

@@ -3,6 +3,9 @@
 
 SQLITE_EXTENSION_INIT1
 
+/* The first version of SQLite that has its JSON functions wherever they aren't left out. */
+enum { OLDEST = 3038000 };
+
 static void give_version(call *it) {
     sqlite3_result_text(it->context, kormaglen_version(), -1, SQLITE_STATIC);
 }
@@ -76,16 +79,23 @@ static int create_function(sqlite3 *db, const function *it, shelf *shelf) {
     return sqlite3_create_function_v2(db, it->signature.name, count_arguments(&it->signature), flags, data, run, NULL, NULL, end_function);
 }
 
-#ifdef _WIN32
-__declspec(dllexport)
-#elif defined(__GNUC__)
-__attribute__((visibility("default")))
-#endif
-    int sqlite3_kormaglen_init(sqlite3 *db, char **message, const sqlite3_api_routines *api);
+/* The extension isn't there, and says why. */
+static int end_init(char **message, int code, const char *why) {
+    if (message != NULL) {
+        *message = sqlite3_mprintf("kormaglen: %s", why);
+    }
+    return code;
+}
+
+/* The one name that is seen from outside. SQLite finds it by the name of the file, kormaglen.so. */
+__attribute__((visibility("default"))) int sqlite3_kormaglen_init(sqlite3 *db, char **message, const sqlite3_api_routines *api);
 
 int sqlite3_kormaglen_init(sqlite3 *db, char **message, const sqlite3_api_routines *api) {
     SQLITE_EXTENSION_INIT2(api);
-    (void)api, (void)message;
+    (void)api;
+    if (sqlite3_libversion_number() < OLDEST) {
+        return end_init(message, SQLITE_ERROR, "SQLite 3.38 or newer is wanted");
+    }
     shelf *shelf = new_shelf();
     int code = shelf == NULL ? SQLITE_NOMEM : SQLITE_OK;
     for (size_t i = 0; code == SQLITE_OK && i < sizeof FUNCTIONS / sizeof *FUNCTIONS; i++) {
@@ -97,5 +107,5 @@ int sqlite3_kormaglen_init(sqlite3 *db, char **message, const sqlite3_api_routin
     if (shelf != NULL) {
         leave_shelf(shelf);
     }
-    return code;
+    return code == SQLITE_OK ? code : end_init(message, code, sqlite3_errmsg(db));
 }

@@ -75,6 +75,7 @@ struct opened_schema {
     bytes json;
     kormaglen_schema schema;
     kormaglen_document document;
+    size_t largest;        /* how long the longest line or document was */
     sqlite3_value **names; /* of the fields, by their numbers; NULL until somebody asks */
     size_t fields;
 };
@@ -91,9 +92,12 @@ void leave_shelf(void *shelf);
 
 /* Reads argument 0: the statement has the schema already where the argument is a constant, or else the shelf may have it. */
 bool schema_argument(call *it);
-/* Takes the schema of this JSON from the shelf, or reads it; and gives it back, which is also how auxiliary data ends. */
+/* Takes the schema of this JSON from the shelf, or reads it; and gives it back, which is also how auxiliary data ends. NULL is passed over.
+ */
 opened_schema *take_schema(call *it, bytes json);
 void give_back_schema(void *schema);
+/* Notes how long a line or a document is that the schema works on, as its memory grows with that. */
+void note_size(opened_schema *schema, size_t len);
 /* Has the names of the schema's fields be there. */
 bool read_names(call *it);
 

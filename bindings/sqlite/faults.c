@@ -25,7 +25,8 @@ static bool names_field(kormaglen_answer answer) {
     }
 }
 
-/* Where the refused thing is, as `: field "price"`, or an empty text. NULL where there is no memory. */
+/* Where the refused thing is, as `: field "price"`, or an empty text. NULL where there is no memory, or where the
+ * statement is interrupted meanwhile. */
 static char *place_of(call *it, kormaglen_answer answer) {
     if (answer.status == KORMAGLEN_BAD_SCHEMA && answer.place > 0) {
         return sqlite3_mprintf(": entry %llu", (unsigned long long)answer.place);
@@ -40,7 +41,7 @@ static char *place_of(call *it, kormaglen_answer answer) {
     if (it->schema != NULL && read_names(it) && answer.place < it->schema->fields) {
         return sqlite3_mprintf(": field \"%s\"", sqlite3_value_text(it->schema->names[answer.place]));
     }
-    if (it->fault.code == SQLITE_NOMEM) {
+    if (it->fault.code == SQLITE_NOMEM || it->fault.code == SQLITE_INTERRUPT) {
         return NULL;
     }
     /* (the names couldn't be read, as where an authorizer forbids it; that isn't what the call is refused for) */
@@ -57,7 +58,7 @@ bool refuse(call *it, kormaglen_answer answer) {
     const char *detail = kormaglen_detail_text(answer.status, answer.detail);
     char *place = place_of(it, answer);
     if (place == NULL) {
-        return fail(it, SQLITE_NOMEM);
+        return it->fault.code != SQLITE_OK ? false : fail(it, SQLITE_NOMEM);
     }
     char *message = sqlite3_mprintf("%s: %s%s%s%s", it->signature->name, status, place, detail[0] != 0 ? ": " : "", detail);
     sqlite3_free(place);

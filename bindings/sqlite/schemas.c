@@ -5,6 +5,9 @@
 
 #include <string.h>
 
+/* What worked on more bytes than these isn't kept behind its statement, for the memory that it holds. */
+enum { LARGEST_KEPT = 1 << 20 };
+
 shelf *new_shelf(void) {
     shelf *made = sqlite3_malloc64(sizeof *made);
     if (made != NULL) {
@@ -73,13 +76,23 @@ opened_schema *take_schema(call *it, bytes json) {
     return taken;
 }
 
+void note_size(opened_schema *schema, size_t len) {
+    schema->largest = len > schema->largest ? len : schema->largest;
+}
+
 void give_back_schema(void *schema) {
     opened_schema *it = schema;
-    if (it != NULL) {
-        close_schema(it->shelf->kept);
-        it->shelf->kept = it;
-        leave_shelf(it->shelf);
+    if (it == NULL) {
+        return;
     }
+    shelf *to = it->shelf;
+    if (it->largest > LARGEST_KEPT) {
+        close_schema(it);
+    } else {
+        close_schema(to->kept);
+        to->kept = it;
+    }
+    leave_shelf(to);
 }
 
 bool schema_argument(call *it) {
@@ -93,7 +106,7 @@ bool schema_argument(call *it) {
     }
     it->schema = take_schema(it, json);
     if (it->schema != NULL) {
-        /* Where SQLite can't keep it, it is on the shelf now, and so it is still there. */
+        /* Where SQLite can't keep it, it goes to the shelf at once, where it stays for this call. */
         sqlite3_set_auxdata(it->context, 0, it->schema, give_back_schema);
     }
     return it->schema != NULL;
@@ -143,9 +156,14 @@ bool read_names(call *it) {
     }
     sqlite3_finalize(rows);
     sqlite3_free(json.start);
-    if (code != SQLITE_OK) {
-        forget_names(schema);
-        return fail(it, code & 0xFF);
+    if (code == SQLITE_OK) {
+        return true;
     }
-    return true;
+    forget_names(schema);
+    code &= 0xFF;
+    if (code == SQLITE_NOMEM || code == SQLITE_INTERRUPT) {
+        return fail(it, code);
+    }
+    const char *why = sqlite3_errmsg(it->db);
+    return fail_with(it, sqlite3_mprintf("%s: the names of the fields can't be read: %s", it->signature->name, why));
 }

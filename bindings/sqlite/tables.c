@@ -43,32 +43,37 @@ static int disconnect_table(sqlite3_vtab *it) {
     return SQLITE_OK;
 }
 
-/* The number of the constraint that gives an argument; -1 where none does, and -2 where one does, but not in this order of tables. */
+enum { MISSING = -1, NOT_YET = -2 };
+
+/* The number of the constraint that gives an argument; NOT_YET where one does, but not in this order of tables. */
 static int constraint_of(const sqlite3_index_info *plan, int column) {
-    int found = -1;
+    int found = MISSING;
     for (int i = 0; i < plan->nConstraint; i++) {
         if (plan->aConstraint[i].iColumn == column && plan->aConstraint[i].op == SQLITE_INDEX_CONSTRAINT_EQ) {
             if (plan->aConstraint[i].usable) {
                 return i;
             }
-            found = -2;
+            found = NOT_YET;
         }
     }
     return found;
 }
 
+/* The plan's number is 0, or else that of the first argument that is missing, from 1. SQLite also asks for plans of a part of the
+ * conditions, in which arguments are missing, where these are joined by OR: so such a plan isn't refused, but is the last that one would
+ * take. */
 static int plan_table(sqlite3_vtab *planned, sqlite3_index_info *plan) {
     const table *it = ((connected_table *)(void *)planned)->data->table;
     int count = count_arguments(&it->signature);
     for (int i = 0; i < count; i++) {
         int constraint = constraint_of(plan, it->columns + i);
-        if (constraint == -2) {
+        if (constraint == NOT_YET) {
             return SQLITE_CONSTRAINT;
         }
-        if (constraint == -1) {
-            sqlite3_free(planned->zErrMsg);
-            planned->zErrMsg = sqlite3_mprintf("%s: argument %d (%s) is missing", it->signature.name, i + 1, it->signature.arguments[i]);
-            return planned->zErrMsg != NULL ? SQLITE_ERROR : SQLITE_NOMEM;
+        if (constraint == MISSING) {
+            plan->idxNum = i + 1;
+            plan->estimatedCost = 1e99;
+            return SQLITE_OK;
         }
         plan->aConstraintUsage[constraint].argvIndex = i + 1;
         plan->aConstraintUsage[constraint].omit = 1;
@@ -121,11 +126,25 @@ static bool fill_cursor(call *it, cursor *to, const table *of) {
     return to->schema != NULL && of->fill(it, to);
 }
 
-static int start_cursor(sqlite3_vtab_cursor *base, int plan, const char *words, int count, sqlite3_value **arguments) {
-    (void)plan, (void)words;
+/* Ends a call that gave no rows: the message goes to the table, where SQLite looks for it. */
+static int report_fault(cursor *it, fault fault) {
+    it->records.len = 0;
+    sqlite3_free(it->base.pVtab->zErrMsg);
+    it->base.pVtab->zErrMsg = fault.message;
+    return fault.code;
+}
+
+static int start_cursor(sqlite3_vtab_cursor *base, int missing, const char *words, int count, sqlite3_value **arguments) {
+    (void)words;
     cursor *it = (cursor *)(void *)base;
     const connected_table *of = table_of(it);
+    call filling = {.signature = &of->data->table->signature, .db = of->db, .arguments = it->arguments, .shelf = of->data->shelf};
+    filling.limit = INT32_MAX;
     clear_cursor(it);
+    if (missing > 0) {
+        fail_argument(&filling, missing - 1, "it is missing");
+        return report_fault(it, filling.fault);
+    }
     bool has_null = false;
     for (int i = 0; i < count; i++) {
         it->arguments[i] = sqlite3_value_dup(arguments[i]);
@@ -134,15 +153,7 @@ static int start_cursor(sqlite3_vtab_cursor *base, int plan, const char *words, 
         }
         has_null = has_null || sqlite3_value_type(arguments[i]) == SQLITE_NULL;
     }
-    call filling = {.signature = &of->data->table->signature, .db = of->db, .arguments = it->arguments, .shelf = of->data->shelf};
-    filling.limit = INT32_MAX;
-    if (has_null || fill_cursor(&filling, it, of->data->table)) {
-        return SQLITE_OK;
-    }
-    it->records.len = 0;
-    sqlite3_free(base->pVtab->zErrMsg);
-    base->pVtab->zErrMsg = filling.fault.message;
-    return filling.fault.code;
+    return has_null || fill_cursor(&filling, it, of->data->table) ? SQLITE_OK : report_fault(it, filling.fault);
 }
 
 static int advance_cursor(sqlite3_vtab_cursor *base) {

@@ -74,7 +74,9 @@ SELECT count(*) FROM kormaglen_terms;
 SELECT count(*) FROM kormaglen_terms('[]', 2);
 SELECT count(*) FROM kormaglen_terms('[]', 2, x'80', 1);
 SELECT 'longer than a value may be';
-CREATE TABLE long AS SELECT kormaglen_store('[{"name":"a","type":"u64","options":{"indexed":true,"stored":true}}]', '{"a":[7000000000000000000,7000000000000000000,7000000000000000000,7000000000000000000,7000000000000000000]}') AS stored;
+CREATE TABLE long AS SELECT
+    '[{"name":"a","type":"u64","options":{"indexed":true,"stored":true}}]' AS schema,
+    kormaglen_store('[{"name":"a","type":"u64","options":{"indexed":true,"stored":true}}]', '{"a":[7000000000000000000,7000000000000000000,7000000000000000000,7000000000000000000,7000000000000000000]}') AS stored;
 .limit length 100
-SELECT kormaglen_json('[{"name":"a","type":"u64","options":{"indexed":true,"stored":true}}]', 2, (SELECT stored FROM long));
+SELECT kormaglen_json(schema, 2, stored) FROM long;
 SELECT kormaglen_facet_text(CAST(replace(hex(zeroblob(49)), '0', '/') AS BLOB));

@@ -1,8 +1,8 @@
 /* The extension where things go wrong, as a part of this program: stress PART NUMBER.
  *
  *   refused NUMBER       so many calls that are refused; resident memory stays as it is
- *   interrupted NUMBER   so many statements that are interrupted
- *   limited NUMBER       statements with a limit on SQLite's memory, from nothing up in so many steps
+ *   interrupted NUMBER   statements, until so many were interrupted
+ *   limited NUMBER       statements with a limit on SQLite's memory, in so many steps of 100 bytes above what is in use
  *   starved NUMBER       statements where each 1st, 2nd, .. request for memory is refused, SQLite's or the library's, up to this number
  *   random NUMBER        so many random documents, schemas, lines and queries
  *
@@ -98,14 +98,6 @@ static void *starved_realloc(void *old, int size) {
 
 /* ---- statements */
 
-static sqlite3 *open_database(void) {
-    sqlite3 *db = NULL;
-    if (sqlite3_open(":memory:", &db) != SQLITE_OK || sqlite3_kormaglen_init(db, NULL, NULL) != SQLITE_OK) {
-        die("open", sqlite3_errmsg(db));
-    }
-    return db;
-}
-
 static void add_text(outcome *to, const char *text) {
     size_t len = strlen(to->text);
     snprintf(to->text + len, sizeof to->text - len, "%s|", text != NULL ? text : "NULL");
@@ -146,6 +138,25 @@ static outcome run(sqlite3 *db, const char *sql) {
     }
     sqlite3_finalize(statement);
     return done;
+}
+
+static sqlite3 *open_database(void) {
+    sqlite3 *db = NULL;
+    if (sqlite3_open(":memory:", &db) != SQLITE_OK) {
+        die("open", sqlite3_errmsg(db));
+    }
+    /* (the second time replaces what the first one made) */
+    for (int i = 0; i < 2; i++) {
+        if (sqlite3_kormaglen_init(db, NULL, NULL) != SQLITE_OK) {
+            die("load", sqlite3_errmsg(db));
+        }
+        if (run(db, "SELECT * FROM kormaglen_query_terms('[{\"name\":\"a\",\"type\":\"facet\",\"options\":{\"stored\":true}}]', 'a', '/')")
+                .code
+            != 0) {
+            die("load", sqlite3_errmsg(db));
+        }
+    }
+    return db;
 }
 
 static void expect_all(void) {
@@ -223,19 +234,29 @@ static void run_refused(long number) {
     }
 }
 
+typedef struct interruption {
+    sqlite3 *db;
+    long left;
+} interruption;
+
+/* Interrupts a statement behind so many of its steps, in one way or the other. */
 static int interrupt(void *data) {
-    long *left = data;
-    *left -= 1;
-    return *left < 0;
+    interruption *it = data;
+    it->left -= 1;
+    if (it->left == -1 && it->db != NULL) {
+        sqlite3_interrupt(it->db);
+        return 0;
+    }
+    return it->left < 0 && it->db == NULL;
 }
 
 static void run_interrupted(long number) {
     sqlite3 *db = open_database();
-    long interrupted = 0;
-    for (long i = 0; i < number; i++) {
+    long interrupted = 0, i = 0;
+    for (; interrupted < number; i++) {
         int at = (int)(i % COUNT);
-        long left = (i / COUNT) % 40;
-        sqlite3_progress_handler(db, 1, interrupt, &left);
+        interruption it = {i % 3 == 0 ? db : NULL, (i / COUNT) % 40};
+        sqlite3_progress_handler(db, 1, interrupt, &it);
         outcome done = run(db, STATEMENTS[at]);
         interrupted += is_cut_short(at, &done, SQLITE_INTERRUPT);
         sqlite3_progress_handler(db, 0, NULL, NULL);
@@ -247,7 +268,7 @@ static void run_interrupted(long number) {
         }
     }
     sqlite3_close(db);
-    printf("%ld statements, %ld interrupted\n", number, interrupted);
+    printf("%ld statements, %ld interrupted\n", i, interrupted);
 }
 
 /* Opens a database, where that goes, and runs a statement there. Returns whether it was cut short for want of memory. */
@@ -275,11 +296,14 @@ static void run_limited(long number) {
     long cut = 0;
     sqlite3_int64 before = sqlite3_memory_used();
     for (long step = 0; step < number; step++) {
+        sqlite3 *db = open_database();
         for (int at = 0; at < COUNT; at++) {
-            sqlite3_hard_heap_limit64(1 + step * 400000 / number);
-            cut += run_with_less(at);
+            sqlite3_hard_heap_limit64(sqlite3_memory_used() + 100 * step);
+            outcome done = run(db, STATEMENTS[at]);
             sqlite3_hard_heap_limit64(0);
+            cut += is_cut_short(at, &done, SQLITE_NOMEM);
         }
+        sqlite3_close(db);
     }
     printf("%ld statements with a limit, %ld cut short, %lld bytes kept\n", number * COUNT, cut, sqlite3_memory_used() - before);
     if (sqlite3_memory_used() != before) {

@@ -1,0 +1,156 @@
+/* What a document costs by the extension beside the calls of the C library: speed FILE ROUNDS. The file has a schema's JSON on its first
+ * line and documents on the others. Prints nanoseconds for each document, the best of the rounds: by the calls, and by a statement over a
+ * table that has the lines or the documents, less what the same statement takes that only asks for their lengths. */
+#include "kormaglen.h"
+
+#include <sqlite3.h>
+#include <stdio.h>
+#include <stdlib.h>
+#include <string.h>
+#include <time.h>
+
+int sqlite3_kormaglen_init(sqlite3 *db, char **message, const void *api);
+
+typedef struct lines {
+    char *schema;
+    char **line;
+    size_t *len;
+    size_t count;
+} lines;
+
+static void die(const char *why) {
+    fprintf(stderr, "%s\n", why);
+    exit(1);
+}
+
+static double now(void) {
+    struct timespec time;
+    clock_gettime(CLOCK_MONOTONIC, &time);
+    return (double)time.tv_sec * 1e9 + (double)time.tv_nsec;
+}
+
+static lines read_lines(const char *path) {
+    static char line[1 << 16];
+    lines read = {NULL, malloc(200000 * sizeof(char *)), malloc(200000 * sizeof(size_t)), 0};
+    FILE *file = fopen(path, "r");
+    if (file == NULL || fgets(line, sizeof line, file) == NULL) {
+        die("the file can't be read");
+    }
+    read.schema = strdup(line);
+    while (read.count < 200000 && fgets(line, sizeof line, file) != NULL) {
+        line[strcspn(line, "\n")] = 0;
+        read.line[read.count] = strdup(line);
+        read.len[read.count++] = strlen(line);
+    }
+    fclose(file);
+    return read;
+}
+
+/* Each line is parsed and written, or read and printed, by the handles of one schema and one document. */
+static double by_calls(const lines *of, int prints) {
+    static uint8_t bytes[1 << 16], text[1 << 17];
+    kormaglen_schema schema = {0};
+    kormaglen_document document = {0};
+    kormaglen_schema_open((const uint8_t *)of->schema, strlen(of->schema), &schema);
+    double took = 0;
+    for (size_t i = 0; i < of->count; i++) {
+        double start = now();
+        kormaglen_document_parse(&schema, (const uint8_t *)of->line[i], of->len[i], &document);
+        kormaglen_answer stored = kormaglen_document_write(&document, &schema, 2, bytes, sizeof bytes);
+        double middle = now();
+        kormaglen_document_read(2, bytes, (size_t)stored.bytes, &document);
+        kormaglen_answer printed = kormaglen_document_to_json(&document, &schema, text, sizeof text);
+        took += prints ? now() - middle : middle - start;
+        if (stored.status != KORMAGLEN_OK || printed.status != KORMAGLEN_OK) {
+            die("a line is refused");
+        }
+    }
+    kormaglen_document_close(&document);
+    kormaglen_schema_close(&schema);
+    return took;
+}
+
+static double by_statement(sqlite3 *db, const char *sql, const char *schema) {
+    sqlite3_stmt *statement = NULL;
+    if (sqlite3_prepare_v2(db, sql, -1, &statement, NULL) != SQLITE_OK) {
+        die(sqlite3_errmsg(db));
+    }
+    if (sqlite3_bind_parameter_count(statement) > 0) {
+        sqlite3_bind_text(statement, 1, schema, -1, SQLITE_STATIC);
+    }
+    double start = now();
+    int code = sqlite3_step(statement);
+    double took = now() - start;
+    if (code != SQLITE_ROW) {
+        die(sqlite3_errmsg(db));
+    }
+    sqlite3_finalize(statement);
+    return took;
+}
+
+static sqlite3 *fill_database(const lines *of) {
+    sqlite3 *db = NULL;
+    sqlite3_stmt *insert = NULL;
+    if (sqlite3_open(":memory:", &db) != SQLITE_OK || sqlite3_kormaglen_init(db, NULL, NULL) != SQLITE_OK
+        || sqlite3_exec(db, "CREATE TABLE schema(json TEXT); CREATE TABLE one(line TEXT, stored BLOB); BEGIN", NULL, NULL, NULL)
+               != SQLITE_OK
+        || sqlite3_prepare_v2(db, "INSERT INTO one VALUES (?2, kormaglen_store(?1, ?2))", -1, &insert, NULL) != SQLITE_OK) {
+        die(sqlite3_errmsg(db));
+    }
+    sqlite3_bind_text(insert, 1, of->schema, -1, SQLITE_STATIC);
+    for (size_t i = 0; i < of->count; i++) {
+        sqlite3_bind_text(insert, 2, of->line[i], (int)of->len[i], SQLITE_STATIC);
+        if (sqlite3_step(insert) != SQLITE_DONE) {
+            die(sqlite3_errmsg(db));
+        }
+        sqlite3_reset(insert);
+    }
+    sqlite3_finalize(insert);
+    by_statement(db, "INSERT INTO schema VALUES (?1) RETURNING 1", of->schema);
+    sqlite3_exec(db, "COMMIT", NULL, NULL, NULL);
+    return db;
+}
+
+typedef struct measured {
+    const char *name, *sql;
+    double best;
+} measured;
+
+int main(int count, char **words) {
+    if (count != 3) {
+        die("usage: speed FILE ROUNDS");
+    }
+    const lines of = read_lines(words[1]);
+    sqlite3 *db = fill_database(&of);
+    double calls[2] = {1e18, 1e18};
+    measured statements[] = {
+        {"a line's length", "SELECT sum(length(line)) FROM one", 1e18},
+        {"a document's length", "SELECT sum(length(stored)) FROM one", 1e18},
+        {"kormaglen_store", "SELECT sum(length(kormaglen_store(?1, line))) FROM one", 1e18},
+        {"  schema by a subquery", "SELECT sum(length(kormaglen_store((SELECT json FROM schema), line))) FROM one", 1e18},
+        {"kormaglen_json", "SELECT count(kormaglen_json(?1, 2, stored)) FROM one", 1e18},
+        {"kormaglen_check", "SELECT count(kormaglen_check(2, stored)) FROM one", 1e18},
+        {"kormaglen_migrate", "SELECT sum(length(kormaglen_migrate(2, stored, 3))) FROM one", 1e18},
+        {"kormaglen_terms", "SELECT sum(length(term)) FROM one, kormaglen_terms(?1, 2, stored)", 1e18},
+    };
+    for (long round = atol(words[2]); round > 0; round--) {
+        for (int i = 0; i < 2; i++) {
+            double took = by_calls(&of, i);
+            calls[i] = took < calls[i] ? took : calls[i];
+        }
+        for (size_t i = 0; i < sizeof statements / sizeof *statements; i++) {
+            double took = by_statement(db, statements[i].sql, of.schema);
+            statements[i].best = took < statements[i].best ? took : statements[i].best;
+        }
+    }
+    const double each = (double)of.count;
+    printf("nanoseconds for each of %zu documents\n", of.count);
+    printf("%-24s %8.0f\n%-24s %8.0f\n", "C: parse and write", calls[0] / each, "C: read and print", calls[1] / each);
+    for (size_t i = 0; i < sizeof statements / sizeof *statements; i++) {
+        printf("%-24s %8.0f\n", statements[i].name, statements[i].best / each);
+    }
+    printf("times the calls: kormaglen_store %.2f, kormaglen_json %.2f\n", (statements[2].best - statements[0].best) / calls[0],
+           (statements[4].best - statements[1].best) / calls[1]);
+    sqlite3_close(db);
+    return 0;
+}
