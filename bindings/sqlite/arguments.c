@@ -1,9 +1,9 @@
 /* The arguments of a call: their types and ranges. None is NULL here: a call with a NULL does not come so far. */
 #include "extension.h"
 
-int count_arguments(const signature *signature) {
+int count_arguments(const signature *of) {
     int count = 0;
-    while (signature->arguments[count] != NULL) {
+    while (of->arguments[count] != NULL) {
         count += 1;
     }
     return count;

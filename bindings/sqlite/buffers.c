@@ -18,7 +18,7 @@ bool reserve(call *it, buffer *to, size_t more) {
 }
 
 bool append(call *it, buffer *to, writing write, void *state) {
-    /* (so that there is a place to point to) */
+    /* (an empty buffer points nowhere) */
     if (!reserve(it, to, 1)) {
         return false;
     }
@@ -47,20 +47,18 @@ static buffer write_alone(call *it, writing write, void *state, size_t guess) {
     return alone;
 }
 
-bool give_text(call *it, writing write, void *state, size_t guess) {
+void give_text(call *it, writing write, void *state, size_t guess) {
     buffer text = write_alone(it, write, state, guess);
     if (text.start != NULL) {
         sqlite3_result_text64(it->context, (const char *)text.start, text.len, sqlite3_free, SQLITE_UTF8);
     }
-    return text.start != NULL;
 }
 
-bool give_blob(call *it, writing write, void *state, size_t guess) {
+void give_blob(call *it, writing write, void *state, size_t guess) {
     buffer blob = write_alone(it, write, state, guess);
     if (blob.start != NULL) {
         sqlite3_result_blob64(it->context, blob.start, blob.len, sqlite3_free);
     }
-    return blob.start != NULL;
 }
 
 uint64_t number_at(const uint8_t *start) {

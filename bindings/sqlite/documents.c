@@ -1,4 +1,4 @@
-/* Stored documents. A blob is always one whole document. */
+/* Stored documents. A blob is always one whole document: more than one, or bytes behind it, are refused. */
 #include "extension.h"
 
 /* What is written of a document that its schema's handle has. */
@@ -23,9 +23,8 @@ static kormaglen_answer write_migrated(void *state, uint8_t *start, size_t len) 
     return kormaglen_migrate_block(of->from, of->blob.start, of->blob.len, of->to, start, len);
 }
 
-static char *behind(kormaglen_answer read, bytes blob) {
-    return sqlite3_mprintf("the document ends at byte %llu of %llu", (unsigned long long)read.bytes, (unsigned long long)blob.len);
-}
+/* What is said of a blob that has more bytes than its document. */
+#define HAS_MORE "the document ends at byte %llu of %llu"
 
 bool read_document(call *it, uint32_t version, bytes blob, kormaglen_document *document) {
     kormaglen_answer read = kormaglen_document_read(version, blob.start, blob.len, document);
@@ -35,13 +34,8 @@ bool read_document(call *it, uint32_t version, bytes blob, kormaglen_document *d
     if (read.bytes == blob.len) {
         return true;
     }
-    char *reason = behind(read, blob);
-    if (reason != NULL) {
-        fail_with(it, sqlite3_mprintf("%s: %s", it->signature->name, reason));
-        sqlite3_free(reason);
-        return false;
-    }
-    return fail(it, SQLITE_NOMEM);
+    unsigned long long end = read.bytes, len = blob.len;
+    return fail_with(it, sqlite3_mprintf("%s: " HAS_MORE, it->signature->name, end, len));
 }
 
 void store_line(call *it) {
@@ -98,7 +92,8 @@ void check_document(call *it) {
     } else if (read.status != KORMAGLEN_OK) {
         refuse(it, read);
     } else if (read.bytes != blob.len) {
-        char *reason = behind(read, blob);
+        unsigned long long end = read.bytes, len = blob.len;
+        char *reason = sqlite3_mprintf(HAS_MORE, end, len);
         if (reason == NULL) {
             fail(it, SQLITE_NOMEM);
         } else {

@@ -38,18 +38,18 @@ static void end_function(void *data) {
     sqlite3_free(it);
 }
 
-static void report(sqlite3_context *context, fault fault) {
-    switch (fault.code) {
+static void report(sqlite3_context *context, fault why) {
+    switch (why.code) {
     case SQLITE_OK: break;
     case SQLITE_NOMEM: sqlite3_result_error_nomem(context); break;
     case SQLITE_TOOBIG: sqlite3_result_error_toobig(context); break;
     default:
-        if (fault.message != NULL) {
-            sqlite3_result_error(context, fault.message, -1);
+        if (why.message != NULL) {
+            sqlite3_result_error(context, why.message, -1);
         }
-        sqlite3_result_error_code(context, fault.code);
+        sqlite3_result_error_code(context, why.code);
     }
-    sqlite3_free(fault.message);
+    sqlite3_free(why.message);
 }
 
 /* Runs a function, unless an argument is NULL: then so is the result. */
@@ -67,14 +67,14 @@ static void run(sqlite3_context *context, int count, sqlite3_value **arguments) 
     report(context, it.fault);
 }
 
-static int create_function(sqlite3 *db, const function *it, shelf *shelf) {
+static int create_function(sqlite3 *db, const function *it, shelf *with) {
     const int flags = SQLITE_UTF8 | SQLITE_DETERMINISTIC | SQLITE_INNOCUOUS;
     function_data *data = sqlite3_malloc64(sizeof *data);
     if (data == NULL) {
         return SQLITE_NOMEM;
     }
-    *data = (function_data){it, shelf};
-    shelf->users += 1;
+    *data = (function_data){it, with};
+    with->users += 1;
     /* (SQLite ends the data also where it refuses the function) */
     return sqlite3_create_function_v2(db, it->signature.name, count_arguments(&it->signature), flags, data, run, NULL, NULL, end_function);
 }
@@ -96,16 +96,16 @@ int sqlite3_kormaglen_init(sqlite3 *db, char **message, const sqlite3_api_routin
     if (sqlite3_libversion_number() < OLDEST) {
         return end_init(message, SQLITE_ERROR, "SQLite 3.38 or newer is wanted");
     }
-    shelf *shelf = new_shelf();
-    int code = shelf == NULL ? SQLITE_NOMEM : SQLITE_OK;
+    shelf *with = new_shelf();
+    int code = with == NULL ? SQLITE_NOMEM : SQLITE_OK;
     for (size_t i = 0; code == SQLITE_OK && i < sizeof FUNCTIONS / sizeof *FUNCTIONS; i++) {
-        code = create_function(db, &FUNCTIONS[i], shelf);
+        code = create_function(db, &FUNCTIONS[i], with);
     }
     for (size_t i = 0; code == SQLITE_OK && i < sizeof TABLES / sizeof *TABLES; i++) {
-        code = create_table(db, TABLES[i], shelf);
+        code = create_table(db, TABLES[i], with);
     }
-    if (shelf != NULL) {
-        leave_shelf(shelf);
+    if (with != NULL) {
+        leave_shelf(with);
     }
     return code == SQLITE_OK ? code : end_init(message, code, sqlite3_errmsg(db));
 }

@@ -12,7 +12,7 @@ SQLITE_EXTENSION_INIT3
 
 enum { MOST_ARGUMENTS = 3 };
 
-/* A text or a blob. `start` is not NULL. */
+/* The bytes of a text or a blob. */
 typedef struct bytes {
     const uint8_t *start;
     size_t len;
@@ -62,7 +62,7 @@ bool refuse(call *it, kormaglen_answer answer);
 
 /* ---- arguments.c: each reads an argument, counted from 0, and returns whether it could */
 
-int count_arguments(const signature *signature);
+int count_arguments(const signature *of);
 bool text_argument(call *it, int number, bytes *text);
 bool blob_argument(call *it, int number, bytes *blob);
 bool version_argument(call *it, int number, uint32_t least, uint32_t *version);
@@ -92,8 +92,7 @@ void leave_shelf(void *shelf);
 
 /* Reads argument 0: the statement has the schema already where the argument is a constant, or else the shelf may have it. */
 bool schema_argument(call *it);
-/* Takes the schema of this JSON from the shelf, or reads it; and gives it back, which is also how auxiliary data ends. NULL is passed over.
- */
+/* Takes the schema of this JSON from the shelf, or reads it; and gives it back, which also ends auxiliary data. NULL is passed over. */
 opened_schema *take_schema(call *it, bytes json);
 void give_back_schema(void *schema);
 /* Notes how long a line or a document is that the schema works on, as its memory grows with that. */
@@ -116,8 +115,8 @@ bool reserve(call *it, buffer *to, size_t more);
 /* Appends what the library's call writes: into the room there is, or else into just as much as it asks for. */
 bool append(call *it, buffer *to, writing write, void *state);
 /* Ends the call with what the library's call writes, as a text or a blob. `guess` is how long that is, if all goes well. */
-bool give_text(call *it, writing write, void *state, size_t guess);
-bool give_blob(call *it, writing write, void *state, size_t guess);
+void give_text(call *it, writing write, void *state, size_t guess);
+void give_blob(call *it, writing write, void *state, size_t guess);
 
 /* A number in eight bytes, the lowest first. */
 uint64_t number_at(const uint8_t *start);
@@ -149,11 +148,10 @@ typedef struct query {
 /* Reads arguments 1 and 2, of a call that has a schema. */
 bool query_arguments(call *it, query *of);
 
-/* Appends records of terms, each behind its length, and of ranges, each behind the lengths of its start and its end, as the library does.
- */
+/* Appends records as the library writes them: of terms, each behind its length, and of ranges, each behind two lengths. */
 bool append_terms(call *it, query *of, buffer *to);
 bool append_ranges(call *it, query *of, buffer *to);
-/* How long such a record is, and the parts of it. A range without an end has no bytes there that start. */
+/* How long such a record is, and its parts. The end of a range that has none is NULL. */
 size_t term_record_len(const uint8_t *record);
 size_t range_record_len(const uint8_t *record);
 bytes term_of(const uint8_t *record);
@@ -188,7 +186,7 @@ struct table {
     void (*give_column)(sqlite3_context *context, const cursor *at, int column);
 };
 
-int create_table(sqlite3 *db, const table *it, shelf *shelf);
+int create_table(sqlite3 *db, const table *it, shelf *with);
 
 /* ---- the tables themselves, in document_terms.c and query_tables.c */
 

@@ -109,7 +109,7 @@ bool append_ranges(call *it, query *of, buffer *to) {
 }
 
 /* Whether there is just one record; else the call fails, and names the table that has them all. */
-static bool is_one(call *it, const buffer *records, size_t (*record_len)(const uint8_t *), const char *what, const char *table) {
+static bool is_one(call *it, const buffer *records, size_t (*record_len)(const uint8_t *), const char *what, const char *instead) {
     int count = 0;
     for (size_t at = 0; at < records->len; at += record_len(records->start + at)) {
         count += 1;
@@ -117,7 +117,7 @@ static bool is_one(call *it, const buffer *records, size_t (*record_len)(const u
     if (count == 1) {
         return true;
     }
-    return fail_with(it, sqlite3_mprintf("%s: the text has %d %s, which %s gives", it->signature->name, count, what, table));
+    return fail_with(it, sqlite3_mprintf("%s: the text has %d %s, which %s gives", it->signature->name, count, what, instead));
 }
 
 void give_field(call *it) {

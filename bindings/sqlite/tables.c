@@ -24,6 +24,9 @@ static int connect_table(sqlite3 *db, void *data, int count, const char *const *
     (void)count, (void)words, (void)message;
     const module_data *of = data;
     int code = sqlite3_declare_vtab(db, of->table->declaration);
+    if (code == SQLITE_OK) {
+        code = sqlite3_vtab_config(db, SQLITE_VTAB_INNOCUOUS);
+    }
     if (code != SQLITE_OK) {
         return code;
     }
@@ -35,7 +38,7 @@ static int connect_table(sqlite3 *db, void *data, int count, const char *const *
     it->db = db;
     it->data = of;
     *made = &it->base;
-    return sqlite3_vtab_config(db, SQLITE_VTAB_INNOCUOUS);
+    return SQLITE_OK;
 }
 
 static int disconnect_table(sqlite3_vtab *it) {
@@ -59,9 +62,8 @@ static int constraint_of(const sqlite3_index_info *plan, int column) {
     return found;
 }
 
-/* The plan's number is 0, or else that of the first argument that is missing, from 1. SQLite also asks for plans of a part of the
- * conditions, in which arguments are missing, where these are joined by OR: so such a plan isn't refused, but is the last that one would
- * take. */
+/* The plan's number is 0, or that of the first argument that is missing, from 1. Where conditions are joined by OR, SQLite also asks for
+ * plans of a part of them, without the arguments: so these aren't refused here, but cost more than any other. */
 static int plan_table(sqlite3_vtab *planned, sqlite3_index_info *plan) {
     const table *it = ((connected_table *)(void *)planned)->data->table;
     int count = count_arguments(&it->signature);
@@ -127,11 +129,11 @@ static bool fill_cursor(call *it, cursor *to, const table *of) {
 }
 
 /* Ends a call that gave no rows: the message goes to the table, where SQLite looks for it. */
-static int report_fault(cursor *it, fault fault) {
+static int report_fault(cursor *it, fault why) {
     it->records.len = 0;
     sqlite3_free(it->base.pVtab->zErrMsg);
-    it->base.pVtab->zErrMsg = fault.message;
-    return fault.code;
+    it->base.pVtab->zErrMsg = why.message;
+    return why.code;
 }
 
 static int start_cursor(sqlite3_vtab_cursor *base, int missing, const char *words, int count, sqlite3_value **arguments) {
@@ -205,13 +207,13 @@ static void end_module(void *data) {
     sqlite3_free(it);
 }
 
-int create_table(sqlite3 *db, const table *it, shelf *shelf) {
+int create_table(sqlite3 *db, const table *it, shelf *with) {
     module_data *data = sqlite3_malloc64(sizeof *data);
     if (data == NULL) {
         return SQLITE_NOMEM;
     }
-    *data = (module_data){it, shelf};
-    shelf->users += 1;
+    *data = (module_data){it, with};
+    with->users += 1;
     /* (SQLite ends the data also where it refuses the module) */
     return sqlite3_create_module_v2(db, it->signature.name, &MODULE, data, end_module);
 }

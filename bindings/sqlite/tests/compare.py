@@ -116,6 +116,7 @@ def index_all(db: sqlite3.Connection, schema: str) -> None:
     start = time.monotonic()
     for step in (LEAVES, TERMS, TERMS_OF_OBJECTS):
         db.execute(step, {"schema": schema})
+    db.execute("CREATE INDEX by_path ON leaf(path)")
     (terms,) = db.execute("SELECT count(*) FROM term").fetchone()
     print(f"{terms} terms, in {time.monotonic() - start:.1f} s")
 

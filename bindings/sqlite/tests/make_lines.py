@@ -3,6 +3,7 @@
 import json
 import random
 import sys
+from collections.abc import Callable
 
 SCHEMA = [
     {"name": "name", "type": "text", "options": {"indexing": {"record": "basic"}, "stored": True}},
@@ -22,7 +23,7 @@ def text(random_: random.Random) -> str:
     return " ".join(random_.choice(WORDS) for _ in range(random_.randrange(1, 4)))
 
 
-def some(random_: random.Random, make: "callable[[], object]") -> object:
+def some(random_: random.Random, make: Callable[[], object]) -> object:
     """One value, or a list of none to three."""
     return make() if random_.random() < 0.7 else [make() for _ in range(random_.randrange(4))]
 
@@ -36,7 +37,7 @@ def leaf(random_: random.Random) -> object:
     return random_.choice([random_.randrange(-50, 50), random_.randrange(10**6), text(random_), True, False])
 
 
-def more(random_: random.Random) -> dict:
+def more(random_: random.Random) -> dict[str, object]:
     return {
         "size": some(random_, lambda: random_.randrange(-20, 200)),
         "any": leaf(random_),
@@ -44,7 +45,7 @@ def more(random_: random.Random) -> dict:
     }
 
 
-def document(random_: random.Random) -> dict:
+def document(random_: random.Random) -> dict[str, object]:
     values = {
         "name": some(random_, lambda: text(random_)),
         "price": some(random_, lambda: random_.choice([random_.randrange(1000), random_.randrange(2**62)])),

@@ -11,10 +11,12 @@
 
 int sqlite3_kormaglen_init(sqlite3 *db, char **message, const void *api);
 
+enum { MOST = 200000 };
+
 typedef struct lines {
     char *schema;
-    char **line;
-    size_t *len;
+    char *line[MOST];
+    size_t len[MOST];
     size_t count;
 } lines;
 
@@ -29,21 +31,27 @@ static double now(void) {
     return (double)time.tv_sec * 1e9 + (double)time.tv_nsec;
 }
 
-static lines read_lines(const char *path) {
+static char *copy_of(const char *text) {
+    char *copy = strdup(text);
+    if (copy == NULL) {
+        die("no memory");
+    }
+    return copy;
+}
+
+static void read_lines(const char *path, lines *to) {
     static char line[1 << 16];
-    lines read = {NULL, malloc(200000 * sizeof(char *)), malloc(200000 * sizeof(size_t)), 0};
     FILE *file = fopen(path, "r");
     if (file == NULL || fgets(line, sizeof line, file) == NULL) {
         die("the file can't be read");
     }
-    read.schema = strdup(line);
-    while (read.count < 200000 && fgets(line, sizeof line, file) != NULL) {
+    to->schema = copy_of(line);
+    while (to->count < MOST && fgets(line, sizeof line, file) != NULL) {
         line[strcspn(line, "\n")] = 0;
-        read.line[read.count] = strdup(line);
-        read.len[read.count++] = strlen(line);
+        to->line[to->count] = copy_of(line);
+        to->len[to->count++] = strlen(line);
     }
     fclose(file);
-    return read;
 }
 
 /* Each line is parsed and written, or read and printed, by the handles of one schema and one document. */
@@ -120,7 +128,8 @@ int main(int count, char **words) {
     if (count != 3) {
         die("usage: speed FILE ROUNDS");
     }
-    const lines of = read_lines(words[1]);
+    static lines of;
+    read_lines(words[1], &of);
     sqlite3 *db = fill_database(&of);
     double calls[2] = {1e18, 1e18};
     measured statements[] = {
