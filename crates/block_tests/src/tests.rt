@@ -3,4 +3,5 @@
 mod buffers;
 mod documents;
 mod handles;
+mod queries;
 mod schemas;

@@ -14,13 +14,7 @@ use tv_handles::schema_handle::SchemaHandle;
 use tv_schema::Schema;
 
 // Writes the terms that a text has at a path by a schema.
-fn write_terms(
-    alloc: Global,
-    schema: &Schema,
-    path: &[u8],
-    text: &[u8],
-    terms: &mut [u8],
-) -> Answer
+fn write_terms(alloc: Global, schema: &Schema, path: &[u8], text: &[u8], terms: &mut [u8]) -> Answer
     ensures { AnswersFill (AreTextTerms schema.now path.now text.now)
         (IsTermsRefusal schema.now path.now text.now) terms.old terms.new result }
 {

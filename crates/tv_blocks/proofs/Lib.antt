@@ -5,3 +5,4 @@ pub mod LineDocuments
 pub mod Documents
 pub mod Importing
 pub mod Records
+pub mod Queries

@@ -20,7 +20,7 @@ use tv_term::TermRange;
 
 // Why the type of a field refuses a text; `None` where memory was refused.
 fn text_refusal(refusal: JsonRefusal) -> Option<ValueRefusal>
-    ensures { result ≡ text_refusal refusal.entry }
+    ensures { result ≡ text_refusal refusal }
 {
     match refusal {
         JsonRefusal::Overflow(_) => Some(ValueRefusal::Overflow),

@@ -1,0 +1,36 @@
+-- The records of the terms and the ranges of a text, one by one.
+use Rattle.std.proofs.Common.{◌≡◌, ℕ, ◌+◌, ◌<◌, List, [], ◌∷◌, ◌++◌, length, get_or, take, Result, Ok, Err, if◌then◌else◌, sym, ap, ◌∙◌, append_assoc}
+use Rattle.std.proofs.lemmas.List.{flat_map_more, take_more}
+use Rattle.std.specs.Int.{to_le_bytes, w64}
+use Rattle.std.specs.List.{flat_map}
+use Rattle.std.specs.Prelude.{OnOk}
+use Rattle.std.specs.Result.{is_ok}
+use Rattle.tv_blocks.specs.Query.{end_bytes, end_length, range_record}
+use Rattle.tv_term.specs.declared.range.TermRange.{TermRange}
+
+-- a range's record is appended in four pieces
+pub range_added : {E : Type 0} (result : Result (Unit {0}) E) (old one two three four head size start end : List ℕ) (range : TermRange) → one ≡ old ++ head → two ≡ one ++ size → three ≡ two ++ start
+    → four ≡ (if is_ok result then three ++ end else three) → head ≡ to_le_bytes w64 (length start) → size ≡ to_le_bytes w64 (end_length range.end) → start ≡ range.start.items → end ≡ end_bytes range.end
+    → OnOk result (four ≡ old ++ range_record range)
+range_added (Ok x) old one two three four head size start end range first second third fourth is_head is_size is_start is_end =
+    fourth ∙ ap (λ (l : List ℕ). l ++ end) (third ∙ ap (λ (l : List ℕ). l ++ start) (second ∙ ap (λ (l : List ℕ). l ++ size) first))
+    ∙ append_assoc ((old ++ head) ++ size) start end ∙ append_assoc (old ++ head) size (start ++ end) ∙ append_assoc old head (size ++ (start ++ end))
+    ∙ ap (λ (l : List ℕ). old ++ (l ++ (size ++ (start ++ end)))) (is_head ∙ ap (λ (l : List ℕ). to_le_bytes w64 (length l)) is_start)
+    ∙ ap (λ (l : List ℕ). old ++ (to_le_bytes w64 (length range.start.items) ++ (l ++ (start ++ end)))) is_size
+    ∙ ap (λ (l : List ℕ). old ++ (to_le_bytes w64 (length range.start.items) ++ (to_le_bytes w64 (end_length range.end) ++ (l ++ end)))) is_start
+    ∙ ap (λ (l : List ℕ). old ++ (to_le_bytes w64 (length range.start.items) ++ (to_le_bytes w64 (end_length range.end) ++ (range.start.items ++ l)))) is_end
+range_added (Err e) old one two three four head size start end range first second third fourth is_head is_size is_start is_end = tt
+
+-- the records of what is left follow, one by one
+pub record_of_first : {A : Type 0} (bytes_of : A → List ℕ) (old new whole : List ℕ) (first : A) (left next : List A) → left ≡ first ∷ next → old ++ flat_map bytes_of left ≡ whole
+    → new ≡ old ++ bytes_of first → new ++ flat_map bytes_of next ≡ whole
+record_of_first bytes_of old new whole first left next cut so_far added =
+    ap (λ (l : List ℕ). l ++ flat_map bytes_of next) added ∙ append_assoc old (bytes_of first) (flat_map bytes_of next)
+    ∙ ap (λ items. old ++ flat_map bytes_of items) (sym cut) ∙ so_far
+
+-- one more item of a slice
+pub record_of_next : {A : Type 0} (bytes_of : A → List ℕ) (old now new : List ℕ) (items : List A) (i : ℕ) (item : A) → i < length items → item ≡ get_or items i item
+    → now ≡ old ++ flat_map bytes_of (take i items) → new ≡ now ++ bytes_of item → new ≡ old ++ flat_map bytes_of (take (i + 1) items)
+record_of_next bytes_of old now new items i item below is so_far added =
+    added ∙ ap (λ (l : List ℕ). l ++ bytes_of item) so_far ∙ flat_map_more bytes_of old (take i items) item
+    ∙ ap (λ more. old ++ flat_map bytes_of more) (ap (λ e. take i items ++ e ∷ []) is ∙ sym (take_more items i item below))
