@@ -1,6 +1,8 @@
 /* kormaglen_terms(schema, version, document): the terms of a document's values. */
 #include "extension.h"
 
+#include <string.h>
+
 enum { FIELD, TERM, COLUMNS };
 
 /* The terms of one field. */
@@ -31,6 +33,17 @@ static bool append_field(call *it, buffer *to, field_terms *of) {
     return true;
 }
 
+/* Whether a field's terms are asked for, as with `field = 'price'`. */
+static bool is_wanted(const cursor *to, size_t field) {
+    sqlite3_value *wanted = to->arguments[ARGUMENTS], *name = to->schema->names[field];
+    if (wanted == NULL || sqlite3_value_type(wanted) != SQLITE_TEXT) {
+        return true;
+    }
+    const unsigned char *text = sqlite3_value_text(wanted), *of = sqlite3_value_text(name);
+    int len = sqlite3_value_bytes(wanted);
+    return text == NULL || of == NULL || (len == sqlite3_value_bytes(name) && memcmp(text, of, (size_t)len) == 0);
+}
+
 static bool fill(call *it, cursor *to) {
     field_terms of = {0};
     if (!version_argument(it, 1, 1, &of.version) || !blob_argument(it, 2, &of.blob)) {
@@ -42,7 +55,7 @@ static bool fill(call *it, cursor *to) {
     }
     for (size_t field = 0; field < it->schema->fields; field++) {
         of.field = (uint32_t)field;
-        if (!append_field(it, &to->records, &of)) {
+        if (is_wanted(to, field) && !append_field(it, &to->records, &of)) {
             return false;
         }
     }
@@ -62,6 +75,7 @@ const table DOCUMENT_TERMS = {
     .signature = {"kormaglen_terms", {"schema", "version", "document"}},
     .declaration = "CREATE TABLE it(field TEXT, term BLOB, kormaglen_schema HIDDEN, kormaglen_version HIDDEN, kormaglen_document HIDDEN)",
     .columns = COLUMNS,
+    .narrowing = FIELD,
     .rows = 16,
     .fill = fill,
     .record_len = record_len,

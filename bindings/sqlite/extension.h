@@ -10,7 +10,7 @@
 
 SQLITE_EXTENSION_INIT3
 
-enum { MOST_ARGUMENTS = 3 };
+enum { ARGUMENTS = 3 }; /* at most */
 
 /* The bytes of a text or a blob. */
 typedef struct bytes {
@@ -21,7 +21,7 @@ typedef struct bytes {
 /* A name in SQL, and the names of the arguments, which messages use; NULL stands behind the last one. */
 typedef struct signature {
     const char *name;
-    const char *arguments[MOST_ARGUMENTS + 1];
+    const char *arguments[ARGUMENTS + 1];
 } signature;
 
 /* Why there is no result: a code of SQLite's, and with SQLITE_ERROR a message. */
@@ -168,7 +168,7 @@ void give_range_end(call *it);
 /* A cursor over a table of records. */
 typedef struct cursor {
     sqlite3_vtab_cursor base;
-    sqlite3_value *arguments[MOST_ARGUMENTS];
+    sqlite3_value *arguments[ARGUMENTS + 1]; /* behind them what the narrowing column is compared with, or NULL */
     opened_schema *schema;
     buffer records;
     size_t at;
@@ -180,7 +180,8 @@ struct table {
     signature signature;
     const char *declaration;
     int columns;
-    double rows; /* how many there are, by and large */
+    int narrowing; /* a column: rows in which it is something else than the value behind the arguments may be left out; -1 is none */
+    double rows;   /* how many there are, by and large */
     bool (*fill)(call *it, cursor *to);
     size_t (*record_len)(const uint8_t *record);
     void (*give_column)(sqlite3_context *context, const cursor *at, int column);

@@ -62,6 +62,15 @@ static int constraint_of(const sqlite3_index_info *plan, int column) {
     return found;
 }
 
+/* Asks for the value behind the arguments, where there is one that is compared byte by byte. SQLite also tests it itself. */
+static void narrow_plan(const table *it, sqlite3_index_info *plan, int count) {
+    int constraint = it->narrowing < 0 ? MISSING : constraint_of(plan, it->narrowing);
+    if (constraint >= 0 && sqlite3_stricmp(sqlite3_vtab_collation(plan, constraint), "BINARY") == 0) {
+        plan->aConstraintUsage[constraint].argvIndex = count + 1;
+        plan->estimatedCost /= 2;
+    }
+}
+
 /* The plan's number is 0, or that of the first argument that is missing, from 1. Where conditions are joined by OR, SQLite also asks for
  * plans of a part of them, without the arguments: so these aren't refused here, but cost more than any other. */
 static int plan_table(sqlite3_vtab *planned, sqlite3_index_info *plan) {
@@ -82,6 +91,7 @@ static int plan_table(sqlite3_vtab *planned, sqlite3_index_info *plan) {
     }
     plan->estimatedCost = 10 * it->rows;
     plan->estimatedRows = (sqlite3_int64)it->rows;
+    narrow_plan(it, plan, count);
     return SQLITE_OK;
 }
 
@@ -98,7 +108,7 @@ static int open_cursor(sqlite3_vtab *it, sqlite3_vtab_cursor **opened) {
 
 /* Empties a cursor, which keeps the memory of its records. */
 static void clear_cursor(cursor *it) {
-    for (int i = 0; i < MOST_ARGUMENTS; i++) {
+    for (int i = 0; i <= ARGUMENTS; i++) {
         sqlite3_value_free(it->arguments[i]);
         it->arguments[i] = NULL;
     }

@@ -1,6 +1,6 @@
 /* What a document costs by the extension beside the calls of the C library: speed FILE ROUNDS. The file has a schema's JSON on its first
- * line and documents on the others. Prints nanoseconds for each document, the best of the rounds: by the calls, and by a statement over a
- * table that has the lines or the documents, less what the same statement takes that only asks for their lengths. */
+ * line and documents on the others. Prints nanoseconds of the processor for each document, the best of the rounds: by the calls, and by a
+ * statement over a table that has the lines or the documents, less what the same statement takes that only asks for their lengths. */
 #include "kormaglen.h"
 
 #include <sqlite3.h>
@@ -17,6 +17,8 @@ typedef struct lines {
     char *schema;
     char *line[MOST];
     size_t len[MOST];
+    uint8_t *stored[MOST];
+    size_t stored_len[MOST];
     size_t count;
 } lines;
 
@@ -27,7 +29,7 @@ static void die(const char *why) {
 
 static double now(void) {
     struct timespec time;
-    clock_gettime(CLOCK_MONOTONIC, &time);
+    clock_gettime(CLOCK_PROCESS_CPUTIME_ID, &time);
     return (double)time.tv_sec * 1e9 + (double)time.tv_nsec;
 }
 
@@ -54,28 +56,47 @@ static void read_lines(const char *path, lines *to) {
     fclose(file);
 }
 
-/* Each line is parsed and written, or read and printed, by the handles of one schema and one document. */
-static double by_calls(const lines *of, int prints) {
-    static uint8_t bytes[1 << 16], text[1 << 17];
-    kormaglen_schema schema = {0};
-    kormaglen_document document = {0};
-    kormaglen_schema_open((const uint8_t *)of->schema, strlen(of->schema), &schema);
-    double took = 0;
-    for (size_t i = 0; i < of->count; i++) {
-        double start = now();
-        kormaglen_document_parse(&schema, (const uint8_t *)of->line[i], of->len[i], &document);
-        kormaglen_answer stored = kormaglen_document_write(&document, &schema, 2, bytes, sizeof bytes);
-        double middle = now();
-        kormaglen_document_read(2, bytes, (size_t)stored.bytes, &document);
-        kormaglen_answer printed = kormaglen_document_to_json(&document, &schema, text, sizeof text);
-        took += prints ? now() - middle : middle - start;
-        if (stored.status != KORMAGLEN_OK || printed.status != KORMAGLEN_OK) {
-            die("a line is refused");
-        }
+/* A schema's and a document's handle, and where the calls write. */
+typedef struct handles {
+    kormaglen_schema schema;
+    kormaglen_document document;
+    uint8_t bytes[1 << 17];
+} handles;
+
+static size_t expect(kormaglen_answer answer) {
+    if (answer.status != KORMAGLEN_OK) {
+        die(kormaglen_status_text(answer.status));
     }
-    kormaglen_document_close(&document);
-    kormaglen_schema_close(&schema);
-    return took;
+    return (size_t)answer.bytes;
+}
+
+static size_t store(handles *by, const lines *of, size_t i) {
+    expect(kormaglen_document_parse(&by->schema, (const uint8_t *)of->line[i], of->len[i], &by->document));
+    return expect(kormaglen_document_write(&by->document, &by->schema, 2, by->bytes, sizeof by->bytes));
+}
+
+static size_t print(handles *by, const lines *of, size_t i) {
+    expect(kormaglen_document_read(2, of->stored[i], of->stored_len[i], &by->document));
+    return expect(kormaglen_document_to_json(&by->document, &by->schema, by->bytes, sizeof by->bytes));
+}
+
+static void keep_stored(handles *by, lines *of) {
+    for (size_t i = 0; i < of->count; i++) {
+        of->stored_len[i] = store(by, of, i);
+        of->stored[i] = malloc(of->stored_len[i]);
+        if (of->stored[i] == NULL) {
+            die("no memory");
+        }
+        memcpy(of->stored[i], by->bytes, of->stored_len[i]);
+    }
+}
+
+static double by_calls(handles *by, const lines *of, size_t (*call)(handles *, const lines *, size_t)) {
+    double start = now();
+    for (size_t i = 0; i < of->count; i++) {
+        call(by, of, i);
+    }
+    return now() - start;
 }
 
 static double by_statement(sqlite3 *db, const char *sql, const char *schema) {
@@ -124,42 +145,49 @@ typedef struct measured {
     double best;
 } measured;
 
+/* The least of both. */
+static void note(double *best, double took) {
+    *best = took < *best ? took : *best;
+}
+
+static measured STATEMENTS[] = {
+    {"a line's length", "SELECT sum(length(line)) FROM one", 1e18},
+    {"a document's length", "SELECT sum(length(stored)) FROM one", 1e18},
+    {"kormaglen_store", "SELECT sum(length(kormaglen_store(?1, line))) FROM one", 1e18},
+    {"  schema by a subquery", "SELECT sum(length(kormaglen_store((SELECT json FROM schema), line))) FROM one", 1e18},
+    {"kormaglen_json", "SELECT sum(length(kormaglen_json(?1, 2, stored))) FROM one", 1e18},
+    {"kormaglen_check", "SELECT count(kormaglen_check(2, stored)) FROM one", 1e18},
+    {"kormaglen_migrate", "SELECT sum(length(kormaglen_migrate(2, stored, 3))) FROM one", 1e18},
+    {"kormaglen_terms", "SELECT sum(length(term)) FROM one, kormaglen_terms(?1, 2, stored)", 1e18},
+};
+enum { COUNT = sizeof STATEMENTS / sizeof *STATEMENTS, LINE = 0, DOCUMENT = 1, STORE = 2, JSON = 4 };
+
 int main(int count, char **words) {
+    static lines of;
+    static handles by;
     if (count != 3) {
         die("usage: speed FILE ROUNDS");
     }
-    static lines of;
     read_lines(words[1], &of);
+    expect(kormaglen_schema_open((const uint8_t *)of.schema, strlen(of.schema), &by.schema));
+    keep_stored(&by, &of);
     sqlite3 *db = fill_database(&of);
-    double calls[2] = {1e18, 1e18};
-    measured statements[] = {
-        {"a line's length", "SELECT sum(length(line)) FROM one", 1e18},
-        {"a document's length", "SELECT sum(length(stored)) FROM one", 1e18},
-        {"kormaglen_store", "SELECT sum(length(kormaglen_store(?1, line))) FROM one", 1e18},
-        {"  schema by a subquery", "SELECT sum(length(kormaglen_store((SELECT json FROM schema), line))) FROM one", 1e18},
-        {"kormaglen_json", "SELECT count(kormaglen_json(?1, 2, stored)) FROM one", 1e18},
-        {"kormaglen_check", "SELECT count(kormaglen_check(2, stored)) FROM one", 1e18},
-        {"kormaglen_migrate", "SELECT sum(length(kormaglen_migrate(2, stored, 3))) FROM one", 1e18},
-        {"kormaglen_terms", "SELECT sum(length(term)) FROM one, kormaglen_terms(?1, 2, stored)", 1e18},
-    };
+    double stored = 1e18, printed = 1e18;
     for (long round = atol(words[2]); round > 0; round--) {
-        for (int i = 0; i < 2; i++) {
-            double took = by_calls(&of, i);
-            calls[i] = took < calls[i] ? took : calls[i];
-        }
-        for (size_t i = 0; i < sizeof statements / sizeof *statements; i++) {
-            double took = by_statement(db, statements[i].sql, of.schema);
-            statements[i].best = took < statements[i].best ? took : statements[i].best;
+        note(&stored, by_calls(&by, &of, store));
+        note(&printed, by_calls(&by, &of, print));
+        for (size_t i = 0; i < COUNT; i++) {
+            note(&STATEMENTS[i].best, by_statement(db, STATEMENTS[i].sql, of.schema));
         }
     }
     const double each = (double)of.count;
     printf("nanoseconds for each of %zu documents\n", of.count);
-    printf("%-24s %8.0f\n%-24s %8.0f\n", "C: parse and write", calls[0] / each, "C: read and print", calls[1] / each);
-    for (size_t i = 0; i < sizeof statements / sizeof *statements; i++) {
-        printf("%-24s %8.0f\n", statements[i].name, statements[i].best / each);
+    printf("%-24s %8.0f\n%-24s %8.0f\n", "C: parse and write", stored / each, "C: read and print", printed / each);
+    for (size_t i = 0; i < COUNT; i++) {
+        printf("%-24s %8.0f\n", STATEMENTS[i].name, STATEMENTS[i].best / each);
     }
-    printf("times the calls: kormaglen_store %.2f, kormaglen_json %.2f\n", (statements[2].best - statements[0].best) / calls[0],
-           (statements[4].best - statements[1].best) / calls[1]);
+    printf("times the calls: kormaglen_store %.2f, kormaglen_json %.2f\n", (STATEMENTS[STORE].best - STATEMENTS[LINE].best) / stored,
+           (STATEMENTS[JSON].best - STATEMENTS[DOCUMENT].best) / printed);
     sqlite3_close(db);
     return 0;
 }
