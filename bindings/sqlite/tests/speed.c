@@ -159,6 +159,7 @@ static measured STATEMENTS[] = {
     {"kormaglen_check", "SELECT count(kormaglen_check(2, stored)) FROM one", 1e18},
     {"kormaglen_migrate", "SELECT sum(length(kormaglen_migrate(2, stored, 3))) FROM one", 1e18},
     {"kormaglen_terms", "SELECT sum(length(term)) FROM one, kormaglen_terms(?1, 2, stored)", 1e18},
+    {"  of one field", "SELECT sum(length(term)) FROM one, kormaglen_terms(?1, 2, stored) WHERE field = 'price'", 1e18},
 };
 enum { COUNT = sizeof STATEMENTS / sizeof *STATEMENTS, LINE = 0, DOCUMENT = 1, STORE = 2, JSON = 4 };
 
