@@ -65,7 +65,7 @@ static void die(const char *what, const char *why) {
     exit(1);
 }
 
-/* ---- memory that is refused: each so-manieth request, of SQLite's and of the library's */
+/* ---- memory that is refused: each n-th request, of SQLite's and of the library's */
 
 static long refuse_at, requests;
 static sqlite3_mem_methods memory;
@@ -170,6 +170,32 @@ static void expect_all(void) {
         }
     }
     sqlite3_close(db);
+}
+
+/* A connection that is closed while its statements are at their first rows: they go on, and end it. */
+static void close_early(void) {
+    static const char *const SQL[] = {
+        "SELECT kormaglen_store(?1, ?2) FROM json_each('[1,2,3]')",
+        "SELECT kormaglen_store((SELECT ?1), ?2) FROM json_each('[1,2,3]')",
+        "SELECT field, term FROM kormaglen_terms(?1, 2, kormaglen_store(?1, ?2))",
+    };
+    enum { STATEMENTS_OPEN = sizeof SQL / sizeof *SQL };
+    sqlite3_stmt *statements[STATEMENTS_OPEN];
+    sqlite3 *db = open_database();
+    for (int i = 0; i < STATEMENTS_OPEN; i++) {
+        if (sqlite3_prepare_v2(db, SQL[i], -1, &statements[i], NULL) != SQLITE_OK || bind_all(statements[i], SCHEMA, LINE) != SQLITE_OK
+            || sqlite3_step(statements[i]) != SQLITE_ROW) {
+            die(SQL[i], sqlite3_errmsg(db));
+        }
+    }
+    if (sqlite3_kormaglen_init(db, NULL, NULL) != SQLITE_BUSY || sqlite3_close_v2(db) != SQLITE_OK) {
+        die("close", "statements are running");
+    }
+    for (int i = 0; i < STATEMENTS_OPEN; i++) {
+        if (sqlite3_step(statements[i]) != SQLITE_ROW || sqlite3_finalize(statements[i]) != SQLITE_OK) {
+            die(SQL[i], "it ends early");
+        }
+    }
 }
 
 /* The outcome is the expected one, or the code says that it was cut short. */
@@ -477,6 +503,7 @@ int main(int count, char **words) {
     sqlite3_config(SQLITE_CONFIG_MALLOC, &starved);
     sqlite3_initialize();
     expect_all();
+    close_early();
     for (size_t i = 0; count == 3 && i < sizeof PARTS / sizeof *PARTS; i++) {
         if (strcmp(words[1], PARTS[i].name) == 0) {
             PARTS[i].run(atol(words[2]));
