@@ -1,5 +1,5 @@
--- The records of the terms and the ranges of a text, one by one.
-use Rattle.std.proofs.Common.{◌≡◌, ℕ, ◌+◌, ◌<◌, List, [], ◌∷◌, ◌++◌, length, get_or, take, Result, Ok, Err, if◌then◌else◌, sym, ap, ◌∙◌, append_assoc}
+-- The records of the terms and the ranges of a text.
+use Rattle.std.proofs.Common.{◌≡◌, ℕ, ◌+◌, ◌<◌, List, [], ◌∷◌, ◌++◌, length, get_or, take, Result, Ok, Err, if◌then◌else◌, sym, subst, ap, ◌∙◌, append_assoc}
 use Rattle.std.proofs.lemmas.List.{flat_map_more, take_more}
 use Rattle.std.specs.Int.{to_le_bytes, w64}
 use Rattle.std.specs.List.{flat_map}
@@ -34,3 +34,15 @@ pub record_of_next : {A : Type 0} (bytes_of : A → List ℕ) (old now new : Lis
 record_of_next bytes_of old now new items i item below is so_far added =
     added ∙ ap (λ (l : List ℕ). l ++ bytes_of item) so_far ∙ flat_map_more bytes_of old (take i items) item
     ∙ ap (λ more. old ++ flat_map bytes_of more) (ap (λ e. take i items ++ e ∷ []) is ∙ sym (take_more items i item below))
+
+-- ---- what is written
+
+-- the records of what was found, which stands for itself where the list was empty
+pub all_records : {A : Type 0} (bytes_of : A → List ℕ) (written new old : List ℕ) (found before made : List A) → written ≡ new → new ≡ old ++ flat_map bytes_of found → old ≡ []
+    → found ≡ before ++ made → before ≡ [] → written ≡ flat_map bytes_of made
+all_records bytes_of written new old found before made is appended none so_far empty =
+    is ∙ appended ∙ ap (λ (l : List ℕ). l ++ flat_map bytes_of found) none ∙ ap (λ items. flat_map bytes_of items) (so_far ∙ ap (λ items. items ++ made) empty)
+
+-- what holds of two texts holds of their bytes
+pub of_bytes : (Answers : List ℕ → List ℕ → Type 0) (p path t text : List ℕ) → p ≡ path → t ≡ text → Answers p t → Answers path text
+of_bytes Answers p path t text is_path is_text h = subst (λ (l : List ℕ). Answers l text) is_path (subst (λ (l : List ℕ). Answers p l) is_text h)

@@ -1,0 +1,17 @@
+use Rattle.std.proofs.Common.{[], Ok, refl}
+use Rattle.tv_blocks.specs.Query.{AreTextRanges, IsRangesRefusal, range_record}
+use Rattle.tv_indexing.specs.JsonRanges.{AnswersRanges}
+use Rattle.tv_blocks.proofs.Filling.{fills_with}
+use Rattle.tv_blocks.proofs.Queries.{all_records, of_bytes}
+use Rattle.tv_blocks.proofs.query.ranges_of_text.Goals as goal
+
+pub returns : goal.returns
+returns c =
+    let schema = c.args.schema.now in
+    let path = c.in-Ok.ensures.cases in
+    let text = c.in-Ok-from_utf8.ensures.cases in
+    let found = c.in-Ok-ranges_of_text.found.items in
+    fills_with (AreTextRanges schema c.args.path.now c.args.text.now) (IsRangesRefusal schema c.args.path.now c.args.text.now) c.as_slice-2.result.now c.args.ranges.now c.put_whole.new.buffer c.put_whole.result
+    (path.1, text.1, found, of_bytes (λ p t. AnswersRanges schema p t (Ok found)) c.in-Ok.path.now c.args.path.now c.in-Ok-from_utf8.text.now c.args.text.now path.0 text.0 c.in-Ok-ranges_of_text.ensures.made,
+        all_records range_record c.as_slice-2.result.now c.append_ranges.new.content.items c.new-content.result.items c.as_slice.result.now [] found c.as_slice-2.ensures.value c.in_ok-append_ranges.ensures c.new-content.ensures.items c.as_slice.ensures.value refl)
+    c.put_whole.ensures
