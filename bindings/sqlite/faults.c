@@ -1,0 +1,66 @@
+/* How a call ends without a result. */
+#include "extension.h"
+
+bool fail(call *it, int code) {
+    it->fault.code = code;
+    return false;
+}
+
+bool fail_with(call *it, char *message) {
+    it->fault.message = message;
+    return fail(it, message != NULL ? SQLITE_ERROR : SQLITE_NOMEM);
+}
+
+bool fail_argument(call *it, int number, const char *reason) {
+    const signature *of = it->signature;
+    return fail_with(it, sqlite3_mprintf("%s: argument %d (%s): %s", of->name, number + 1, of->arguments[number], reason));
+}
+
+/* Whether the place of an answer is the number of a field. */
+static bool names_field(kormaglen_answer answer) {
+    switch (answer.status) {
+    case KORMAGLEN_BAD_LINE: return answer.detail >= KORMAGLEN_LINE_OVERFLOW && answer.detail <= KORMAGLEN_LINE_FLOAT;
+    case KORMAGLEN_BAD_QUERY: return answer.detail != KORMAGLEN_QUERY_NO_RANGE;
+    default: return false;
+    }
+}
+
+/* Where the refused thing is, as `: field "price"`, or an empty text. NULL where there is no memory, or where the
+ * statement is interrupted meanwhile. */
+static char *place_of(call *it, kormaglen_answer answer) {
+    if (answer.status == KORMAGLEN_BAD_SCHEMA && answer.place > 0) {
+        return sqlite3_mprintf(": entry %llu", (unsigned long long)answer.place);
+    }
+    if (answer.status == KORMAGLEN_NO_FIELD) {
+        /* (wherever there is a path, it is argument 1) */
+        return sqlite3_mprintf(": \"%s\"", sqlite3_value_text(it->arguments[1]));
+    }
+    if (!names_field(answer)) {
+        return sqlite3_mprintf("");
+    }
+    if (it->schema != NULL && read_names(it) && answer.place < it->schema->fields) {
+        return sqlite3_mprintf(": field \"%s\"", sqlite3_value_text(it->schema->names[answer.place]));
+    }
+    if (it->fault.code == SQLITE_NOMEM || it->fault.code == SQLITE_INTERRUPT) {
+        return NULL;
+    }
+    /* (the names couldn't be read, as where an authorizer forbids it; that isn't what the call is refused for) */
+    sqlite3_free(it->fault.message);
+    it->fault = (fault){0};
+    return sqlite3_mprintf(": field %llu", (unsigned long long)answer.place);
+}
+
+bool refuse(call *it, kormaglen_answer answer) {
+    if (answer.status == KORMAGLEN_NO_MEMORY) {
+        return fail(it, SQLITE_NOMEM);
+    }
+    const char *status = kormaglen_status_text(answer.status);
+    const char *detail = kormaglen_detail_text(answer.status, answer.detail);
+    char *place = place_of(it, answer);
+    if (place == NULL) {
+        return it->fault.code != SQLITE_OK ? false : fail(it, SQLITE_NOMEM);
+    }
+    char *message = sqlite3_mprintf("%s: %s%s%s%s", it->signature->name, status, place, detail[0] != 0 ? ": " : "", detail);
+    sqlite3_free(place);
+    return fail_with(it, message);
+}

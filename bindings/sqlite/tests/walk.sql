@@ -1,0 +1,50 @@
+CREATE TABLE schema(json TEXT);
+INSERT INTO schema VALUES ('[
+  {"name":"name","type":"text","options":{"indexing":{"record":"basic"},"stored":true}},
+  {"name":"price","type":"u64","options":{"indexed":true,"stored":true}},
+  {"name":"kind","type":"facet","options":{"stored":true}},
+  {"name":"more","type":"json_object","options":{"indexing":{"record":"basic"},"stored":true,"fast":false}}]');
+.parameter set :schema "(SELECT json FROM schema)"
+
+CREATE TABLE product(id INTEGER PRIMARY KEY, stored BLOB NOT NULL);
+INSERT INTO product(stored) SELECT kormaglen_store(:schema, column1) FROM (VALUES
+  ('{"name":"Desk lamp","price":20,"kind":"/home/light/desk"}'),
+  ('{"name":["Lantern","Lamp"],"price":35,"kind":"/home/light"}'),
+  ('{"name":"Light box","price":12,"kind":"/home/lightbox","more":{"size":[30,40]}}'),
+  ('{"name":"Garden chair","price":12,"kind":"/garden","more":{"size":90,"colour":"green"}}'));
+SELECT id, length(stored), kormaglen_json(:schema, 2, stored) FROM product;
+
+INSERT INTO product(stored) VALUES (kormaglen_store(:schema, '{"name":"Stool","price":"cheap"}'));
+
+SELECT id, json_extract(kormaglen_json(:schema, 2, stored), '$.name[0]') AS name FROM product WHERE id > 2;
+
+CREATE TABLE term(term BLOB, id INTEGER, PRIMARY KEY (term, id)) WITHOUT ROWID;
+CREATE TRIGGER product_added AFTER INSERT ON product BEGIN
+  INSERT OR IGNORE INTO term SELECT term, new.id FROM kormaglen_terms((SELECT json FROM schema), 2, new.stored);
+END;
+INSERT OR IGNORE INTO term SELECT term, id FROM product, kormaglen_terms(:schema, 2, stored);
+INSERT INTO product(stored) VALUES (kormaglen_store(:schema, '{"name":"Lamp shade","price":19}'));
+SELECT field, hex(term) FROM product, kormaglen_terms(:schema, 2, stored) WHERE id = 1;
+
+SELECT id FROM term
+WHERE term >= kormaglen_range_start(:schema, 'price', '[12 TO 20}') AND term < kormaglen_range_end(:schema, 'price', '[12 TO 20}');
+EXPLAIN QUERY PLAN SELECT id FROM term
+WHERE term >= kormaglen_range_start(:schema, 'price', '[12 TO 20}') AND term < kormaglen_range_end(:schema, 'price', '[12 TO 20}');
+
+SELECT DISTINCT id FROM kormaglen_query_ranges(:schema, 'name', 'La*') AS r JOIN term AS t ON t.term >= r.start AND t.term < r.end;
+EXPLAIN QUERY PLAN
+SELECT DISTINCT id FROM kormaglen_query_ranges(:schema, 'name', 'La*') AS r JOIN term AS t ON t.term >= r.start AND t.term < r.end;
+
+SELECT id FROM term
+WHERE term >= kormaglen_term(:schema, 'kind', '/home/light') AND term < kormaglen_range_end(:schema, 'kind', '/home/light/*');
+
+SELECT hex(term) FROM kormaglen_query_terms(:schema, 'more.size', '90');
+
+UPDATE product SET stored = substr(stored, 1, length(stored) - 1) WHERE id = 2;
+SELECT id, kormaglen_check(2, stored) AS fault FROM product WHERE fault IS NOT NULL;
+
+DELETE FROM product WHERE kormaglen_check(2, stored) IS NOT NULL;
+DELETE FROM term WHERE id NOT IN (SELECT id FROM product);
+ALTER TABLE product ADD COLUMN version INTEGER NOT NULL DEFAULT 2;
+UPDATE product SET stored = kormaglen_migrate(version, stored, 3), version = 3 WHERE version < 3;
+SELECT id, version, length(stored), kormaglen_json(:schema, version, stored) FROM product WHERE id > 2;
