@@ -1,11 +1,16 @@
 -- The records of the terms and the ranges of a text.
-use Rattle.std.proofs.Common.{◌≡◌, ℕ, ◌+◌, ◌<◌, List, [], ◌∷◌, ◌++◌, length, get_or, take, Result, Ok, Err, if◌then◌else◌, sym, subst, ap, ◌∙◌, append_assoc}
+use Rattle.std.proofs.Common.{◌≡◌, ℕ, ◌+◌, ◌<◌, List, [], ◌∷◌, ◌++◌, length, get_or, take, Result, Ok, Err, if◌then◌else◌, refl, sym, subst, ap, ◌∙◌, append_assoc}
 use Rattle.std.proofs.lemmas.List.{flat_map_more, take_more}
 use Rattle.std.specs.Int.{to_le_bytes, w64}
 use Rattle.std.specs.List.{flat_map}
-use Rattle.std.specs.Prelude.{OnOk}
+use Rattle.std.specs.Prelude.{IsUtf8, OnOk, ◌≢◌}
 use Rattle.std.specs.Result.{is_ok}
-use Rattle.tv_blocks.specs.Query.{end_bytes, end_length, range_record}
+use Rattle.tv_blocks.specs.Buffer.{FillsBuffer}
+use Rattle.tv_blocks.specs.Query.{IsQueryRefusal, end_bytes, end_length, range_record}
+use Rattle.tv_blocks.specs.QueryRefusals.{query_error}
+use Rattle.tv_field.specs.declared.json_value.JsonRefusal.TheVariants as values
+use Rattle.tv_indexing.specs.declared.text_terms_error.TextTermsError.{TextTermsError}
+use Rattle.tv_indexing.specs.declared.text_terms_error.TextTermsError.TheVariants as texts
 use Rattle.tv_term.specs.declared.range.TermRange.{TermRange}
 
 -- a range's record is appended in four pieces
@@ -46,3 +51,22 @@ all_records bytes_of written new old found before made is appended none so_far e
 -- what holds of two texts holds of their bytes
 pub of_bytes : (Answers : List ℕ → List ℕ → Type 0) (p path t text : List ℕ) → p ≡ path → t ≡ text → Answers p t → Answers path text
 of_bytes Answers p path t text is_path is_text h = subst (λ (l : List ℕ). Answers l text) is_path (subst (λ (l : List ℕ). Answers p l) is_text h)
+
+-- ---- why nothing is written
+
+-- what is said of the error of `tv_indexing`
+pub query_refused : (P : List ℕ → Type 0) (Refuses : TextTermsError → Type 0) (path text buffer : List ℕ) (why : TextTermsError) → IsUtf8 path → IsUtf8 text → (why ≢ texts.Memory → Refuses why) → FillsBuffer P (IsQueryRefusal Refuses path text) buffer buffer (Err (query_error why))
+query_refused P Refuses path text buffer (texts.UnknownPath start) p t h = ((p, t, texts.UnknownPath start, h (λ e. cc), refl), refl)
+query_refused P Refuses path text buffer (texts.NotIndexed field) p t h = ((p, t, texts.NotIndexed field, h (λ e. cc), refl), refl)
+query_refused P Refuses path text buffer (texts.PathEnds field) p t h = ((p, t, texts.PathEnds field, h (λ e. cc), refl), refl)
+query_refused P Refuses path text buffer (texts.NulInPath field) p t h = ((p, t, texts.NulInPath field, h (λ e. cc), refl), refl)
+query_refused P Refuses path text buffer (texts.WrongText field type (values.Overflow expected) start) p t h = ((p, t, texts.WrongText field type (values.Overflow expected) start, h (λ e. cc), refl), refl)
+query_refused P Refuses path text buffer (texts.WrongText field type (values.Mismatch expected) start) p t h = ((p, t, texts.WrongText field type (values.Mismatch expected) start, h (λ e. cc), refl), refl)
+query_refused P Refuses path text buffer (texts.WrongText field type (values.Parse cause) start) p t h = ((p, t, texts.WrongText field type (values.Parse cause) start, h (λ e. cc), refl), refl)
+query_refused P Refuses path text buffer (texts.WrongText field type values.InvalidBase64 start) p t h = ((p, t, texts.WrongText field type values.InvalidBase64 start, h (λ e. cc), refl), refl)
+query_refused P Refuses path text buffer (texts.WrongText field type values.FloatNumber start) p t h = ((p, t, texts.WrongText field type values.FloatNumber start, h (λ e. cc), refl), refl)
+query_refused P Refuses path text buffer (texts.WrongText field type values.Memory start) p t h = refl
+query_refused P Refuses path text buffer (texts.WrongRange start) p t h = ((p, t, texts.WrongRange start, h (λ e. cc), refl), refl)
+query_refused P Refuses path text buffer (texts.Backwards field) p t h = ((p, t, texts.Backwards field, h (λ e. cc), refl), refl)
+query_refused P Refuses path text buffer (texts.NoRange field) p t h = refl
+query_refused P Refuses path text buffer texts.Memory p t h = refl
