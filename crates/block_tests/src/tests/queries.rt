@@ -70,11 +70,11 @@ fn texts_have_terms(rt: HostRuntime) -> Result<(), Fail> {
     let mut terms = [KEPT; 48];
     let number = terms_of_text(alloc, &schema, b"u", b"258", &mut terms);
     assert!(rt; number == Ok(21));
-    assert!(rt; &terms[..21] == NUMBER);
-    assert!(rt; &terms[21..] == [KEPT; 27].as_slice());
+    assert!(rt; terms.starts_with(NUMBER));
+    assert!(rt; terms.ends_with(&[KEPT; 27]));
     let below = terms_of_text(alloc, &schema, b"j.a.b", b"7", &mut terms);
     assert!(rt; below == Ok(45));
-    assert!(rt; &terms[..45] == BELOW);
+    assert!(rt; terms.starts_with(BELOW));
     let mut short = [KEPT; 20];
     let refused = terms_of_text(alloc, &schema, b"u", b"258", &mut short);
     let needed = BlockError::TooSmall {
@@ -93,11 +93,11 @@ fn texts_bound_ranges(rt: HostRuntime) -> Result<(), Fail> {
     let mut ranges = [KEPT; 96];
     let one = ranges_of_text(alloc, &schema, b"u", b"[10 TO 20}", &mut ranges);
     assert!(rt; one == Ok(42));
-    assert!(rt; &ranges[..42] == RANGE);
-    assert!(rt; &ranges[42..] == [KEPT; 54].as_slice());
+    assert!(rt; ranges.starts_with(RANGE));
+    assert!(rt; ranges.ends_with(&[KEPT; 54]));
     let two = ranges_of_text(alloc, &schema, b"j.a", b"[10 TO 20}", &mut ranges);
     assert!(rt; two == Ok(84));
-    assert!(rt; &ranges[..84] == RANGES);
+    assert!(rt; ranges.starts_with(RANGES));
     let mut short = [KEPT; 41];
     let refused = ranges_of_text(alloc, &schema, b"u", b"[10 TO 20}", &mut short);
     let needed = BlockError::TooSmall {
