@@ -29,12 +29,12 @@ static const table *const TABLES[] = {&DOCUMENT_TERMS, &QUERY_TERMS, &QUERY_RANG
 /* What SQLite hands to a function. */
 typedef struct function_data {
     const function *function;
-    shelf *shelf;
+    cache *cache;
 } function_data;
 
 static void end_function(void *data) {
     function_data *it = data;
-    leave_shelf(it->shelf);
+    leave_cache(it->cache);
     sqlite3_free(it);
 }
 
@@ -61,13 +61,13 @@ static void run(sqlite3_context *context, int count, sqlite3_value **arguments) 
         }
     }
     sqlite3 *db = sqlite3_context_db_handle(context);
-    call it = {.signature = &data->function->signature, .db = db, .context = context, .arguments = arguments, .shelf = data->shelf};
+    call it = {.signature = &data->function->signature, .db = db, .context = context, .arguments = arguments, .cache = data->cache};
     it.limit = (size_t)sqlite3_limit(db, SQLITE_LIMIT_LENGTH, -1);
     data->function->run(&it);
     report(context, it.fault);
 }
 
-static int create_function(sqlite3 *db, const function *it, shelf *with) {
+static int create_function(sqlite3 *db, const function *it, cache *with) {
     const int flags = SQLITE_UTF8 | SQLITE_DETERMINISTIC | SQLITE_INNOCUOUS;
     function_data *data = sqlite3_malloc64(sizeof *data);
     if (data == NULL) {
@@ -96,7 +96,7 @@ int sqlite3_kormaglen_init(sqlite3 *db, char **message, const sqlite3_api_routin
     if (sqlite3_libversion_number() < OLDEST) {
         return end_init(message, SQLITE_ERROR, "SQLite 3.38 or newer is wanted");
     }
-    shelf *with = new_shelf();
+    cache *with = new_cache();
     int code = with == NULL ? SQLITE_NOMEM : SQLITE_OK;
     for (size_t i = 0; code == SQLITE_OK && i < sizeof FUNCTIONS / sizeof *FUNCTIONS; i++) {
         code = create_function(db, &FUNCTIONS[i], with);
@@ -105,7 +105,7 @@ int sqlite3_kormaglen_init(sqlite3 *db, char **message, const sqlite3_api_routin
         code = create_table(db, TABLES[i], with);
     }
     if (with != NULL) {
-        leave_shelf(with);
+        leave_cache(with);
     }
     return code == SQLITE_OK ? code : end_init(message, code, sqlite3_errmsg(db));
 }

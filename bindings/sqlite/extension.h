@@ -30,7 +30,7 @@ typedef struct fault {
     char *message;
 } fault;
 
-typedef struct shelf shelf;
+typedef struct cache cache;
 typedef struct opened_schema opened_schema;
 
 typedef struct call {
@@ -38,7 +38,7 @@ typedef struct call {
     sqlite3 *db;
     sqlite3_context *context; /* NULL in a table's function */
     sqlite3_value **arguments;
-    shelf *shelf;
+    cache *cache;
     opened_schema *schema; /* NULL until an argument gave one */
     size_t limit;          /* how many bytes the call may write at most */
     fault fault;
@@ -71,7 +71,7 @@ bool version_argument(call *it, int number, uint32_t least, uint32_t *version);
 
 /* A schema that was read, and the memory of the document that was worked on last. One call at a time uses it. */
 struct opened_schema {
-    shelf *shelf;
+    cache *cache;
     bytes json;
     kormaglen_schema schema;
     kormaglen_document document;
@@ -82,17 +82,17 @@ struct opened_schema {
 
 /* What the functions and the tables of a connection keep in common: one schema that nobody uses just now, so that the next call finds it
  * read. It is there until the last of its users is gone. */
-struct shelf {
+struct cache {
     size_t users;
     opened_schema *kept;
 };
 
-shelf *new_shelf(void);
-void leave_shelf(void *shelf);
+cache *new_cache(void);
+void leave_cache(void *cache);
 
-/* Reads argument 0: the statement has the schema already where the argument is a constant, or else the shelf may have it. */
+/* Reads argument 0: the statement has the schema already where the argument is a constant, or else the cache may have it. */
 bool schema_argument(call *it);
-/* Takes the schema of this JSON from the shelf, or reads it; and gives it back, which also ends auxiliary data. NULL is passed over. */
+/* Takes the schema of this JSON from the cache, or reads it; and gives it back, which also ends auxiliary data. NULL is passed over. */
 opened_schema *take_schema(call *it, bytes json);
 void give_back_schema(void *schema);
 /* Notes how long a line or a document is that the schema works on, as its memory grows with that. */
@@ -187,7 +187,7 @@ struct table {
     void (*give_column)(sqlite3_context *context, const cursor *at, int column);
 };
 
-int create_table(sqlite3 *db, const table *it, shelf *with);
+int create_table(sqlite3 *db, const table *it, cache *with);
 
 /* ---- the tables themselves, in document_terms.c and query_tables.c */
 

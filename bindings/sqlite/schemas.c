@@ -1,5 +1,5 @@
 /* Schemas that were read. A statement keeps the one of a constant argument as auxiliary data. Where the argument is no constant, as with a
- * subquery, SQLite ends the auxiliary data behind each call. So what ends goes to the connection's shelf, and the next call takes it from
+ * subquery, SQLite ends the auxiliary data behind each call. So what ends goes to the connection's cache, and the next call takes it from
  * there if its JSON is the same. */
 #include "extension.h"
 
@@ -8,10 +8,10 @@
 /* What worked on more bytes than these isn't kept behind its statement, for the memory that it holds. */
 enum { LARGEST_KEPT = 1 << 20 };
 
-shelf *new_shelf(void) {
-    shelf *made = sqlite3_malloc64(sizeof *made);
+cache *new_cache(void) {
+    cache *made = sqlite3_malloc64(sizeof *made);
     if (made != NULL) {
-        *made = (shelf){.users = 1, .kept = NULL};
+        *made = (cache){.users = 1, .kept = NULL};
     }
     return made;
 }
@@ -34,8 +34,8 @@ static void close_schema(opened_schema *schema) {
     }
 }
 
-void leave_shelf(void *left) {
-    shelf *it = left;
+void leave_cache(void *left) {
+    cache *it = left;
     it->users -= 1;
     if (it->users == 0) {
         close_schema(it->kept);
@@ -63,15 +63,15 @@ static opened_schema *open_schema(call *it, bytes json) {
 }
 
 opened_schema *take_schema(call *it, bytes json) {
-    opened_schema *taken = it->shelf->kept;
+    opened_schema *taken = it->cache->kept;
     if (taken != NULL && taken->json.len == json.len && memcmp(taken->json.start, json.start, json.len) == 0) {
-        it->shelf->kept = NULL;
+        it->cache->kept = NULL;
     } else {
         taken = open_schema(it, json);
     }
     if (taken != NULL) {
-        taken->shelf = it->shelf;
-        it->shelf->users += 1;
+        taken->cache = it->cache;
+        it->cache->users += 1;
     }
     return taken;
 }
@@ -85,14 +85,14 @@ void give_back_schema(void *schema) {
     if (it == NULL) {
         return;
     }
-    shelf *to = it->shelf;
+    cache *to = it->cache;
     if (it->largest > LARGEST_KEPT) {
         close_schema(it);
     } else {
         close_schema(to->kept);
         to->kept = it;
     }
-    leave_shelf(to);
+    leave_cache(to);
 }
 
 bool schema_argument(call *it) {
@@ -106,7 +106,7 @@ bool schema_argument(call *it) {
     }
     it->schema = take_schema(it, json);
     if (it->schema != NULL) {
-        /* Where SQLite can't keep it, it goes to the shelf at once, where it stays for this call. */
+        /* Where SQLite can't keep it, it goes to the cache at once, where it stays for this call. */
         sqlite3_set_auxdata(it->context, 0, it->schema, give_back_schema);
     }
     return it->schema != NULL;

@@ -7,7 +7,7 @@
 /* What SQLite hands to each connection of a table. */
 typedef struct module_data {
     const table *table;
-    shelf *shelf;
+    cache *cache;
 } module_data;
 
 typedef struct connected_table {
@@ -150,7 +150,7 @@ static int start_cursor(sqlite3_vtab_cursor *base, int missing, const char *word
     (void)words;
     cursor *it = (cursor *)(void *)base;
     const connected_table *of = table_of(it);
-    call filling = {.signature = &of->data->table->signature, .db = of->db, .arguments = it->arguments, .shelf = of->data->shelf};
+    call filling = {.signature = &of->data->table->signature, .db = of->db, .arguments = it->arguments, .cache = of->data->cache};
     filling.limit = INT32_MAX;
     clear_cursor(it);
     if (missing > 0) {
@@ -213,11 +213,11 @@ static const sqlite3_module MODULE = {
 
 static void end_module(void *data) {
     module_data *it = data;
-    leave_shelf(it->shelf);
+    leave_cache(it->cache);
     sqlite3_free(it);
 }
 
-int create_table(sqlite3 *db, const table *it, shelf *with) {
+int create_table(sqlite3 *db, const table *it, cache *with) {
     module_data *data = sqlite3_malloc64(sizeof *data);
     if (data == NULL) {
         return SQLITE_NOMEM;
