@@ -48,7 +48,7 @@ SCAN = "SELECT count(DISTINCT id) FROM leaf WHERE path = :path AND "
 
 NUMBERS = ["price", "change", "more.size"]
 TEXTS = ["name", "more.by.who", "more.by.tags", "more.any"]
-FACETS = ["/home", "/home/light", "/garden", "/garden/chair", "/home/lights", "/a\\/b", "/nowhere", "/"]
+FACETS = ["/shop", "/shop/light", "/garden", "/garden/chair", "/shop/lights", "/a\\/b", "/nowhere", "/"]
 STARTS = ["l", "la", "lamp", "Lamp la", "1", "é", "棚", "tab", "tabl", "x"]
 
 

@@ -16,7 +16,7 @@ SCHEMA = [
 ]
 
 WORDS = ["lamp", "Lamp", "label", "ladder", "chair", "Stuhl", "étagère", "棚", "table", "tab", "tabla", "10", "7", "a b", ""]
-KINDS = ["/home", "/home/light", "/home/light/led", "/home/lights", "/garden", "/garden/chair", "/garden/chair/wood", "/a\\/b/c", "/"]
+KINDS = ["/shop", "/shop/light", "/shop/light/led", "/shop/lights", "/garden", "/garden/chair", "/garden/chair/wood", "/a\\/b/c", "/"]
 
 
 def text(random_: random.Random) -> str:

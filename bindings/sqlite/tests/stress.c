@@ -23,7 +23,7 @@ static const char SCHEMA[] = "[{\"name\":\"name\",\"type\":\"text\",\"options\":
                              "{\"name\":\"kind\",\"type\":\"facet\",\"options\":{\"stored\":true}},"
                              "{\"name\":\"more\",\"type\":\"json_object\",\"options\":{\"indexing\":{},\"stored\":true,\"fast\":false}}]";
 
-static const char LINE[] = "{\"name\":[\"Lamp\",\"lamp\"],\"price\":20,\"kind\":\"/home/light\",\"more\":{\"size\":[1,2],\"red\":true}}";
+static const char LINE[] = "{\"name\":[\"Lamp\",\"lamp\"],\"price\":20,\"kind\":\"/shop/light\",\"more\":{\"size\":[1,2],\"red\":true}}";
 
 /* ?1 is the schema, ?2 the line. */
 static const char *const STATEMENTS[] = {
@@ -408,7 +408,7 @@ static const char *const RANDOM_STATEMENTS[] = {
 enum { RANDOM_COUNT = sizeof RANDOM_STATEMENTS / sizeof *RANDOM_STATEMENTS, LARGEST = 1024 };
 
 static const char *const PATHS[] = {"name", "price", "kind", "more.size", "more.a\\.b", "more", "nothing"};
-static const char *const TEXTS[] = {"20", "[1 TO 2}", "[* TO a]", "lam*", "/home/*", "/home", "*", "2020-01-01T00:00:00Z", "true"};
+static const char *const TEXTS[] = {"20", "[1 TO 2}", "[* TO a]", "lam*", "/shop/*", "/shop", "*", "2020-01-01T00:00:00Z", "true"};
 
 /* Binds a changed copy, as a text or a blob. Sometimes the other one, and sometimes NULL. */
 static void bind_changed(sqlite3_stmt *statement, int number, const void *from, size_t len, bool is_text) {

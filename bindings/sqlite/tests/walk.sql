@@ -8,9 +8,9 @@ INSERT INTO schema VALUES ('[
 
 CREATE TABLE product(id INTEGER PRIMARY KEY, stored BLOB NOT NULL);
 INSERT INTO product(stored) SELECT kormaglen_store(:schema, column1) FROM (VALUES
-  ('{"name":"Desk lamp","price":20,"kind":"/home/light/desk"}'),
-  ('{"name":["Lantern","Lamp"],"price":35,"kind":"/home/light"}'),
-  ('{"name":"Light box","price":12,"kind":"/home/lightbox","more":{"size":[30,40]}}'),
+  ('{"name":"Desk lamp","price":20,"kind":"/shop/light/desk"}'),
+  ('{"name":["Lantern","Lamp"],"price":35,"kind":"/shop/light"}'),
+  ('{"name":"Light box","price":12,"kind":"/shop/lightbox","more":{"size":[30,40]}}'),
   ('{"name":"Garden chair","price":12,"kind":"/garden","more":{"size":90,"colour":"green"}}'));
 SELECT id, length(stored), kormaglen_json(:schema, 2, stored) FROM product;
 
@@ -36,7 +36,7 @@ EXPLAIN QUERY PLAN
 SELECT DISTINCT id FROM kormaglen_query_ranges(:schema, 'name', 'La*') AS r JOIN term AS t ON t.term >= r.start AND t.term < r.end;
 
 SELECT id FROM term
-WHERE term >= kormaglen_term(:schema, 'kind', '/home/light') AND term < kormaglen_range_end(:schema, 'kind', '/home/light/*');
+WHERE term >= kormaglen_term(:schema, 'kind', '/shop/light') AND term < kormaglen_range_end(:schema, 'kind', '/shop/light/*');
 
 SELECT hex(term) FROM kormaglen_query_terms(:schema, 'more.size', '90');
 
