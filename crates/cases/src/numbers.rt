@@ -36,7 +36,7 @@ fn found(alloc: Global, bytes: &[u8]) -> Result<String> {
 
 // The bytes of a number.
 fn encoded(alloc: Global, number: u64) -> Result<String> {
-    let (bytes, length) = VInt(number).encoding();
+    let (bytes, length) = VInt(number).spelling();
     words::digits(alloc, bytes.get(..length).context("ten bytes at most")?)
 }
 

@@ -10,7 +10,7 @@ pub fn numbers_are_written_short(number: u64) -> ([u8; 10], usize)
     ensures len { result.1 ≤ 10 }
     ensures bytes { take result.1 result.0 ≡ vnum number }
 {
-    let (bytes, len) = VInt(number).encoding();
+    let (bytes, len) = VInt(number).spelling();
     match number {
         0 => (bytes, len),
         _ => (bytes, len),

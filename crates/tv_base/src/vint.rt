@@ -13,8 +13,8 @@ use crate::take::take_vint;
 pub struct VInt(pub u64);
 
 impl VInt {
-    /// The shortest encoding: this many bytes at the start of the array. What stands behind them is unspecified.
-    pub fn encoding(self) -> ([u8; 10], usize)
+    /// The shortest encoding: this many bytes at the start of the array. What stands after them is unspecified. (Not in tantivy.)
+    pub fn spelling(self) -> ([u8; 10], usize)
         ensures len { result.1 ≤ 10 }
         ensures bytes { take result.1 result.0 ≡ vnum self.0 }
     {

@@ -95,7 +95,7 @@ pub fn write_vint<K: ByteSink>(sink: &mut K, number: u64) -> Result<(), WriteErr
     if number < 128 {
         return write_u8(sink, number as u8 + 128);
     }
-    let (bytes, len) = VInt(number).encoding();
+    let (bytes, len) = VInt(number).spelling();
     write_all(sink, &bytes[..len])
 }
 

@@ -24,7 +24,7 @@ pub fn number_len(number: u64) -> u32
     if number < 128 {
         return 1;
     }
-    let (_, len) = VInt(number).encoding();
+    let (_, len) = VInt(number).spelling();
     len as u32
 }
 

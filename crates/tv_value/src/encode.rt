@@ -26,7 +26,7 @@ pub fn push_number(bytes: &mut Vec<u8>, number: u64) -> Result<(), AllocError>
         bytes.extend_from_slice(&[(number % 128) as u8, (number / 128) as u8 + 128])?;
         return Ok(());
     }
-    let (encoding, len) = VInt(number).encoding();
+    let (encoding, len) = VInt(number).spelling();
     bytes.extend_from_slice(&encoding[..len])
 }
 

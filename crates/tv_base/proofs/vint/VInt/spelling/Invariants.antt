@@ -1,6 +1,6 @@
 use Rattle.std.proofs.Common.{◌≡◌, ◌≤◌, ◌++◌, ◌-◌, ◌*◌, ◌^◌, take, length}
 use Rattle.tv_base.specs.Number.{groups_of, vnum}
-use Rattle.tv_base.proofs.vint.VInt.encoding.Given as goal
+use Rattle.tv_base.proofs.vint.VInt.spelling.Given as goal
 
 abbrev pub invariant-loop-i : goal.invariant-loop-i
 invariant-loop-i l = record {

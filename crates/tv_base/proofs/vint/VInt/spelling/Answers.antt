@@ -1,6 +1,6 @@
 use Rattle.std.proofs.Common.{rules, arith}
 use Rattle.tv_base.proofs.ShortGroups.{start, ends, ends_tenth, goes_on, stays_small, last_fits}
-use Rattle.tv_base.proofs.vint.VInt.encoding.Goals as goal
+use Rattle.tv_base.proofs.vint.VInt.spelling.Goals as goal
 
 pub loop-i-init : goal.loop-i-init
 loop-i-init c = record { so_far = start c.args.self.0; room = search rules; small = omega arith }
