@@ -151,7 +151,7 @@ impl Call {
         Call::CountFacets,
     ];
 
-    /// The name under which it is told.
+    /// The name under which it is printed.
     pub fn name(self) -> &'static str {
         match self {
             Call::ReadJson => "read_json",

@@ -14,9 +14,9 @@ pub const TEXT_FIELD: u32 = 1;
 // How many terms rise.
 const RISING_TERMS: u64 = 100_000;
 
-/// All documents one behind the other, the schema's JSON, paths into its fields, texts of facets, lines, and what queries have.
+/// All documents one after the other, the schema's JSON, paths into its fields, texts of facets, lines, and what queries have.
 pub struct Inputs {
-    /// The stored bytes of all documents, one behind the other, as in a block of a store.
+    /// The stored bytes of all documents, one after the other, as in a block of a store.
     pub block: Vec<u8>,
     /// The schema as JSON.
     pub schema_json: String,
@@ -38,7 +38,7 @@ pub struct Inputs {
     pub ranges: Vec<TermRange>,
 }
 
-// Written here, so that inputs are let go by one call.
+// Written here, so that inputs are dropped by one call.
 impl Drop for Inputs {
     fn drop(self) {
         let Inputs {

@@ -38,7 +38,7 @@ fn main(rt: HostRuntime) -> Result<()> {
     answer_rows(&rt, rows.as_slice(), is_timed)
 }
 
-// The lines of standard input before its first empty line, and those behind it.
+// The lines of standard input before its first empty line, and those after it.
 fn parts(rt: &(impl Input + AllocGlobal)) -> Result<(Vec<String>, Vec<String>)> {
     let alloc = rt.alloc();
     let mut before = Vec::new(alloc);

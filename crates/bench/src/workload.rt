@@ -13,7 +13,7 @@ pub struct Pair {
     pub value: OwnedValue,
 }
 
-// Written here, so that a pair is let go by one call.
+// Written here, so that a pair is dropped by one call.
 impl Drop for Pair {
     fn drop(self) {
         let Pair { field: _, value } = self;
@@ -32,7 +32,7 @@ pub struct Workload {
     pub stored_v3: Vec<Vec<u8>>,
 }
 
-// Written here, so that a workload is let go by one call.
+// Written here, so that a workload is dropped by one call.
 impl Drop for Workload {
     fn drop(self) {
         let Workload {
@@ -49,7 +49,7 @@ impl Drop for Workload {
 impl Workload {
     /// The schema of the first line and the documents of the others. A line that is refused is left out.
     ///
-    /// Each form is made of all documents before the next one, so that what a call goes over stands in memory one behind the
+    /// Each form is made of all documents before the next one, so that what a call goes over stands in memory one after the
     /// other, as in a block of a document store.
     pub fn of(alloc: Global, lines: Vec<String>) -> Result<Workload> {
         let mut lines = lines.into_iter();

@@ -1,7 +1,7 @@
 //! The words of a line of a conformance suite, and how answers are written. A text is a JSON string with its quotes, bytes are
 //! hexadecimal digits, and a number is decimal.
 //!
-//! A value of many parts, as an `OwnedValue` or a `FieldType`, is best let go by a call that takes it, as `drop`: that is one step of the
+//! A value of many parts, as an `OwnedValue` or a `FieldType`, is best dropped by a call that takes it, as `drop`: that is one step of the
 //! caller, where each place at which it goes out of scope has a step for each part.
 #![tactic(auto)]
 
@@ -72,7 +72,7 @@ fn texts_of(alloc: Global, json: &serde_json::Value) -> Result<Vec<String>> {
     Ok(texts)
 }
 
-/// The text of a JSON value, which is let go.
+/// The text of a JSON value, which is dropped.
 pub fn json_text(alloc: Global, json: serde_json::Value) -> Result<String> {
     Ok(json.to_string(alloc)?)
 }
@@ -130,22 +130,22 @@ pub fn none(alloc: Global) -> Result<String> {
     Ok(String::from_str(alloc, "none")?)
 }
 
-/// The answer of a call that failed. The error is let go.
+/// The answer of a call that failed. The error is dropped.
 pub fn error<E: Debug + Drop>(alloc: Global, error: E) -> Result<String> {
     Ok(format!(in alloc; "error {error:?}")?)
 }
 
-/// A value as Rust prints it. The value is let go.
+/// A value as Rust prints it. The value is dropped.
 pub fn debug<T: Debug + Drop>(alloc: Global, value: T) -> Result<String> {
     Ok(format!(in alloc; "{value:?}")?)
 }
 
-/// Whether a value is equal to another one, which is let go.
+/// Whether a value is equal to another one, which is dropped.
 pub fn is_equal<T: PartialEq + Drop>(value: &T, other: T) -> bool {
     *value == other
 }
 
-/// Whether two values are equal. Both are let go.
+/// Whether two values are equal. Both are dropped.
 pub fn are_equal<T: PartialEq + Drop>(one: T, other: T) -> bool {
     one == other
 }
@@ -174,12 +174,12 @@ pub fn hash(value: &impl Hash) -> u64 {
     state.finish()
 }
 
-/// The first word of a word, and what stands behind the blank that parts them.
+/// The first word of a word, and what stands after the blank that parts them.
 pub fn parted(word: &str) -> (&str, &str) {
     word.split_once(' ').unwrap_or((word, ""))
 }
 
-/// The value of a result as it is displayed, or its error behind the word `error`.
+/// The value of a result as it is displayed, or its error after the word `error`.
 pub fn told<T: Display + Drop, E: Debug + Drop>(
     alloc: Global,
     answer: Result<T, E>,
@@ -190,7 +190,7 @@ pub fn told<T: Display + Drop, E: Debug + Drop>(
     }
 }
 
-/// The value of a result, as Rust prints it, or its error behind the word `error`.
+/// The value of a result, as Rust prints it, or its error after the word `error`.
 pub fn shown<T: Debug + Drop, E: Debug + Drop>(
     alloc: Global,
     answer: Result<T, E>,

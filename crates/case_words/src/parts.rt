@@ -1,4 +1,4 @@
-//! What calls return of a value, each behind its name.
+//! What calls return of a value, each after its name.
 
 use anyhow::Result;
 use std::alloc::Global;
@@ -11,7 +11,7 @@ use tv_date::DateTime;
 pub enum Part<'a> {
     /// Nothing, which isn't told.
     Nothing,
-    /// That something holds. Its name alone is told.
+    /// That something holds. Only its name is printed.
     Flag,
     /// A number.
     Number(i128),
@@ -116,7 +116,7 @@ fn push_part(alloc: Global, answer: &mut String, name: &str, part: Part<'_>) -> 
     }
 }
 
-// What is told of a part behind its name.
+// What is said of a part, after its name.
 fn content(alloc: Global, part: Part<'_>) -> Result<String> {
     match part {
         Part::Nothing | Part::Flag => Ok(String::new(alloc)),

@@ -6,7 +6,7 @@ use std::fmt::{Debug, Write};
 
 /// Objects that a row names.
 pub trait Objects {
-    /// What a new object holds after these calls, the last of which is the first that is refused. Puts that refusal behind the answer.
+    /// What a new object holds after these calls, the last of which is the first that is refused. Puts that refusal after the answer.
     fn held(alloc: Global, object: &str, calls: &[&str], answer: &mut String) -> Result<String>;
 }
 
@@ -26,7 +26,7 @@ pub fn answer<O: Objects>(alloc: Global, call: &[&str]) -> Result<String> {
     Ok(answer)
 }
 
-/// Whether a call is refused. Puts the refusal and the place of the call behind the answer.
+/// Whether a call is refused. Puts the refusal and the place of the call after the answer.
 pub fn is_refused<T: Drop, E: Debug + Drop>(
     answer: &mut String,
     place: usize,

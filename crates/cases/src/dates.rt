@@ -44,7 +44,7 @@ fn truncated(alloc: Global, precision: &str, nanoseconds: &str) -> Result<String
     Ok(format!(in alloc; "{cut} {order}")?)
 }
 
-// The text of a date. It is the same behind another text.
+// The text of a date. It is the same after another text.
 fn printed(alloc: Global, date: DateTime) -> Result<String> {
     let text = date.write_rfc3339(alloc)?;
     let mut behind = String::from_str(alloc, "on ")?;

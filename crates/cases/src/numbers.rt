@@ -164,7 +164,7 @@ fn read_bytes<S: ByteSource>(alloc: Global, source: &mut S, kind: &str) -> Resul
     }
 }
 
-// The bytes that a sink holds when these values, each behind its kind, are written to it, and why it took no more.
+// The bytes that a sink holds when these values, each after its kind, are written to it, and why it took no more.
 fn write(alloc: Global, sink: &str, values: &[&str]) -> Result<String> {
     match sink {
         "memory" => write_to_memory(alloc, values),
@@ -206,7 +206,7 @@ fn written(alloc: Global, bytes: &[u8], failure: Option<io::ErrorKind>) -> Resul
     }
 }
 
-// Writes values, each behind its kind, and returns why the sink took no more.
+// Writes values, each after its kind, and returns why the sink took no more.
 fn write_all<K: ByteSink>(
     alloc: Global,
     sink: &mut K,

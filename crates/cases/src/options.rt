@@ -118,8 +118,8 @@ fn unset(kind: &str) -> Result<FieldType> {
     }
 }
 
-// The type of fields with its options changed by one step: by a setter, or by `|` with what stands behind it or before it.
-// The name of a tokenizer stands behind `=`.
+// The type of fields with its options changed by one step: by a setter, or by `|` with what stands after it or before it.
+// The name of a tokenizer stands after `=`.
 fn changed(alloc: Global, field_type: FieldType, step: &str) -> Result<FieldType> {
     let (step, name) = match step.split_once('=') {
         Some((step, name)) => (step, Some(name)),
@@ -223,7 +223,7 @@ fn changed_text(
     }))
 }
 
-// The refusal of a step. The options are let go.
+// The refusal of a step. The options are dropped.
 fn unknown_step<T: Drop>(_options: T) -> Result<FieldType> {
     Err(anyhow!("an unknown step"))
 }

@@ -105,7 +105,7 @@ fn of_dates(
     Ok(Term::range_of_dates_for_search(alloc, words::field(field)?, &dates))
 }
 
-// The bound of a word: a value that is included, one behind `not` that is excluded, or none.
+// The bound of a word: a value that is included, one after `not` that is excluded, or none.
 fn bound<T: FromStr + Drop>(word: &str) -> Result<Bound<T>>
 where
     T::Err: Drop,

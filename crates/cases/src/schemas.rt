@@ -234,7 +234,7 @@ fn add(alloc: Global, names: &[&str]) -> Result<String> {
     Ok(text)
 }
 
-// Adds fields of texts, and puts their numbers or refusals behind a text. A builder has to be printed as something.
+// Adds fields of texts, and puts their numbers or refusals after a text. A builder has to be printed as something.
 fn push_added(
     alloc: Global,
     builder: &mut SchemaBuilder,

@@ -223,7 +223,7 @@ fn push_facet(alloc: Global, answer: &mut String, value: &ValueBytes<'_>) -> Res
     Ok(())
 }
 
-// Appends the path of a value of a JSON field, what stands behind it, and the type of that.
+// Appends the path of a value of a JSON field, what stands after it, and the type of that.
 fn push_path(alloc: Global, answer: &mut String, value: &ValueBytes<'_>) -> Result<()> {
     if let Some((path, rest)) = value.as_json() {
         let path = words::digits(alloc, path)?;

@@ -91,7 +91,7 @@ fn check_copies(alloc: Global, value: &OwnedValue) -> Result<()> {
     Ok(())
 }
 
-// Whether a copy is equal to a value, by each call. The copy is let go.
+// Whether a copy is equal to a value, by each call. The copy is dropped.
 fn is_copy(value: &OwnedValue, copy: OwnedValue) -> bool {
     let is_kept = copy == *value && is_same(&&copy, &value) == Ok(true);
     drop(copy);

@@ -34,7 +34,7 @@ pub fn document(alloc: Global, calls: &[&str]) -> Result<CompactDoc> {
     Ok(document)
 }
 
-// The document that calls make. Puts refusals and states behind the answers.
+// The document that calls make. Puts refusals and states after the answers.
 fn made(alloc: Global, calls: &[&str], answers: &mut String) -> Result<CompactDoc> {
     let mut builder = TreeBuilder::new(CompactDoc::new(alloc));
     for word in calls {
@@ -48,7 +48,7 @@ fn made(alloc: Global, calls: &[&str], answers: &mut String) -> Result<CompactDo
     Ok(builder.into_doc())
 }
 
-// Adds a value to the document of a builder, and puts a refusal behind the answers.
+// Adds a value to the document of a builder, and puts a refusal after the answers.
 fn added(
     alloc: Global,
     builder: &mut TreeBuilder,
@@ -62,7 +62,7 @@ fn added(
     note(answers, outcome)
 }
 
-// Makes a call on a tree builder, and puts a refusal behind the answers.
+// Makes a call on a tree builder, and puts a refusal after the answers.
 fn built(
     alloc: Global,
     builder: &mut TreeBuilder,
@@ -74,7 +74,7 @@ fn built(
     note(answers, outcome)
 }
 
-// Puts the refusal of a call behind the answers.
+// Puts the refusal of a call after the answers.
 fn note<E: Debug + Drop>(answers: &mut String, outcome: Result<(), E>) -> Result<()> {
     if let Err(error) = outcome {
         write!(answers, "error {error:?}\t")?;
@@ -82,7 +82,7 @@ fn note<E: Debug + Drop>(answers: &mut String, outcome: Result<(), E>) -> Result
     Ok(())
 }
 
-// Puts the length of the heap, how many children and lists are open, and what is awaited behind the answers.
+// Puts the length of the heap, how many children and lists are open, and what is awaited after the answers.
 fn push_state(answers: &mut String, builder: &TreeBuilder) -> Result<()> {
     let length = builder.heap_len();
     let pending = builder.pending();
@@ -113,14 +113,14 @@ pub fn build(
     }
 }
 
-// Makes a call for a value, which is let go.
+// Makes a call for a value, which is dropped.
 fn tree(builder: &mut TreeBuilder, value: OwnedValue) -> Result<(), BuildError> {
     let outcome = builder.tree(&&value);
     drop(value);
     outcome
 }
 
-// Makes a call for a value without children, which is let go.
+// Makes a call for a value without children, which is dropped.
 fn leaf(builder: &mut TreeBuilder, value: OwnedValue) -> Result<Result<(), BuildError>> {
     let outcome = lent_leaf(builder, &value);
     drop(value);
@@ -187,7 +187,7 @@ pub fn add(
     })
 }
 
-// Adds the members of an object, which are let go.
+// Adds the members of an object, which are dropped.
 fn add_members(
     document: &mut CompactDoc,
     field: Field,
@@ -196,7 +196,7 @@ fn add_members(
     document.add_object(field, &members)
 }
 
-// Adds a JSON value, which is let go.
+// Adds a JSON value, which is dropped.
 fn add_lent(document: &mut CompactDoc, field: Field, json: JsonValue) -> Result<(), AddError> {
     let outcome = document.add_field_value(field, &LentJson::new(&json));
     drop(json);

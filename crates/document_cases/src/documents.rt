@@ -84,7 +84,7 @@ fn parse(alloc: Global, description: &str, json: &str) -> Result<String> {
     }
 }
 
-// What a person is told of a JSON object that is refused.
+// The message about a JSON object that is refused.
 fn why(alloc: Global, description: &str, json: &str) -> Result<String> {
     let schema = schema(alloc, description)?;
     let outcome = CompactDoc::parse_json(alloc, &schema, json);
@@ -95,7 +95,7 @@ fn why(alloc: Global, description: &str, json: &str) -> Result<String> {
     }
 }
 
-// The document of a JSON object, each of whose keys is to name a field, or what a person is told.
+// The document of a JSON object, each of whose keys is to name a field, or the message about its refusal.
 fn strict(alloc: Global, description: &str, json: &str) -> Result<String> {
     let schema = schema(alloc, description)?;
     let outcome = CompactDoc::parse_json_strict(alloc, &schema, json);
@@ -106,14 +106,14 @@ fn strict(alloc: Global, description: &str, json: &str) -> Result<String> {
     }
 }
 
-// The text of an error. It is let go.
+// The text of an error. It is dropped.
 fn printed<E: Display + Drop>(alloc: Global, error: E) -> Result<String> {
     let text = format!(in alloc; "{error}");
     drop(error);
     Ok(text?)
 }
 
-// A document. It is let go.
+// A document. It is dropped.
 fn parsed(alloc: Global, document: CompactDoc) -> Result<String> {
     let answer = shown_by_parts(alloc, &document);
     drop(document);
@@ -133,7 +133,7 @@ fn shown_by_parts(alloc: Global, document: &CompactDoc) -> Result<String> {
     Ok(text)
 }
 
-// Why there is no document of a JSON object. The error is let go.
+// Why there is no document of a JSON object. The error is dropped.
 fn refused(alloc: Global, error: DocParsingError) -> Result<String> {
     let answer = refusal(alloc, &error);
     drop(error);

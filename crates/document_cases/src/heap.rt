@@ -45,7 +45,7 @@ fn nothing(alloc: Global, again: Option<String>) -> Result<String> {
     }
 }
 
-// The heap behind which the value that bytes encode is written, its type's code and its address, and the bytes behind it.
+// The heap after which the value that bytes encode is written, its type's code and its address, and the bytes after it.
 fn encoded(alloc: Global, before: &str, levels: u32, bytes: &[u8]) -> Result<String> {
     match put(alloc, before, levels, bytes)? {
         Some(answer) => Ok(answer),
@@ -72,7 +72,7 @@ fn put(alloc: Global, before: &str, levels: u32, bytes: &[u8]) -> Result<Option<
     Ok(Some(format!(in alloc; "{placed}\t{rest}")?))
 }
 
-// The heap in which a JSON value stands behind a text, its type's code and its address.
+// The heap in which a JSON value stands after a text, its type's code and its address.
 fn json_value(alloc: Global, text: &str, json: &str) -> Result<String> {
     match add_json(alloc, text, json)? {
         Some(answer) => Ok(answer),
@@ -80,7 +80,7 @@ fn json_value(alloc: Global, text: &str, json: &str) -> Result<String> {
     }
 }
 
-// What the calls give that read a JSON value and add it behind a text.
+// What the calls give that read a JSON value and add it after a text.
 fn add_json(alloc: Global, text: &str, json: &str) -> Result<Option<String>> {
     let mut scratch = Scratch::new(alloc);
     let Some(json) = read_borrowed(alloc, json, &mut scratch) else {

@@ -50,7 +50,7 @@ fn same(alloc: Global, kept: &PreTokenizedString, digits: &str) -> Result<String
     Ok(format!(in alloc; "{one_way} {other_way}")?)
 }
 
-// Whether a text is equal to another one, kept and lent. The other one is let go.
+// Whether a text is equal to another one, kept and lent. The other one is dropped.
 fn compared(kept: &PreTokenizedString, other: PreTokenizedString) -> (bool, bool) {
     let lent = PreTokenizedStr::from_string(kept);
     let is_lent = lent == PreTokenizedStr::from_string(&other);

@@ -21,7 +21,7 @@ use tantivy_schema::store::{DocStoreVersion, read_document};
 /// Appends a document's stored pairs to a sink. The document's fields are the schema's, as `fits` tests.
 ///
 /// Errors: `Io` where the sink failed; `Memory` where memory was refused for a value that nests deeper than `MAX_DEPTH` levels. The sink
-/// then holds a beginning of what was to be written, behind what it held.
+/// then holds a beginning of what was to be written, after what it held.
 pub fn store_document<K: ByteSink>(
     sink: &mut K,
     schema: &Schema,

@@ -1,4 +1,4 @@
-//! A recursive type of one's own.
+//! A recursive type of your own.
 
 ghost use Rattle.embedding.specs.Figures.{IsFigures, AreFigures, NoFigures, NoneAreFigures};
 ghost use Rattle.embedding.specs.Figures.{FiguresRefused, figures_exclude};

@@ -1,4 +1,4 @@
-//! Documents in a store of one's own: a sink with a limit, and a source that gives its bytes in packets; and types of one's own that
+//! Documents in a store of your own: a sink with a limit, and a source that gives its bytes in packets; and types of your own that
 //! are read out of a store: a number, a record and a recursive one. All implement the traits of `tantivy_schema`, and their contracts
 //! are said with its definitions. Of the crates below it `crates.txt` names just `tv_value`, where the toolchain looks for the type
 //! `OwnedValue` in the contracts of `figures`.

@@ -1,4 +1,4 @@
-//! A record of one's own.
+//! A record of your own.
 
 ghost use Rattle.embedding.specs.Point.{IsPoint, PointRefused, point_excludes};
 

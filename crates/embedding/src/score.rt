@@ -1,4 +1,4 @@
-//! A number of one's own.
+//! A number of your own.
 
 ghost use Rattle.tantivy_schema.specs.CodeTypes.ValueType.TheVariants as types;
 ghost use Rattle.tantivy_schema.specs.Excluding.{leaf_excludes};

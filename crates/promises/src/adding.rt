@@ -6,7 +6,7 @@ ghost use Rattle.tantivy_schema.specs.Tree.{leaf, text};
 use tantivy_schema::schema::document::AddError;
 use tantivy_schema::schema::{Field, TantivyDocument, Value};
 
-/// A text is added as a pair behind the others, which stay as they are. It is refused only for its true reason.
+/// A text is added as a pair after the others, which stay as they are. It is refused only for its true reason.
 pub fn texts_are_added(
     document: &mut TantivyDocument,
     field: Field,
@@ -20,7 +20,7 @@ pub fn texts_are_added(
     }
 }
 
-/// A value of any kind is added as a pair behind the others. Where it is refused, pairs and heap are unchanged.
+/// A value of any kind is added as a pair after the others. Where it is refused, pairs and heap are unchanged.
 pub fn values_are_added<'a, V: Value<'a>>(
     document: &mut TantivyDocument,
     field: Field,

@@ -6,7 +6,7 @@ ghost use Rattle.tantivy_schema.specs.Facet.{Descends, printed};
 use std::alloc::{AllocError, Global};
 use tantivy_schema::schema::Facet;
 
-/// A facet is a prefix of another by its steps: the other has these steps, and more behind them.
+/// A facet is a prefix of another by its steps: the other has these steps, and more after them.
 pub fn prefixes_go_by_steps(facet: &Facet, other: &Facet) -> bool
     ensures { IsTrue result ↔ Descends facet.now other.now }
 {

@@ -18,7 +18,7 @@ pub fn paths_name_fields<'a>(schema: &Schema, path: &'a str) -> Option<(Field, &
     }
 }
 
-/// A field is added behind those that are there. A refusal has its true reason, and the builder is then unchanged.
+/// A field is added after those that are there. A refusal has its true reason, and the builder is then unchanged.
 pub fn fields_are_added_last(
     builder: &mut SchemaBuilder,
     name: &str,

@@ -45,7 +45,7 @@ pub fn steps_take_few_bytes<S: ByteSource>(
     }
 }
 
-/// A step that is refused keeps the finished pairs, and nothing stands behind them in the heap.
+/// A step that is refused keeps the finished pairs, and nothing stands after them in the heap.
 pub fn refused_steps_keep_pairs<S: ByteSource>(
     decoder: &mut DirectDecoder,
     source: &mut S,

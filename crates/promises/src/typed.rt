@@ -26,7 +26,7 @@ pub fn entries_of_equal_keys_are_kept<S: ByteSource>(
     reader.read::<Vec<(String, u64)>>(alloc)
 }
 
-/// A reader is marked once a document was refused, also where it had no room or no memory, so that nothing is read behind it.
+/// A reader is marked once a document was refused, also where it had no room or no memory, so that nothing is read after it.
 pub fn refused_documents_are_marked<S: ByteSource>(
     alloc: Global,
     reader: &mut StoreReader<S>,

@@ -45,7 +45,7 @@ pub fn returned_documents_are_encoded<S: ByteSource>(
 }
 
 /// Whatever a prefix of the bytes encodes, and has room, is returned, unless the source failed or memory was refused. Nothing is
-/// taken behind it.
+/// taken after it.
 pub fn encoded_documents_are_returned<S: ByteSource>(
     alloc: Global,
     source: &mut S,
@@ -66,7 +66,7 @@ pub fn encoded_documents_are_returned<S: ByteSource>(
     }
 }
 
-// Whether the first value of a document with few pairs is an object as older stores hold it: its code stands behind the number of the pairs
+// Whether the first value of a document with few pairs is an object as older stores hold it: its code stands after the number of the pairs
 // and the four bytes of the field.
 fn holds_older_object(bytes: &[u8]) -> bool {
     bytes.get(5) == Some(&8)
@@ -108,7 +108,7 @@ pub fn refusals_are_true<S: ByteSource>(
     }
 }
 
-/// That a source failed is told exactly where it did, with its kind.
+/// That a source failed is reported exactly where it did, with its kind.
 pub fn failures_are_told<S: ByteSource>(
     alloc: Global,
     source: &mut S,

@@ -11,7 +11,7 @@ use tantivy_schema::common::ByteSource;
 use tantivy_schema::laws::stepped_decoders_are_paid_for;
 use tantivy_schema::store::{DirectDecoder, DocStoreVersion};
 
-/// A decoder behind this many steps from its start, and the length of its heap: at most 7 bytes for each byte that it read. So it is with
+/// A decoder after this many steps from its start, and the length of its heap: at most 7 bytes for each byte that it read. So it is with
 /// open lists and their children, and nothing stands there for announced numbers.
 pub fn decoders_hold_what_was_read<S: ByteSource>(
     alloc: Global,

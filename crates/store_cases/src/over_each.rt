@@ -27,7 +27,7 @@ pub trait Reading {
 }
 
 impl<S: ByteSource + Drop> Ending<S> {
-    // The answer, and how many bytes are left of the whole. A false count is told too.
+    // The answer, and how many bytes are left of the whole. A false count is reported too.
     fn told(&self, alloc: Global, whole: usize, left: usize) -> Result<String> {
         let answer = self.answer.as_str();
         let taken = whole.saturating_sub(left) as u64;

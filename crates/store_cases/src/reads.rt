@@ -11,7 +11,7 @@ use tantivy_schema::schema::document::DeserializeError;
 use tantivy_schema::schema::{OwnedValue, Schema, TantivyDocument};
 use tantivy_schema::store::{DocStoreVersion, read_document};
 
-/// What is told of a document.
+/// What is said of a document.
 #[derive(Clone, Copy)]
 pub enum Form<'a> {
     /// Its pairs of a field and a value.
@@ -49,7 +49,7 @@ impl Reading for DocumentReading<'_> {
     }
 }
 
-/// A document as it is told, or why there is none.
+/// A document as it is printed, or why there is none.
 pub fn shown(
     alloc: Global,
     answer: Result<TantivyDocument, DeserializeError>,

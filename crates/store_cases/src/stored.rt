@@ -130,7 +130,7 @@ fn migrated(alloc: Global, from: &str, to: &str, word: &str) -> Result<String> {
     Ok(format!(in alloc; "{answer}, {left} left")?)
 }
 
-// What is written of a block that is carried over to another version, behind the number of its documents, or behind which of them isn't.
+// What is written of a block that is carried over to another version, after the number of its documents, or after which of them isn't.
 fn migrated_block(alloc: Global, from: &str, to: &str, word: &str) -> Result<String> {
     let block = reads::bytes(alloc, word)?;
     let mut sink = VecSink::new(alloc);

@@ -1,4 +1,4 @@
-//! Values of great depth, documents read in place and within limits, the laws of calls in use, a store of one's own, and calls that fail.
+//! Values of great depth, documents read in place and within limits, the laws of calls in use, a store of your own, and calls that fail.
 
 mod blocks;
 mod deep;

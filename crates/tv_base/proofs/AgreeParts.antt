@@ -1,4 +1,4 @@
--- Bytes behind their length, texts and items agree with their grammar.
+-- Bytes after their length, texts and items agree with their grammar.
 use Rattle.std.proofs.Common.{◌≡◌, ◌⊎◌, ℕ, zero, suc, true, false, List, [], ◌∷◌, ◌++◌, length, Result, refl, sym, ap, subst, ◌∙◌, arith, inl, inr}
 use Rattle.std.proofs.lemmas.List.{append-nil}
 use Rattle.std.specs.Str.{is_utf8}
@@ -15,7 +15,7 @@ use Rattle.tv_base.proofs.Agrees.{Agrees, InTurn, agrees_too, in_turn, make, mad
 use Rattle.tv_base.proofs.AgreeWidths.{AreBytes, bytes_agree}
 use Rattle.tv_base.proofs.AgreeNumbers.{vint_agrees}
 
--- ---- bytes behind their length
+-- ---- bytes after their length
 
 sized_to : (bytes content : List ℕ) → AllBytes bytes → InTurn VNum AreBytes bytes content → Sized bytes content
 sized_to bytes content small p =

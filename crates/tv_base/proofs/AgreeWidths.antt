@@ -65,7 +65,7 @@ bytes_agree n = record {
   ];
 }
 
--- the next n bytes, behind those that are there
+-- the next n bytes, after those that are there
 pub more_agrees : (prefix : List ℕ) (n : ℕ) → Agrees UnexpectedEnd (more_at prefix n) (λ bytes whole. (content : List ℕ) × AreBytes n bytes content × (whole ≡ prefix ++ content)) (ErrorInBytes n)
 more_agrees prefix n = made (λ content. prefix ++ content) (bytes_agree n)
 

@@ -54,7 +54,7 @@ groups_end (more p g) [] x small e = cc
 groups_end (more {bytes = bytes} p g) (b ∷ whole) x small e =
     let left : whole ≡ bytes ++ x = cc in groups_end g whole x small.1 left
 
--- what groups have behind this many bytes below 128
+-- what groups have after this many bytes below 128
 groups_high : {a : List ℕ} {n : ℕ} → Groups a n → (prefix rest x : List ℕ) (b : ℕ) → AllByRecursion (λ b. b < 128) prefix → prefix ++ (b ∷ rest) ≡ a ++ x
     → length a ≤ suc (length prefix) → (d : ℕ) × (b ≡ d + 128) × (128 ^ length prefix * d ≤ n)
 groups_high (last {n = n} p) [] rest x b small e l = let h : b ≡ n + 128 = cc in (n, h, omega arith)

@@ -1,4 +1,4 @@
--- Where bytes of a known number, bytes behind their length or a text are malformed, no prefix encodes one.
+-- Where bytes of a known number, bytes after their length or a text are malformed, no prefix encodes one.
 use Rattle.std.proofs.Common.{◌≡◌, ℕ, List, [], ◌∷◌, ◌++◌, length, refl, sym, ◌∙◌, ap, subst, arith, length-append, IsUtf8}
 use Rattle.tv_base.specs.declared.cause.Cause.{Cause}
 use Rattle.tv_base.specs.Number.{VNum}
@@ -29,7 +29,7 @@ excludes_text content = record { excludes = text_excludes }
         let same = (agree_sized other content).agree prefix a rest x q p.sized (sym joined ∙ e) in
         none (subst IsUtf8 (sym same.1) p.utf8)
 
--- what a code and a rest say of bytes behind a code
+-- what a code and a rest say of bytes after a code
 pub behind_head : {P : List ℕ → Type 0} (c d : ℕ) (rest a x : List ℕ) → (p : Behind d P a) → c ∷ rest ≡ a ++ x → (c ≡ d) × (rest ≡ p.body ++ x)
 behind_head c d rest a x p e =
     let f : c ∷ rest ≡ (d ∷ p.body) ++ x = e ∙ ap (λ z. z ++ x) p.joined in

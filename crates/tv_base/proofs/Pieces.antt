@@ -9,7 +9,7 @@ use Rattle.tv_base.specs.declared.cause.Cause.TheVariants.{UnexpectedEnd}
 use Rattle.tv_base.specs.Stop.{Taken}
 use Rattle.tv_base.specs.Reading.{bytes_at}
 
--- the next piece stands behind what was filled before
+-- the next piece stands after what was filled before
 pub take-put_mid_more : (filled room n : ℕ) (buf piece : List ℕ) → filled ≤ length buf → n ≤ length piece → take (filled + n) (put_mid filled room buf piece) ≡ take filled buf ++ take n piece
 take-put_mid_more filled room n buf piece within fits =
     let after = post_of filled room buf in
@@ -41,7 +41,7 @@ ends_early filled n buf all rest short within so_far end =
 filled_is : (filled : ℕ) (buf all taken rest : List ℕ) → all ≡ take filled buf ++ rest → all ≡ taken ++ rest → taken ≡ take filled buf
 filled_is filled buf all taken rest so_far joined = append_cancel_right taken (take filled buf) rest (sym joined ∙ so_far)
 
--- a full buffer is what reading gives, whatever stands behind it
+-- a full buffer is what reading gives, whatever stands after it
 pub is_full_taken : (filled n : ℕ) (buf all taken rest behind : List ℕ) → length buf ≤ filled → n ≡ length buf → all ≡ take filled buf ++ rest → all ≡ taken ++ rest → bytes_at n (taken ++ behind) ≡ Ok (buf, behind)
 is_full_taken filled n buf all taken rest behind full len so_far joined = is_full filled n buf (taken ++ behind) behind full len (ap (λ (l : List ℕ). l ++ behind) (filled_is filled buf all taken rest so_far joined))
 
@@ -61,7 +61,7 @@ given_still all prefix old new e same = e ∙ ap (λ (l : List ℕ). prefix ++ l
 pub taken_so_far : (filled : ℕ) (buf rest : List ℕ) {all : List ℕ} {count now : ℕ} → filled ≤ length buf → now ≡ count + filled → all ≡ take filled buf ++ rest → Taken all rest count now
 taken_so_far filled buf rest within counted e = record { prefix = take filled buf; joined = e; counted = omega (arith, counted, length-take filled buf) }
 
--- what stands behind the bytes that were there, once the room behind them was filled and cut
+-- what stands after the bytes that were there, once the room after them was filled and cut
 pub appended : (f n most len : ℕ) (old buf post rest zeros now : List ℕ) → f ≡ length old → now ≡ take (f + most) old ++ zeros → n ≤ length buf → f + n ≤ len
     → take (f + n) (take len ((take f now ++ (buf ++ post)) ++ rest)) ≡ old ++ take n buf
 appended f n most len old buf post rest zeros now filled is fits within =

@@ -52,7 +52,7 @@ join-append (x ∷ []) (y ∷ m) h k = refl
 join-append (x ∷ y ∷ l) m h k =
     ap (λ t. x ++ 0 ∷ t) (join-append (y ∷ l) m (λ e. cc) k) ∙ sym (append_assoc x (0 ∷ join_with_byte 0 (y ∷ l)) (0 ∷ join_with_byte 0 m))
 
--- more steps than those of f, which isn't the root, are more bytes behind a zero
+-- more steps than those of f, which isn't the root, are more bytes after a zero
 pub Descends-rest : (f g : List ℕ) → f ≢ [] → Descends f g → (rest : List ℕ) × (g ≡ f ++ 0 ∷ rest)
 Descends-rest [] g h d = absurd (h refl)
 Descends-rest (b ∷ f) [] h (more, some, e) = absurd (append-not_nil (path (b ∷ f)) more (path-not_nil (b ∷ f)) (sym e))
@@ -157,7 +157,7 @@ Descends-from_root g = ((λ d e. Descends-itself [] g e d), below_root g)
 abbrev pub joined : List ℕ → List (Bor (List ℕ)) → ℕ → List ℕ
 joined first others n = join_with_byte 0 (first ∷ map (λ (step : Bor (List ℕ)). step.now) (take n others))
 
--- one more step behind the others
+-- one more step after the others
 pub joined-more : (first : List ℕ) (others : List (Bor (List ℕ))) (i : ℕ) (d : Bor (List ℕ)) → i < length others → joined first others (i + 1) ≡ joined first others i ++ 0 ∷ (get_or others i d).now
 joined-more first others i d h =
     let now = λ (step : Bor (List ℕ)). step.now in

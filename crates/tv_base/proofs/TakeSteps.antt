@@ -81,7 +81,7 @@ pub lean : {P X Y : Type 0} {is_known : P → Type 0} {left : P → List ℕ} {c
     → Takes read_stop MayStopLean is_known left count failures old new view result reading → Takes read_stop MayStop is_known left count failures old new view result reading
 lean {result = result} h = record { gives = h.gives; taken = h.taken; stays_known = h.stays_known; counts = h.counts; rises = h.rises; may_stop = IfErr-weaker result _ _ (λ e may. may.0) h.may_stop }
 
--- In the midst of reading: what the whole reads of the bytes that were taken and any behind them is what the rest reads of those behind.
+-- In the midst of reading: what the whole reads of the bytes that were taken and any after them is what the rest reads of those after.
 pub record SoFar {P F Y : Type 0} (is_known : P → Type 0) (left : P → List ℕ) (count : P → ℕ) (failures : P → Failures) (old now : P) (whole rest : List ℕ → Result (Y × List ℕ) (F × List ℕ)) : Type 0 where
   pub goes : is_known old → (taken : List ℕ) → left old ≡ taken ++ left now → (behind : List ℕ) → whole (taken ++ behind) ≡ rest behind
   pub taken : is_known old → Taken (left old) (left now) (count old) (count now)

@@ -1,4 +1,4 @@
--- Bytes behind their length, texts and signed numbers have one reading.
+-- Bytes after their length, texts and signed numbers have one reading.
 use Rattle.std.proofs.Common.{◌≡◌, ℕ, List, [], ◌∷◌, ◌++◌, length, refl, sym, ◌∙◌, ap, arith, append_assoc}
 use Rattle.std.specs.Prelude.{ℤ, FitsSigned}
 use Rattle.std.specs.Int.{w64, cast_unsigned, cast_signed}

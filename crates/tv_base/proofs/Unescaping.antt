@@ -34,11 +34,11 @@ other_first : (b c : ℕ) (bs cs : List ℕ) → (b ≡ c → ⊥) → bytes_eq 
 other_first b c bs cs apart = rw (ne_eqb b c apart) refl
 
 module _ (answer unescaped : Bool) (text rest : List ℕ) (i : ℕ) where
-  -- a name's rest is compared with the text behind an escape
+  -- a name's rest is compared with the text after an escape
   pub compare-escape : i < length text → (eqb (get_or text i 0) 92 && unescaped) ≡ true → answer ≡ bytes_eq rest (rewritten_from kept_byte unescaped (drop i text)) → answer ≡ bytes_eq rest (rewritten_from kept_byte false (drop (i + 1) text))
   compare-escape h escape e = e ∙ ap (bytes_eq rest) (after-escape unescaped text i h escape)
 
-  -- behind a byte that both have
+  -- after a byte that both have
   pub compare-same : (others : List ℕ) → i < length text → (eqb (get_or text i 0) 92 && unescaped) ≡ false → rest ≡ get_or text i 0 ∷ others → answer ≡ bytes_eq rest (rewritten_from kept_byte unescaped (drop i text)) → answer ≡ bytes_eq others (rewritten_from kept_byte true (drop (i + 1) text))
   compare-same others h kept is e =
       e ∙ ap (bytes_eq rest) (after-kept unescaped text i h kept)

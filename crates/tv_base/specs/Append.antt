@@ -1,11 +1,11 @@
--- What an append does to the bytes that a source has left, and to those that it is put behind.
+-- What an append does to the bytes that a source has left, and to those that it is put after.
 use Rattle.std.specs.Prelude.{◌≡◌, ℕ, ◌<◌, List, [], ◌++◌, length, Result, Ok, Err}
 use Rattle.tv_base.specs.declared.read_error.ReadError.{ReadError}
 use Rattle.tv_base.specs.declared.read_error.ReadError.TheVariants.{Corrupted, Io, Memory}
 use Rattle.tv_base.specs.Stop.{Stop}
 use Rattle.tv_base.specs.Stop.Stop.{Failed, Short, Never}
 
--- n bytes went from the prefix of what was left to behind what was there; none only at the end or where none were wanted
+-- n bytes went from the prefix of what was left to after what was there; none only at the end or where none were wanted
 pub record Moves (old new before after : List ℕ) (most n : ℕ) : Type 0 where
   pub moved : List ℕ
   pub joined : old ≡ moved ++ new

@@ -34,7 +34,7 @@ pub data ErrorInTruth (whole : List ℕ) : Cause → Type 0 where
   truth_ends : whole ≡ [] → ErrorInTruth whole UnexpectedEnd
   truth_large : (b : ℕ) (rest : List ℕ) → whole ≡ b ∷ rest → 1 < b → ErrorInTruth whole BadBool
 
--- of bytes behind their length
+-- of bytes after their length
 abbrev pub ErrorInSized : List ℕ → Cause → Type 0
 ErrorInSized = InThen ErrorInNumber VNum ErrorInBytes
 

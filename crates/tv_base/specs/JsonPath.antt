@@ -3,7 +3,7 @@ use Rattle.std.specs.Prelude.{ℕ, suc, zero, ◌==◌, ◌&&◌, Bool, if◌the
 use Rattle.std.specs.List.{flat_map, slice_split, join_with_byte}
 use Rattle.tv_base.specs.Escapes.{is_unescaped, kept_byte}
 
--- each byte below the place, behind whether it is unescaped
+-- each byte below the place, after whether it is unescaped
 abbrev pub marked_below : List ℕ → ℕ → List (Bool × ℕ)
 marked_below text zero = []
 marked_below text (suc place) = marked_below text place ++ (is_unescaped text place, slice_index text place) ∷ []

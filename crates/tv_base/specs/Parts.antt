@@ -1,4 +1,4 @@
--- How parts make a whole: one behind the other, behind a code, behind a length, or as many as are announced.
+-- How parts make a whole: one after the other, after a code, after a length, or as many as are announced.
 use Rattle.std.specs.Prelude.{◌≡◌, ℕ, List, [], ◌∷◌, ◌++◌, length, IsUtf8}
 use Rattle.tv_base.specs.Number.{VNum, vnum}
 
@@ -37,7 +37,7 @@ pub record Text (whole content : List ℕ) : Type 0 where
   pub sized : Sized whole content
   pub utf8 : IsUtf8 content
 
--- the shortest encoding of bytes behind their length, a text or not
+-- the shortest encoding of bytes after their length, a text or not
 abbrev pub short_sized : List ℕ → List ℕ
 short_sized content = vnum (length content) ++ content
 

@@ -10,7 +10,7 @@ use Rattle.tv_base.specs.declared.cause.Cause.TheVariants.{UnexpectedEnd, BadNum
 unfoldable pub bytes_at : ℕ → List ℕ → Result (List ℕ × List ℕ) (Cause × List ℕ)
 bytes_at n bytes = if nat_lt (length bytes) n then Err (UnexpectedEnd, []) else Ok (take n bytes, drop n bytes)
 
--- the next n bytes, behind those that are there
+-- the next n bytes, after those that are there
 abbrev pub more_at : List ℕ → ℕ → List ℕ → Result (List ℕ × List ℕ) (Cause × List ℕ)
 more_at prefix n bytes = bytes_at n bytes >>= λ x. Ok (prefix ++ x.0, x.1)
 
@@ -67,7 +67,7 @@ vint_at bytes = groups_at 9 bytes
 
 -- ---- texts
 
--- bytes behind their length
+-- bytes after their length
 unfoldable pub sized_at : List ℕ → Result (List ℕ × List ℕ) (Cause × List ℕ)
 sized_at bytes = do
   len ← vint_at bytes

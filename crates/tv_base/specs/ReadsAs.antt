@@ -1,11 +1,11 @@
 -- The promise of reading: what a call returns and leaves that reads a value or passes over one, by the bytes that its source had left.
 --
 -- A call that makes this promise does the following.
---   found        It returns only what a prefix of the bytes encodes, and leaves just the bytes behind that prefix.
+--   found        It returns only what a prefix of the bytes encodes, and leaves just the bytes after that prefix.
 --   only         Wherever a prefix encodes something that has room, it returns just that, unless an error comes that may come all the same:
 --                the source fails, memory is refused or, within limits, a limit is passed.
 --   error        An error that speaks of the bytes is true of them.
---   shows        With an error that speaks of the bytes, it took just the bytes that show the error, and none behind them.
+--   shows        With an error that speaks of the bytes, it took just the bytes that show the error, and none after them.
 --   too_long     It says that the bytes are too long only where it took as many as can be counted, 2 ^ 64 - 1.
 --   ends_early   The bytes that it took then end too early.
 --   full         It says that there is no room only of bytes that encode what has none, or announce it.

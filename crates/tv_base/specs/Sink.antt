@@ -22,7 +22,7 @@ abbrev pub text_of : {R : Type 0} → Result (List ℕ) (R × List ℕ) → List
 text_of (Ok text) = text
 text_of (Err refusal) = refusal.1
 
--- a refusal comes where it is to come, behind what is written before it; any other error can come at any place
+-- a refusal comes where it is to come, after what is written before it; any other error can come at any place
 abbrev pub Halts : {R : Type 0} → Stop R → List ℕ → List ℕ → Result (List ℕ) (R × List ℕ) → Type 0
 Halts (InputError r) old new (Ok text) = ⊥
 Halts (InputError r) old new (Err refusal) = (refusal.0 ≡ r) × (new ≡ old ++ refusal.1)
@@ -36,8 +36,8 @@ Appends stop (Ok x) old new (Ok text) = new ≡ old ++ text
 Appends stop (Ok x) old new (Err refusal) = ⊥
 Appends stop (Err e) old new writing = Halts (stop e) old new writing
 
--- At Ok the sink holds what was to be written behind what was there, and no write failed. At Err it holds a beginning of it; a write
--- failed with the kind that is told, or it was refused there, and no write failed.
+-- At Ok the sink holds what was to be written after what was there, and no write failed. At Err it holds a beginning of it; a write
+-- failed with the kind that is reported, or it was refused there, and no write failed.
 pub record WritesBy {S T E R : Type 0} (stop : E → Stop R) (is_known : S → Type 0) (held : S → List ℕ) (failures : S → Failures) (old new : S) (result : Result T E) (writing : Result (List ℕ) (R × List ℕ)) : Type 0 where
   pub appends : is_known old → Appends stop result (held old) (held new) writing
   pub stays_known : is_known old → is_known new

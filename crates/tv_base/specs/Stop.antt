@@ -31,7 +31,7 @@ Stops (Failed kind) reading taken rest count = Unit {0}
 Stops Short reading taken rest count = Unit {0}
 Stops Never reading taken rest count = ⊥
 
--- what is read of the bytes that were taken, whatever stands behind them
+-- what is read of the bytes that were taken, whatever stands after them
 abbrev pub Gives : {E F X Y : Type 0} → (E → Stop F) → (X → Y) → Result X E → (List ℕ → Result (Y × List ℕ) (F × List ℕ)) → List ℕ → List ℕ → ℕ → Type 0
 Gives stop view (Ok x) reading taken rest count = (behind : List ℕ) → reading (taken ++ behind) ≡ Ok (view x, behind)
 Gives stop view (Err e) reading taken rest count = Stops (stop e) reading taken rest count
@@ -48,7 +48,7 @@ abbrev pub CountsBy : {E T : Type 0} → (E → Failures → Failures → Type 0
 CountsBy IsCounted (Ok x) old new = new ≡ old
 CountsBy IsCounted (Err e) old new = IsCounted e old new
 
--- an error of a read or a write is told with its kind, and only where there was one
+-- an error of a read or a write is reported with its kind, and only where there was one
 abbrev pub Counts : {E F T : Type 0} → (E → Stop F) → Result T E → Failures → Failures → Type 0
 Counts stop result old new = CountsBy (λ e. CountsStop (stop e)) result old new
 

@@ -1,7 +1,7 @@
 -- The promise of writing: what a call returns, and what the sink holds then.
 --
 -- A call that makes this promise does the following.
---   appends      Where it succeeds, the sink holds all that was to be written behind what it held. After an error it holds a beginning of
+--   appends      Where it succeeds, the sink holds all that was to be written after what it held. After an error it holds a beginning of
 --                that; where a value is refused, just what is written before the refusal.
 --   stays_known  What is known of the sink stays known.
 --   counts       It says that the sink failed exactly where the sink did, with the kind that the sink returned.

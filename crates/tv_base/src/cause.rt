@@ -34,7 +34,7 @@ pub enum Cause {
 }
 
 impl Cause {
-    // What is wrong, up to the code that it is told with, if any.
+    // What is wrong, up to the code that it is reported with, if any.
     fn words(&self) -> &'static str {
         match self {
             Cause::UnexpectedEnd => "the bytes end inside a value",

@@ -1,4 +1,4 @@
-//! Escapes in texts: a backslash takes the character behind it, whatever that is. So a byte is unescaped where the run of
+//! Escapes in texts: a backslash takes the character after it, whatever that is. So a byte is unescaped where the run of
 //! backslashes right before it has an even length.
 
 ghost use Rattle.std.specs.Prelude.{◌≡◌, ◌≤◌, length, bytes_eq};

@@ -58,7 +58,7 @@ impl Model for Facet {
     ghost view = { λ facet. string_bytes facet.encoded };
 }
 
-// Writes steps behind an encoded text, each behind U+0000.
+// Writes steps after an encoded text, each after U+0000.
 fn push_steps(encoded: &mut String, steps: &[&str]) -> Result<(), AllocError>
     ensures { OnOk result
         (string_bytes encoded.new ≡
@@ -116,7 +116,7 @@ impl Facet {
     }
 
     /// The facet that a text such as `/first/second` names: an unescaped slash separates two steps, and a backslash goes and
-    /// keeps the character behind it.
+    /// keeps the character after it.
     ///
     /// Errors: `FacetParseError` with a copy of the text, exactly where that doesn't begin with `/`, and `Memory`.
     pub fn from_text(alloc: Global, text: &str) -> Result<Facet, FacetParseError>
@@ -237,7 +237,7 @@ impl Facet {
     }
 }
 
-// What the list has behind the prefix, where it begins with that.
+// What the list has after the prefix, where it begins with that.
 fn rest_behind<'a>(whole: &'a [u8], prefix: &[u8]) -> Option<&'a [u8]>
     ensures { MatchOption result ((rest : List ℕ) → whole.now ≢ prefix.now ++ rest)
         (λ rest. whole.now ≡ prefix.now ++ rest.now) }

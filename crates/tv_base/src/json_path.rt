@@ -8,7 +8,7 @@ use crate::text_rules::{Rule, rewrite};
 use std::alloc::{AllocError, Global};
 
 /// The segments of a path: the texts between its unescaped dots, of which `n` make `n + 1` segments. A backslash goes and
-/// keeps the character behind it; one at the end just goes. (tantivy's rule.) Errors: memory was refused.
+/// keeps the character after it; one at the end just goes. (tantivy's rule.) Errors: memory was refused.
 pub fn split_json_path(alloc: Global, path: &str) -> Result<Vec<String>, AllocError>
     ensures { IfOk result (λ segments. map string_bytes segments.items ≡ split path.now) }
 {

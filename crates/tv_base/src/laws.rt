@@ -58,7 +58,7 @@ pub fn truth_values_have_one_reading()
     ensures { OneReading Truth }
 {}
 
-/// No encoding of bytes behind their length begins another, and each encodes one list of bytes.
+/// No encoding of bytes after their length begins another, and each encodes one list of bytes.
 pub fn sized_bytes_have_one_reading()
     ensures { OneReading Sized }
 {}
@@ -68,7 +68,7 @@ pub fn short_sized_bytes_encode()
     ensures { (content : List ℕ) → length content < 2 ^ 64 → Sized (short_sized content) content }
 {}
 
-/// No encoding of bytes behind their length is shorter.
+/// No encoding of bytes after their length is shorter.
 pub fn short_sized_bytes_are_shortest()
     ensures { (content bytes : List ℕ) → Sized bytes content
         → length (short_sized content) ≤ length bytes }
@@ -110,7 +110,7 @@ pub fn all_facets_descend_from_the_root()
     ensures { (g : List ℕ) → Descends [] g ↔ (g ≢ []) }
 {}
 
-/// Below another facet are those from its text with a U+0000 behind it to before its text with a U+0001 behind it.
+/// Below another facet are those from its text with a U+0000 after it to before its text with a U+0001 after it.
 pub fn descendants_are_a_range()
     ensures { (f g : List ℕ) → f ≢ []
         → Descends f g

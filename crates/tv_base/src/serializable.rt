@@ -46,7 +46,7 @@ pub trait BinarySerializable: Sized {
     ghost has_error: { List ℕ → Cause → Type 0 };
 
     /// Writes the shortest encoding. Errors: that of a write that failed. The sink then holds a beginning of the encoding
-    /// behind what it held before.
+    /// after what it held before.
     fn serialize<K: ByteSink>(&self, sink: &mut K) -> Result<(), WriteError>
         ensures { Writes K.ByteSink sink.old sink.new result (shortest (view self.now)) };
 
@@ -54,7 +54,7 @@ pub trait BinarySerializable: Sized {
     ///
     /// Errors: `Corrupted` with the first error in the bytes, from left to right, `Io` with the kind of the read that failed, and
     /// `Memory`. At `Corrupted` just the bytes that show the error were taken: without the last of them only an end was to be seen,
-    /// and at `UnexpectedEnd` all were taken. `TooLong` comes behind 2^64 - 1 bytes, where more are needed. After each other error some
+    /// and at `UnexpectedEnd` all were taken. `TooLong` comes after 2^64 - 1 bytes, where more are needed. After each other error some
     /// prefix was taken.
     fn deserialize<S: ByteSource>(alloc: Global, source: &mut S) -> Result<Self, ReadError>
         ensures { ReadsAs S.ByteSource source.old source.new view result encodes has_error };

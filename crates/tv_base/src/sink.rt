@@ -6,7 +6,7 @@ ghost use Rattle.tv_base.specs.Sink.{AppendsSome};
 
 use std::io;
 
-/// A place to which bytes are written, one behind the other.
+/// A place to which bytes are written, one after the other.
 pub trait ByteSink {
     /// That the bytes which the sink holds are known.
     ghost is_known: { Self → Type 0 };

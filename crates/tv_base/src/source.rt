@@ -45,7 +45,7 @@ pub trait ByteSource {
         }
     }
 
-    /// Puts the next bytes behind those of `bytes`, and gives their number: at most `most`, and possibly fewer than are left.
+    /// Puts the next bytes after those of `bytes`, and gives their number: at most `most`, and possibly fewer than are left.
     /// `Ok(0)` where `most` isn't 0 is the end.
     ///
     /// Errors: `Io` where a read failed, and `Memory`. No byte was taken then, and what `bytes` holds is unspecified.

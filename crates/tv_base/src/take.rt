@@ -175,7 +175,7 @@ pub fn take_bool<S: ByteSource>(source: &mut S, count: &mut u64) -> Result<bool,
 // A number of variable length has at most this many bytes.
 const LONGEST_NUMBER: u64 = 10;
 
-/// Takes a number of variable length. No byte is taken behind the first error.
+/// Takes a number of variable length. No byte is taken after the first error.
 ///
 /// Errors: those of [`take`], and `Corrupted(BadNumber)` where the number has more than ten bytes or is 2^64 or more.
 #[inline]
@@ -230,7 +230,7 @@ const PIECE: u64 = 4096;
 // So much is asked for at once even where less came before.
 const LEAST_PIECE: u64 = 64;
 
-// How much is asked for at once behind a read that gave this much: twice that, within bounds. So a source that gives little at a time doesn't have much
+// How much is asked for at once after a read that gave this much: twice that, within bounds. So a source that gives little at a time doesn't have much
 // room cleared for each read.
 fn piece_behind(last: u64) -> u64
     ensures some { 0 < result }
@@ -239,7 +239,7 @@ fn piece_behind(last: u64) -> u64
     last.saturating_mul(2).clamp(LEAST_PIECE, PIECE)
 }
 
-/// Takes the next `len` bytes, and puts them behind those that are there. Room is made only as they come.
+/// Takes the next `len` bytes, and puts them after those that are there. Room is made only as they come.
 ///
 /// Errors: those of [`take`], and `Memory`. After an error what `bytes` holds is unspecified.
 pub fn take_pieces<S: ByteSource>(
@@ -272,7 +272,7 @@ pub fn take_pieces<S: ByteSource>(
     Ok(())
 }
 
-/// Takes bytes behind their length, and puts them in place of those that are there. Room is made only as they come.
+/// Takes bytes after their length, and puts them in place of those that are there. Room is made only as they come.
 ///
 /// Errors: those of [`take_vint`], and `Memory`. After an error what `bytes` holds is unspecified.
 #[tactic(auto, using(crate::proofs::TakeSteps::Taken_then), unfolding(crate::specs::Reading::sized_at))]
@@ -289,7 +289,7 @@ pub fn take_sized<S: ByteSource>(
     take_pieces(source, count, bytes, len)
 }
 
-/// Takes bytes behind their length. Room is made only as they come. Errors: those of [`take_sized`].
+/// Takes bytes after their length. Room is made only as they come. Errors: those of [`take_sized`].
 pub fn take_bytes<S: ByteSource>(
     alloc: Global,
     source: &mut S,
@@ -303,7 +303,7 @@ pub fn take_bytes<S: ByteSource>(
     Ok(bytes)
 }
 
-/// Takes a text behind its length in bytes, and puts it in place of the one that is there, in the same room where that
+/// Takes a text after its length in bytes, and puts it in place of the one that is there, in the same room where that
 /// suffices. More room is made only as the bytes come.
 ///
 /// Errors: those of [`take_sized`], and `Corrupted(NotUtf8)`. After an error `text` is empty.
@@ -324,7 +324,7 @@ pub fn take_text<S: ByteSource>(
     Ok(())
 }
 
-/// Takes a text behind its length in bytes. Room is made only as the bytes come. Errors: those of [`take_text`].
+/// Takes a text after its length in bytes. Room is made only as the bytes come. Errors: those of [`take_text`].
 pub fn take_string<S: ByteSource>(
     alloc: Global,
     source: &mut S,
@@ -338,7 +338,7 @@ pub fn take_string<S: ByteSource>(
     Ok(text)
 }
 
-/// Takes a facet: its encoded text, behind its length in bytes. Errors: those of [`take_text`].
+/// Takes a facet: its encoded text, after its length in bytes. Errors: those of [`take_text`].
 pub fn take_facet<S: ByteSource>(
     alloc: Global,
     source: &mut S,

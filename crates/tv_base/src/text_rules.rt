@@ -1,4 +1,4 @@
-//! Texts that are rewritten byte by byte, where a backslash keeps the character behind it.
+//! Texts that are rewritten byte by byte, where a backslash keeps the character after it.
 
 ghost use Rattle.std.specs.Prelude.{◌≡◌, ◌<◌, ◌+◌, ◌∷◌, ◌++◌, [], length, OnErr, OnOk, MatchOption};
 ghost use Rattle.std.specs.String.{string_bytes, string_capacity, string_len};
@@ -34,7 +34,7 @@ fn replacement(rule: Rule, is_unescaped: bool, byte: u8) -> Option<&'static str>
     }
 }
 
-// Writes the rewritten text, which is never longer than the text, behind what is there. Errors: memory was refused, which comes only
+// Writes the rewritten text, which is never longer than the text, after what is there. Errors: memory was refused, which comes only
 // where there is no room for as many bytes as the text has. Then nothing is written.
 pub(crate) fn rewrite(rule: Rule, text: &str, out: &mut String) -> Result<(), AllocError>
     ensures written { OnOk result
@@ -71,7 +71,7 @@ pub(crate) fn printed_text(byte: u8) -> Option<&'static str>
     }
 }
 
-// Writes the text that names the facet with an encoded text, behind what is there. Errors: memory was refused, and then a beginning of
+// Writes the text that names the facet with an encoded text, after what is there. Errors: memory was refused, and then a beginning of
 // it may be written.
 pub(crate) fn push_printed(encoded: &str, out: &mut String) -> Result<(), AllocError>
     ensures ok { OnOk result (string_bytes out.new ≡ string_bytes out.old ++ printed encoded.now) }

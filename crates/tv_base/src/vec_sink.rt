@@ -14,7 +14,7 @@ use std::io;
 // The first write makes room for this many bytes: enough for a short document.
 const FIRST_ROOM: usize = 256;
 
-// Puts the bytes behind those that are there.
+// Puts the bytes after those that are there.
 fn append(bytes: &mut Vec<u8>, buf: &[u8]) -> Result<(), AllocError>
     ensures ok { OnOk result (bytes.new.items ≡ bytes.old.items ++ buf.now) }
     ensures err { OnErr result (bytes.new.items ≡ bytes.old.items) }

@@ -99,7 +99,7 @@ pub fn write_vint<K: ByteSink>(sink: &mut K, number: u64) -> Result<(), WriteErr
     write_all(sink, &bytes[..len])
 }
 
-/// Writes bytes behind their length.
+/// Writes bytes after their length.
 #[inline(always)]
 #[tactic(auto, using(crate::proofs::Written::Writes_then, crate::proofs::Written::Writes_prefix))]
 pub fn write_sized<K: ByteSink>(sink: &mut K, content: &[u8]) -> Result<(), WriteError>
@@ -109,7 +109,7 @@ pub fn write_sized<K: ByteSink>(sink: &mut K, content: &[u8]) -> Result<(), Writ
     write_all(sink, content)
 }
 
-/// Writes a text behind its length in bytes.
+/// Writes a text after its length in bytes.
 #[inline(always)]
 pub fn write_text<K: ByteSink>(sink: &mut K, text: &str) -> Result<(), WriteError>
     ensures { Writes K.ByteSink sink.old sink.new result (short_sized text.now) }

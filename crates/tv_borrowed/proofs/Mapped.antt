@@ -28,7 +28,7 @@ above_among : (k : List ℕ) (ms : List Entry) (m : Entry) (rest : List Entry) �
 above_among k [] m rest h = h.0
 above_among k (e ∷ ms) m rest h = above_among k ms m rest h.1
 
--- the next of members whose keys rise goes behind those before it
+-- the next of members whose keys rise goes after those before it
 pub put_next : (ms : List Entry) (m : Entry) (rest : List Entry) → Rise (members_data (ms ++ m ∷ rest)) → put m.0.now (data_of m.1) (members_data ms) ≡ members_data (ms ++ m ∷ [])
 put_next [] m rest h = refl
 put_next (e ∷ ms) m rest h = rw (turned e.0.now m.0.now (above_among e.0.now ms m rest h.0)) (ap (member e.0.now (data_of e.1)) (put_next ms m rest h.1))

@@ -35,7 +35,7 @@ put_rises k d (member l e ms) h = by (slice_cmp nat_cmp k l) refl (put_rises k d
     by Equal is rest = rw is h
     by Greater is rest = rw is (above_put l k d ms (turned_back k l is) h.0, rest)
 
--- ---- behind the last key
+-- ---- after the last key
 
 rest_below : (k : List ℕ) (e : Entry) (ms : List Entry) → EndsBelow k (e ∷ ms) → EndsBelow k ms
 rest_below k e ms h = λ prefix m is. h (e ∷ prefix) m (ap (λ (l : List Entry). e ∷ l) is)
@@ -57,7 +57,7 @@ above_at k [] i m within here h = absurd (omega (arith, within))
 above_at k (e ∷ ms) zero m within here h = subst (λ (x : Entry). slice_cmp nat_cmp k x.0.now ≡ Less) here h.0
 above_at k (e ∷ ms) (suc i) m within here h = above_at k ms i m (omega (arith, within)) here h.1
 
--- a key belongs behind the members in front of this place
+-- a key belongs after the members in front of this place
 abbrev pub Passed : List ℕ → BorrowedJson → List Entry → ℕ → Type 0
 Passed k v ms i = put k (data_of v) (members_data ms) ≡ put_before (take i ms) (put k (data_of v) (members_data (drop i ms)))
 

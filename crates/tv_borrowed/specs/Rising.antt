@@ -12,7 +12,7 @@ abbrev pub AreAbove : List ℕ → Members → Type 0
 AreAbove k no_members = Unit {0}
 AreAbove k (member l d ms) = (slice_cmp nat_cmp k l ≡ Less) × AreAbove k ms
 
--- each key is below those behind it
+-- each key is below those after it
 abbrev pub Rise : Members → Type 0
 Rise no_members = Unit {0}
 Rise (member k d ms) = AreAbove k ms × Rise ms

@@ -47,7 +47,7 @@ fn unsigned_number<'a>(numeral: &Numeral<'_>, met_float: &mut bool) -> Option<Bo
     }
 }
 
-// The number of a numeral behind a minus.
+// The number of a numeral after a minus.
 #[inline(always)]
 fn negative_number<'a>(numeral: &Numeral<'_>, met_float: &mut bool) -> Option<BorrowedJson<'a>>
     ensures found { option_map data_of result ≡ option_map number (number_from true numeral.now) }

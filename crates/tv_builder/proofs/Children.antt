@@ -47,7 +47,7 @@ pub child_key : (kind : ListKind) (ts : List Tree) (k : Tree) → IsKeyNext kind
 child_key Array ts k next is h = absurd next
 child_key Object ts k next is h = entries_key ts k next is h
 
--- behind a key its value is awaited
+-- after a key its value is awaited
 pub key_lacks : (kind : ListKind) (n m : ℕ) → IsKeyNext kind m → m < total kind n → (m + 1 < total kind n) × IsValueNext kind (m + 1)
 key_lacks Array n m next h = absurd next
 key_lacks Object n m next h = (omega (arith, next, h), omega (arith, next))

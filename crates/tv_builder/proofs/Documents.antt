@@ -58,7 +58,7 @@ pairs_push heap (q ∷ ps) (y ∷ d) p x r t = (r.0, pairs_push heap ps d p x r.
 pairs_push heap [] (y ∷ d) p x r t = absurd r
 pairs_push heap (q ∷ ps) [] p x r t = absurd r
 
--- ---- a whole value stands behind the old heap
+-- ---- a whole value stands after the old heap
 
 leaf_behind : (len : ℕ) (l : Leaf) → type_code (leaf_place len l).value_type ≢ 0 → type_code (leaf_place len l).value_type ≢ 9 → len ≤ (leaf_place len l).address
 leaf_behind len null some other = absurd (some refl)
@@ -95,7 +95,7 @@ pushed old heap ps at field t fits w e =
           (record { field = refl; fits = fits; reads = placed_reads (heap_of old) heap at t w }))),
     )
 
--- the heap behind one pair more
+-- the heap after one pair more
 pub heap_then : (heap : List ℕ) (d : Document) (pair : ℕ × Tree) → document_heap heap (d ++ pair ∷ []) ≡ tree_heap (document_heap heap d) pair.1
 heap_then heap [] pair = refl
 heap_then heap (x ∷ d) pair = heap_then (tree_heap heap x.1) d pair

@@ -27,7 +27,7 @@ use Rattle.tv_builder.proofs.Kept.{Written, Fields, same_fields, kept_added}
 
 -- ---- one pair
 
--- four bytes are the field, and the value is behind them
+-- four bytes are the field, and the value is after them
 pub record FieldFound (whole prefix value : List ℕ) (field : ℕ) : Type 0 where
   pub prefix_is : prefix ≡ take 4 whole
   pub value_is : value ≡ drop 4 whole

@@ -22,7 +22,7 @@ use Rattle.tv_builder.proofs.Putting.{ChildPut, ChildrenPut, none_put, one_child
 
 -- ---- a leaf
 
--- a leaf was read behind its type's code, and written
+-- a leaf was read after its type's code, and written
 pub leaf_encoded : (version : WriteVersion) (t : LeafType) (c : Content) (code : ℕ) (bytes rest old new : List ℕ) (p : Place) → store_code t ≡ code → form_of c ≡ form t → Begins (λ b. ContentBody plain b c) bytes rest → PutWith old t c new p → EncodedPut (written_version version) (code ∷ bytes) rest old new p
 leaf_encoded version t c code bytes rest old new p is formed begins put =
     let m = leaf_begins version t c code bytes rest is formed begins in
@@ -30,7 +30,7 @@ leaf_encoded version t c code bytes rest old new p is formed begins put =
 
 -- ---- lists
 
--- This many children, of a list that announces a total, were read behind that number, and written.
+-- This many children, of a list that announces a total, were read after that number, and written.
 pub record ReadPut {T : Type 0} (Child : List ℕ → T → Type 0) (trees : List T → List Tree) (total count : ℕ) (bytes rest old before heap places : List ℕ) : Type 0 where
   pub behind : List ℕ
   pub number : Begins (λ b. VNum b total) bytes behind

@@ -150,7 +150,7 @@ no_content b o h e none not = never b HasContent h (λ s x is. let i = bytes_sta
 
 -- ---- the value or the key is handed over
 
--- the building lets go of the open bytes
+-- the building drops the open bytes
 abbrev let_go : Building → Building
 let_go b = record b { «open» = None }
 

@@ -1,4 +1,4 @@
--- The heap behind a state, as its parts come.
+-- The heap after a state, as its parts come.
 use Rattle.std.proofs.Common.{◌≡◌, ℕ, zero, suc, ◌+◌, ◌*◌, List, [], ◌∷◌, ◌++◌, length, drop, None, refl, sym, ◌∙◌, ap, append_assoc, length-append, arith}
 use Rattle.std.proofs.Math.Seq.{drop-append_seam, take-append_seam}
 use Rattle.std.proofs.lemmas.List.{append-nil}
@@ -104,7 +104,7 @@ given_image base (l ∷ ls) t are next = elim (tested (suc (length l.children)) 
 pub gives_held : (mid new : Building) (p : Place) → GivesPlace mid p new → held new ≡ given_to mid p
 gives_held mid new p g = λ i. record { heap = g.heap i; places = g.places i; frames = g.frames i; complete = g.complete i }
 
--- a value that was written behind these lists
+-- a value that was written after these lists
 pub value_image : (base : List ℕ) (ls : List OpenList) (t : Tree) (g : Given) → AreLists ls → Comes ls t → g ≡ image_of base (in_lists ls)
     → given (tree_heap g.heap t) g.places g.frames (tree_place g.heap t) ≡ image_of base (with_value ls t)
 value_image base ls t g are next is = ap (λ (z : Given). given (tree_heap z.heap t) z.places z.frames (tree_place z.heap t)) is ∙ given_image base ls t are next

@@ -1,4 +1,4 @@
--- Pairs behind an addition that kept the place of what was written, or cut what was written off again.
+-- Pairs after an addition that kept the place of what was written, or cut what was written off again.
 use Rattle.std.proofs.Common.{◌≡◌, ℕ, ◌+◌, ◌≤◌, ◌<◌, ◌^◌, true, false, Bool, List, [], ◌++◌, length, length-append, take, Option, Some, None, Result, Ok, Err, SomeIff, sym, subst, ◌∙◌, ap, arith}
 use Rattle.tv_base.specs.Sink.{IsPrefix}
 use Rattle.tv_format.specs.Tree.{Tree, leaf}

@@ -25,8 +25,8 @@ pub record Within (Around : List ℕ → List ℕ → Tree → Type 0) (kind : L
 abbrev pub left_of : {N K A O : Type 0} → (A → List Tree) → (O → List (List ℕ × Tree)) → UnfinishedList N K A O → List Child
 left_of items members o = children_left items members o.children
 
--- A value is written next, at this heap and behind these places: as a child of the innermost of these lists, which stand within one another
--- from the innermost on, and together make a value that began at another heap, behind other places.
+-- A value is written next, at this heap and after these places: as a child of the innermost of these lists, which stand within one another
+-- from the innermost on, and together make a value that began at another heap, after other places.
 abbrev pub Around : {N K A O : Type 0} → (A → List Tree) → (O → List (List ℕ × Tree)) → List ℕ → List ℕ → Tree → List (UnfinishedList N K A O) → List ℕ → List ℕ → Tree → Type 0
 Around items members old start t [] heap places u = (heap ≡ old) × (places ≡ start) × (u ≡ t)
 Around items members old start t (o ∷ os) heap places u = Within (Around items members old start t os) o.kind o.first heap places (u ∷ flat (left_of items members o))

@@ -44,7 +44,7 @@ use Rattle.tv_builder.proofs.Within.{document_within, state_within, weight_room}
 abbrev pub stands : (b : PairBuilder) → HoldsSomeState b.building
 stands b = stands_of (kept_heap b) b.building b.state
 
--- a building that holds nothing behind what is kept
+-- a building that holds nothing after what is kept
 pub none_shows : (kept : ℕ) (b : Building) → length b.heap.items ≤ kept → length b.heap.items ≤ 4294967295 → b.places.items ≡ [] → b.pending ≡ 0 → frames_of b ≡ [] → b.complete ≡ None → b.open ≡ None
     → ShowsBehind (take kept b.heap.items) b (in_lists [])
 none_shows kept b within fits places pending frames none closed = record {
@@ -64,7 +64,7 @@ none_behind kept heap b within fits e = (in_lists [], ∣ none_shows kept b with
 abbrev pub behind_as : (base other : List ℕ) (b : Building) → other ≡ base → StandsBehind base b → StandsBehind other b
 behind_as base other b e h = (h.0, subst (λ z. ∥ ShowsBehind z b h.0 ∥₁) (sym e) h.1)
 
--- all that stands behind it are the bytes of the state
+-- all that stands after it are the bytes of the state
 pub heap_behind : (base : List ℕ) (b : Building) (h : StandsBehind base b) → b.heap.items ≡ state_heap base h.0
 heap_behind base b h = ∥∥₁_elim h.1 (Coded-set coded_text _ _) (λ p. ap (λ (g : Given). g.heap) p.image ∙ image_heap base h.0)
 
@@ -148,7 +148,7 @@ fields_left old mid new failed_new after r l s =
 pub fields_does : (old : PairBuilder) (mid new : Building) (failed_new : Bool) (here well fits : Type 0) (after : State → State) (r : Answer) → Does old.building mid here well fits after r → Settled mid new old.kept old.failed failed_new r → Fields new old.kept old.pairs.items
 fields_does old mid new failed_new here well fits after r d s = fields_left old mid new failed_new after r (does_left old.building mid here well fits after r d) s
 
--- the heap is that of the finished pairs, and behind them that of what has come of the next value
+-- the heap is that of the finished pairs, and after them that of what has come of the next value
 pub heap_stands : (b : PairBuilder) → heap_so_far b ≡ state_heap (document_heap [] (built b)) (state_of b)
 heap_stands b = heap_behind (kept_heap b) b.building b.state ∙ ap (λ base. state_heap base (state_of b)) b.bytes
 

@@ -66,7 +66,7 @@ leaf_put old new l p grows place fits w = record {
 
 -- ---- children
 
--- Children are written one behind the other at the end of a heap, and their places behind others.
+-- Children are written one after the other at the end of a heap, and their places after others.
 pub record ChildrenPut (old before : List ℕ) (ts : List Tree) (new left : List ℕ) : Type 0 where
   pub heap : new ≡ elements_heap old (elements ts)
   pub places : left ≡ before ++ elements_places old (elements ts)
@@ -172,7 +172,7 @@ all_put kind old before heap places new ts t n p m v is w =
       placed = subst (λ q. Placed new q (list_tree kind ts)) (sym w.place) (list_placed kind m.count heap new (elements_places old (elements ts)) ts m.counted m.children v.reads heap_is w.fits);
     })
 
--- A list began at a heap and behind other places. Some of its children are written, and these are left.
+-- A list began at a heap and after other places. Some of its children are written, and these are left.
 pub record ListOpen (kind : ListKind) (old before : List ℕ) (whole : Tree) (heap places : List ℕ) (left : List Tree) : Type 0 where
   pub done : List Tree
   pub list : Makes kind (done ++ left) whole

@@ -14,7 +14,7 @@ pub trades_then : {ps qs rs : List Part} → Trades ps qs → Trades qs rs → T
 trades_then same q = q
 trades_then (by_rule prefix old new back rule is h) q = by_rule prefix old new back rule is (trades_then h q)
 
--- by one rule, behind other parts
+-- by one rule, after other parts
 pub trades_last : (prefix old new : List Part) → Rule old new → Trades (prefix ++ old) (prefix ++ new)
 trades_last prefix old new rule =
     by_rule prefix old new [] rule (ap (λ z. prefix ++ z) (sym (append-nil old))) (subst (λ z. Trades (prefix ++ z) (prefix ++ new)) (sym (append-nil new)) same)

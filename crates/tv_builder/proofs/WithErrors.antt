@@ -1,4 +1,4 @@
--- What is malformed behind the parts that have come.
+-- What is malformed after the parts that have come.
 use Rattle.std.proofs.Common.{◌≡◌, ℕ, zero, suc, ◌+◌, ◌*◌, ◌%◌, ◌<◌, ◌≤◌, List, [], ◌∷◌, ◌++◌, length, map, refl, sym, ap, subst, ◌∙◌, append_assoc, length-append, arith, inl, inr, IsUtf8}
 use Rattle.std.proofs.lemmas.List.{append-nil}
 use Rattle.tv_base.specs.declared.cause.Cause.{Cause}
@@ -22,7 +22,7 @@ use Rattle.tv_builder.specs.Parts.{Part, field, value, bytes_head, some_bytes}
 use Rattle.tv_builder.specs.State.{OpenList, in_lists, in_bytes, key_text, pairs_of, IsValueNext, IsKeyNext, AllAwait, AreLists, OthersAwait, HeadNext, key_parts, list_head, children_parts, list_parts, lists_parts}
 use Rattle.tv_builder.proofs.Grammar.{each_split}
 
--- bytes of two parts, with others behind them
+-- bytes of two parts, with others after them
 behind_both : (whole a b rest : List ℕ) → whole ≡ a ++ b → a ++ (b ++ rest) ≡ whole ++ rest
 behind_both whole a b rest e = sym (ap (λ z. z ++ rest) e ∙ append_assoc a b rest)
 
@@ -80,7 +80,7 @@ module _ (Legacy : List ℕ → Entries → Type 0) (L : List ℕ → Cause → 
   entries_counted (k ∷ []) = omega arith
   entries_counted (k ∷ t ∷ ts) = omega (arith, entries_counted ts)
 
-  -- bytes behind a code
+  -- bytes after a code
   coded_both : (code : ℕ) (whole prefix body rest after : List ℕ) → whole ≡ prefix ++ rest → prefix ≡ code ∷ body → code ∷ (body ++ (rest ++ after)) ≡ whole ++ after
   coded_both code whole prefix body rest after e f = sym (ap (λ z. z ++ after) (e ∙ ap (λ z. z ++ rest) f) ∙ ap (λ z. code ∷ z) (append_assoc body rest after))
 
@@ -119,7 +119,7 @@ module _ (Legacy : List ℕ → Entries → Type 0) (L : List ℕ → Cause → 
 
   -- ---- within a document
 
-  -- behind pairs that are finished
+  -- after pairs that are finished
   pairs_error : (d : Document) (n : ℕ) (bytes rest : List ℕ) (r : Refusal) → length d < n → Each R bytes (pairs_parts d) → ErrorInPair Legacy L v rest r
       → InEach (ErrorInPair Legacy L v) (EncodesPair Legacy v) n (bytes ++ rest) r
   pairs_error [] zero bytes rest r less p h = absurd (omega arith)
@@ -130,14 +130,14 @@ module _ (Legacy : List ℕ → Entries → Type 0) (L : List ℕ → Cause → 
     record { prefix = p.prefix; rest = p.rest ++ rest; joined = sym (behind_both bytes p.prefix p.rest rest p.joined); first = p.first; second = pairs_error d n p.rest rest r (omega arith) p.second h },
   )
 
-  -- behind the number and the pairs
+  -- after the number and the pairs
   document_error : (n : ℕ) (d : Document) (bytes rest : List ℕ) (r : Refusal) → length d < n → Each R bytes (document_parts n d) → ErrorInPair Legacy L v rest r → ErrorInDocument Legacy L v (bytes ++ rest) r
   document_error n d bytes rest r less p h = inr (
     n,
     record { prefix = p.prefix; rest = p.rest ++ rest; joined = sym (behind_both bytes p.prefix p.rest rest p.joined); first = p.first; second = pairs_error d n p.rest rest r less p.second h },
   )
 
-  -- behind a field and parts of its value
+  -- after a field and parts of its value
   open_error : (n : ℕ) (d : Document) (f : ℕ) (ps : List Part) (bytes rest : List ℕ) (r : Refusal) → length d < n → Each R bytes (document_parts n d ++ (field f ∷ ps))
       → ((b : List ℕ) → Each R b ps → VF (b ++ rest) r) → ErrorInDocument Legacy L v (bytes ++ rest) r
   open_error n d f ps bytes rest r less p h =
@@ -162,9 +162,9 @@ module _ (Legacy : List ℕ → Entries → Type 0) (L : List ℕ → Cause → 
       → IsKeyNext l.kind (length l.children) → ErrorInKey v rest r → ErrorsBehind Legacy L v (open_parts n d f (in_lists (l ∷ ls))) rest r
   key_errors n d f l ls rest r less are await next h = λ bytes p. open_error n d f (lists_parts (l ∷ ls)) bytes rest r less p (λ b q. lists_key_error l ls b rest r are await next q h)
 
-  -- ---- behind open bytes
+  -- ---- after open bytes
 
-  -- the bytes so far, behind their length
+  -- the bytes so far, after their length
   content_is : (kind : BytesKind) (m : ℕ) (bs b : List ℕ) (p : Each R b (bytes_head kind m ∷ some_bytes bs ∷ [])) → p.rest ≡ bs
   content_is kind m bs b p = p.second.joined ∙ ap (λ z. p.second.prefix ++ z) p.second.second ∙ append-nil p.second.prefix ∙ p.second.first
 
@@ -178,7 +178,7 @@ module _ (Legacy : List ℕ → Entries → Type 0) (L : List ℕ → Cause → 
       no_text (bs ++ piece) (body ++ (bs ++ piece)) rest (ap (λ z. body ++ z) (sym (append_assoc bs piece rest)) ∙ sym (append_assoc body (bs ++ piece) rest))
       (record { size = body; joined = refl; number = subst (λ k. VNum body k) (sym (length-append bs piece ∙ full)) h }) none
 
-  -- an error behind the head and the bytes so far: of a value, or of a key
+  -- an error after the head and the bytes so far: of a value, or of a key
   abbrev ErrorsIn : BytesKind → List ℕ → Refusal → Type 0
   ErrorsIn kinds.Str whole r = VF whole r
   ErrorsIn kinds.Facet whole r = VF whole r
@@ -204,7 +204,7 @@ module _ (Legacy : List ℕ → Entries → Type 0) (L : List ℕ → Cause → 
   key_error V2 m b prefix behind rest c e p h = subst (λ z. ErrorInKey V2 z (corrupted c)) (coded_both 0 b prefix p.body behind rest e p.joined) (in_key (h p.body p.encoded))
   key_error V3 m b prefix behind rest c e p h = subst (λ z. ErrorInKey V3 z (corrupted c)) (behind_both b prefix behind rest e) (corrupt (h prefix p))
 
-  -- a malformed text behind the head
+  -- a malformed text after the head
   in_head : (kind : BytesKind) (m : ℕ) (bs b rest : List ℕ) (c : Cause) → IsTextKind kind → (p : Each R b (bytes_head kind m ∷ some_bytes bs ∷ []))
       → ((body : List ℕ) → VNum body m → ErrorInText (body ++ (p.rest ++ rest)) c) → ErrorsIn kind (b ++ rest) (corrupted c)
   in_head kinds.Str m bs b rest c is p h = subst (λ z. VF z (corrupted c)) (coded_both 0 b p.prefix p.first.body p.rest rest p.joined p.first.joined) (in_leaf (record { of_type = leaves.Str; coded = refl; error = h p.first.body p.first.encoded }))

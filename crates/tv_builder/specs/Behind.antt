@@ -1,4 +1,4 @@
--- What has come of a document, and what is malformed behind that.
+-- What has come of a document, and what is malformed after that.
 use Rattle.std.specs.Prelude.{ℕ, List, [], ◌∷◌, ◌++◌}
 use Rattle.tv_base.specs.declared.cause.Cause.{Cause}
 use Rattle.tv_format.specs.InputError.{Refusal, ErrorInDocument}

@@ -47,7 +47,7 @@ abbrev pub HasContent : State → Type 0
 HasContent (in_bytes ls kind n bs) = IsContentOf kind bs
 HasContent _ = ⊥
 
--- A call that goes on to this state. Behind the finished pairs the heap is that of the state, and has room for all announced bytes. `kept`
+-- A call that goes on to this state. After the finished pairs the heap is that of the state, and has room for all announced bytes. `kept`
 -- stays at the end of the last finished pair.
 pub record Goes (old new : PairBuilder) (after : State) : Type 0 where
   pub live : new.failed ≡ false
@@ -59,7 +59,7 @@ pub record Goes (old new : PairBuilder) (after : State) : Type 0 where
   pub fits : full_length (kept_heap old) after ≤ 4294967295
   pub grows : IsPrefix (heap_so_far old) (heap_so_far new)
 
--- After a refusal nothing is open, and the heap ends behind the last finished pair.
+-- After a refusal nothing is open, and the heap ends after the last finished pair.
 pub record Fails (old new : PairBuilder) : Type 0 where
   pub failed : new.failed ≡ true
   pub document : built new ≡ built old
@@ -68,7 +68,7 @@ pub record Fails (old new : PairBuilder) : Type 0 where
   pub state : state_of new ≡ in_lists []
   pub heap : heap_so_far new ≡ take old.kept (heap_so_far old)
 
--- Behind the finished pairs this state has no room in a heap, by its bytes and the announced ones, nor by the room that all may take.
+-- After the finished pairs this state has no room in a heap, by its bytes and the announced ones, nor by the room that all may take.
 pub record Overfull (old : PairBuilder) (after : State) : Type 0 where
   pub bytes : 4294967295 < full_length (kept_heap old) after
   pub room : 4294967295 < document_room (built old) + state_room after

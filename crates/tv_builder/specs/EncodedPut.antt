@@ -1,4 +1,4 @@
--- A value that is encoded at the start of bytes, and is written behind a heap.
+-- A value that is encoded at the start of bytes, and is written after a heap.
 use Rattle.std.specs.Prelude.{ℕ, List}
 use Rattle.tv_base.specs.Parts.{Begins}
 use Rattle.tv_format.specs.Encoding.{Encodes, NoLegacy}

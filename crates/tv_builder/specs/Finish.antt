@@ -1,4 +1,4 @@
--- What is left of a value that comes part by part where it is let go of, or becomes that of a pair.
+-- What is left of a value that comes part by part where it is dropped, or becomes that of a pair.
 use Rattle.std.specs.Prelude.{◌≡◌, ℕ, ◌<◌, ◌^◌, List, [], ◌∷◌, ◌++◌, length, take, Some, None, Bool, true, Result, OnOk, OnErr}
 use Rattle.tv_builder.specs.declared.build_error.BuildError.{BuildError}
 use Rattle.tv_builder.specs.declared.build_error.BuildError.TheVariants.{OutOfPlace, Memory}
@@ -14,7 +14,7 @@ HoldsPrefix heap kept ps = Holds (take kept heap) ps
 pub HoldsPrefix-prop : (heap : List ℕ) (kept : ℕ) (ps : List HeapPair) → IsProp (HoldsPrefix heap kept ps)
 HoldsPrefix-prop heap kept ps = Holds-prop (take kept heap) ps
 
--- nothing stands behind this heap
+-- nothing stands after this heap
 pub record Empty (heap : List ℕ) (b : Building) : Type 0 where
   pub heap_is : b.heap.items ≡ heap
   pub places : b.places.items ≡ []
@@ -23,7 +23,7 @@ pub record Empty (heap : List ℕ) (b : Building) : Type 0 where
   pub complete : b.complete ≡ None
   pub closed : b.open ≡ None
 
--- After a refusal what isn't finished is let go of, and that is marked; else nothing changes.
+-- After a refusal what isn't finished is dropped, and that is marked; else nothing changes.
 pub record Settled (old new : Building) (kept : ℕ) (failed failed_new : Bool) (answer : Result (Unit {0}) BuildError) : Type 0 where
   pub ok : OnOk answer (new ≡ old)
   pub live : OnOk answer (failed_new ≡ failed)

@@ -1,4 +1,4 @@
--- What a part writes itself, and whether that fits behind a heap, whether or not the lists that it closes do.
+-- What a part writes itself, and whether that fits after a heap, whether or not the lists that it closes do.
 use Rattle.std.specs.Prelude.{◌≡◌, ℕ, ◌+◌, ◌≤◌, List, [], ◌++◌, length}
 use Rattle.tv_base.specs.Number.{vnum}
 use Rattle.tv_base.specs.Parts.{short_sized}

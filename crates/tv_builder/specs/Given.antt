@@ -38,7 +38,7 @@ given heap places (f ∷ fs) p =
 
 -- ---- what holds of open lists whatever they hold
 
--- The places of each list's children stand behind those of the others, with a byte at least for each.
+-- The places of each list's children stand after those of the others, with a byte at least for each.
 abbrev pub AreCut : List Frame → List ℕ → Type 0
 AreCut [] places = Unit {0}
 AreCut (f ∷ fs) places = (f.first ≤ length places) × (f.finished ≤ length (drop f.first places)) × (f.finished < total f.kind f.announced) × AreCut fs (take f.first places)

@@ -30,8 +30,8 @@ pairs_capacity d = vec_capacity d.pairs
 abbrev pub places_of : HeapPairs → List (ℕ × ℕ)
 places_of d = map (λ p. (type_code p.place.value_type, p.place.address)) d.pairs.items
 
--- One pair is added. The new heap and the new pair's place are those that writing the tree behind the old heap gives: the old heap is kept
--- as a prefix, and grew by the tree's room at most. The old places are kept, and the new one is behind the old heap, unless it is that of
+-- One pair is added. The new heap and the new pair's place are those that writing the tree after the old heap gives: the old heap is kept
+-- as a prefix, and grew by the tree's room at most. The old places are kept, and the new one is after the old heap, unless it is that of
 -- null or a truth value.
 pub record Added (old new : HeapPairs) (field : ℕ) (t : Tree) : Type 0 where
   pub document : document_of new ≡ document_of old ++ (field, t) ∷ []
@@ -63,7 +63,7 @@ RefusesAddition d t Memory = length (heap_of d) + room t ≤ 4294967295
 
 -- The promise of adding: what an addition of a pair returns, and what it leaves.
 --
--- Where it succeeds, the heap had room for the tree, and the pair stands behind the others (`Added`).
+-- Where it succeeds, the heap had room for the tree, and the pair stands after the others (`Added`).
 -- `HeapFull` comes only where the heap has no room for the tree, and `Memory` only where it has.
 -- After an error nothing has changed (`IsUnchanged`).
 abbrev pub Adds : {T : Type 0} → HeapPairs → HeapPairs → ℕ → Tree → Result T AddError → Type 0

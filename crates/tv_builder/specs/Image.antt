@@ -1,4 +1,4 @@
--- All that a building holds for a state, behind what stood in the heap before.
+-- All that a building holds for a state, after what stood in the heap before.
 use Rattle.std.specs.Prelude.{◌≡◌, ℕ, List, [], ◌∷◌, ◌++◌, length, Some, None}
 use Rattle.tv_base.specs.Number.{vnum}
 use Rattle.tv_format.specs.Tree.{elements}
@@ -31,7 +31,7 @@ image_of base (complete t) = record { heap = tree_heap base t; places = []; fram
 image_of base (in_lists ls) = record { heap = lists_heap base ls; places = lists_places base ls; frames = lists_frames base ls; complete = None }
 image_of base (in_bytes ls kind n bs) = record { heap = lists_heap base ls ++ (vnum n ++ bs); places = lists_places base ls; frames = lists_frames base ls; complete = None }
 
--- the state stands there, and all that a building holds is that state behind this heap
+-- the state stands there, and all that a building holds is that state after this heap
 pub record ShowsBehind (base : List ℕ) (b : Building) (s : State) : Type 0 where
   pub shows : ShowsState b s
   pub image : held b ≡ image_of base s

@@ -6,7 +6,7 @@ use Rattle.tv_builder.specs.declared.add_error.AddError.{AddError}
 use Rattle.tv_builder.specs.declared.add_error.AddError.TheVariants.{Memory}
 use Rattle.tv_builder.specs.declared.heap_pair.HeapPair.{HeapPair}
 
--- the new pair is behind the old ones, and the heap is as it was
+-- the new pair is after the old ones, and the heap is as it was
 pub record PairKept (mid new : List ℕ) (ps qs : List HeapPair) (field : ℕ) (place : Place) : Type 0 where
   pub pairs : qs ≡ ps ++ pair_at field place ∷ []
   pub heap : new ≡ mid

@@ -44,7 +44,7 @@ pub record GivesNot (old : Building) (p : Place) (new : Building) (e : BuildErro
 
 -- ---- the calls
 
--- whether a value of this room, which is known where 32 bits hold it, fits behind this many bytes
+-- whether a value of this room, which is known where 32 bits hold it, fits after this many bytes
 abbrev pub FitsRoom : Option ℕ → ℕ → Bool → Type 0
 FitsRoom None len b = b ≡ false
 FitsRoom (Some n) len b = IsTrue b ↔ (len + n ≤ 4294967295)
@@ -58,7 +58,7 @@ pub record MovesState (old new : Building) (after : State → State) : Type 0 wh
   pub grows : IsPrefix old.heap.items new.heap.items
   pub next : (base : List ℕ) (s : State) → ShowsBehind base old s → ShowsBehind base new (after s)
 
--- Behind this heap there is no room for a state: its bytes and those that it announces end above 4294967295, and so does the room that it may
+-- After this heap there is no room for a state: its bytes and those that it announces end above 4294967295, and so does the room that it may
 -- take.
 pub record Over (base : List ℕ) (s : State) : Type 0 where
   pub bytes : 4294967295 < full_length base s

@@ -27,7 +27,7 @@ IsOfKind lists.Array (array ts) = Unit {0}
 IsOfKind lists.Object (object es) = Unit {0}
 IsOfKind _ _ = ⊥
 
--- A child is written at the end of a heap, and its place behind others.
+-- A child is written at the end of a heap, and its place after others.
 abbrev pub ChildPut : List ℕ → List ℕ → Tree → List ℕ → List ℕ → Type 0
 ChildPut old before t new left = (p : Place) × Put old t new p × (left ≡ before ++ place_bytes p)
 

@@ -114,9 +114,9 @@ HoldsSomeState-prop b x y =
 pub same_state : (b : Building) (x y : HoldsSomeState b) → x.0 ≡ y.0
 same_state b x y = ap (λ p. p.0) (HoldsSomeState-prop b x y)
 
--- ---- a state behind a heap
+-- ---- a state after a heap
 
--- the state that a builder holds, which is all that stands behind this heap
+-- the state that a builder holds, which is all that stands after this heap
 abbrev pub StandsBehind : List ℕ → Building → Type 0
 StandsBehind base b = (s : State) × ∥ ShowsBehind base b s ∥₁
 

@@ -34,7 +34,7 @@ ShowsLists heap [] places [] = places ≡ []
 ShowsLists heap (f ∷ fs) places (l ∷ ls) = ShowsList heap places f l × ShowsLists heap fs (take f.first places) ls
 ShowsLists heap _ places _ = ⊥
 
--- The bytes so far are the heap's last, behind the shortest encoding of their length, and there is room for the others.
+-- The bytes so far are the heap's last, after the shortest encoding of their length, and there is room for the others.
 pub record BytesStand (heap : List ℕ) (o : OpenBytes) (n : ℕ) (so_far : List ℕ) : Type 0 where
   pub before : List ℕ
   pub joined : heap ≡ before ++ (vnum n ++ so_far)

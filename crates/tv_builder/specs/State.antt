@@ -56,7 +56,7 @@ abbrev pub key_text : Tree → List ℕ
 key_text (leaf (text content)) = content
 key_text _ = []
 
--- each key with the value behind it
+-- each key with the value after it
 abbrev pub pairs_of : List Tree → List (List ℕ × Tree)
 pairs_of [] = []
 pairs_of (k ∷ []) = []

@@ -1,4 +1,4 @@
--- What is written of a value at the end of a heap, and where it stands then: its children in order, and behind them a list's own
+-- What is written of a value at the end of a heap, and where it stands then: its children in order, and after them a list's own
 -- bytes, which are their types and addresses.
 use Rattle.std.specs.Prelude.{ℕ, List, [], ◌∷◌, ◌++◌, length}
 use Rattle.tv_base.specs.Number.{vnum}
@@ -16,7 +16,7 @@ abbrev pub leaf_place : ℕ → Leaf → Place
 leaf_place len l = record { value_type = leaf_value_type l; address = leaf_address len l }
 
 abbrev mutual
-  -- the heap behind the value
+  -- the heap after the value
   pub tree_heap : List ℕ → Tree → List ℕ
   tree_heap heap (leaf l) = heap ++ leaf_bytes l
   tree_heap heap (array ts) = elements_heap heap ts ++ short_sized (elements_places heap ts)
@@ -28,7 +28,7 @@ abbrev mutual
   tree_place heap (array ts) = record { value_type = types.Array; address = length (elements_heap heap ts) }
   tree_place heap (object es) = record { value_type = types.Object; address = length (entries_heap heap es) }
 
-  -- the heap behind the children, and their places
+  -- the heap after the children, and their places
   pub elements_heap : List ℕ → Elements → List ℕ
   elements_heap heap no_elements = heap
   elements_heap heap (element t ts) = elements_heap (tree_heap heap t) ts
@@ -46,7 +46,7 @@ abbrev mutual
   entries_places heap no_entries = []
   entries_places heap (entry k t es) = (1 ∷ vnum (length heap)) ++ (place_bytes (tree_place (heap ++ short_sized k) t) ++ entries_places (tree_heap (heap ++ short_sized k) t) es)
 
--- the heap behind the trees of pairs, one after the other
+-- the heap after the trees of pairs, one after the other
 abbrev pub document_heap : List ℕ → Document → List ℕ
 document_heap heap [] = heap
 document_heap heap (pair ∷ d) = document_heap (tree_heap heap pair.1) d

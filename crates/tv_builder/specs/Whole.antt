@@ -43,7 +43,7 @@ abbrev pub Puts : List ℕ → List ℕ → Tree → List ℕ → List ℕ → R
 Puts old places t new left (Ok p) = Put old t new p × (left ≡ places)
 Puts old places t new left (Err e) = PutNot old t new e
 
--- its room, and not only its bytes, is free behind the heap
+-- its room, and not only its bytes, is free after the heap
 pub record PutWithin (old : List ℕ) (t : Tree) (new : List ℕ) (p : Place) : Type 0 where
   pub put : Put old t new p
   pub within : length old + room t ≤ 4294967295

@@ -37,7 +37,7 @@ pub(crate) struct OpenBytes {
 // A heap, and where what is finished stands in it.
 #[derive(Debug, Drop)]
 pub(crate) struct Building {
-    // The bytes in which finished values stand, and behind them open bytes so far.
+    // The bytes in which finished values stand, and after them open bytes so far.
     pub heap: Vec<u8>,
     // The places of the finished children of all open lists, as they will stand in the bytes of their lists.
     pub places: Vec<u8>,
@@ -64,7 +64,7 @@ impl Building {
     ghost use Rattle.tv_builder.specs.declared.awaits.Awaits.TheVariants.{Value as ValueNext};
     ghost use Rattle.tv_builder.specs.declared.awaits.Awaits.TheVariants.{Key as KeyNext};
 
-    // Behind this heap, where a value is awaited. It takes no memory.
+    // After this heap, where a value is awaited. It takes no memory.
     pub(crate) fn new(alloc: Global, heap: Vec<u8>) -> Building
         ensures { Empty heap.items result }
     {
@@ -265,7 +265,7 @@ impl Building {
         !ended.kind.is_text() || str::from_utf8(content).is_ok()
     }
 
-    // Hands a finished value or key to the innermost list, and closes each list that lacks nothing more: a list is written behind its
+    // Hands a finished value or key to the innermost list, and closes each list that lacks nothing more: a list is written after its
     // children, of which the places are the last.
     fn give(&mut self, place: Place) -> Result<(), BuildError>
         requires { CanGive self.old }

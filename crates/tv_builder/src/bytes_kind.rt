@@ -1,11 +1,11 @@
-//! Kinds of values that are bytes behind their length.
+//! Kinds of values that are bytes after their length.
 
 ghost use Rattle.std.specs.Prelude.{◌≡◌, ◌↔◌, IsTrue};
 
 use tv_format::leaf_type::LeafType;
 use tv_heap::value_type::ValueType;
 
-/// A value, or a key of an object, that is bytes behind their length. (Not in tantivy.)
+/// A value, or a key of an object, that is bytes after their length. (Not in tantivy.)
 #[derive(Clone, Copy, Debug, PartialEq, Eq)]
 pub enum BytesKind {
     /// A text.

@@ -1,4 +1,4 @@
-//! Values that stand encoded in bytes, written behind a heap.
+//! Values that stand encoded in bytes, written after a heap.
 
 ghost use Rattle.std.specs.Prelude.{◌≡◌, ◌≤◌, ◌∷◌, length, IfSome, Some};
 ghost use Rattle.tv_base.specs.Sink.{IsPrefix};
@@ -19,7 +19,7 @@ use tv_value::in_place::{
     tokenized_at, truth_at,
 };
 
-// Writes the value without children that stands behind this code. It is encoded alike in all versions that are written.
+// Writes the value without children that stands after this code. It is encoded alike in all versions that are written.
 #[inline(always)]
 fn put_encoded_leaf<'a>(code: u8, bytes: &'a [u8], heap: &mut Vec<u8>) -> Option<(&'a [u8], Place)>
     requires { length heap.old.items ≤ 4294967295 }
@@ -72,8 +72,8 @@ fn put_encoded_leaf<'a>(code: u8, bytes: &'a [u8], heap: &mut Vec<u8>) -> Option
     }
 }
 
-/// Writes the value that these bytes begin with, as this version of the store encodes it, behind a heap: what the calls for its parts would
-/// write. Gives the bytes behind it, and its place. (Not in tantivy.)
+/// Writes the value that these bytes begin with, as this version of the store encodes it, after a heap: what the calls for its parts would
+/// write. Gives the bytes after it, and its place. (Not in tantivy.)
 ///
 /// `None` where they begin with no value, or with an object as older stores hold it; where lists are nested deeper than this many levels; where
 /// a part would end above 4294967295; and where memory is refused. The old heap is then still a prefix of the new, and what `places` holds is
@@ -109,7 +109,7 @@ pub fn put_encoded<'a>(
     }
 }
 
-// Writes the array that stands behind its code.
+// Writes the array that stands after its code.
 #[inline(never)]
 #[cycle(encoded)]
 #[tactic(auto, using(crate::proofs::Giving::prefix_then))]
@@ -146,7 +146,7 @@ fn put_encoded_array<'a>(
     Some((rest, place))
 }
 
-// Writes the object that stands behind its code.
+// Writes the object that stands after its code.
 #[inline(never)]
 #[cycle(encoded)]
 #[tactic(auto, using(crate::proofs::Giving::prefix_then))]

@@ -1,4 +1,4 @@
-//! Whether what is to be written fits behind a heap.
+//! Whether what is to be written fits after a heap.
 
 ghost use Rattle.std.specs.Prelude.{◌+◌, ◌*◌, ◌≤◌, ◌↔◌, length, IsTrue};
 ghost use Rattle.tv_base.specs.Number.{vnum};
@@ -10,7 +10,7 @@ use tv_heap::len::number_len;
 use tv_heap::room::{MAX_HEAP_LEN, room};
 use tv_value::value::Value;
 
-// Whether this many bytes behind their length fit behind a heap of this length.
+// Whether this many bytes after their length fit after a heap of this length.
 #[inline(always)]
 pub(crate) fn has_room(len: usize, content: u64) -> bool
     requires { len ≤ 4294967295 }
@@ -20,7 +20,7 @@ pub(crate) fn has_room(len: usize, content: u64) -> bool
         && len as u64 + (u64::from(number_len(content)) + content) <= MAX_HEAP_LEN
 }
 
-// Whether a value of this room fits behind a heap of this length.
+// Whether a value of this room fits after a heap of this length.
 #[inline(always)]
 pub(crate) fn has_value_room(len: usize, room: Option<u32>) -> bool
     requires { len ≤ 4294967295 }
@@ -32,7 +32,7 @@ pub(crate) fn has_value_room(len: usize, room: Option<u32>) -> bool
     }
 }
 
-// Whether ten times what was written behind a heap of this length would fit there: no value's room is more than that.
+// Whether ten times what was written after a heap of this length would fit there: no value's room is more than that.
 #[inline(always)]
 pub(crate) fn has_ten_times(len: usize, with_value: usize) -> bool
     requires before { len ≤ 4294967295 }
@@ -42,7 +42,7 @@ pub(crate) fn has_ten_times(len: usize, with_value: usize) -> bool
     10 * with_value as u64 <= MAX_HEAP_LEN + 9 * len as u64
 }
 
-// Whether the room of a value is free behind a heap of this length. The value is walked.
+// Whether the room of a value is free after a heap of this length. The value is walked.
 #[inline(never)]
 pub(crate) fn has_tree_room<'a, V: Value<'a>>(alloc: Global, len: usize, value: &V) -> bool
     requires { len ≤ 4294967295 }

@@ -26,7 +26,7 @@ use tv_value::value::{ReferenceValue, Value};
 // The first pair makes room for this many.
 const FIRST_PAIRS: usize = 16;
 
-/// Adds a pair behind those that are there. (Not in tantivy.) The only error is that memory was refused; the pairs are then as they were.
+/// Adds a pair after those that are there. (Not in tantivy.) The only error is that memory was refused; the pairs are then as they were.
 #[inline(always)]
 pub fn push_pair(pairs: &mut Vec<HeapPair>, pair: HeapPair) -> Result<(), AllocError>
     ensures ok { OnOk result (pairs.new.items ≡ pairs.old.items ++ pair ∷ []) }
@@ -39,7 +39,7 @@ pub fn push_pair(pairs: &mut Vec<HeapPair>, pair: HeapPair) -> Result<(), AllocE
     Ok(())
 }
 
-// Keeps the pair of a field and a value that was written behind the first `len` bytes of the heap. Where memory is refused, the heap is
+// Keeps the pair of a field and a value that was written after the first `len` bytes of the heap. Where memory is refused, the heap is
 // cut back to these, and the pairs stay as they were.
 #[inline(always)]
 fn keep_pair(
@@ -190,7 +190,7 @@ impl HeapPairs {
         }
     }
 
-    /// Adds the pairs that these bytes begin with, as this version of the store encodes them, up to this many. Gives the bytes behind them,
+    /// Adds the pairs that these bytes begin with, as this version of the store encodes them, up to this many. Gives the bytes after them,
     /// and how many they are. The old heap is a prefix of the new one, and the old pairs come first, at the same places.
     ///
     /// It stops before a pair that is malformed or not all there, before one that holds an object as older stores hold it or lists nested deeper
@@ -216,7 +216,7 @@ impl HeapPairs {
         (rest, most)
     }
 
-    // Adds the pair that these bytes begin with, and gives the bytes behind it. `places` is used while a list is written.
+    // Adds the pair that these bytes begin with, and gives the bytes after it. `places` is used while a list is written.
     #[inline(always)]
     fn add_encoded_pair<'a>(
         &mut self,

@@ -37,7 +37,7 @@ pub fn lists_are_paid()
         → 2 * length (lists_of s) + children_of (lists_of s) ≤ length b }
 {}
 
-/// What a call does to a state trades its parts, with the call's part behind them, for those of the state that is left.
+/// What a call does to a state trades its parts, with the call's part after them, for those of the state that is left.
 pub fn calls_trade()
     ensures values { (s : State) (t : Tree) → IsState s → awaited s ≡ Value
         → Trades (parts_of s ++ value t ∷ []) (parts_of (and_value s t)) }
@@ -66,7 +66,7 @@ pub fn what_is_written_is_paid()
         → Encoded NoLegacy v b (document_parts n d) → document_weight d ≤ 7 * length b }
 {}
 
-/// The same of open lists and of their finished children, behind the finished pairs of a document.
+/// The same of open lists and of their finished children, after the finished pairs of a document.
 pub fn open_lists_are_paid()
     ensures { (v : Version) (n : ℕ) (d : Document) (f : ℕ) (s : State) (b : List ℕ)
         → Encoded NoLegacy v b (open_parts n d f s)
@@ -78,7 +78,7 @@ pub fn parts_make_values()
     ensures { (s : State) (t : Tree) → awaited s ≡ Value → parts_called s t ≡ and_value s t }
 {}
 
-/// A heap is what writing the trees of its pairs one after the other gives, and in a builder, behind them, what writing the parts of the next
+/// A heap is what writing the trees of its pairs one after the other gives, and in a builder, after them, what writing the parts of the next
 /// value gives that have come. So the same pairs and parts have the same heap, however they were added.
 pub fn heaps_hold_what_came()
     ensures pairs { (d : HeapPairs) → heap_of d ≡ document_heap [] (document_of d) }
@@ -86,7 +86,7 @@ pub fn heaps_hold_what_came()
         → heap_so_far b ≡ state_heap (document_heap [] (built b)) (state_of b) }
 {}
 
-/// All of a builder's state stands in its heap: each finished child and the complete tree reads at its place, and open bytes so far, behind
+/// All of a builder's state stands in its heap: each finished child and the complete tree reads at its place, and open bytes so far, after
 /// their length's shortest encoding, are the heap's last.
 pub fn states_stand_in_the_heap()
     ensures { (b : PairBuilder) → ∥ ShowsState b.building (state_of b) ∥₁ }

@@ -1,4 +1,4 @@
-//! Lists written behind a heap however deep they nest, by a loop: the lists that are open stand on a stack.
+//! Lists written after a heap however deep they nest, by a loop: the lists that are open stand on a stack.
 
 ghost use Rattle.std.specs.Prelude.{◌≡◌, ◌≤◌, [], ◌∷◌, ◌++◌, length, IfErr, IfOk, OnOk, option_map};
 ghost use Rattle.tv_builder.specs.Nested.{IsOfKind, KeyNotPut, KeyPut};
@@ -69,7 +69,7 @@ fn push_list<N: Nested>(
     Ok(())
 }
 
-// Writes the key of a child, if it has one, and its place behind others.
+// Writes the key of a child, if it has one, and its place after others.
 fn put_key<K: AsStr + Drop>(
     heap: &mut Vec<u8>,
     places: &mut Vec<u8>,
@@ -87,7 +87,7 @@ fn put_key<K: AsStr + Drop>(
     }
 }
 
-// Writes a value behind its children, however deep they nest, and returns its place. `places` is afterwards as it was. After an error the
+// Writes a value after its children, however deep they nest, and returns its place. `places` is afterwards as it was. After an error the
 // old heap is still a prefix of the new, and what `places` holds is unspecified.
 #[inline(never)]
 pub(crate) fn put_nested<N: Nested>(

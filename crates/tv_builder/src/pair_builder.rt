@@ -17,7 +17,7 @@ use crate::list_kind::ListKind;
 use tv_value::leaf::ReferenceValueLeaf;
 use tv_value::value::Value;
 
-// After a refusal, lets go of what isn't finished and marks it.
+// After a refusal, drops what isn't finished and marks it.
 fn settle(
     building: &mut Building,
     failed: &mut bool,
@@ -69,7 +69,7 @@ fn keep_tree(
 pub struct PairBuilder {
     building: Building,
     pairs: Vec<HeapPair>,
-    // The length of the heap behind the last finished pair.
+    // The length of the heap after the last finished pair.
     kept: usize,
     failed: bool,
     pub ghost document: { HoldsPrefix building.heap.items kept pairs.items } by { HoldsPrefix-prop building.heap.items kept pairs.items },
@@ -93,7 +93,7 @@ impl PairBuilder {
     ghost use Rattle.tv_format.specs.Tree.{leaf as leaf_tree};
     ghost use Rattle.tv_value.specs.Lent.{leaf_of};
 
-    /// A builder behind these pairs. It takes no memory.
+    /// A builder after these pairs. It takes no memory.
     pub fn new(finished: HeapPairs) -> PairBuilder
         ensures document { built result ≡ document_of finished }
         ensures heap { heap_so_far result ≡ heap_of finished }
@@ -112,7 +112,7 @@ impl PairBuilder {
         }
     }
 
-    /// The finished pairs, at any time, also after a refusal. Their heap ends behind the last of their values.
+    /// The finished pairs, at any time, also after a refusal. Their heap ends after the last of their values.
     pub fn into_pairs(self) -> HeapPairs
         ensures document { document_of result ≡ built self }
         ensures heap { heap_of result ≡ kept_heap self }

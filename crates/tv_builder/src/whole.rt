@@ -1,4 +1,4 @@
-//! Writing values behind a heap, as far as they fit.
+//! Writing values after a heap, as far as they fit.
 
 ghost use Rattle.std.specs.Prelude.{◌≡◌, ◌≤◌, ◌++◌, length, take, drop, OnOk, IfOk, IfErr, IfSome};
 ghost use Rattle.tv_base.specs.Sink.{IsPrefix};
@@ -48,7 +48,7 @@ pub(crate) fn put_leaf(
     Ok(place)
 }
 
-// Writes a value without children, and its place behind others. After an error the old heap is still a prefix of the new.
+// Writes a value without children, and its place after others. After an error the old heap is still a prefix of the new.
 #[inline(always)]
 pub(crate) fn put_single(
     heap: &mut Vec<u8>,
@@ -88,7 +88,7 @@ pub(crate) fn put_content(
     }
 }
 
-// Writes a list behind its children, whose places are those from `first` on, takes these off, and returns its own place. After an
+// Writes a list after its children, whose places are those from `first` on, takes these off, and returns its own place. After an
 // error the old heap is still a prefix of the new, and what `places` holds is unspecified.
 #[inline(always)]
 pub(crate) fn put_list(
@@ -116,7 +116,7 @@ pub(crate) fn put_list(
     })
 }
 
-// Writes a value behind its children, and returns its place. The places of children whose list is not yet written stand at the
+// Writes a value after its children, and returns its place. The places of children whose list is not yet written stand at the
 // end of `places`, which is afterwards as it was. `levels` is how deep its lists may nest for no stack in memory to be taken. After an
 // error the old heap is still a prefix of the new, and what `places` holds is unspecified.
 #[inline(always)]
@@ -139,7 +139,7 @@ pub(crate) fn put_tree<N: Nested>(
     }
 }
 
-// Writes an array behind its values.
+// Writes an array after its values.
 #[inline(never)]
 #[cycle(parts)]
 fn put_array<N: Nested>(
@@ -173,7 +173,7 @@ fn put_array<N: Nested>(
     put_list(heap, places, ListKind::Array, first)
 }
 
-// Writes an object behind its keys and values.
+// Writes an object after its keys and values.
 #[inline(never)]
 #[cycle(parts)]
 fn put_object<N: Nested>(
@@ -208,7 +208,7 @@ fn put_object<N: Nested>(
     put_list(heap, places, ListKind::Object, first)
 }
 
-// Writes a value behind a heap where its room is free there, and returns its place.
+// Writes a value after a heap where its room is free there, and returns its place.
 //
 // `HeapFull` where the heap's length and the value's room are together above 4294967295; else `Memory` where memory is refused. The old
 // heap is then still a prefix of the new. The value is walked once, and for its room only where ten times its bytes would not fit, or

@@ -101,7 +101,7 @@ fn time(text: &[u8]) -> Option<((u8, u8, u8), &[u8])>
     Some(((hour, minute, second), rest))
 }
 
-// The hours and minutes of an offset, and nothing behind them.
+// The hours and minutes of an offset, and nothing after them.
 #[tactic(auto, unfolding(crate::specs::Rfc3339::hours_and_minutes))]
 fn hours_and_minutes(text: &[u8]) -> Option<(u8, u8)>
     ensures { result ≡ hours_and_minutes_of text.now }
@@ -115,7 +115,7 @@ fn hours_and_minutes(text: &[u8]) -> Option<(u8, u8)>
     }
 }
 
-// Whether the offset is west of UTC, with its hours and minutes, and nothing behind them.
+// Whether the offset is west of UTC, with its hours and minutes, and nothing after them.
 #[tactic(auto, unfolding(crate::specs::Rfc3339::offset))]
 fn offset(text: &[u8]) -> Option<(bool, u8, u8)>
     ensures { result ≡ offset_of text.now }
@@ -255,7 +255,7 @@ fn digits_len(text: &[u8]) -> usize
     text.iter().take_while(|b| b.is_ascii_digit()).count()
 }
 
-// One digit or more at the start, as the nanoseconds that they write behind a dot, and what follows them.
+// One digit or more at the start, as the nanoseconds that they write after a dot, and what follows them.
 fn nanoseconds(text: &[u8]) -> Option<(u32, &[u8])>
     ensures value { option_map (λ p. (p.0, p.1.now)) result ≡ nanoseconds_of text.now }
     ensures small { IfSome result (λ p. p.0 < 1_000_000_000) }

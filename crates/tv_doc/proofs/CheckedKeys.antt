@@ -55,7 +55,7 @@ pub read_behind : (schema : List Entry) (text : List ℕ) (t : Token) (ts : List
 read_behind schema text t ts r first h is =
     of_members text (ChecksKeys schema r) is (λ found stand. h found [] (behind_first 126 t ts [] found (sym (ap (value max_depth) first) ∙ stand)))
 
--- ---- what a refused value is told behind
+-- ---- what a refused value is reported after
 
 object_of_value : (schema : List Entry) (text : List ℕ) (e : DocParsingError) → is_of_value e ≡ true → Parses schema text (Err e) → IsObject text
 object_of_value schema text (error.InvalidJson start fault) of h = absurd (cc)

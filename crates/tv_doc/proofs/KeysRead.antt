@@ -41,7 +41,7 @@ object_alone ms (Some (j, [])) e = let h = whole_object ms j e in (h.0, ap (λ k
 pub object_written : (text : List ℕ) (ms : json.Members) → read text ≡ Some (json.object ms) → (found : written.Members) × (value max_depth (tokens text) ≡ Some (written.object found, []))
 object_written text ms e = object_alone ms (value max_depth (tokens text)) e
 
--- ---- its members are read behind the first token
+-- ---- its members are read after the first token
 
 mapped_object : (found : written.Members) (r : List Token) (o : Option (written.Members × List Token)) → parse_map written.object o ≡ Some (written.object found, r) → o ≡ Some (found, r)
 mapped_object found r None e = absurd (cc)
@@ -71,7 +71,7 @@ behind_first d Token.bad ts r found e = absurd (cc)
 
 -- ---- a turn of its members, and their end
 
--- the member whose value stands here, and those behind it
+-- the member whose value stands here, and those after it
 pub record Member (p : Parse Json) (n : ℕ) (key : List ℕ) (here r : List Token) (found : written.Members) : Type 0 where
   pub json : Json
   pub others : written.Members
@@ -121,7 +121,7 @@ none_behind p (suc n) ts r found never e = end_case p n r found (read_key ts) ne
 
 -- ---- the keys so far
 
--- These keys were read, and behind them come the members that are left.
+-- These keys were read, and after them come the members that are left.
 pub record KeysSoFar (depth : ℕ) (first now : List Token) (before : List (List ℕ)) : Type 0 where
   pub turns : ℕ
   pub rest : (found : written.Members) (r : List Token) → members (value depth) (length first) first ≡ Some (found, r)

@@ -269,7 +269,7 @@ rises_on n named ts above m low = with_last named (all_below_higher n.now m name
     with_last [] h = (turned n.now m low, tt)
     with_last (e ∷ es) h = (h.0, with_last es h.1)
 
--- the pairs in front, of which these are the names, and those behind
+-- the pairs in front, of which these are the names, and those after
 pub record InRuns {V : Type 0} (tree : V → Tree) (names : List (List ℕ)) (pairs rest : List (Field × V)) (named : Named) : Type 0 where
   pub front : List (Field × V)
   pub joined : pairs ≡ front ++ rest

@@ -2,10 +2,10 @@
 --
 -- The words of the public contracts:
 -- `AreKept`: where each of these additions is called on what the one before it left, the accepted pairs are kept, as `Keeps` says. `document`: they
--- stand in order behind the pairs that were there. `heap`: what stood in the heap stands there still. `places`: the pairs that were there have the
--- same places, and the new places come behind them.
--- `AddsAsBuilt`: the first document is made by one addition, the second by a builder. `added_bytes`: the addition writes the tree behind the heap.
--- `added_pair`: it adds the pair behind the others. `heap`, `pairs` and `document`: both documents have the same heap, byte for byte, and the same
+-- stand in order after the pairs that were there. `heap`: what stood in the heap stands there still. `places`: the pairs that were there have the
+-- same places, and the new places come after them.
+-- `AddsAsBuilt`: the first document is made by one addition, the second by a builder. `added_bytes`: the addition writes the tree after the heap.
+-- `added_pair`: it adds the pair after the others. `heap`, `pairs` and `document`: both documents have the same heap, byte for byte, and the same
 -- pairs at the same places.
 use Rattle.std.specs.Prelude.{◌≡◌, ℕ, List, [], ◌∷◌, ◌++◌, Result, Ok, Err}
 use Rattle.tv_base.specs.Sink.{IsPrefix}
@@ -36,7 +36,7 @@ abbrev pub Runs : List Addition → CompactDoc → CompactDoc → Type 0
 Runs [] old new = IsUnchanged old new
 Runs (a ∷ rest) old new = (mid : CompactDoc) × Adds old mid a.field a.tree a.answer × Runs rest mid new
 
--- the accepted pairs stand behind those that were there, and the old heap and the old places are prefixes of the new ones
+-- the accepted pairs stand after those that were there, and the old heap and the old places are prefixes of the new ones
 pub record Keeps (pairs : Document) (old new : CompactDoc) : Type 0 where
   pub document : document_of new ≡ document_of old ++ pairs
   pub heap : IsPrefix (heap_of old) (heap_of new)

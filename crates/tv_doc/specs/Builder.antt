@@ -1,8 +1,8 @@
 -- What a tree builder is seen as, and what its calls return and leave: that of the builder of pairs which it holds.
 --
 -- The words of the public contracts:
--- `IsNewBuilder`: a builder behind this document's pairs. `document`, `heap`, `kept` and `pairs`: its finished pairs are those of the document, at
--- the same places, and its heap is the document's, which ends behind the last of them. `state`: nothing of a next value has come, and no list is
+-- `IsNewBuilder`: a builder after this document's pairs. `document`, `heap`, `kept` and `pairs`: its finished pairs are those of the document, at
+-- the same places, and its heap is the document's, which ends after the last of them. `state`: nothing of a next value has come, and no list is
 -- open. `live`: no call was refused.
 -- `IsDocumentOf`: the document of a builder's finished pairs. `document` and `pairs`: it has these pairs, at their places. `heap`: its heap is the
 -- builder's up to the end of the last of their values.
@@ -17,7 +17,7 @@
 -- `Ends`: the announced bytes are a finished value or key, or the call is refused. `Finishes`: the complete value becomes that of a pair, or the call
 -- is refused.
 -- `HoldsState`: all of a builder's state stands in its heap. `kept`: the heap of the finished pairs is what writing their trees one after the other
--- gives. `bytes`: behind it the heap's bytes are those of the state.
+-- gives. `bytes`: after it the heap's bytes are those of the state.
 -- `reads`: where a tree is complete, the heap reads it at its place. `room`: the heap takes at most the room of the pairs and what is written.
 use Rattle.std.specs.Prelude.{◌≡◌, ◌+◌, ◌≤◌, ℕ, List, [], false, length, Result, IsErrOf}
 use Rattle.tv_builder.specs.Builder as pairs
@@ -76,7 +76,7 @@ Finishes old new f r = pairs.Finishes old.builder new.builder f r
 
 -- ---- new builders, and what is taken out of one
 
--- behind the pairs of a document, and nothing of a next value has come
+-- after the pairs of a document, and nothing of a next value has come
 pub record IsNewBuilder (doc : CompactDoc) (b : TreeBuilder) : Type 0 where
   pub document : built b ≡ document_of doc
   pub heap : heap_so_far b ≡ heap_of doc

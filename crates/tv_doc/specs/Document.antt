@@ -7,7 +7,7 @@
 -- `Shrinks`: memory is given back. `same`: the pairs and the heap are unchanged. `bytes` and `places`: the document has no more memory for its heap
 -- and for pairs than before. `frees_bytes` and `frees_places`: it has none for its heap where no byte stands in it, and none for pairs where it has
 -- no pair.
--- `Adds`: a pair of this field and this tree is added behind the others. Or the addition is refused: `HeapFull` where the heap has no room for the
+-- `Adds`: a pair of this field and this tree is added after the others. Or the addition is refused: `HeapFull` where the heap has no room for the
 -- tree, `Memory` only where it has. The pairs and the heap are then unchanged. `AddsLeaf`: the same of a value without children.
 -- `IsWrittenInOrder`: the heap is what writing the trees of the pairs one after the other gives. `IsWithinRoom`: it is no longer than the room of
 -- the values.

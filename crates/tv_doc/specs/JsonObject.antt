@@ -122,7 +122,7 @@ abbrev pub AddsValues : {T : Type 0} → List FieldJson → CompactDoc → Compa
 AddsValues values old new (Ok x) = AddsFieldValues values old new
 AddsValues values old new (Err e) = StopsAt values old e
 
--- the same where memory may be refused at any value, and where the first refusal is told beside
+-- the same where memory may be refused at any value, and where the first refusal is reported beside
 abbrev pub AddsOrTells : List FieldJson → CompactDoc → CompactDoc → Option (Unit {0}) → Option DocParsingError → Type 0
 AddsOrTells values old new (Some x) reason = AddsFieldValues values old new
 AddsOrTells values old new None (Some e) = e ≢ error.Memory → StopsAt values old e
@@ -160,7 +160,7 @@ Parses schema text (Err (error.InvalidJson start fault)) = IsNoObject text × (s
 Parses schema text (Err error.Memory) = Unit {0}
 Parses schema text (Err e) = (members : Members) × (read text ≡ Some (json.object members)) × RefusesValues (object_values schema members) e
 
--- the same where the error is told beside; where none is, the text isn't read so
+-- the same where the error is reported beside; where none is, the text isn't read so
 abbrev pub ParsesOrTells : List Entry → List ℕ → CompactDoc → Option (Unit {0}) → Option DocParsingError → Type 0
 ParsesOrTells schema text new (Some x) reason = Parses schema text (Ok new)
 ParsesOrTells schema text new None (Some e) = Parses schema text (Err e)

@@ -26,7 +26,7 @@ NotesKey schema key old new (Err (RepeatedKey start)) = (field : ℕ) × (field_
 NotesKey schema key old new (Err (Parsing error.Memory)) = Unit {0}
 NotesKey schema key old new (Err (Parsing e)) = ⊥
 
--- all of these keys name fields, each once, or the first that is refused is told
+-- all of these keys name fields, each once, or the first that is refused is reported
 abbrev pub ChecksKeys : List Entry → Result (Unit {0}) StrictParsingError → List (List ℕ) → Type 0
 ChecksKeys schema (Ok x) keys = NameFieldsOnce schema keys
 ChecksKeys schema (Err (UnknownKey start)) keys = FirstIsUnknown schema (string_bytes start) keys

@@ -48,7 +48,7 @@ pub record NameFieldsOnce (schema : List Entry) (keys : List (List ℕ)) : Type 
   pub named : All (λ key. IsSome (field_named schema key)) keys
   pub once : AllPairs (λ one later. one ≢ later) keys
 
--- this key comes behind these ones, each of which names a field, and none of which stands twice
+-- this key comes after these ones, each of which names a field, and none of which stands twice
 pub record ComesBehind (schema : List Entry) (before : List (List ℕ)) (key : List ℕ) (keys : List (List ℕ)) : Type 0 where
   pub behind : List (List ℕ)
   pub joined : keys ≡ before ++ key ∷ behind

@@ -37,7 +37,7 @@ pub struct TreeBuilder {
     builder: PairBuilder,
 }
 
-// By hand, so that a builder is let go by one call.
+// By hand, so that a builder is dropped by one call.
 impl Drop for TreeBuilder {
     fn drop(self) {
         let TreeBuilder { builder: _ } = self;
@@ -53,7 +53,7 @@ impl TreeBuilder {
     ghost use Rattle.tv_doc.specs.Builder.{BeginsBytes, BuildsBytes, Ends, Finishes};
     ghost use Rattle.tv_value.specs.Lent.{leaf_of};
 
-    /// A builder behind a document's pairs. It takes no memory.
+    /// A builder after a document's pairs. It takes no memory.
     pub fn new(doc: CompactDoc) -> TreeBuilder
         ensures { IsNewBuilder doc result }
     {
@@ -62,7 +62,7 @@ impl TreeBuilder {
         }
     }
 
-    /// The document of the finished pairs, at any time, also after a refusal. Its heap ends behind the last of their values.
+    /// The document of the finished pairs, at any time, also after a refusal. Its heap ends after the last of their values.
     pub fn into_doc(self) -> CompactDoc
         ensures { IsDocumentOf self result }
     {
@@ -152,7 +152,7 @@ impl TreeBuilder {
     /// The bytes of a value or of a key begin, of which this many are announced. Nothing is reserved.
     ///
     /// `AlreadyFailed` after a refusal; `OutOfPlace` where no value, or for a key no key, is awaited; `HeapFull` where the announced
-    /// bytes behind their length would end above 4294967295; else `Memory` where memory is refused. `Memory` comes only where they fit.
+    /// bytes after their length would end above 4294967295; else `Memory` where memory is refused. `Memory` comes only where they fit.
     pub fn begin_bytes(&mut self, kind: BytesKind, announced: u64) -> Result<(), BuildError>
         ensures { BeginsBytes self.old self.new kind announced result }
     {

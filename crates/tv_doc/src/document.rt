@@ -47,7 +47,7 @@ pub struct CompactDoc {
     pub(crate) values: HeapPairs,
 }
 
-// By hand, so that a document is let go by one call.
+// By hand, so that a document is dropped by one call.
 impl Drop for CompactDoc {
     fn drop(self) {
         let CompactDoc { values: _ } = self;

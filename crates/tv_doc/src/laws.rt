@@ -40,7 +40,7 @@ pub fn heaps_are_within_room()
 {}
 
 /// Of additions to a document, one after the other, refused ones among them, each leaves what its answer says, and all of
-/// them: the accepted pairs stand in order behind those that were there, and what stood in the heap stands there still.
+/// them: the accepted pairs stand in order after those that were there, and what stood in the heap stands there still.
 pub fn additions_are_kept()
     ensures { (additions : List Addition) (old new : CompactDoc) → AreKept additions old new }
 {}
@@ -71,7 +71,7 @@ pub fn named_documents_are_converted_back(
     Ok(back)
 }
 
-/// All of a builder's state stands in its heap: behind the finished pairs its bytes are those of the state, and the complete tree reads at its
+/// All of a builder's state stands in its heap: after the finished pairs its bytes are those of the state, and the complete tree reads at its
 /// place. The heap takes at most the room of the pairs and of what is written.
 pub fn builders_hold_their_state()
     ensures { (b : TreeBuilder) → HoldsState b }

@@ -25,7 +25,7 @@ type NamedPairs<'s, 'p, V> = Vec<(&'s str, &'p [(Field, V)])>;
 // This many names are kept in memory that is taken once.
 const FIRST_NAMES: usize = 16;
 
-// The field of the first pair, the pairs at the front that have it, and those behind them. `None` where there is no pair.
+// The field of the first pair, the pairs at the front that have it, and those after them. `None` where there is no pair.
 #[inline(always)]
 fn first_run<V>(pairs: &[(Field, V)]) -> Option<(Field, &[(Field, V)], &[(Field, V)])>
     ensures none { IfNone result (pairs.now ≡ []) }

@@ -25,7 +25,7 @@ pub(crate) struct Adding {
     pub(crate) refused: Option<DocParsingError>,
 }
 
-// By hand, so that it is let go by one call.
+// By hand, so that it is dropped by one call.
 impl Drop for Adding {
     fn drop(self) {
         let Adding {

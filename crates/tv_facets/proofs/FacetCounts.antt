@@ -135,7 +135,7 @@ child-from_form [] child p =
 child-from_form (x ∷ xs) child p =
     (p.step, ap steps (p.child_is ∙ append_assoc (x ∷ xs) (0 ∷ []) p.step) ∙ path-append (x ∷ xs) p.step ∙ ap (λ l. path (x ∷ xs) ++ l) (path-one p.step p.is_step))
 
--- what may stand behind a step
+-- what may stand after a step
 abbrev pub Ends : List ℕ → Type 0
 Ends rest = (rest ≡ []) ⊎ ((more : List ℕ) × (rest ≡ 0 ∷ more))
 
@@ -327,14 +327,14 @@ counts-again ancestor facets counts c n f p above =
     behind ancestor facets counts f c (n + 1) above b.each b.below b.rising (ap (λ k. k + 1) (sym b.last_is.count_is))
     (λ child is_child all other. p.others child is_child (all-append (λ e. e.0 ≢ child) counts ((c, n) ∷ []) all (other, tt)))
 
--- a facet at or below a child behind all others
+-- a facet at or below a child after all others
 pub counts-new : (ancestor : List ℕ) (facets : List (List ℕ)) (counts : List (List ℕ × ℕ)) (c f : List ℕ) → AreChildCounts ancestor facets counts → IsChildAbove ancestor f c
     → AllByRecursion (λ e. slice_cmp nat_cmp e.0 c ≡ Less) counts → AreChildCounts ancestor (facets ++ f ∷ []) (counts ++ (c, 1) ∷ [])
 counts-new ancestor facets counts c f p above below =
     let none : count_within c facets ≡ 0 = p.others c above.is_child (all-map (λ e. slice_cmp nat_cmp e.0 c ≡ Less) (λ e. e.0 ≢ c) (λ e less. not_itself e.0 c less) counts below) in
     behind ancestor facets counts f c 1 above p.each below p.rising (ap (λ k. k + 1) none) (λ child is_child all other. p.others child is_child all)
 
--- another child is behind the last one, since the facet is behind the facets so far
+-- another child is after the last one, since the facet is after the facets so far
 after-last : (ancestor : List ℕ) (facets : List (List ℕ)) (d c f : List ℕ) (n : ℕ) → IsChildCount ancestor facets d n → AllByRecursion (λ g. is_lt (slice_cmp nat_cmp f g) ≡ false) facets
     → IsChildAbove ancestor f c → d ≢ c → slice_cmp nat_cmp d c ≡ Less
 after-last ancestor facets d c f n q behind_all above other =
@@ -452,7 +452,7 @@ no-child_empty ancestor facet n d none ended child is_child =
     let whole = within-form child facet (child-not_root [] child child_of_root) above in
     no-empty facet form.step whole.0 not_root (first (length-some facet not_root)) form.is_step (form.has_step refl) (whole.2 ∙ ap (λ l. l ++ whole.0) form.child_is))
 
--- no facet, for places behind the last
+-- no facet, for places after the last
 abbrev pub nothing : Bor (List ℕ)
 nothing = record { ref_ptr = (0, 0); now = [] }
 

@@ -18,11 +18,11 @@ pub record IsChildAbove (ancestor facet child : List ℕ) : Type 0 where
   pub is_child : IsChild ancestor child
   pub is_above : is_within child facet ≡ true
 
--- the children that are done, and behind them the current one
+-- the children that are done, and after them the current one
 abbrev pub entries : List FacetCount → Option FacetCount → List (List ℕ × ℕ)
 entries done current = map entry_of done ++ option_to_list (option_map entry_of current)
 
--- the current child with one facet more, or another one behind it
+-- the current child with one facet more, or another one after it
 abbrev pub GoesOn : List (List ℕ × ℕ) → List ℕ × ℕ → List ℕ → List (List ℕ × ℕ) → List ℕ × ℕ → Type 0
 GoesOn done current child more last =
     ((current.0 ≡ child) × (more ≡ done) × (last ≡ (child, current.1 + 1))) ⊎ ((current.0 ≢ child) × (more ≡ done ++ current ∷ []) × (last ≡ (child, 1)))

@@ -78,7 +78,7 @@ pub fn count_child_facets<'a>(
     Ok(finished(counts, current)?)
 }
 
-// The children that are done, and behind them the current one.
+// The children that are done, and after them the current one.
 pub(crate) fn finished<'a>(
     counts: Vec<FacetCount<'a>>,
     current: Option<FacetCount<'a>>,

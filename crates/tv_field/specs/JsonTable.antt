@@ -72,11 +72,11 @@ str_row false d = mismatched (codes "a string") d
 
 -- ---- numbers
 
--- a text that encodes a number from 0 to 2^64 - 1 in decimal, perhaps behind a plus
+-- a text that encodes a number from 0 to 2^64 - 1 in decimal, perhaps after a plus
 abbrev pub IsUnsignedText : List ℕ → Type 0
 IsUnsignedText s = IsNumeral 10 (without_leading_plus s) × (digits_value 10 (without_leading_plus s) < 2 ^ 64)
 
--- the same from -2^63 to 2^63 - 1, perhaps behind a plus or a minus
+-- the same from -2^63 to 2^63 - 1, perhaps after a plus or a minus
 abbrev pub IsSignedText : List ℕ → Type 0
 IsSignedText s = IsNumeral 10 (without_leading_sign s) × FitsSigned w64 (signed_digits_value 10 s)
 

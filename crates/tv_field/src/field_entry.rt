@@ -29,7 +29,7 @@ pub struct FieldEntry {
     field_type: FieldType,
 }
 
-// By hand, so that an entry is let go by one call.
+// By hand, so that an entry is dropped by one call.
 impl Drop for FieldEntry {
     fn drop(self) {
         let FieldEntry {

@@ -124,7 +124,7 @@ fn lend_signed(json: &Number) -> Result<ReferenceValueLeaf<'static>, JsonRefusal
     }
 }
 
-/// The number from 0 to 2^64 - 1 that a text of JSON is to a field of such numbers that coerces: its digits, perhaps behind a plus. (Not in
+/// The number from 0 to 2^64 - 1 that a text of JSON is to a field of such numbers that coerces: its digits, perhaps after a plus. (Not in
 /// tantivy.) Errors: those of `lend_json`.
 #[inline(always)]
 pub fn lend_u64_text(text: &str) -> Result<ReferenceValueLeaf<'static>, JsonRefusal>
@@ -153,7 +153,7 @@ fn lend_u64(coerce: bool, json: &Value) -> Result<ReferenceValueLeaf<'static>, J
     }
 }
 
-/// The number from -2^63 to 2^63 - 1 that a text of JSON is to a field of such numbers that coerces: its digits, perhaps behind a sign. (Not in
+/// The number from -2^63 to 2^63 - 1 that a text of JSON is to a field of such numbers that coerces: its digits, perhaps after a sign. (Not in
 /// tantivy.) Errors: those of `lend_json`.
 #[inline(always)]
 pub fn lend_i64_text(text: &str) -> Result<ReferenceValueLeaf<'static>, JsonRefusal>

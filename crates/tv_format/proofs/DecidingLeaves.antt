@@ -96,7 +96,7 @@ decides_tokenized most =
 
 -- ---- leaves
 
--- a leaf of a code, and what is wrong with bytes behind the code
+-- a leaf of a code, and what is wrong with bytes after the code
 abbrev pub LeafAt : Version → ℕ → List ℕ → Leaf → Type 0
 LeafAt v code whole l = (leaf_code l ≡ code) × LeafBody v whole l
 

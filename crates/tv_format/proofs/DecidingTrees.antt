@@ -1,4 +1,4 @@
--- Any bytes begin with a value, or they are malformed; so of documents. The bytes behind a value's code are fewer, so their bound falls.
+-- Any bytes begin with a value, or they are malformed; so of documents. The bytes after a value's code are fewer, so their bound falls.
 use Rattle.std.proofs.Common.{◌≡◌, ◌≢◌, ◌⊎◌, ℕ, zero, suc, ◌*◌, ◌%◌, ◌/◌, ◌≤◌, List, [], ◌∷◌, ◌++◌, length, refl, sym, ap, subst, ◌∙◌, arith, append_assoc, length-append, inl, inr}
 use Rattle.std.proofs.lemmas.Bool.{cases_lt}
 use Rattle.std.proofs.lemmas.Bool.Decides.{eqb_tells}
@@ -36,7 +36,7 @@ entries_of V1 n = elim (twice n) [ inl p ↦ entered p.0 p.1 | inr p ↦ odd p ]
 entries_of V2 n = elim (twice n) [ inl p ↦ entered p.0 p.1 | inr p ↦ odd p ]
 entries_of V3 n = entered n refl
 
--- the last two of four parts behind the first two
+-- the last two of four parts after the first two
 regroup : (a b c d e : List ℕ) → e ≡ c ++ d → a ++ (b ++ e) ≡ (a ++ (b ++ c)) ++ d
 regroup a b c d e p = ap (λ (l : List ℕ). a ++ (b ++ l)) p ∙ ap (λ (l : List ℕ). a ++ l) (sym (append_assoc b c d)) ∙ sym (append_assoc a (b ++ c) d)
 

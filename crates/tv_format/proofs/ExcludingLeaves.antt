@@ -87,7 +87,7 @@ leaf_excludes v {whole} {c = c} f l k a x p e =
     let error : ErrorInBody v (type_of l) whole c = subst (λ t. ErrorInBody v t whole c) same f.error in
     content_excludes (scale v (type_of l)) (content l) whole a x c (subst (λ t. ErrorInContent (scale v (type_of l)) t whole c) (sym (form_of_content l)) error) p e
 
--- no error of a leaf stands behind the code of an array, an object or a legacy object, or that of floating-point numbers
+-- no error of a leaf stands after the code of an array, an object or a legacy object, or that of floating-point numbers
 pub leaf_error_code : {v : Version} {whole : List ℕ} {code : ℕ} {c : Cause} → ErrorInLeaf v whole code c → IsLeafCode code
 leaf_error_code f = subst IsLeafCode f.coded (leaf_coded f.of_type)
 

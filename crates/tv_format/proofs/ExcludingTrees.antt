@@ -36,7 +36,7 @@ module _ (Legacy : List ℕ → Entries → Type 0) (ErrorInLegacy : List ℕ �
     | inr q ↦ record { code = 8; body = q.body; joined = q.joined; small = omega arith; known = λ e. omega arith }
   ]
 
-  -- Behind fewer elements than there are stands the next one.
+  -- After fewer elements than there are stands the next one.
   pub elements_reach : (ts us : Elements) → element_count ts < element_count us → (prefix rest b x : List ℕ)
       → EncodesElements Legacy v prefix ts → EncodesElements Legacy v b us → prefix ++ rest ≡ b ++ x
       → (t : Tree) × (a : List ℕ) × (y : List ℕ) × Encodes Legacy v a t × (rest ≡ a ++ y)
@@ -76,7 +76,7 @@ module _ (Legacy : List ℕ → Entries → Type 0) (ErrorInLegacy : List ℕ �
   count_excludes n whole body x c h p e =
       (excludes_number n).excludes whole p.prefix (p.rest ++ x) c h p.first (e ∙ ap (λ z. z ++ x) p.joined ∙ append_assoc p.prefix p.rest x)
 
-  -- two counts of one list of bytes are one, and so is what stands behind them
+  -- two counts of one list of bytes are one, and so is what stands after them
   count_same : {Q : List ℕ → Type 0} (m n : ℕ) (count rest body x : List ℕ) → VNum count m → (p : Then (λ b. VNum b n) Q body) → count ++ rest ≡ body ++ x
       → (m ≡ n) × (rest ≡ p.rest ++ x)
   count_same m n count rest body x h p e =

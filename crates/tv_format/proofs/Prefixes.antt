@@ -44,7 +44,7 @@ small_take (suc n) [] small i = omega arith
 small_take (suc n) (b ∷ bs) small zero = small 0
 small_take (suc n) (b ∷ bs) small (suc i) = small_take n bs (λ j. small (suc j)) i
 
--- this many bytes behind the number
+-- this many bytes after the number
 pub sized_found : (bytes rest content behind : List ℕ) (n : ℕ) → Begins (λ b. VNum b n) bytes rest → n ≤ length rest → content ≡ take n rest → behind ≡ drop n rest
     → Begins (λ b. Sized b content) bytes behind
 sized_found bytes rest content behind n p l is after = record {

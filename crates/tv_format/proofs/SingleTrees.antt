@@ -22,7 +22,7 @@ use Rattle.tv_format.proofs.SingleLeaves.{leaf_single, key_single, single_corrup
 
 module _ (Legacy : List ℕ → Entries → Type 0) (ErrorInLegacy : List ℕ → Cause → Type 0) (v : Version)
     (one_legacy : OneReading Legacy) (legacy_excludes : (es : Entries) → Excludes ErrorInLegacy (λ b. Legacy b es)) (legacy_single : Single ErrorInLegacy) where
-  -- behind the elements that are encoded
+  -- after the elements that are encoded
   record AtElement (whole : List ℕ) (r : Refusal) : Type 0 where
     n : ℕ
     ts : Elements
@@ -35,7 +35,7 @@ module _ (Legacy : List ℕ → Entries → Type 0) (ErrorInLegacy : List ℕ �
     less : element_count ts < n
     error : ErrorInValue Legacy ErrorInLegacy v rest r
 
-  -- a key, or the value behind it
+  -- a key, or the value after it
   data ErrorInEntry (rest : List ℕ) (r : Refusal) : Type 0 where
     of_key : ErrorInKey v rest r → ErrorInEntry rest r
     of_value : (k key after : List ℕ) → rest ≡ key ++ after → Key v key k → ErrorInValue Legacy ErrorInLegacy v after r → ErrorInEntry rest r
@@ -209,7 +209,7 @@ module _ (Legacy : List ℕ → Entries → Type 0) (ErrorInLegacy : List ℕ �
         ])
       ]
 
-  -- where a key is malformed, and where a value behind its key is
+  -- where a key is malformed, and where a value after its key is
   key_only : {rest other : List ℕ} {r s : Refusal} → ErrorInKey v rest r → rest ≡ other → ErrorInEntry other s → r ≡ s
   key_only {rest} {r = r} {s = s} f e (of_key g) = key_single v rest r s f (subst (λ l. ErrorInKey v l s) (sym e) g)
   key_only {rest} {r = r} f e (of_value k key after joined keyed g) = absurd (key_excludes v rest r f k key after keyed (e ∙ joined))

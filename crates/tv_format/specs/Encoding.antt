@@ -23,7 +23,7 @@ Tokenized whole content tokens = Then (λ b. Text b content) (λ b. Counted Toke
 abbrev pub leaf_code : Leaf → ℕ
 leaf_code l = store_code (type_of l)
 
--- what is held, with its numbers on a scale; a text with its tokens stands behind a code of its own
+-- what is held, with its numbers on a scale; a text with its tokens stands after a code of its own
 abbrev pub ContentBody : Scale → List ℕ → Content → Type 0
 ContentBody s whole no_content = whole ≡ []
 ContentBody s whole (truth_content b) = Truth whole b
@@ -34,7 +34,7 @@ ContentBody s whole (text_content t) = Text whole t
 ContentBody s whole (bytes_content bs) = Sized whole bs
 ContentBody s whole (tokens_content t ts) = Behind 0 (λ b. Tokenized b t ts) whole
 
--- what stands behind the code of a leaf
+-- what stands after the code of a leaf
 abbrev pub LeafBody : Version → List ℕ → Leaf → Type 0
 LeafBody v whole l = ContentBody (scale v (type_of l)) whole (content l)
 
@@ -44,7 +44,7 @@ Key V1 whole k = Behind 0 (λ b. Text b k) whole
 Key V2 whole k = Behind 0 (λ b. Text b k) whole
 Key V3 whole k = Text whole k
 
--- The store also has objects in a legacy form, behind code 8. `Legacy` says what encodes them there.
+-- The store also has objects in a legacy form, after code 8. `Legacy` says what encodes them there.
 module _ (Legacy : List ℕ → Entries → Type 0) (v : Version) where
   abbrev mutual
     pub Encodes : List ℕ → Tree → Type 0

@@ -17,7 +17,7 @@ pub record ErrorInElements (Legacy : List ℕ → Entries → Type 0) (L : List 
   pub fewer : element_count before < count
   pub error : ErrorInValue Legacy L v rest refusal
 
--- some entries are encoded, and the next is malformed: its key, or its value behind the key
+-- some entries are encoded, and the next is malformed: its key, or its value after the key
 pub data ErrorInEntries (Legacy : List ℕ → Entries → Type 0) (L : List ℕ → Cause → Type 0) (v : Version) (count : ℕ) (whole : List ℕ) (refusal : Refusal) : Type 0 where
   in_next_key : (es : Entries) (prefix rest : List ℕ) → whole ≡ prefix ++ rest → EncodesEntries Legacy v prefix es → entry_count es < count
       → ErrorInKey v rest refusal → ErrorInEntries Legacy L v count whole refusal

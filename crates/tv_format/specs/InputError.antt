@@ -49,7 +49,7 @@ ErrorInScaled thousands = ErrorInMicroseconds
 abbrev pub ErrorInDate : List ℕ → Version → Cause → Type 0
 ErrorInDate whole v c = ErrorInScaled (date_scale v) whole c
 
--- behind the code of extensions: there is no other code, it is that of none, or the text with its tokens is malformed
+-- after the code of extensions: there is no other code, it is that of none, or the text with its tokens is malformed
 pub data ErrorInExtension (whole : List ℕ) : Cause → Type 0 where
   no_extension : whole ≡ [] → ErrorInExtension whole UnexpectedEnd
   other_extension : {b : ℕ} (rest : List ℕ) → whole ≡ b ∷ rest → b ≢ 0 → ErrorInExtension whole (UnknownExtCode b)
@@ -69,7 +69,7 @@ ErrorInContent s forms.Tokens = ErrorInExtension
 abbrev pub ErrorInBody : Version → LeafType → List ℕ → Cause → Type 0
 ErrorInBody v t = ErrorInContent (scale v t) (form t)
 
--- behind the code of a leaf
+-- after the code of a leaf
 pub record ErrorInLeaf (v : Version) (whole : List ℕ) (code : ℕ) (c : Cause) : Type 0 where
   pub of_type : LeafType
   pub coded : store_code of_type ≡ code
@@ -93,7 +93,7 @@ ErrorInKey V1 = ErrorInCodedKey
 ErrorInKey V2 = ErrorInCodedKey
 ErrorInKey V3 = Corrupt ErrorInText
 
--- `Legacy` says what encodes a legacy object behind code 8, and `ErrorInLegacy` what is wrong with bytes that encode none.
+-- `Legacy` says what encodes a legacy object after code 8, and `ErrorInLegacy` what is wrong with bytes that encode none.
 module _ (Legacy : List ℕ → Entries → Type 0) (ErrorInLegacy : List ℕ → Cause → Type 0) (v : Version) where
   pub data ErrorInValue : List ℕ → Refusal → Type 0 where
     value_ends : ErrorInValue [] (corrupted UnexpectedEnd)
@@ -106,7 +106,7 @@ module _ (Legacy : List ℕ → Entries → Type 0) (ErrorInLegacy : List ℕ �
     in_element : {whole : List ℕ} {r : Refusal} (n : ℕ) (ts : Elements) (count prefix rest : List ℕ)
         → whole ≡ count ++ (prefix ++ rest) → VNum count n → EncodesElements Legacy v prefix ts → element_count ts < n
         → ErrorInValue rest r → ErrorInValue (12 ∷ whole) r
-    -- of an object: the count, a key, or a value behind its key
+    -- of an object: the count, a key, or a value after its key
     in_entry_count : {whole : List ℕ} {c : Cause} → ErrorInNumber whole c → ErrorInValue (13 ∷ whole) (corrupted c)
     odd_count : {whole : List ℕ} (n : ℕ) (count rest : List ℕ) → whole ≡ count ++ rest → VNum count n → ((m : ℕ) → entry_total v m ≢ n)
         → ErrorInValue (13 ∷ whole) (corrupted OddObject)

@@ -38,7 +38,7 @@ pub enum LeafType {
     Bytes = 4,
     /// A date.
     Date = 5,
-    /// A text and its tokens. Behind its code stands one of its own, 0.
+    /// A text and its tokens. After its code stands one of its own, 0.
     PreTokStr = 7,
     /// A truth value.
     Bool = 9,

@@ -12,7 +12,7 @@ pub const I64_CODE: u8 = 2;
 /// A facet: the length and the bytes of its encoded text.
 pub const HIERARCHICAL_FACET_CODE: u8 = 3;
 
-/// Bytes, behind their length.
+/// Bytes, after their length.
 pub const BYTES_CODE: u8 = 4;
 
 /// A date, in 8 bytes.
@@ -33,7 +33,7 @@ pub const BOOL_CODE: u8 = 9;
 /// An IP address, in 16 bytes.
 pub const IP_CODE: u8 = 10;
 
-/// Null, with nothing behind it.
+/// Null, with nothing after it.
 pub const NULL_CODE: u8 = 11;
 
 /// An array: the number of its values, and then each.
@@ -42,5 +42,5 @@ pub const ARRAY_CODE: u8 = 12;
 /// An object: twice the number of its entries, and then each key and value.
 pub const OBJECT_CODE: u8 = 13;
 
-/// Behind `EXT_CODE`: a pre-tokenised text.
+/// After `EXT_CODE`: a pre-tokenised text.
 pub const TOK_STR_EXT_CODE: u8 = 0;

@@ -8,7 +8,7 @@ ghost use Rattle.tv_format.specs.WriteVersion.{version_number, written_version};
 /// A version of the store format in which documents are written. Readers know version 1 too. (Not in tantivy.)
 #[derive(Clone, Copy, Debug, PartialEq, Eq, PartialOrd, Ord)]
 pub enum WriteVersion {
-    /// Dates are nanoseconds since 1970. An object announces twice the number of its entries, and each key stands behind the code
+    /// Dates are nanoseconds since 1970. An object announces twice the number of its entries, and each key stands after the code
     /// of a text.
     V2 = 2,
     /// As version 2, but that an object announces the number of its entries, and that its keys have no code.

@@ -1,4 +1,4 @@
--- A pointer with what is kept behind it, and the boxes that it comes from.
+-- A pointer with what is kept after it, and the boxes that it comes from.
 use Rattle.std.proofs.Common.{[], ◌∷◌, refl}
 use Rattle.std.proofs.alloc.Global.TheLaws as global_laws
 use Rattle.std.proofs.boxed.Box.TheLaws as box_laws

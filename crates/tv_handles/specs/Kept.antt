@@ -1,4 +1,4 @@
--- A value that is kept behind a pointer, or none behind null.
+-- A value that is kept behind a pointer, or none after null.
 use Rattle.std.specs.Borrow.{Fml, RattleType}
 use Rattle.std.specs.Box.Ownership.{box_owns}
 use Rattle.std.specs.Global.{Global}

@@ -144,7 +144,7 @@ no_entry heap list [] h gives = refl
 no_entry heap list (e ∷ es) h gives =
     absurd (∥∥₁_elim h ⊥_prop (λ p. let q = p.1 in none_found heap list q.code q.at q.rest (leaf (text e.0)) gives q.reads q.fits q.joined))
 
--- a key has a value behind it
+-- a key has a value after it
 pub no_value : (heap list : List ℕ) (es : List (List ℕ × Tree)) → ∥ ReadAsEntries heap list es ∥₁ → (x : Found) → Gives list (Some x) → Gives x.2.now None → es ≡ []
 no_value heap list [] h x gx gy = refl
 no_value heap list (e ∷ es) h x gx gy =

@@ -1,4 +1,4 @@
--- What stands in a heap is what the store has behind a value's code.
+-- What stands in a heap is what the store has after a value's code.
 use Rattle.std.proofs.Common.{inl, inr, append_assoc, take-append-drop, ◌≡◌, ℕ, ◌+◌, ◌*◌, ◌-◌, ◌/◌, ◌%◌, ◌^◌, ◌<◌, ◌≤◌, suc, ℤ, not, List, [], ◌∷◌, ◌++◌, ◌↔◌, length, take, drop, refl, sym, ◌∙◌, ap, arith}
 use Rattle.std.specs.Int.{w64, cast_unsigned}
 use Rattle.std.specs.List.{filter}
@@ -128,7 +128,7 @@ text_bytes heap at x is _ e p = absurd (cc)
 
 -- ---- leaves
 
--- the code of a type, and what stands behind it
+-- the code of a type, and what stands after it
 pub leaf_short : (t : LeafType) (l : Leaf) (code : ℕ) (behind : List ℕ) → type_of l ≡ t → code ≡ store_code t → behind ≡ short_content (content l) → code ∷ behind ≡ short_leaf l
 leaf_short t l code behind same is e = λ i. (is ∙ ap store_code (sym same)) i ∷ e i
 

@@ -18,7 +18,7 @@ use Rattle.tv_format.specs.Tree.{Token, tokenized}
 use Rattle.tv_heap.specs.Lent.{HasText}
 use Rattle.tv_heap.specs.Reads.{Stands, ShortSized, ShortText, ShortTokenized}
 
--- behind the address
+-- after the address
 pub stands_behind : (heap : List ℕ) (at : ℕ) (P : List ℕ → Type 0) (p : Stands heap at P) → drop at heap ≡ p.whole ++ p.behind
 stands_behind heap at P p = (λ i. drop (sym p.place i) (p.joined i)) ∙ drop-append_seam p.before (p.whole ++ p.behind)
 

@@ -16,7 +16,7 @@ pub record Stands (heap : List ℕ) (at : ℕ) (P : List ℕ → Type 0) : Type 
   pub place : length before ≡ at
   pub stands : P whole
 
--- the content behind its length, in the shortest encoding
+-- the content after its length, in the shortest encoding
 pub record ShortSized (content whole : List ℕ) : Type 0 where
   pub is : whole ≡ short_sized content
   pub fits : length content < 2 ^ 32
@@ -69,7 +69,7 @@ pub record ListedChild (parent : ℕ) (R : ℕ → ℕ → Type 0) (Q : List ℕ
   pub reads : R code at
   pub others : Q rest
 
--- behind its length stands the list of the children
+-- after its length stands the list of the children
 pub record Listed (heap : List ℕ) (at : ℕ) (P : List ℕ → Type 0) : Type 0 where
   pub list : List ℕ
   pub stands : Stands heap at (λ w. ShortSized list w)

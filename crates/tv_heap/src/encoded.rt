@@ -2,18 +2,18 @@
 
 use crate::value::{CompactDocArrayIter, CompactDocObjectIter};
 
-/// What the store has for a value: a code, and what stands in the heap is what the store has behind it. (Not in tantivy.)
+/// What the store has for a value: a code, and what stands in the heap is what the store has after it. (Not in tantivy.)
 #[derive(Clone, Copy)]
 pub enum Encoded<'a> {
     /// No value.
     Null,
     /// A truth value.
     Bool(bool),
-    /// A code, and a number in eight bytes behind it.
+    /// A code, and a number in eight bytes after it.
     Number(u8, u64),
-    /// A code, and the bytes behind it.
+    /// A code, and the bytes after it.
     Bytes(u8, &'a [u8]),
-    /// A text and its tokens: the bytes behind their two codes.
+    /// A text and its tokens: the bytes after their two codes.
     Tokenized(&'a [u8]),
     /// The number of the values of an array, and each of them.
     Array(u64, CompactDocArrayIter<'a>),

@@ -28,7 +28,7 @@ pub fn number_len(number: u64) -> u32
     len as u32
 }
 
-// The length of this many bytes behind their length, above what there is, where the sum fits.
+// The length of this many bytes after their length, above what there is, where the sum fits.
 #[inline(always)]
 fn sized_above(len: usize, base: u32) -> Option<u32>
     ensures { let total = base

@@ -59,7 +59,7 @@ fn long_at(bytes: &[u8]) -> (u64, &[u8])
     }
 }
 
-/// The bytes that stand at an address, behind their length.
+/// The bytes that stand at an address, after their length.
 #[inline]
 pub fn sized_at(heap: &[u8], address: u32) -> &[u8]
     ensures { (s : List ℕ) → Stands heap.now address (λ w. ShortSized s w) → result.now ≡ s }
@@ -97,7 +97,7 @@ pub fn sized_encoding_at(heap: &[u8], address: u32) -> &[u8]
     encoded
 }
 
-/// The text that stands at an address, behind its length. Its bytes were a text when they were written, so they aren't tested
+/// The text that stands at an address, after its length. Its bytes were a text when they were written, so they aren't tested
 /// again.
 #[inline]
 pub fn text_at(heap: &[u8], address: u32) -> &str
@@ -263,7 +263,7 @@ pub fn children(list: &[u8]) -> u64
     count
 }
 
-/// The first child's type and address, and the list behind it.
+/// The first child's type and address, and the list after it.
 #[inline(always)]
 pub fn child_at(list: &[u8]) -> Option<(ValueType, u32, &[u8])>
     ensures first { (t : ValueType) (at : ℕ) (rest : List ℕ) → at < 2 ^ 32

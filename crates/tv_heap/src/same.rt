@@ -1,7 +1,7 @@
 //! Whether two values of documents are one, at any depth and without memory.
 //!
 //! Of two lists all pairs of children but one are compared by recursion, and that one by going on in a loop. It is the pair whose first
-//! child has most of the heap. A value stands behind its children, and each child behind the one before, so the others have half of
+//! child has most of the heap. A value stands after its children, and each child after the one before, so the others have half of
 //! their list's part of the heap each at most, and the recursion is no deeper than the 32 bits of an address.
 
 ghost use Rattle.std.specs.Prelude.{◌≡◌, ℕ, IfSome};

@@ -189,7 +189,7 @@ pub fn write_content(
     })
 }
 
-/// Writes a list behind its children, whose places are those from `first` on, and returns its address. (Not in tantivy.) The places are taken
+/// Writes a list after its children, whose places are those from `first` on, and returns its address. (Not in tantivy.) The places are taken
 /// off. After an error the old heap is still a prefix of the new, and what `places` holds is unspecified.
 #[inline(always)]
 pub fn write_list(heap: &mut Vec<u8>, places: &mut Vec<u8>, first: usize) -> Result<u32, AllocError>

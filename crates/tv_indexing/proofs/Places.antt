@@ -32,7 +32,7 @@ range-take bytes n start end order inside =
     ap (λ m. take (end - start) (drop start (take m bytes))) whole ∙ ap (take (end - start)) (drop-take start (n - start) bytes)
     ∙ take-take (end - start) (n - start) (drop start bytes) (omega arith)
 
--- ---- places one behind the other
+-- ---- places one after the other
 
 within_more : (total more : ℕ) → total ≤ more → (place : TermPlace) → IsWithin total place → IsWithin more place
 within_more total more le place within = record { long = within.long; inside = omega (arith, within.inside) }
@@ -64,7 +64,7 @@ end_of-take start total zero places h = behind_below start total places h
 end_of-take start total (suc n) [] h = omega (arith, h)
 end_of-take start total (suc n) (first ∷ places) h = end_of-take first.end total n places h.2
 
--- where the last one ends, if there is one behind the first ones
+-- where the last one ends, if there is one after the first ones
 pub end_of-last : (start : ℕ) (places : List TermPlace) (few n : ℕ) (last : TermPlace) → few < length places → suc n ≡ length places → Some last ≡ slice_get places n
     → last.end ≡ end_of start (drop few places)
 end_of-last start [] few n last more size at = absurd (omega arith)

@@ -14,7 +14,7 @@ use Rattle.tv_value.specs.declared.field.Field.{Field}
 abbrev pub IsStartOf : List ℕ → String Global → Type 0
 IsStartOf s start = string_bytes start ≡ take_chars 40 s
 
--- the path names this field, whose type is this one, and the rest of the path is behind it
+-- the path names this field, whose type is this one, and the rest of the path is after it
 pub record Names (schema : List Entry) (path : List ℕ) (field : Field) (type : FieldType) (rest : List ℕ) : Type 0 where
   pub found : find_or schema path None ≡ Some (field.id, rest)
   pub entry : Entry

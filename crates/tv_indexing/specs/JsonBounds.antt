@@ -20,7 +20,7 @@ above (Some (date a)) (Some (date b)) = Some (is_lt (int_cmp (truncated Seconds 
 above (Some (boolean a)) (Some (boolean b)) = Some (is_lt (bool_cmp b a))
 above a b = None
 
--- what is told first
+-- what is reported first
 abbrev pub told_or : Option Bool → Bool → Bool
 told_or (Some told) other = told
 told_or None other = other

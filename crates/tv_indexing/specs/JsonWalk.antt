@@ -1,4 +1,4 @@
--- The terms of a JSON value by the bytes of the keys above it, for private clauses: each key stands behind a byte 1, the outermost too.
+-- The terms of a JSON value by the bytes of the keys above it, for private clauses: each key stands after a byte 1, the outermost too.
 use Rattle.std.specs.Prelude.{◌≡◌, ◌+◌, ℕ, suc, List, [], ◌∷◌, ◌++◌, Bool, Option, Some, None, Ok, Err, drop, take, map, if◌then◌else◌}
 use Rattle.std.specs.List.{flat_map}
 use Rattle.tv_base.specs.JsonPath.{expanded}

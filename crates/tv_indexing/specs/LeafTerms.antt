@@ -18,7 +18,7 @@ leaf_value (bytes bs) = Some (Bytes bs)
 leaf_value (ip_address n) = Some (Address n)
 leaf_value (tokenized t ts) = Some (Text t)
 
--- The value that the term of a leaf in a JSON value stands for behind its path: a number that fits a signed one is one. The others have none.
+-- The value that the term of a leaf in a JSON value stands for after its path: a number that fits a signed one is one. The others have none.
 abbrev pub json_value : Leaf → Option TermValue
 json_value (text t) = Some (Text t)
 json_value (unsigned n) = Some (json_number n)

@@ -10,7 +10,7 @@ payload_bytes (held.Bytes bs) = bs.now
 payload_bytes (held.Eight bs) = bs
 payload_bytes (held.Sixteen bs) = bs
 
--- a type, and what stands behind its code
+-- a type, and what stands after its code
 abbrev pub part_seen : TypeTag × Payload → TypeTag × List ℕ
 part_seen part = (part.0, payload_bytes part.1)
 

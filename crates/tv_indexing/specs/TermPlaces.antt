@@ -31,7 +31,7 @@ abbrev pub end_of : ℕ → List TermPlace → ℕ
 end_of start [] = start
 end_of start (place ∷ places) = end_of place.end places
 
--- The first places, which were moved, lie anywhere within the first bytes. The others stand one behind the other, up to the end of the bytes.
+-- The first places, which were moved, lie anywhere within the first bytes. The others stand one after the other, up to the end of the bytes.
 pub record ArePlacesHeld (bytes : List ℕ) (places : List TermPlace) (moved : MovedTerms) : Type 0 where
   pub moved_within : All (IsWithin moved.bytes) (take moved.len places)
   pub others_behind : AreBehind moved.bytes (drop moved.len places) (length bytes)

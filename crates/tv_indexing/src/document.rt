@@ -78,7 +78,7 @@ fn push_document(
 /// A text is whole, and one with tokens has the term of its text: to cut texts into words is the caller's. A facet has its own term, and not those of the
 /// facets above it. A date is cut to the second. A field that isn't indexed has no terms, whatever its values are.
 ///
-/// A field of JSON objects takes every value. Each value without children in it has a term behind the path of the keys above it, which are
+/// A field of JSON objects takes every value. Each value without children in it has a term after the path of the keys above it, which are
 /// taken as they stand; where the field's dots are expanded, a dot in a key parts it. Null has none. A number without a sign that fits one
 /// with a sign stands as one with a sign.
 ///

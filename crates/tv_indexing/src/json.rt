@@ -71,7 +71,7 @@ fn begin<'a>(
     }
 }
 
-// Puts the list that is gone through behind those in which it stands.
+// Puts the list that is gone through after those in which it stands.
 fn leave_open<'a>(around: &mut Vec<OpenList<'a>>, list: OpenList<'a>) -> Result<(), AllocError>
     ensures { OnOk result (around.new.items ≡ around.old.items ++ list.entry ∷ []) }
 {

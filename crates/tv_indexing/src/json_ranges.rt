@@ -192,7 +192,7 @@ fn append_leaf(writer: &mut TermWriter, leaf: ReferenceValueLeaf<'_>) -> Result<
     }
 }
 
-// The term that the writer has, with a value behind it.
+// The term that the writer has, with a value after it.
 fn completed(writer: TermWriter, leaf: ReferenceValueLeaf<'_>) -> Result<Term, TextTermsError>
     requires { writer ≢ [] }
     ensures made { IfOk result (λ term. (value : TermValue)

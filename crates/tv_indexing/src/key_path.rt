@@ -48,7 +48,7 @@ fn push_bytes(path: &mut Vec<u8>, key: &str, expand_dots: bool) -> Result<(), Al
     Ok(())
 }
 
-// Appends a key to the path to its object. Each key stands behind U+0001, the outermost too. Errors: `NulInPath` where the key has U+0000,
+// Appends a key to the path to its object. Each key stands after U+0001, the outermost too. Errors: `NulInPath` where the key has U+0000,
 // and `Memory`.
 pub(crate) fn push_key(path: &mut Vec<u8>, at: JsonField, key: &str) -> Result<(), TermValuesError>
     ensures made { OnOk result

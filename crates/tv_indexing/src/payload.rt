@@ -11,7 +11,7 @@ use tv_options::{DATE_TIME_PRECISION_INDEXED, Type};
 use tv_term::FastValue;
 use tv_value::leaf::ReferenceValueLeaf;
 
-// The bytes of a value behind the code of its type.
+// The bytes of a value after the code of its type.
 #[derive(Clone, Copy)]
 pub(crate) enum Payload<'a> {
     Bytes(&'a [u8]),
@@ -39,7 +39,7 @@ fn eight<'a, T: FastValue>(value: T) -> Payload<'a>
     Payload::Eight(value.to_u64().to_be_bytes())
 }
 
-// The type of the value that the term of a leaf stands for, and what stands behind its code, or `None` where the leaf has no term.
+// The type of the value that the term of a leaf stands for, and what stands after its code, or `None` where the leaf has no term.
 pub(crate) fn payload_of(leaf: ReferenceValueLeaf<'_>) -> Option<(Type, Payload<'_>)>
     ensures parts { option_map part_seen result
         ≡ option_map value_parts (leaf_value (leaf_of leaf.entry)) }

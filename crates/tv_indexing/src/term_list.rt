@@ -38,11 +38,11 @@ struct MovedTerms {
 pub struct TermList {
     bytes: Vec<u8>,
     places: Vec<TermPlace>,
-    // The others stand one behind the other.
+    // The others stand one after the other.
     moved: MovedTerms,
 }
 
-// By hand, so that a list is let go by one call.
+// By hand, so that a list is dropped by one call.
 impl Drop for TermList {
     fn drop(self) {
         let TermList {
@@ -147,7 +147,7 @@ impl TermList {
         };
     }
 
-    /// Of equal terms that stand one behind the other, keeps the first. It takes no memory, and the bytes of the others stay in the buffer
+    /// Of equal terms that stand one after the other, keeps the first. It takes no memory, and the bytes of the others stay in the buffer
     /// until `clear`.
     pub fn dedup(&mut self)
         ensures { self.new ≡ dedup bytes_eq self.old }
@@ -239,7 +239,7 @@ fn term_at(bytes: &[u8], place: TermPlace) -> &[u8]
     &bytes[start..end]
 }
 
-// Where the last term ends, and where there is none behind the moved ones, where they do.
+// Where the last term ends, and where there is none after the moved ones, where they do.
 fn end_of(moved: MovedTerms, places: &[TermPlace]) -> usize
     ensures { result ≡ end_of moved.bytes (drop moved.len places.now) }
 {
@@ -271,7 +271,7 @@ fn sort_places(bytes: &[u8], places: &mut Vec<TermPlace>)
     places.sort_unstable_by(|first, second| compared(bytes, *first, *second));
 }
 
-// Of the places of equal terms that stand one behind the other, keeps the first.
+// Of the places of equal terms that stand one after the other, keeps the first.
 fn dedup_places(bytes: &[u8], places: &mut Vec<TermPlace>)
     ensures { places.new.items
         ≡ dedup (λ x y. bytes_eq (bytes_at bytes.now x) (bytes_at bytes.now y)) places.old.items }

@@ -206,7 +206,7 @@ fn bound_of(is_within: bool, text: &str) -> Bound<&str>
     }
 }
 
-// The bound behind its bracket.
+// The bound after its bracket.
 fn start_of_range(text: &str) -> Option<Bound<&str>>
     ensures { MatchOption result ((start : Bound (List ℕ)) → ¬ IsStartBound text.now start)
         (λ start. IsStartBound text.now (bound_map (λ text. text.now) start)) }

@@ -18,7 +18,7 @@ failures_counted (Err kind) result old new h =
 
 -- ---- reading
 
--- known bytes behind those that were given
+-- known bytes after those that were given
 pub still_left : (old new : Option (List ℕ)) (given : List ℕ) → Consumes old new given → IsSome old × AllBytes (unwrap_or old []) → IsSome new × AllBytes (unwrap_or new [])
 still_left (Some xs) (Some ys) given consumes known = (known.0, bytes_after xs given ys consumes known.1)
 still_left (Some xs) None given consumes known = absurd consumes

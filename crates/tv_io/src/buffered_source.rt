@@ -81,7 +81,7 @@ impl<R: Read> BufferedSource<R> {
         }
     }
 
-    // Reads behind the bytes that are there, at most this many.
+    // Reads after the bytes that are there, at most this many.
     fn read_behind(&mut self, bytes: &mut Vec<u8>, most: usize) -> Result<usize, ReadError>
         requires { most ≤ 4096 }
         ensures bound { IfOk result (λ n. n ≤ most) }
@@ -186,7 +186,7 @@ impl<R: Read> ByteSource for BufferedSource<R> {
         }
     }
 
-    /// Appends bytes that are buffered, and at most `most`. Where none are, reads into the room behind those of `bytes`.
+    /// Appends bytes that are buffered, and at most `most`. Where none are, reads into the room after those of `bytes`.
     fn append(&mut self, bytes: &mut Vec<u8>, most: usize) -> Result<usize, ReadError>
         // the trait's clauses
         requires { most ≤ 4096 }

@@ -15,7 +15,7 @@ pub(crate) struct PlannedFailure {
 }
 
 impl PlannedFailure {
-    // The call behind this many fails. None is counted yet.
+    // The call after this many fails. None is counted yet.
     pub(crate) fn new(passes: u64, kind: io::ErrorKind) -> PlannedFailure
         ensures { result ≡ record { fails_at = Some passes; kind = kind; calls = 0 } }
     {

@@ -11,7 +11,7 @@ use Rattle.tv_format.specs.Tree.{Tree, object, Entries, no_entries, entry, entri
 use Rattle.tv_json.specs.JsonOf.{json_of, entries_json}
 use Rattle.tv_json.specs.Rising.{Below, RiseFrom, KeysRise, entries_of, listed_json, pair_entries}
 
--- ---- members behind others
+-- ---- members after others
 
 abbrev joined : Members → Members → Members
 joined no_members ns = ns

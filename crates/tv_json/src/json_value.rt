@@ -187,7 +187,7 @@ pub fn to_json_value<'a, V: Value<'a>>(alloc: Global, value: V) -> Result<JsonVa
 }
 
 /// The same of a value that nests within `depth` lists. (Not in tantivy.) Errors: `TooDeep` exactly where it nests deeper, before anything
-/// is made, else `Memory` where memory was refused. It is made by a recursion, and let go by one, of as many levels as the value has.
+/// is made, else `Memory` where memory was refused. It is made by a recursion, and dropped by one, of as many levels as the value has.
 pub fn to_json_value_within<'a, V: Value<'a>>(
     alloc: Global,
     value: V,

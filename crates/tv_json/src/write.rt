@@ -33,7 +33,7 @@ pub(crate) struct JsonWriter {
 }
 
 impl JsonWriter {
-    // Writes behind these bytes.
+    // Writes after these bytes.
     pub(crate) fn new(alloc: Global, bytes: Vec<u8>) -> JsonWriter
         ensures before { result.out.before ≡ bytes.items }
         ensures tokens { result.out.tokens ≡ [] }

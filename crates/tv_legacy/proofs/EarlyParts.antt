@@ -17,7 +17,7 @@ none_cut (b ∷ start) rest e some = cc
 
 -- ---- where it is cut
 
--- within the first of two parts, or behind it
+-- within the first of two parts, or after it
 pub data Cut (p q start rest : List ℕ) : Type 0 where
   within : (cut : List ℕ) → p ≡ start ++ cut → cut ≢ [] → Cut p q start rest
   behind : (begun : List ℕ) → start ≡ p ++ begun → q ≡ begun ++ rest → Cut p q start rest

@@ -109,7 +109,7 @@ module _ (Legacy : List ℕ → Entries → Type 0) (ErrorInLegacy : List ℕ �
       in_next_value (entry k t es) l (a ++ (b ++ prefix)) next after (joined ∙ regroup a b prefix (next ++ after) rest cut)
       (record { prefix = a; rest = b ++ prefix; joined = refl; first = key; second = record { prefix = b; rest = prefix; joined = refl; first = p; second = before } }) (omega (arith, less)) named f
 
-  -- an array behind its number, and an object
+  -- an array after its number, and an object
   array_ends : (n : ℕ) (start count rest : List ℕ) → start ≡ count ++ rest → VNum count n → ElementsEnd n rest → Ends (12 ∷ start)
   array_ends n start count rest joined number h = in_element n h.before count h.prefix h.rest (joined ∙ ap (λ (l : List ℕ). count ++ l) h.joined) number h.encoded h.fewer h.error
 
@@ -119,7 +119,7 @@ module _ (Legacy : List ℕ → Entries → Type 0) (ErrorInLegacy : List ℕ �
   object_ends n start count rest joined number (in_next_value es k prefix key after cut before less named f) =
       in_entry n es k count prefix key after (joined ∙ ap (λ (l : List ℕ). count ++ l) cut) number before less named f
 
-  -- what stands behind a code
+  -- what stands after a code
   behind_code : (code : ℕ) (P : List ℕ → Type 0) → Early P (λ w. Ends (code ∷ w)) → Early (Behind code P) Ends
   behind_code code P h = record { early = λ whole start rest p joined some. cut_code p.body start rest p.encoded (sym p.joined ∙ joined) some }
     where
@@ -157,7 +157,7 @@ module _ (Legacy : List ℕ → Entries → Type 0) (ErrorInLegacy : List ℕ �
         ];
   }
 
-  -- a value behind its key, and the entries behind that
+  -- a value after its key, and the entries after that
   member_early : (k : List ℕ) (t : Tree) (n : ℕ) (P : List ℕ → Type 0) (key : List ℕ) → Key v key k → Early (λ b. Encodes Legacy v b t) Ends → Early P (EntriesEnd n)
       → Early (Then (λ b. Encodes Legacy v b t) P) (λ w. EntriesEnd (suc n) (key ++ w))
   member_early k t n P key named h others = record {

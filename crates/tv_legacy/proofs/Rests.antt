@@ -6,7 +6,7 @@ use Rattle.tv_base.proofs.Agrees.{Agrees, no_last}
 use Rattle.tv_legacy.specs.LegacyReading.{is_even, rest_at}
 use Rattle.tv_legacy.proofs.Ended.{Prefix, EndsBefore, ended_agrees}
 
--- behind a prefix, the bytes end where they are even first, and make the slice
+-- after a prefix, the bytes end where they are even first, and make the slice
 abbrev pub Until : List ℕ → List ℕ → List ℕ → Type 0
 Until prefix [] slice = ⊥
 Until prefix (b ∷ bytes) slice =

@@ -59,7 +59,7 @@ closed_to slice h = first_until (123 ∷ []) h.more slice (record {
       ne_eqb _ _ (h.first (123 ∷ s) more (h.opens ∙ ap (λ (l : List ℕ). 123 ∷ l) e) (λ e. absurd cc) others);
 })
 
--- ---- behind blanks
+-- ---- after blanks
 
 abbrev pub Braced : ℕ → List ℕ → List ℕ → Type 0
 Braced b bytes slice = ((eqb b 123 ≡ true) × Until (123 ∷ []) bytes slice) ⊎ ((eqb b 123 ≡ false) × ⊥)
@@ -67,7 +67,7 @@ Braced b bytes slice = ((eqb b 123 ≡ true) × Until (123 ∷ []) bytes slice) 
 abbrev pub ErrorInBraced : ℕ → List ℕ → Cause → Type 0
 ErrorInBraced b bytes c = ((eqb b 123 ≡ true) × EndsBefore (Never (123 ∷ [])) bytes c) ⊎ ((eqb b 123 ≡ false) × (c ≡ LegacyJson))
 
--- what is wrong with bytes that are no blanks with a closed slice behind them
+-- what is wrong with bytes that are no blanks with a closed slice after them
 pub data ErrorInSlice (whole : List ℕ) : Cause → Type 0 where
   no_byte : AllBlank whole → ErrorInSlice whole UnexpectedEnd
   never_closed : (blanks rest : List ℕ) → whole ≡ blanks ++ (123 ∷ rest) → AllBlank blanks → Never (123 ∷ []) rest → ErrorInSlice whole UnexpectedEnd

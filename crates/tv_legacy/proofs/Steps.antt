@@ -58,7 +58,7 @@ is_done prefix depth h none bytes =
     let e : is_even prefix ≡ true = eq-eqb (closed prefix) (opened prefix) (omega (arith, h, none)) in
     rw e refl
 
--- behind the first brace
+-- after the first brace
 pub first_brace : (prefix : List ℕ) → prefix ≡ 123 ∷ [] → (bytes : List ℕ) → rest_at prefix bytes ≡ rest_from prefix bytes
 first_brace prefix e bytes = ap (λ l. rest_at l bytes) e ∙ ap (λ (l : List ℕ). rest_from l bytes) (sym e)
 

@@ -13,7 +13,7 @@ use Rattle.tv_format.specs.Tree.{object, Entries}
 abbrev pub IsBlank : ℕ → Type 0
 IsBlank b = (b ≡ 9) ⊎ ((b ≡ 10) ⊎ ((b ≡ 13) ⊎ (b ≡ 32)))
 
--- Where a byte stands: outside of JSON strings, in one, or behind a backslash in one.
+-- Where a byte stands: outside of JSON strings, in one, or after a backslash in one.
 pub data BytePlace : Type 0 where
   outside inside escaped : BytePlace
 
@@ -23,7 +23,7 @@ next outside b = if b == 34 then inside else outside
 next inside b = if b == 34 then outside else (if b == 92 then escaped else inside)
 next escaped b = inside
 
--- where the byte behind these stands, the first of which stands outside
+-- where the byte after these stands, the first of which stands outside
 abbrev pub behind : List ℕ → BytePlace
 behind bytes = fold next outside bytes
 
@@ -59,7 +59,7 @@ pub record Slice (whole slice : List ℕ) : Type 0 where
 abbrev pub ReadsObject : List ℕ → Members → Type 0
 ReadsObject slice members = IsUtf8 slice × (read slice ≡ Some (json.object members))
 
--- What stands behind the code of a legacy object with these entries: its numbers are whole. Texts stay texts; the entries are in byte
+-- What stands after the code of a legacy object with these entries: its numbers are whole. Texts stay texts; the entries are in byte
 -- order of their keys, of equal keys the last, as the members that are read.
 pub record Legacy (whole : List ℕ) (entries : Entries) : Type 0 where
   pub slice : List ℕ

@@ -1,4 +1,4 @@
--- What holds of any bytes: behind the code of a legacy object, where a value is read, and where a document is.
+-- What holds of any bytes: after the code of a legacy object, where a value is read, and where a document is.
 use Rattle.std.specs.Prelude.{ℕ, List}
 use Rattle.tv_base.specs.Parts.{Begins}
 use Rattle.tv_base.specs.declared.cause.Cause.{Cause}

@@ -1,4 +1,4 @@
--- Reading a legacy object from left to right, behind its code.
+-- Reading a legacy object from left to right, after its code.
 use Rattle.std.specs.Prelude.{◌≡◌, ◌==◌, ◌||◌, ℕ, Bool, List, [], ◌∷◌, ◌++◌, Result, Ok, Err, Option, Some, None, if◌then◌else◌}
 use Rattle.std.specs.Str.{is_utf8}
 use Rattle.serde_json.specs.Data as json

@@ -8,14 +8,14 @@ ghost use Rattle.tv_legacy.specs.Legacy.{next, outside};
 pub(crate) enum Position {
     Outside,
     Inside,
-    // in a string, behind a backslash
+    // in a string, after a backslash
     Escaped,
 }
 
 impl Position {
     ghost use Rattle.tv_legacy.specs.LegacyScan.{place_of};
 
-    // Where the byte behind this one stands.
+    // Where the byte after this one stands.
     fn after(self, byte: u8) -> Position
         ensures { place_of result ≡ next (place_of self) byte }
     {
@@ -44,7 +44,7 @@ pub(crate) struct Scan {
 impl Scan {
     ghost use Rattle.tv_legacy.specs.LegacyScan.{place_of, brace_count};
 
-    // Behind the brace that opens an object.
+    // After the brace that opens an object.
     pub(crate) fn opened() -> Scan
         ensures place { place_of result.position ≡ outside }
         ensures depth { result.depth ≡ 1 }

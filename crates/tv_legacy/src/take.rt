@@ -102,11 +102,11 @@ fn object_of(alloc: Global, slice: &[u8]) -> Result<OwnedValue, ReadError>
     }
 }
 
-/// Takes an object as older stores hold it, behind its code: blanks (tab, line feed, carriage return, space), and then JSON up to
+/// Takes an object as older stores hold it, after its code: blanks (tab, line feed, carriage return, space), and then JSON up to
 /// the brace that closes it, and no byte more. Numbers are `I64` where they fit, else `U64`; the entries are in byte order of
 /// their keys, of equal keys the last. Room is made only as the bytes come. (tantivy reads it; where it ends is our own rule.)
 ///
-/// Errors: those of `take_u8`, `Corrupted(LegacyJson)` where behind the blanks stands another byte than a brace, or where the
+/// Errors: those of `take_u8`, `Corrupted(LegacyJson)` where after the blanks stands another byte than a brace, or where the
 /// slice isn't UTF-8 or reads as no JSON object (its nesting is at most 127 there), `Corrupted(LegacyFloat)` where a number in it
 /// isn't a whole one of 64 bits, and `Memory`. After an error the bytes up to there were taken.
 #[tactic(auto, using(tv_base::proofs::TakeSteps::Taken_then), unfolding(crate::specs::LegacyReading::legacy_at))]

@@ -37,7 +37,7 @@ pub record Answered (schema : List Entry) (input pending before held : List ℕ)
   pub holds : held ≡ before ++ done
   pub follows : (text : List ℕ) → AnswersOf schema pending text → AnswersOf schema input (done ++ text)
 
--- the answers behind this one
+-- the answers after this one
 behind_answer : {schema : List Entry} {pending line rest answer : List ℕ} → TakesLine pending line rest true → Answer schema line answer
     → (text : List ℕ) → AnswersOf schema rest text → AnswersOf schema pending (answer ++ 10 ∷ text)
 behind_answer takes answer text more = (_ ∷ more.0, next_line takes.0 takes.1 more.1, next_answer answer more.2)

@@ -6,12 +6,12 @@ use Rattle.std.specs.List.{AllByRecursion}
 abbrev pub IsUnbroken : List ℕ → Type 0
 IsUnbroken bytes = AllByRecursion (λ b. b ≢ 10) bytes
 
--- the first line of an input, and what stands behind its line feed
+-- the first line of an input, and what stands after its line feed
 pub data FirstLine (input line rest : List ℕ) : Type 0 where
   ended : IsUnbroken line → input ≡ line ++ 10 ∷ rest → FirstLine input line rest
   unended : IsUnbroken line → input ≡ line → rest ≡ [] → FirstLine input line rest
 
--- The lines of an input. Behind the last line feed there is a line only if bytes stand there.
+-- The lines of an input. After the last line feed there is a line only if bytes stand there.
 pub data Lines : List ℕ → List (List ℕ) → Type 0 where
   no_lines : Lines [] []
   next_line : {input line rest : List ℕ} {lines : List (List ℕ)} → input ≢ [] → FirstLine input line rest → Lines rest lines → Lines input (line ∷ lines)

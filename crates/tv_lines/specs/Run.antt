@@ -44,7 +44,7 @@ PrefixOf P text = (whole : List ℕ) × P whole × IsPrefix text whole
 abbrev pub BrokenText : List ℕ → List ℕ → Type 0
 BrokenText input text = PrefixOf (λ whole. DoneText input whole ⊎ BadSchemaText input whole) text
 
--- such a text was written behind what was held
+-- such a text was written after what was held
 abbrev pub WritesText : (List ℕ → Type 0) → List ℕ → List ℕ → Type 0
 WritesText P old new = (text : List ℕ) × P text × (new ≡ old ++ text)
 
@@ -72,7 +72,7 @@ sink_stop (Write kind) = Failed kind
 sink_stop Memory = Short
 sink_stop TooLong = Short
 
--- a failure of a read or a write is told with its kind, and only where there was one
+-- a failure of a read or a write is reported with its kind, and only where there was one
 abbrev pub CountsEnd : (Halt → Stop ⊥) → RunEnd → Failures → Failures → Type 0
 CountsEnd stop Done old new = new ≡ old
 CountsEnd stop BadSchema old new = new ≡ old

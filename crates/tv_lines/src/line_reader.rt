@@ -82,7 +82,7 @@ impl LineReader {
         &self.chunk[self.from..self.to]
     }
 
-    // Moves the bytes up to the next line feed behind those of the line and passes the line feed, or moves all bytes that were read.
+    // Moves the bytes up to the next line feed after those of the line and passes the line feed, or moves all bytes that were read.
     // Tells whether there was a line feed. The only error is that memory was refused.
     fn take_unread(&mut self, line: &mut Vec<u8>) -> Result<bool, AllocError>
         ensures moves { IfOk result

@@ -129,9 +129,9 @@ fn answer_source<S: ByteSource, K: ByteSink>(
 /// Bytes are read in pieces of 64 KiB, and each answer is written at once. The memory of a line, of its document and of its answer serves the next.
 ///
 /// `Broken` says why the run broke off: `Read` and `Write` only where the source's or the sink's count of failures rose, with the kind of
-/// the failure, `TooLong` only behind 2^64 - 1 bytes, and else `Memory`, where memory was refused and neither count has changed.
+/// the failure, `TooLong` only after 2^64 - 1 bytes, and else `Memory`, where memory was refused and neither count has changed.
 pub fn run<S: ByteSource, K: ByteSink>(alloc: Global, source: &mut S, sink: &mut K) -> RunEnd
-    // what is written behind what the sink held
+    // what is written after what the sink held
     ensures done { S.is_known source.old → K.is_known sink.old → result ≡ Done
         → WritesText (DoneText (S.left source.old)) (K.held sink.old) (K.held sink.new) }
     ensures bad_schema { S.is_known source.old → K.is_known sink.old → result ≡ BadSchema
@@ -143,7 +143,7 @@ pub fn run<S: ByteSource, K: ByteSink>(alloc: Global, source: &mut S, sink: &mut
     // all of the source was read
     ensures all { S.is_known source.old → result ≡ Done → S.left source.new ≡ [] }
 
-    // a read or a write failed exactly where that is returned, with its kind; `TooLong` comes behind the most bytes that are counted
+    // a read or a write failed exactly where that is returned, with its kind; `TooLong` comes after the most bytes that are counted
     ensures source_failures { CountsEnd source_stop result (S.failures source.old)
         (S.failures source.new) }
     ensures sink_failures { CountsEnd sink_stop result (K.failures sink.old)

@@ -124,7 +124,7 @@ pub struct TextFieldIndexing {
     tokenizer: TokenizerName,
 }
 
-// By hand, so that it is let go by one call.
+// By hand, so that it is dropped by one call.
 impl Drop for TextFieldIndexing {
     fn drop(self) {
         let TextFieldIndexing {

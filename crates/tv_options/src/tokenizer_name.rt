@@ -12,7 +12,7 @@ pub struct TokenizerName {
     pub(crate) text: CowStr<'static>,
 }
 
-// By hand, so that a name is let go by one call.
+// By hand, so that a name is dropped by one call.
 impl Drop for TokenizerName {
     fn drop(self) {
         let TokenizerName { text: _ } = self;

@@ -36,7 +36,7 @@ unfolding kind_at extension_at u8_at
 known_read types.PreTokStr rest = refl
 known_read _ rest = refl
 
--- a code says the type, and where what is behind it begins
+-- a code says the type, and where what is after it begins
 pub same_coded : (k l : ValueType) (a b : List ℕ) → type_prefix k ++ a ≡ type_prefix l ++ b → (k ≡ l) × (a ≡ b)
 same_coded k l a b e =
     let q = ok_is (Cause × List ℕ) (k, a) (l, b) (sym (known_read k a) ∙ ap kind_at e ∙ known_read l b) in
@@ -63,7 +63,7 @@ data Coding (bytes : List ℕ) : Type 0 where
   known : (k : ValueType) (rest : List ℕ) → bytes ≡ type_prefix k ++ rest → Coding bytes
   malformed : (c : Cause) (rest : List ℕ) → kind_at bytes ≡ Err (c, rest) → ErrorInCode bytes c → Shown UnexpectedEnd kind_at bytes rest c → Coding bytes
 
--- a malformed part behind one byte, and behind two
+-- a malformed part after one byte, and after two
 malformed_byte : (code : ℕ) (rest : List ℕ) (c : Cause) → c ≢ UnexpectedEnd → kind_at (code ∷ rest) ≡ Err (c, rest) → kind_at (code ∷ []) ≡ Err (c, []) → ErrorInCode (code ∷ rest) c → Coding (code ∷ rest)
 malformed_byte code rest c other read alone error = malformed c rest read error (record {
   prefix = code ∷ [];

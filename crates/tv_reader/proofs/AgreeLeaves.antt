@@ -117,7 +117,7 @@ date_agrees V3 = agrees_too (λ whole. same_read _) (λ whole z small h. h) (λ 
 
 -- ---- texts with their tokens
 
--- the same first part, and another one behind it
+-- the same first part, and another one after it
 behind : {A B C : List ℕ → Type 0} {whole : List ℕ} (p : Then A B whole) → C p.rest → Then A C whole
 behind p s = record { prefix = p.prefix; rest = p.rest; joined = p.joined; first = p.first; second = s }
 

@@ -1,4 +1,4 @@
--- How the type of a value and what stands behind it make the value.
+-- How the type of a value and what stands after it make the value.
 use Rattle.std.proofs.Common.{◌≡◌, ◌≢◌, ℕ, true, false, List, [], ◌∷◌, ◌++◌, Option, Some, None, Result, Ok, refl, sym, subst, ◌∙◌, arith}
 use Rattle.tv_base.specs.declared.cause.Cause.{Cause}
 use Rattle.tv_base.specs.declared.cause.Cause.TheVariants.{UnexpectedEnd}
@@ -29,14 +29,14 @@ use Rattle.tv_reader.proofs.Finding.{finds_then, finds_ok, finds_part}
 abbrev end : Refusal
 end = corrupted UnexpectedEnd
 
--- ---- behind a code
+-- ---- after a code
 
 -- without its last byte a code is at its end
 pub kind_edge : {F : Type 0} (end : F) (Q : List ℕ → F → Type 0) → Q [] end → Q (7 ∷ []) end → (kind : ValueType) (start : List ℕ) (byte : ℕ) → type_prefix kind ≡ start ++ byte ∷ [] → Q start end
 kind_edge end Q none seven types.PreTokStr start byte last = subst (λ l. Q l end) (sym (same_start start (7 ∷ []) byte 0 (sym last))) seven
 kind_edge end Q none seven kind start byte last = subst (λ l. Q l end) (sym (same_start start [] byte (value_type_code kind) (sym last))) none
 
--- the type was taken, and then what stands behind it
+-- the type was taken, and then what stands after it
 pub finds_behind : {S Y : Type 0} {stop : DeserializeError → Stop Refusal} {May : DeserializeError → ℕ → Type 0} {is_known : S → Type 0} {left : S → List ℕ} {failures : S → Failures} {old mid new : S} {i j k : ℕ} {kind : ValueType} {result : Result Y DeserializeError} (B : List ℕ → Y → Type 0) (Q : List ℕ → Refusal → Type 0)
     → ((source : S) → is_known source → AllBytes (left source)) → Q [] end → Q (7 ∷ []) end → reads.TakesIf reads.MayStopLean is_known left failures old i mid j (λ x. x) (Ok kind) kind_at
     → FindsBy stop May end is_known left failures mid j new k result (λ b y. B (type_prefix kind ++ b) y) (λ w r. Q (type_prefix kind ++ w) r) → FindsBy stop May end is_known left failures old i new k result B Q

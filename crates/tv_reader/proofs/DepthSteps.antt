@@ -36,7 +36,7 @@ use Rattle.tv_reader.proofs.AgreeLeaves.{leaf_agrees}
 use Rattle.tv_reader.proofs.Finding.{finds_part, calm}
 use Rattle.tv_reader.proofs.TreeSteps.{entry_count_agrees, owned-Array, owned-Object}
 
--- What a reader to a depth adds: what was read is within it, and behind bytes that open a list too many that is told.
+-- What a reader to a depth adds: what was read is within it, and after bytes that open a list too many that is reported.
 pub record Deepens {S X : Type 0} (is_known : S → Type 0) (left : S → List ℕ) (old new : S) (result : Result X DeserializeError) (Within : List ℕ → X → Type 0) (Deep : List ℕ → Type 0) : Type 0 where
   pub within : is_known old → IfOk result (λ made. Begins (λ b. Within b made) (left old) (left new))
   pub deep : is_known old → IsErrOf result errors.TooDeep → Begins Deep (left old) (left new)

@@ -34,7 +34,7 @@ shows_map {end = end} to apart old new f map s = record {
   early = λ other prefix byte last. map prefix end (s.early (λ e. other (ap to e)) prefix byte last);
 }
 
--- behind a prefix, of which the bytes without the last are at their end where nothing behind it was taken
+-- after a prefix, of which the bytes without the last are at their end where nothing after it was taken
 pub shows_behind : {F : Type 0} {end : F} {P Q : List ℕ → F → Type 0} (prefix old mid new : List ℕ) (f : F) → old ≡ prefix ++ mid
     → ((w : List ℕ) (c : F) → P w c → Q (prefix ++ w) c) → (f ≢ end → P [] f → (start : List ℕ) (byte : ℕ) → prefix ≡ start ++ byte ∷ [] → Q start end)
     → Shows end P mid new f → Shows end Q old new f
@@ -59,7 +59,7 @@ refuses_behind : {F : Type 0} {end : F} {P Q : List ℕ → F → Type 0} (prefi
 refuses_behind {Q = Q} prefix old mid new f joined behind edge r =
     record { stands = subst (λ l. Q l f) (sym joined) (behind mid f r.stands); shows = shows_behind prefix old mid new f joined behind edge r.shows }
 
--- bytes that end too early, behind a prefix
+-- bytes that end too early, after a prefix
 early_behind : {F : Type 0} {P Q : List ℕ → F → Type 0} (prefix old mid new : List ℕ) (f : F) → old ≡ prefix ++ mid → ((w : List ℕ) (c : F) → P w c → Q (prefix ++ w) c) → EndsEarly f P mid new → EndsEarly f Q old new
 early_behind prefix old mid new f joined behind h = record {
   taken = prefix ++ h.taken;
@@ -256,7 +256,7 @@ pub finds_part_deep : {S X Y : Type 0} {May : ReadError → ℕ → Type 0} {is_
     → FindsDeepBy is_known left failures old i new k (Ok x) (λ b x. Encodes b (view x)) (λ w f. ⊥)
 finds_part_deep are_bytes agrees h = finds_ok tree_stop StoreMayStopDeep (finds_part are_bytes agrees h)
 
--- an error that another reader tells is told so of a tree too
+-- an error that another reader tells is reported so of a tree too
 told_so : (e : DeserializeError) → e ≢ errors.TooDeep → store_stop e ≡ tree_stop e
 told_so errors.TooDeep other = absurd (other refl)
 told_so _ other = refl

@@ -1,4 +1,4 @@
--- How the type of a value and what is taken behind it make its head.
+-- How the type of a value and what is taken after it make its head.
 use Rattle.std.proofs.Common.{◌≡◌, ◌≢◌, ℕ, List, [], ◌∷◌, ◌++◌, Option, Some, None, Ok, Err, refl, sym, ap, subst, inl}
 use Rattle.tv_base.specs.declared.cause.Cause.{Cause}
 use Rattle.tv_base.specs.declared.cause.Cause.TheVariants.{UnexpectedEnd}
@@ -42,7 +42,7 @@ use Rattle.tv_reader.proofs.TreeSteps.{entry_count_agrees, entry_count_refused}
 abbrev end : Refusal
 end = corrupted UnexpectedEnd
 
--- ---- behind the code
+-- ---- after the code
 
 abbrev HeadOf : {A : Type 0} → (List ℕ → A → Type 0) → (A → HeadPart) → List ℕ → HeadPart → Type 0
 HeadOf {A} R make whole h = (x : A) × R whole x × (h ≡ make x)

@@ -181,7 +181,7 @@ pub legacy_fails : {S : Type 0} {is_known : S → Type 0} {left : S → List ℕ
     → FindsIf StoreMayStopRoomy is_known left failures old i new k (Err (read_error e)) (EncodesBehind v types.JSONObject) (NoneBehind v types.JSONObject)
 legacy_fails v are_bytes h = finds_part_fails _ _ raised_roomy are_bytes legacy_agrees (λ w c f. in_legacy f) h
 
--- a value, by its type and what stands behind it
+-- a value, by its type and what stands after it
 pub value_then : {S : Type 0} {is_known : S → Type 0} {left : S → List ℕ} {failures : S → Failures} {old mid new : S} {i j k : ℕ} {kind : ValueType} {result : Result OwnedValue DeserializeError} (v : Version)
     → ((source : S) → is_known source → AllBytes (left source)) → reads.TakesIf reads.MayStopLean is_known left failures old i mid j (λ x. x) (Ok kind) kind_at
     → FindsDeepBy is_known left failures mid j new k result (EncodesBehind v kind) (NoneBehind v kind) → FindsDeepBy is_known left failures old i new k result (EncodesValue v) (NoValue v)

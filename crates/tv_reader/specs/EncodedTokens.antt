@@ -14,6 +14,6 @@ use Rattle.tv_value.specs.declared.encoded_tokens.EncodedTokens.{EncodedTokens}
 abbrev pub tokenized_tree : String Global × EncodedTokens → Tree
 tokenized_tree x = leaf (tokenized (string_bytes x.0) (gathered x.1))
 
--- the bytes encode them, behind the codes
+-- the bytes encode them, after the codes
 abbrev pub EncodesTokenized : Version → List ℕ → String Global × EncodedTokens → Type 0
 EncodesTokenized v b x = Encodes Legacy v (type_prefix types.PreTokStr ++ b) (tokenized_tree x)

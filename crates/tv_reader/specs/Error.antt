@@ -21,7 +21,7 @@ read_error (reads.Corrupted c) = errors.CorruptedValue c
 read_error (reads.Io k) = errors.Io k
 read_error reads.Memory = errors.Memory
 
--- a value of this type stands where one of that type was expected, which is told of a key alone
+-- a value of this type stands where one of that type was expected, which is reported of a key alone
 abbrev pub key_stop : ValueType → ValueType → Stop Refusal
 key_stop types.String actual = InputError (no_text_key (value_type_code actual))
 key_stop _ actual = Never

@@ -1,4 +1,4 @@
--- What a reader gives, where it is told by the grammar of the bytes and not by a reading of lists.
+-- What a reader gives, where it is given by the grammar of the bytes and not by a reading of lists.
 use Rattle.std.specs.Prelude.{◌≡◌, ℕ, ◌-◌, ◌^◌, ◌≤◌, List, Result, Ok, Err, IfErr}
 use Rattle.tv_base.specs.declared.cause.Cause.TheVariants.{UnexpectedEnd}
 use Rattle.tv_base.specs.declared.source.ByteSource.{Ghosts}
@@ -16,7 +16,7 @@ pub record ShowsRefusal {F : Type 0} (end : F) (HasError : List ℕ → F → Ty
   pub stands : HasError old error
   pub shows : Shows end HasError old new error
 
--- an error is told; where no more bytes can be counted, those that were taken end too early
+-- an error is reported; where no more bytes can be counted, those that were taken end too early
 abbrev pub GivesStop : {F : Type 0} → F → (List ℕ → F → Type 0) → List ℕ → List ℕ → ℕ → Stop F → Type 0
 GivesStop end HasError old new count (InputError f) = ShowsRefusal end HasError old new f
 GivesStop end HasError old new count (Uncounted f) = (count ≡ 2 ^ 64 - 1) × EndsEarly f HasError old new
@@ -30,7 +30,7 @@ Found stop end Encodes HasError old new count (Ok x) = Begins (λ b. Encodes b x
 Found stop end Encodes HasError old new count (Err e) = GivesStop end HasError old new count (stop e)
 
 -- A reader of a source, with the count of the bytes that were taken of it: a slice of the bytes was taken and counted, after a
--- refusal too, a failure is told with its kind, where there was one and only there, and an error comes only where it may.
+-- refusal too, a failure is reported with its kind, where there was one and only there, and an error comes only where it may.
 pub record FindsBy {S E F X : Type 0} (stop : E → Stop F) (MayStop : E → ℕ → Type 0) (end : F) (is_known : S → Type 0) (left : S → List ℕ) (failures : S → Failures) (old : S) (old_count : ℕ) (new : S) (new_count : ℕ) (result : Result X E) (Encodes : List ℕ → X → Type 0) (HasError : List ℕ → F → Type 0) : Type 0 where
   pub found : is_known old → Found stop end Encodes HasError (left old) (left new) new_count result
   pub taken : is_known old → Taken (left old) (left new) old_count new_count

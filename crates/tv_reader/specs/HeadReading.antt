@@ -1,4 +1,4 @@
--- Reading the head of a value from left to right, behind its code.
+-- Reading the head of a value from left to right, after its code.
 use Rattle.std.specs.Prelude.{ℕ, List, Option, Some, None, Result, Ok}
 use Rattle.tv_base.specs.declared.cause.Cause.{Cause}
 use Rattle.tv_base.specs.Reading.{u64_at, u128_at, truth_at, vint_at}

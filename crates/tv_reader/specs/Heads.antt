@@ -33,7 +33,7 @@ HasLength forms.Text = Unit {0}
 HasLength forms.Bytes = Unit {0}
 HasLength _ = ⊥
 
--- the code, and what is taken behind it
+-- the code, and what is taken after it
 abbrev pub EncodesHead : Version → List ℕ → HeadPart → Type 0
 EncodesHead v whole (leaf_head l) = HasWidth (form_of (content l)) × Behind (leaf_code l) (λ b. LeafBody v b l) whole
 EncodesHead v whole (length_head t n) = HasLength (form t) × Behind (store_code t) (λ b. VNum b n) whole
@@ -42,11 +42,11 @@ EncodesHead v whole (object_head n) = Behind 13 (λ b. VNum b (entry_total v n))
 EncodesHead v whole tokenized_head = whole ≡ 7 ∷ 0 ∷ []
 EncodesHead v whole legacy_head = whole ≡ 8 ∷ []
 
--- a length, behind the code of a text
+-- a length, after the code of a text
 abbrev pub CodedLength : List ℕ → ℕ → Type 0
 CodedLength whole n = Behind 0 (λ b. VNum b n) whole
 
--- the length of a key, behind its code in versions 1 and 2
+-- the length of a key, after its code in versions 1 and 2
 abbrev pub EncodesKeyHead : Version → List ℕ → ℕ → Type 0
 EncodesKeyHead V1 = CodedLength
 EncodesKeyHead V2 = CodedLength

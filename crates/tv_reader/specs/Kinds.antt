@@ -11,7 +11,7 @@ use Rattle.tv_reader.specs.declared.value_type.ValueType.TheVariants as types
 abbrev pub extension_of : ℕ → List ℕ → Result (ValueType × List ℕ) (Cause × List ℕ)
 extension_of code bytes = if code == 0 then Ok (types.PreTokStr, bytes) else Err (UnknownExtCode code, bytes)
 
--- behind the code of an extension
+-- after the code of an extension
 unfoldable pub extension_at : List ℕ → Result (ValueType × List ℕ) (Cause × List ℕ)
 extension_at bytes = do
   code ← u8_at bytes

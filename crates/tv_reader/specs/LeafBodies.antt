@@ -1,4 +1,4 @@
--- What stands behind the code of a value that holds no others, and what is wrong with bytes that are none.
+-- What stands after the code of a value that holds no others, and what is wrong with bytes that are none.
 use Rattle.std.specs.Prelude.{◌≡◌, ℕ, List, [], Option, Some, None}
 use Rattle.tv_base.specs.declared.cause.Cause.{Cause}
 use Rattle.tv_base.specs.declared.cause.Cause.TheVariants.{LegacyJson}

@@ -1,4 +1,4 @@
--- Reading a value that holds no others from left to right, behind its code.
+-- Reading a value that holds no others from left to right, after its code.
 use Rattle.std.specs.Prelude.{ℕ, ℤ, pos, negsuc, ◌*ℤ◌, Bool, List, Option, Some, None, is_some, Result, Ok, Err, if◌then◌else◌}
 use Rattle.std.specs.Int.Signed.{lt_z}
 use Rattle.tv_base.specs.declared.cause.Cause.{Cause}
@@ -85,7 +85,7 @@ abbrev pub number_at : Version → LeafType → List ℕ → Result (ℤ × List
 number_at v leaves.Date whole = date_at v whole
 number_at v _ whole = i64_at whole
 
--- what a leaf holds, behind its codes
+-- what a leaf holds, after its codes
 abbrev pub content_at : Version → LeafType → Form → List ℕ → Result (Tree × List ℕ) (Cause × List ℕ)
 content_at v t forms.Nothing whole = Ok (leaf (leaf_holding t no_content), whole)
 content_at v t forms.Truth whole = truth_at whole >>= λ x. Ok (leaf (leaf_holding t (truth_content x.0)), x.1)

@@ -24,7 +24,7 @@ EncodesValue v b x = Encodes Legacy v b (owned_tree x)
 abbrev pub NoValue : Version → List ℕ → Refusal → Type 0
 NoValue v b r = ErrorInValue Legacy ErrorInLegacy v b r
 
--- the same behind the code of a type
+-- the same after the code of a type
 abbrev pub EncodesBehind : Version → ValueType → List ℕ → OwnedValue → Type 0
 EncodesBehind v kind b x = EncodesValue v (type_prefix kind ++ b) x
 
@@ -39,7 +39,7 @@ pub record EncodesItems (v : Version) (n : ℕ) (b : List ℕ) (items : Vec Owne
 abbrev pub NoItems : Version → ℕ → List ℕ → Refusal → Type 0
 NoItems v n b r = ErrorInElements Legacy ErrorInLegacy v n b r
 
--- a key, and a value behind it
+-- a key, and a value after it
 abbrev pub EncodesMember : Version → List ℕ → String Global × OwnedValue → Type 0
 EncodesMember v b member = Then (λ w. Key v w (string_bytes member.0)) (λ w. EncodesValue v w member.1) b
 

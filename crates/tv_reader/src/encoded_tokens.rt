@@ -143,7 +143,7 @@ pub(crate) fn gather_tokenized<G: Gathers, S: ByteSource>(
     Ok((text, tokens))
 }
 
-/// Takes a text and its tokens behind their codes. The tokens are gathered in their shortest encoding, so that no more memory is taken
+/// Takes a text and its tokens after their codes. The tokens are gathered in their shortest encoding, so that no more memory is taken
 /// than for the bytes that are read. Nothing is reserved from the number of the tokens. (Not in tantivy.)
 ///
 /// Errors: those of `take_string`, and `Memory`.

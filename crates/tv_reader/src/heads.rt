@@ -30,9 +30,9 @@ pub enum Head {
     Array(u64),
     /// The number of an object's entries. None of them was taken.
     Object(u64),
-    /// The codes of a pre-tokenized text. Nothing behind them was taken.
+    /// The codes of a pre-tokenized text. Nothing after them was taken.
     Tokenized,
-    /// The code of an object as older stores hold it. Nothing behind it was taken.
+    /// The code of an object as older stores hold it. Nothing after it was taken.
     Legacy,
 }
 
@@ -55,7 +55,7 @@ pub fn take_head<S: ByteSource>(
     Ok(head)
 }
 
-/// Takes the head of a key: its length in bytes, in versions 1 and 2 behind its code. None of these bytes is taken.
+/// Takes the head of a key: its length in bytes, in versions 1 and 2 after its code. None of these bytes is taken.
 ///
 /// Errors: `CorruptedValue` with the first error in the head, `Io`, and in versions 1 and 2 `TypeMismatch` where a value of another type
 /// stands there.
@@ -77,7 +77,7 @@ pub fn take_key_head<S: ByteSource>(
     }
 }
 
-// A key's length behind the code of a text.
+// A key's length after the code of a text.
 fn take_coded_key_head<S: ByteSource>(
     source: &mut S,
     count: &mut u64,

@@ -22,7 +22,7 @@ fn take_extension<S: ByteSource>(source: &mut S, count: &mut u64) -> Result<Valu
     }
 }
 
-/// Takes all that stands before a value: the code of its type, and behind the code of an extension its own.
+/// Takes all that stands before a value: the code of its type, and after the code of an extension its own.
 ///
 /// Errors: those of `take_u8`, `Corrupted(FloatCode)` at the code of floating-point numbers, `Corrupted(UnknownTypeCode)` at one
 /// above 13, and `Corrupted(UnknownExtCode)` at an extension other than 0.

@@ -1,4 +1,4 @@
-//! Taking values that hold no others, behind their code.
+//! Taking values that hold no others, after their code.
 
 ghost use Rattle.std.specs.Prelude.{◌≡◌, ◌*ℤ◌, ◌≤ℤ◌, pos, negsuc, string_bytes};
 ghost use Rattle.std.specs.Prelude.{◌≤◌, ◌+◌, map};

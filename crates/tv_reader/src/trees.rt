@@ -66,7 +66,7 @@ pub fn take_entry_count<S: ByteSource>(
     }
 }
 
-/// Takes a key: a text, which in versions 1 and 2 stands behind its code.
+/// Takes a key: a text, which in versions 1 and 2 stands after its code.
 ///
 /// Errors: those of `take_string`, and in versions 1 and 2 also those of `take_kind`, and `TypeMismatch` where a value of another
 /// type stands there.
@@ -89,7 +89,7 @@ pub fn take_key<S: ByteSource>(
     }
 }
 
-// A text behind its code.
+// A text after its code.
 //
 // Errors: those of `take_kind` and of `take_string`, and `TypeMismatch` where a value of another type stands there.
 fn take_coded_key<S: ByteSource>(
@@ -113,7 +113,7 @@ fn take_coded_key<S: ByteSource>(
     }
 }
 
-/// Takes a legacy object, behind its code. How deep it nests has no limit of ours: those that are read as JSON nest 127 levels deep at most.
+/// Takes a legacy object, after its code. How deep it nests has no limit of ours: those that are read as JSON nest 127 levels deep at most.
 ///
 /// Errors: `CorruptedValue` with the first error in the bytes; `Io` where the source failed; `Memory`.
 pub fn take_legacy_object<S: ByteSource>(
@@ -144,7 +144,7 @@ fn levels_below(levels: u32) -> Result<u32, DeserializeError>
 /// isn't counted, nor what it holds. Nothing is reserved from announced numbers.
 ///
 /// Errors: `CorruptedValue` with the first error in the bytes; `TypeMismatch` where in a key's place stands a value that isn't a
-/// text; `TooDeep` right behind the code of a list that is one too many; `Io` where the source failed; `Memory`.
+/// text; `TooDeep` right after the code of a list that is one too many; `Io` where the source failed; `Memory`.
 #[cycle(trees)]
 pub fn take_tree<S: ByteSource>(
     alloc: Global,
@@ -237,7 +237,7 @@ fn take_items<S: ByteSource>(
     Ok(items)
 }
 
-// A key, and the value behind it.
+// A key, and the value after it.
 #[cycle(trees)]
 fn take_member<S: ByteSource>(
     alloc: Global,

@@ -110,7 +110,7 @@ impl ValueType {
     }
 }
 
-// Takes what the head of a value has behind its code: a value of a known width, a length or a number.
+// Takes what the head of a value has after its code: a value of a known width, a length or a number.
 //
 // Errors: those of the part that it has.
 #[tactic(auto, using(tv_base::proofs::TakeSteps::Taken_then), unfolding(crate::specs::HeadReading::head_at))]
@@ -147,7 +147,7 @@ pub(crate) fn take_head_behind<S: ByteSource>(
     }
 }
 
-/// Takes a value of a type whose values hold no others, behind its codes. (Not in tantivy.)
+/// Takes a value of a type whose values hold no others, after its codes. (Not in tantivy.)
 ///
 /// Errors: those of the parts that it has, and `Memory`.
 #[tactic(auto, using(tv_base::proofs::TakeSteps::Taken_then), unfolding(crate::specs::Leaves::leaf_at))]

@@ -50,7 +50,7 @@ pub pairs_as_parts : (L : List ℕ → Entries → Type 0) (v : Version) (d : Do
 pairs_as_parts L v [] b h = h
 pairs_as_parts L v (p ∷ d) b h = record { prefix = h.prefix; rest = h.rest; joined = h.joined; first = pair_with_legacy L v p h.prefix h.first; second = pairs_as_parts L v d h.rest h.second }
 
--- ---- more pairs behind the finished ones
+-- ---- more pairs after the finished ones
 
 pairs_append : (d e : Document) → pairs_parts (d ++ e) ≡ pairs_parts d ++ pairs_parts e
 pairs_append [] e = refl

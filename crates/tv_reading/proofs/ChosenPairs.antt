@@ -162,7 +162,7 @@ module _ {S : Type 0} {is_known : S → Type 0} {left : S → List ℕ} {failure
       (λ a r fixed other f start byte last. absurd (other (value_ended refl f)))
       p (finds_fails (λ b z. ⊥) (NoValue v) (λ w r f. f) (finds_any (λ e n may. may.0) h))
 
-  -- ---- a pair, behind none that was buffered
+  -- ---- a pair, after none that was buffered
 
   pub none_before : {old mid new : S} {i j k : ℕ} (document pairs : HeapPairs) (added : Bool) (result : Result HeapPairs DeserializeError) → added ≡ false → FindsIf StoreMayStop is_known left failures old i mid j (Ok added) (λ b z. AddsIf v fields document pairs b z) Nothing
       → FindsIf StoreMayStop is_known left failures mid j new k result (FindsPair v fields (document_of pairs)) (FindsNoPair v (document_of pairs)) → FindsIf StoreMayStop is_known left failures old i new k result (FindsPair v fields (document_of document)) (FindsNoPair v (document_of document))

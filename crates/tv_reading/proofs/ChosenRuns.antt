@@ -1,4 +1,4 @@
--- Whole pairs that stand one behind the other, of which those of chosen fields are added.
+-- Whole pairs that stand one after the other, of which those of chosen fields are added.
 use Rattle.std.proofs.Common.{◌≡◌, ℕ, ◌+◌, ◌-◌, ◌<◌, ◌≤◌, true, false, List, [], ◌∷◌, ◌++◌, length, take, Ok, refl, sym, ◌∙◌, ap, subst, append_assoc, length-append, arith}
 use Rattle.std.specs.Prelude.{get_or, drop}
 use Rattle.std.specs.Int.{w32, from_le_bytes}
@@ -111,7 +111,7 @@ module _ (v : Version) (fields : List Field) where
     document = h.document;
   }
 
-  -- ---- behind the number of the pairs
+  -- ---- after the number of the pairs
 
   first_taken : (announced m : ℕ) (empty document : HeapPairs) (a b : List ℕ) → TakenChosen v fields announced 0 a empty → AddsBufferedChosen v fields empty document b m → TakenChosen v fields announced m (a ++ b) document
   first_taken announced m empty document a b q h =

@@ -45,7 +45,7 @@ opened_ended v r f = value_ended refl f
 
 -- ---- the items of an array
 
--- this many values, and what is behind them
+-- this many values, and what is after them
 record Values (v : Version) (Rest : List ℕ → Type 0) (n : ℕ) (whole : List ℕ) : Type 0 where
   trees : Elements
   many : element_count trees ≡ n
@@ -164,7 +164,7 @@ entry_errors v E (suc n) whole r (inr p) = elim (entry_errors v E n p.rest r p.s
 
 -- ---- a list as one value
 
--- its head, and this many items behind it
+-- its head, and this many items after it
 array_closes : (v : Version) (Rest : List ℕ → Type 0) (n : ℕ) (head rest : List ℕ) → OpensList v head kinds.Value n → Values v Rest n rest → Then (IsValueEncoding v) Rest (head ++ rest)
 array_closes v Rest n head rest h q = record {
   prefix = head ++ q.parts.prefix;
@@ -212,7 +212,7 @@ entries_refused v n head body rest r is number (in_next_key es prefix more joine
 entries_refused v n head body rest r is number (in_next_value es k prefix key more joined encoded fewer keyed f) =
     subst (λ (l : List ℕ). NoValue v (l ++ rest) r) (sym is) (in_entry n es k body prefix key more (ap (λ (l : List ℕ). body ++ l) joined) number encoded fewer keyed f)
 
--- what is wrong behind its head is wrong in it, or behind it
+-- what is wrong after its head is wrong in it, or after it
 list_refused : (v : Version) (E : List ℕ → Refusal → Type 0) (kind : ItemKind) (n : ℕ) (head rest : List ℕ) (r : Refusal) → OpensList v head kind n → ErrorInItems v kind E n rest r → NoValue v (head ++ rest) r ⊎ Then (IsValueEncoding v) (λ b. E b r) (head ++ rest)
 list_refused v E kinds.Value n head rest r h f = elim (value_errors v E n rest r f) [
   | inl g ↦ inl (elements_refused v n head h.body rest r h.joined h.encoded g)
@@ -252,7 +252,7 @@ value_passed v kind n outer taken p = record {
   refuses = λ rest r f. inr (record { prefix = taken; rest = rest; joined = refl; first = p; second = f });
 }
 
--- what stands before a value, and then the value and what is behind it
+-- what stands before a value, and then the value and what is after it
 item_then : (v : Version) (kind : ItemKind) (Rest : List ℕ → Type 0) (whole before more : List ℕ) → whole ≡ before ++ more → Before v kind before → Then (IsValueEncoding v) Rest more → Then (IsItem v kind) Rest whole
 item_then v kind Rest whole before more joined b p = record {
   prefix = before ++ p.prefix;

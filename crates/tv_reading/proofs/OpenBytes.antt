@@ -153,7 +153,7 @@ end_opens r b x h c =
       leads = leads r b (and_end (state_of r.builder)) [] g (trades_as _ now e.trades);
     }
 
--- what is let go of when a pair can't be finished
+-- what is dropped when a pair can't be finished
 pub end_left : (r : Reading) (b : PairBuilder) (new : Reading) (result : Result (Unit {0}) DeserializeError) → EndOpens r b → OnErr result (LetGo (with_builder r b) new) → OnErr result (LetGo r new)
 end_left r b new (Ok x) o l = tt
 end_left r b new (Err e) o l = goes_let_go r b (and_end (state_of r.builder)) new o.goes l

@@ -56,14 +56,14 @@ module _ (v : Version) (d : Document) (f : ℕ) (few : length d + 1 < 2 ^ 64) (i
         (record { prefix = four_bytes f; rest = []; joined = sym (append-nil (four_bytes f)); first = four_bytes_encode f is_field; second = refl });
   }
 
-  -- behind the number
+  -- after the number
   behind_number : (w number rest y : List ℕ) (n : ℕ) → VNum number n → before d f bytes ++ w ≡ number ++ (rest ++ y) → (length d + 1 ≡ n) × (bytes ++ (four_bytes f ++ w) ≡ rest ++ y)
   behind_number w number rest y n counted e =
       let whole : vnum (length d + 1) ++ ((bytes ++ four_bytes f) ++ w) ≡ number ++ (rest ++ y) = sym (append_assoc (vnum (length d + 1)) (bytes ++ four_bytes f) w) ∙ e in
       let same = one_number (vnum (length d + 1)) number ((bytes ++ four_bytes f) ++ w) (rest ++ y) (length d + 1) n (vnum_encodes (length d + 1) few) counted whole in
       (same.1, sym (append_assoc bytes (four_bytes f) w) ∙ same_rest (vnum (length d + 1)) number ((bytes ++ four_bytes f) ++ w) (rest ++ y) same.0 whole)
 
-  -- behind the field
+  -- after the field
   behind_field : (w number rest : List ℕ) (g : ℕ) → Fixed 4 number g → four_bytes f ++ w ≡ number ++ rest → (f ≡ g) × (w ≡ rest)
   behind_field w number rest g fixed e =
       let same = one_fixed 4 (four_bytes f) number w rest f g (four_bytes_encode f is_field) fixed e in
@@ -76,7 +76,7 @@ record LastPair (v : Version) (d e : Document) (w : List ℕ) : Type 0 where
   encoded : EncodesPair Legacy v w pair
   last : e ≡ d ++ pair ∷ []
 
--- behind the bytes of the other pairs
+-- after the bytes of the other pairs
 last_pair : (v : Version) (d e : Document) (bytes w whole : List ℕ) → Each (EncodesPair Legacy v) bytes d → Each (EncodesPair Legacy v) whole e → length d + 1 ≡ length e → bytes ++ w ≡ whole → LastPair v d e w
 last_pair v [] [] bytes w whole p s many joined = absurd (omega (arith, many))
 last_pair v [] (q ∷ []) bytes w whole p s many joined =
@@ -147,7 +147,7 @@ value_refused v d f w r few is_field refuses stands =
 
 -- ---- it has no room
 
--- so much is taken before the pairs
+-- this much is taken before the pairs
 record NoRoom (v : Version) (taken : ℕ) (d : Document) (left : List ℕ) : Type 0 where
   state : State
   prefix : List ℕ

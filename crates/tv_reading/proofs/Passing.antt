@@ -34,9 +34,9 @@ use Rattle.tv_reading.specs.Skip.{Before, IsValueEncoding, IsTextEncoding, IsCod
 abbrev pub end : Refusal
 end = corrupted UnexpectedEnd
 
--- ---- one part behind another
+-- ---- one part after another
 
--- Behind a part that was read the end is the only error of no bytes.
+-- After a part that was read the end is the only error of no bytes.
 pub finds_after : {S X Y : Type 0} {May : DeserializeError → ℕ → Type 0} {is_known : S → Type 0} {left : S → List ℕ} {failures : S → Failures} {old mid new : S} {i j k : ℕ} {x : X} {result : Result Y DeserializeError}
     {R : List ℕ → X → Type 0} {I : List ℕ → Refusal → Type 0} {A : List ℕ → Y → Type 0} {P : List ℕ → Refusal → Type 0} (B : List ℕ → Y → Type 0) (Q : List ℕ → Refusal → Type 0)
     → ((r : Refusal) → P [] r → r ≡ end) → ((a b : List ℕ) (y : Y) → R a x → A b y → B (a ++ b) y) → ((a w : List ℕ) (r : Refusal) → R a x → P w r → Q (a ++ w) r)

@@ -134,7 +134,7 @@ grows_on r mid new ps l g = record {
   ];
 }
 
--- and what is let go of then
+-- and what is dropped then
 pub goes_let_go : (r : Reading) (b : PairBuilder) (s : State) (new : Reading) → Goes r.builder b s → LetGo (with_builder r b) new → LetGo r new
 goes_let_go r b s new g l = record {
   document = l.document ∙ g.document;

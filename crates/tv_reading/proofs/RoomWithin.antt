@@ -39,7 +39,7 @@ heads m n a b e = let code : m ≡ n = cc in let body : a ≡ b = cc in (code, b
 pub both_cut : (c d p q s t x y : List ℕ) → c ≡ p ++ q → d ≡ s ++ t → c ++ x ≡ d ++ y → p ++ (q ++ x) ≡ s ++ (t ++ y)
 both_cut c d p q s t x y f g e = sym (append_assoc p q x) ∙ ap (λ (z : List ℕ). z ++ x) (sym f) ∙ e ∙ ap (λ (z : List ℕ). z ++ y) g ∙ append_assoc s t y
 
--- the same behind a code
+-- the same after a code
 behind_codes : (m n : ℕ) (c d p q a b x y : List ℕ) → c ≡ p ++ q → p ≡ m ∷ a → d ≡ n ∷ b → c ++ x ≡ d ++ y → (m ≡ n) × (a ++ (q ++ x) ≡ b ++ y)
 behind_codes m n c d p q a b x y f g h e =
     heads m n (a ++ (q ++ x)) (b ++ y)
@@ -86,7 +86,7 @@ module _ (L : List ℕ → Entries → Type 0) (v : Version) (one_l : OneReading
       let n = next_element ts us p.rest q s.rest y p.second s.second (omega (arith, less)) (same_rest p.prefix s.prefix (p.rest ++ q) (s.rest ++ y) same.0 whole) in
       record { next = n.next; starts = n.starts; room_is = omega (arith, n.room_is, ap room same.1) }
 
-  -- ---- the next value behind a key
+  -- ---- the next value after a key
 
   next_behind_key : (ts : List Tree) (es : Entries) (c q d y : List ℕ) → StartsWithKey ts → length ts % 2 ≡ 1 → Each R c (key_parts ts) → EncodesEntries L v d es → length ts < 2 * entry_count es → c ++ q ≡ d ++ y
       → NextIn q (finished_room ts) (entries_room es)

@@ -68,7 +68,7 @@ state_prop (in_bytes ls kind n bs) x y = λ i. (lists_prop ls x.0 y.0 i, others_
 pub is_state : (b : PairBuilder) → IsState (state_of b)
 is_state b = ∥∥₁_elim b.state.1 (state_prop (state_of b)) (λ p. p.shows.is)
 
--- behind an open list no bytes are awaited
+-- after an open list no bytes are awaited
 pub no_bytes_next : (kind : ListKind) (k missing : ℕ) → next_at kind k ≡ awaits.Bytes missing → ⊥
 no_bytes_next Array k missing e = cc
 no_bytes_next Object k missing e = elim (eqb_tells (k % 2) 0) [

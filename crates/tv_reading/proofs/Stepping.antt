@@ -213,7 +213,7 @@ head_is_part v legacy old head a is h =
 
 -- ---- a value that is taken whole
 
--- behind the codes of a pre-tokenized text there is a leaf
+-- after the codes of a pre-tokenized text there is a leaf
 plain_leaf : (v : Version) (a : List ℕ) (t : Tree) → Encodes Legacy v (7 ∷ a) t → Encodes NoLegacy v (7 ∷ a) t
 plain_leaf v a (leaf l) h = h
 plain_leaf v a (array ts) h = absurd (let e : 7 ∷ a ≡ 12 ∷ h.body = h.joined in let k : ◌≡◌ {A = ℕ} 7 12 = cc in omega (arith, k))

@@ -23,7 +23,7 @@ use Rattle.tv_reading.proofs.Passing.{end, finds_after}
 use Rattle.tv_reader.specs.Error.{StoreMayStopRoomy}
 use Rattle.tv_reader.proofs.TreeSteps.{no_rest}
 
--- ---- one part, and what is behind it
+-- ---- one part, and what is after it
 
 -- the end is the only error of no bytes
 abbrev pub EndsFirst : (List ℕ → Cause → Type 0) → Type 0

@@ -6,7 +6,7 @@ use Rattle.tv_builder.specs.State.{State, complete, parts_of}
 use Rattle.tv_builder.proofs.Trading.{trades_as, trades_from, trades_last}
 use Rattle.tv_format.specs.Tree.{Tree, Document}
 
--- behind other parts
+-- after other parts
 pub trades_behind : {ps qs : List Part} (prefix : List Part) → Trades ps qs → Trades (prefix ++ ps) (prefix ++ qs)
 trades_behind prefix same = same
 trades_behind {qs = qs} prefix (by_rule before old new back rule is next) =

@@ -16,7 +16,7 @@ use Rattle.tv_reading.specs.declared.items.ItemKind.{ItemKind}
 use Rattle.tv_reading.specs.declared.items.ItemKind.TheVariants as kinds
 use Rattle.tv_reading.proofs.Left.{so_many, list_closes}
 
--- ---- items one behind the other
+-- ---- items one after the other
 
 -- all that is left is nothing
 abbrev pub Ends : List ℕ → Type 0
@@ -113,7 +113,7 @@ pub field_begins : (v : Version) (bytes prefix rest : List ℕ) → ((i : ℕ) �
 field_begins v bytes prefix rest small is after long =
     begins_cut (Before v kinds.Pair) 4 bytes (take 4 bytes) rest refl after (from_le_bytes w32 (take 4 bytes), fixed_4 (take 4 bytes) (length-take-le 4 bytes long) (small_take 4 bytes small))
 
--- what is behind the items of a list is behind the list
+-- what is after the items of a list is after the list
 pub array_behind : (v : Version) (n : ℕ) (bytes behind items : List ℕ) (result : Option (Bor (List ℕ))) → bytes ≡ 12 ∷ behind → Begins (λ b. VNum b n) behind items → IfSome result (λ rest. BeginsItems v kinds.Value n items rest.now) → IfSome result (λ rest. Begins (IsValueEncoding v) bytes rest.now)
 array_behind v n bytes behind items None is number all = tt
 array_behind v n bytes behind items (Some rest) is number all = array_begins v n bytes behind items rest.now is number all

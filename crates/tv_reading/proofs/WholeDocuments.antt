@@ -126,7 +126,7 @@ module _ {S : Type 0} {is_known : S → Type 0} {left : S → List ℕ} {failure
       let g = h.taken t in
       omega (arith, f.encoded.some, g.counted, ap length f.joined, ap length g.joined, length-append f.prefix (left new), length-append g.prefix (left new))
 
-  -- buffered pairs behind them
+  -- buffered pairs after them
   pub pairs_more : {old mid new : S} {i j k : ℕ} (after : Reading) → FindsIf StoreMayStop is_known left failures old i mid j (Ok r) (Goes v begun) Nothing → FindsIf StoreMayStop is_known left failures mid j new k (Ok after) (λ b z. Advances Legacy v r z b) Nothing → FindsIf StoreMayStop is_known left failures old i new k (Ok after) (Goes v begun) Nothing
   pairs_more after p h = finds_then (Goes v begun) Nothing (λ a b z q s. two_steps v begun r z a b q s) (λ a w c q f. f) (λ a f q _ none start byte last. none) p h
 
@@ -161,9 +161,9 @@ module _ {S : Type 0} {is_known : S → Type 0} {left : S → List ℕ} {failure
     may_stop = refl;
   }
 
--- ---- the number, and buffered pairs behind it
+-- ---- the number, and buffered pairs after it
 
--- behind the number these pairs are finished
+-- after the number these pairs are finished
 abbrev Begun : Version → ℕ → HeapPairs → List ℕ → ℕ → Type 0
 Begun v n document b finished = Encoded Legacy v b (document_parts n (document_of document)) × (length (document_of document) ≡ finished)
 
@@ -181,7 +181,7 @@ module _ {S : Type 0} {is_known : S → Type 0} {left : S → List ℕ} {failure
   begun_ends m all p = finds_as document (EncodesRead v) (NoDocument v)
       (λ a s. record { prefix = s.0.prefix; rest = s.0.rest; joined = s.0.joined; first = subst (λ z. VNum s.0.prefix z) (sym (s.1 ∙ all)) s.0.first; second = pairs_encode v (document_of document) s.0.rest s.0.second }) p
 
-  -- and the rest behind them
+  -- and the rest after them
   pub begun_then : {old mid new : S} {i j k : ℕ} (m : ℕ) (begun : Reading) (result : Result HeapPairs DeserializeError) → parts_read begun ≡ document_parts n (document_of document) → FindsIf StoreMayStop is_known left failures old i mid j (Ok m) (Begun v n document) Nothing
       → FindsIf StoreMayStop is_known left failures mid j new k result (EncodesRest v begun) (IsMalformedNext v begun) → IsSound begun → ¬ IsDone begun → FindsIf StoreMayStop is_known left failures old i new k result (EncodesRead v) (NoDocument v)
   begun_then m begun result is p h sound more =

@@ -78,7 +78,7 @@ pub finds_seen : {S : Type 0} {is_known : S → Type 0} {left : S → List ℕ} 
 finds_seen {left = left} {os = os} {ns = ns} {k = k} {result = result} v legacy old new h =
     record { found = λ t. seen_as v legacy old new result (IsMalformedNext v old) (left os) (left ns) k (h.found t); taken = h.taken; stays_known = h.stays_known; counts = h.counts; rises = h.rises; may_stop = h.may_stop }
 
--- ---- a value behind its codes
+-- ---- a value after its codes
 
 pub record IsBehind {X : Type 0} (view : X → Tree) (v : Version) (kind : ValueType) (a : List ℕ) (x : X) : Type 0 where
   pub body : List ℕ

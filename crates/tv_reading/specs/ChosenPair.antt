@@ -21,7 +21,7 @@ use Rattle.tv_reading.specs.ChosenFields.{is_among, chosen}
 abbrev pub BeginsAsPair : List ℕ → ℕ → Type 0
 BeginsAsPair bytes number = (rest : List ℕ) × Begins (λ b. Fixed 4 b number) bytes rest
 
--- The bytes encode a pair, which stands behind the old ones if its field is among these.
+-- The bytes encode a pair, which stands after the old ones if its field is among these.
 pub record AddsChosen (v : Version) (fields : List Field) (old : Document) (taken : List ℕ) (new : HeapPairs) : Type 0 where
   pub pair : ℕ × Tree
   pub encoded : EncodesPair Legacy v taken pair
@@ -32,14 +32,14 @@ abbrev pub AddsIf : Version → List Field → HeapPairs → HeapPairs → List 
 AddsIf v fields old new taken true = AddsChosen v fields (document_of old) taken new
 AddsIf v fields old new taken false = (taken ≡ []) × (document_of new ≡ document_of old)
 
--- what is found behind pairs that can stand there
+-- what is found after pairs that can stand there
 abbrev pub FindsPair : Version → List Field → Document → List ℕ → HeapPairs → Type 0
 FindsPair v fields old taken new = CanStand v old → AddsChosen v fields old taken new
 
 abbrev pub FindsNoPair : Version → Document → List ℕ → Refusal → Type 0
 FindsNoPair v old bytes r = CanStand v old → ErrorInPair Legacy ErrorInLegacy v bytes r
 
--- A prefix of the bytes encodes a chosen field and what has come of its value, and that has no room in a heap behind the pairs.
+-- A prefix of the bytes encodes a chosen field and what has come of its value, and that has no room in a heap after the pairs.
 pub record PairHasNoRoom (v : Version) (fields : List Field) (old : Document) (whole : List ℕ) : Type 0 where
   pub number : ℕ
   pub state : State

@@ -17,6 +17,6 @@ EncodesRead v b document = EncodesDocument Legacy v b (document_of document)
 abbrev pub NoDocument : Version → List ℕ → Refusal → Type 0
 NoDocument v bytes r = ErrorInDocument Legacy ErrorInLegacy v bytes r
 
--- behind any bytes of which this has come, these encode what is left of the document
+-- after any bytes of which this has come, these encode what is left of the document
 abbrev pub EncodesRest : Version → Reading → List ℕ → HeapPairs → Type 0
 EncodesRest v r b document = (bytes : List ℕ) → Encoded Legacy v bytes (parts_read r) → EncodesRead v (bytes ++ b) document

@@ -17,7 +17,7 @@ pub record Grows (old new : Reading) : Type 0 where
   pub heap : IsPrefix (heap_so_far old.builder) (heap_so_far new.builder)
   pub ends : EndsPairs old new
 
--- After a refusal what isn't finished was let go of, and the heap ends behind the finished pairs.
+-- After a refusal what isn't finished was dropped, and the heap ends after the finished pairs.
 pub record LetGo (old new : Reading) : Type 0 where
   pub document : built new.builder ≡ built old.builder
   pub kept : new.builder.kept ≡ old.builder.kept

@@ -1,4 +1,4 @@
--- The value of one pair more, behind pairs that were read before it.
+-- The value of one pair more, after pairs that were read before it.
 use Rattle.std.specs.Prelude.{◌≡◌, ℕ, ◌+◌, ◌<◌, List, [], ◌∷◌, ◌++◌}
 use Rattle.tv_base.specs.Parts.{Each}
 use Rattle.tv_builder.specs.Prefix.{Encoded}
@@ -17,20 +17,20 @@ use Rattle.tv_format.specs.Version.{Version}
 abbrev pub CanStand : Version → Document → Type 0
 CanStand v d = (bytes : List ℕ) × Each (EncodesPair Legacy v) bytes d
 
--- The bytes encode a value, which stands in a pair of this field behind those that were there.
+-- The bytes encode a value, which stands in a pair of this field after those that were there.
 pub record AddsValue (v : Version) (old : Document) (field : ℕ) (taken : List ℕ) (new : HeapPairs) : Type 0 where
   pub tree : Tree
   pub encoded : Encodes Legacy v taken tree
   pub document : document_of new ≡ old ++ (field, tree) ∷ []
 
--- what is found behind pairs that can stand there
+-- what is found after pairs that can stand there
 abbrev pub FindsValue : Version → Document → ℕ → List ℕ → HeapPairs → Type 0
 FindsValue v old field taken new = CanStand v old → AddsValue v old field taken new
 
 abbrev pub FindsNoValue : Version → Document → List ℕ → Refusal → Type 0
 FindsNoValue v old bytes r = CanStand v old → NoValue v bytes r
 
--- A prefix of the bytes encodes what has come of a value, and that has no room in a heap behind the pairs.
+-- A prefix of the bytes encodes what has come of a value, and that has no room in a heap after the pairs.
 pub record ValueHasNoRoom (v : Version) (old : Document) (whole : List ℕ) : Type 0 where
   pub state : State
   pub prefix : List ℕ

@@ -57,7 +57,7 @@ LacksPair (Some n) finished = finished < n
 
 -- ---- why there is no more
 
--- Behind the bytes of which this has come, these ones are malformed.
+-- After the bytes of which this has come, these ones are malformed.
 abbrev pub IsMalformedNext : Version → Reading → List ℕ → Refusal → Type 0
 IsMalformedNext v r rest refusal = (bytes : List ℕ) → Encoded Legacy v bytes (parts_read r) → ErrorInDocument Legacy ErrorInLegacy v (bytes ++ rest) refusal
 
@@ -75,7 +75,7 @@ pub record HasNoRoom (v : Version) (whole : List ℕ) : Type 0 where
   pub encoded : Encoded Legacy v prefix (open_parts announced finished field state)
   pub full : 4294967295 < document_room finished + state_room state
 
--- the same behind the bytes of which this has come
+-- the same after the bytes of which this has come
 abbrev pub NoRoomBehind : Version → Reading → List ℕ → Type 0
 NoRoomBehind v r rest = (bytes : List ℕ) → Encoded Legacy v bytes (parts_read r) → HasNoRoom v (bytes ++ rest)
 

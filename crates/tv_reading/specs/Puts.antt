@@ -56,7 +56,7 @@ pub record Awaiting (r : Reading) (what : Awaits) : Type 0 where
 
 -- ---- what a call leaves
 
--- Whatever encodes what had come, with the part behind it, encodes what has come now.
+-- Whatever encodes what had come, with the part after it, encodes what has come now.
 pub record PartsPut (old new : Reading) (ps : List Part) : Type 0 where
   pub sound : IsSound new
   pub grows : Grows old new

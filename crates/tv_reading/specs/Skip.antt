@@ -21,7 +21,7 @@ use Rattle.tv_reading.specs.declared.items.ItemsLeft.{ItemsLeft}
 abbrev pub IsTextEncoding : List ℕ → Type 0
 IsTextEncoding whole = (content : List ℕ) × Text whole content
 
--- behind the code of a text
+-- after the code of a text
 abbrev pub IsCodedText : List ℕ → Type 0
 IsCodedText whole = (content : List ℕ) × Behind 0 (λ b. Text b content) whole
 
@@ -143,7 +143,7 @@ abbrev pub ErrorInLeft : Version → List ItemsLeft → List ℕ → Refusal →
 ErrorInLeft v [] whole r = ⊥
 ErrorInLeft v (items ∷ outer) whole r = ErrorInItems v items.kind (ErrorInLeft v outer) items.left whole r
 
--- The bytes begin with this many items, and this is behind them.
+-- The bytes begin with this many items, and this is after them.
 abbrev pub BeginsItems : Version → ItemKind → ℕ → List ℕ → List ℕ → Type 0
 BeginsItems v kind n whole rest = Begins (AreItems v kind (λ b. b ≡ []) n) whole rest
 

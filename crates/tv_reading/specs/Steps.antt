@@ -8,7 +8,7 @@ use Rattle.tv_format.specs.Version.{Version}
 use Rattle.tv_reading.specs.Prefix.{parts_read, ValueNext}
 use Rattle.tv_reading.specs.declared.reading.Reading.{Reading}
 
--- whatever encodes what had come, with these bytes behind it, encodes what has come now
+-- whatever encodes what had come, with these bytes after it, encodes what has come now
 abbrev pub Advances : (List ℕ → Entries → Type 0) → Version → Reading → Reading → List ℕ → Type 0
 Advances L v old new taken = (bytes : List ℕ) → Encoded L v bytes (parts_read old) → Encoded L v (bytes ++ taken) (parts_read new)
 

@@ -119,7 +119,7 @@ fn take_chosen_pair<S: ByteSource>(
 
 /// Takes a document, and keeps the pairs whose field is among these, in order, in the memory of pairs that were taken off. All others are tested
 /// as if they were read, and passed over as `pass_value` does. Values that are kept are read straight into the heap, to any depth, by a recursion of
-/// `MAX_DEPTH` levels at most. Nothing is reserved from announced numbers, and no byte behind the document is taken.
+/// `MAX_DEPTH` levels at most. Nothing is reserved from announced numbers, and no byte after the document is taken.
 ///
 /// The fields are looked through for each pair, so they should be few. Without any, all pairs are passed over.
 ///

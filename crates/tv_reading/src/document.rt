@@ -52,7 +52,7 @@ fn take_rest<S: ByteSource>(
 }
 
 /// Takes a document: the number of its pairs, and each pair, to any depth, by a recursion of `MAX_DEPTH` levels at most. Nothing is reserved from
-/// announced numbers, and no byte behind the document is taken.
+/// announced numbers, and no byte after the document is taken.
 ///
 /// Errors: `CorruptedValue` and `TypeMismatch` with the first error in the bytes; `HeapFull` where what has come needs more room than
 /// 4294967295 bytes; `Io` where the source failed; `Memory`.

@@ -12,7 +12,7 @@ use tv_format::type_codes::{ARRAY_CODE, OBJECT_CODE};
 use tv_format::version::WriteVersion;
 use tv_value::in_place::{content_at, entry_count_at, key_at, number_at};
 
-// What follows the value without children that stands behind this code. It is encoded alike in all versions that are written.
+// What follows the value without children that stands after this code. It is encoded alike in all versions that are written.
 #[inline(always)]
 fn behind_leaf(code: u8, bytes: &[u8]) -> Option<&[u8]>
     ensures { IfSome result

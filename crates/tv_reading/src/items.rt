@@ -41,7 +41,7 @@ pub(crate) struct ItemsLeft {
     left: u64,
 }
 
-// Passes over the items that the source has buffered whole, one behind the other, and gives those that are left. It may pass over none.
+// Passes over the items that the source has buffered whole, one after the other, and gives those that are left. It may pass over none.
 fn pass_buffered_items<S: ByteSource>(
     source: &mut S,
     count: &mut u64,
@@ -106,7 +106,7 @@ fn skip_before<S: ByteSource>(
     }
 }
 
-// Passes over what stands behind the codes of a value: all of it, or what stands before its items.
+// Passes over what stands after the codes of a value: all of it, or what stands before its items.
 fn skip_behind<S: ByteSource>(
     alloc: Global,
     source: &mut S,

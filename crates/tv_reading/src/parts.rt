@@ -89,7 +89,7 @@ fn skip_text_of<S: ByteSource>(
     }
 }
 
-// Passes over a text, behind its length in bytes.
+// Passes over a text, after its length in bytes.
 pub(crate) fn skip_text<S: ByteSource>(
     source: &mut S,
     count: &mut u64,
@@ -153,7 +153,7 @@ fn skip_bytes<S: ByteSource>(
     skip_by_reads(source, count, len)
 }
 
-// Passes over bytes, behind their length.
+// Passes over bytes, after their length.
 pub(crate) fn skip_sized<S: ByteSource>(
     source: &mut S,
     count: &mut u64,
@@ -165,7 +165,7 @@ pub(crate) fn skip_sized<S: ByteSource>(
     skip_bytes(source, count, len)
 }
 
-// Passes over a text, behind its code.
+// Passes over a text, after its code.
 fn skip_coded_text<S: ByteSource>(
     source: &mut S,
     count: &mut u64,
@@ -184,7 +184,7 @@ fn skip_coded_text<S: ByteSource>(
     }
 }
 
-// Passes over a key: a text, which in versions 1 and 2 stands behind its code.
+// Passes over a key: a text, which in versions 1 and 2 stands after its code.
 pub(crate) fn skip_key<S: ByteSource>(
     source: &mut S,
     count: &mut u64,

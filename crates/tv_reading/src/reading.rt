@@ -156,7 +156,7 @@ impl Reading {
         Reading::between_pairs(announced, finished + more, document)
     }
 
-    /// The finished pairs. Their heap ends behind the last of their values.
+    /// The finished pairs. Their heap ends after the last of their values.
     pub fn into_pairs(self) -> HeapPairs
         ensures document { document_of result ≡ built self.builder }
         ensures heap { heap_of result ≡ take self.builder.kept (heap_so_far self.builder) }

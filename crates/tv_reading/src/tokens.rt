@@ -22,7 +22,7 @@ fn skip_number<S: ByteSource>(source: &mut S, count: &mut u64) -> Result<(), Des
     Ok(())
 }
 
-// Passes over a text, and a number behind it.
+// Passes over a text, and a number after it.
 fn skip_text_and_number<S: ByteSource>(
     source: &mut S,
     count: &mut u64,
@@ -79,7 +79,7 @@ fn skip_counted_tokens<S: ByteSource>(
     skip_tokens(source, count, scratch, announced)
 }
 
-// Passes over a text and its tokens, behind their codes.
+// Passes over a text and its tokens, after their codes.
 pub(crate) fn skip_tokenized<S: ByteSource>(
     source: &mut S,
     count: &mut u64,

@@ -151,7 +151,7 @@ place_from-other n (e ∷ es) q other =
     cond-not (bytes_eq e.name q) n (place_from (n + 1) es q) (λ same. other 0 e (omega arith) ((bytes_eq-Decides e.name q).0 same))
     ∙ place_from-other (n + 1) es q (λ k d h. other (suc k) d (omega arith))
 
--- each entry of a schema is taken behind those before it
+-- each entry of a schema is taken after those before it
 refusal-fresh : (schema : List Entry) (entry : Entry) (rest : List Entry) → IsSchema (schema ++ entry ∷ rest) → refusal schema entry.name ≡ None
 refusal-fresh schema entry rest is =
     let long : length schema < length (schema ++ entry ∷ rest) = omega (arith, length-append schema (entry ∷ rest)) in

@@ -15,7 +15,7 @@ is_splitting_dot path place = (slice_index path place == 46) && is_unescaped pat
 abbrev pub field_of_prefix : List Entry → List ℕ → Option ℕ
 field_of_prefix schema prefix = option_or (field_named schema prefix) (field_named schema (without_escapes prefix))
 
--- the field of the prefix and the text behind, where an unescaped dot parts them
+-- the field of the prefix and the text after, where an unescaped dot parts them
 abbrev pub parted_at : List Entry → List ℕ → ℕ → Option (ℕ × List ℕ)
 parted_at schema path place =
     if is_splitting_dot path place then option_map (λ field. (field, drop (place + 1) path)) (field_of_prefix schema (take place path))

@@ -12,7 +12,7 @@ use Rattle.tv_schema.specs.declared.json.error.SchemaJsonError.{SchemaJsonError}
 use Rattle.tv_schema.specs.declared.json.error.SchemaJsonError.TheVariants.{Other}
 use Rattle.tv_schema.specs.declared.json.key.SchemaKey.TheVariants as keys
 
--- the members of an entry's options, behind its name and the word of its type
+-- the members of an entry's options, after its name and the word of its type
 unfoldable pub opened : Data → Result Members EntryFault
 opened description = do
   members ← ok_or (as_object description) NoObject

@@ -57,7 +57,7 @@ abbrev pub refused_at : ℕ → SchemaError → SchemaJsonError
 refused_at place schemas.Memory = Other schemas.Memory
 refused_at place error = Refused place error
 
--- the schema with the entry behind the others, unless it is refused
+-- the schema with the entry after the others, unless it is refused
 abbrev pub accepted_entry : List Entry → Entry → Option SchemaError → Result (List Entry) SchemaJsonError
 accepted_entry schema entry None = Ok (schema ++ entry ∷ [])
 accepted_entry schema entry (Some error) = Err (refused_at (length schema) error)

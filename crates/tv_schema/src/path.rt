@@ -1,4 +1,4 @@
-//! The fields that paths name: a name, a dot and a rest, as `title.first`. A backslash takes the character behind it, so that
+//! The fields that paths name: a name, a dot and a rest, as `title.first`. A backslash takes the character after it, so that
 //! a name may have dots.
 
 ghost use Rattle.std.specs.Prelude.{◌≡◌, ◌<◌, length, IfSome};
@@ -19,7 +19,7 @@ pub(crate) fn find<'a>(table: &FieldTable, path: &'a str) -> Option<(u32, &'a st
     if let Some(field) = table.field_named(path) {
         return Some((field, ""));
     }
-    // behind these places stands no dot whose prefix names a field
+    // after these places stands no dot whose prefix names a field
     let places = path.len().min(table.longest_prefix().saturating_add(1));
     for place in (0..places).rev() {
         if let Some(found) = parted_at(table, path, place) {
@@ -29,7 +29,7 @@ pub(crate) fn find<'a>(table: &FieldTable, path: &'a str) -> Option<(u32, &'a st
     None
 }
 
-// The field that the prefix before the place names, and the text behind the place, where an unescaped dot stands there.
+// The field that the prefix before the place names, and the text after the place, where an unescaped dot stands there.
 fn parted_at<'a>(table: &FieldTable, path: &'a str, place: usize) -> Option<(u32, &'a str)>
     requires { place < length path.now }
     ensures found { option_map (λ found. (found.0, found.1.now)) result

@@ -44,7 +44,7 @@ pub struct SchemaBuilder {
     alloc: Global,
 }
 
-// By hand, so that a builder is let go by one call.
+// By hand, so that a builder is dropped by one call.
 impl Drop for SchemaBuilder {
     fn drop(self) {
         let SchemaBuilder { table: _, alloc: _ } = self;
@@ -375,7 +375,7 @@ impl Schema {
     ///
     /// A path that is a field's name is that field, with an empty rest. Else the path is parted at a dot that no backslash
     /// takes: the last one before which there is a field's name, as it stands or without its escapes, and the name as it
-    /// stands comes first. The rest is what follows that dot. A backslash takes the byte behind it, whatever that is.
+    /// stands comes first. The rest is what follows that dot. A backslash takes the byte after it, whatever that is.
     ///
     /// It takes no memory. It looks the path up, and then what stands before each such dot from the last on, until one
     /// serves: one lookup each. Only what holds a backslash, and is no name as it stands, is compared with each name too.

@@ -21,7 +21,7 @@ pub(crate) struct FieldTable {
     longest: usize,
 }
 
-// By hand, so that a table is let go by one call.
+// By hand, so that a table is dropped by one call.
 impl Drop for FieldTable {
     fn drop(self) {
         let FieldTable {

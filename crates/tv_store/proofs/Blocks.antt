@@ -68,7 +68,7 @@ no_groups : (bytes : List ℕ) (n : ℕ) → bytes ≡ [] → Groups bytes n →
 no_groups _ _ e (last lt) = cc
 no_groups _ _ e (more lt groups) = cc
 
--- they encode no number, and nothing behind one
+-- they encode no number, and nothing after one
 pub no_number : (v : Version) (taken : List ℕ) (n : ℕ) (ps : List Part) → taken ≡ [] → Encoded Legacy v taken (number n ∷ ps) → ⊥
 no_number v taken n ps none parts = no_groups parts.prefix n (none_before parts.prefix parts.rest (sym parts.joined ∙ none)) parts.first.groups
 

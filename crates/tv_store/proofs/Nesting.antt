@@ -96,7 +96,7 @@ head_is e = cc
 body_is : {c d : ℕ} {a b : List ℕ} → c ∷ a ≡ d ∷ b → a ≡ b
 body_is e = cc
 
--- this many groups at most are told from what follows them
+-- this many groups at most are reported from what follows them
 same_groups : (k m n : ℕ) (x y : List ℕ) → groups_of k m ++ x ≡ groups_of k n ++ y → groups_of k m ≡ groups_of k n
 same_groups zero m n x y e = refl
 same_groups (suc k) m n x y e =
@@ -127,7 +127,7 @@ same_groups (suc k) m n x y e =
           ]
     ]
 
--- the children behind a count
+-- the children after a count
 behind_count : (m n : ℕ) (x y : List ℕ) → vnum m ++ x ≡ vnum n ++ y → x ≡ y
 unfolding vnum
 behind_count m n x y e = append_cancel_left (groups_of 10 n) x y (ap (λ (l : List ℕ). l ++ x) (sym (same_groups 10 m n x y e)) ∙ e)

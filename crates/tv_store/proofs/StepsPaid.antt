@@ -68,7 +68,7 @@ module _ {S : Type 0} (source : Ghosts S) {source_old source_new : S} {old new :
   )
   encoded_then (Err e) bytes encoded counted none taken mark live found = absurd (both (sym live ∙ mark))
 
-  -- a decoder that is paid for still is behind the next step
+  -- a decoder that is paid for still is after the next step
   pub still_paid : StaysPaid old new → Sees old.reading (source.left source_old) old.legacy_seen new.legacy_seen → source.is_known source_old → (old.legacy_seen ≡ false → IsPaidFor old) → new.legacy_seen ≡ false → IsPaidFor new
   still_paid stays seen known before none =
       let p = before (none_before old.legacy_seen new.legacy_seen seen none) in

@@ -130,7 +130,7 @@ passed v limits begun r limit.Depth old new count none sound check f t below =
 passed v limits begun r limit.HeapBytes old new count none sound check f t below =
     record { taken = f.prefix; joined = f.joined; most = taken_within limits.bytes f.prefix old new count f.joined t below; outcome = large_at v limits r f.prefix sound (f.encoded [] (at_start v begun none)) check.1 }
 
--- That no more bytes can be counted is told where there is no limit, so as many were taken.
+-- That no more bytes can be counted is reported where there is no limit, so as many were taken.
 all_counted : (most : Option ℕ) (n count : ℕ) → count ≡ first_count most + n → ¬ (IsSome most × (count ≡ 2 ^ 64 - 1)) → count ≡ 2 ^ 64 - 1 → n ≡ 2 ^ 64 - 1
 all_counted None n count is told all = omega (arith, is, all)
 all_counted (Some m) n count is told all = absurd (told (search rules, all))
@@ -168,7 +168,7 @@ took_all v limits begun old new count none h t below is sum all =
       outcome = (all_of limits.bytes (length h.taken) is sum (omega (arith, t.counted, all, many)), h.shown [] (at_start v begun none));
     }
 
--- an error is told where not all were taken, or as the limit
+-- an error is reported where not all were taken, or as the limit
 pub told_of : (v : Version) (limits : ReadLimits) (begun : Reading) (e : DeserializeError) (old new : List ℕ) (count : ℕ) (all : Bool) (said : LimitedReadError) → Told all e said → parts_read begun ≡ []
     → GivesStop (corrupted UnexpectedEnd) (IsMalformedNext v begun) old new count (store_stop e) → Taken old new (first_count limits.bytes) count → count < 2 ^ 64
     → IsTrue all ↔ (IsSome limits.bytes × (count ≡ 2 ^ 64 - 1)) → ((m : ℕ) → limits.bytes ≡ Some m → first_count limits.bytes + m ≡ 2 ^ 64 - 1)

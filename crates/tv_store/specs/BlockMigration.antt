@@ -1,8 +1,8 @@
--- What comes of a block, whose documents stand one behind the other, when these are carried over to another version of the store.
+-- What comes of a block, whose documents stand one after the other, when these are carried over to another version of the store.
 --
 -- A call that makes this promise carries over the documents from the first on, each as `migrate` does. Where it succeeds, these are all that
 -- the block encodes, and it tells their number. After an error it tells at which byte the first document begins that wasn't carried over, and
--- why. Behind what the sink held stand the shortest encodings of those that were, and then a beginning of the encoding of that document, but
+-- why. After what the sink held stand the shortest encodings of those that were, and then a beginning of the encoding of that document, but
 -- nothing of it where it couldn't be read.
 use Rattle.std.specs.Prelude.{◌≡◌, ◌≢◌, ℕ, List, [], ◌++◌, length}
 use Rattle.std.specs.List.{flat_map}
@@ -27,7 +27,7 @@ use Rattle.tv_store.specs.declared.migration.MigrateError.{MigrateError}
 use Rattle.tv_store.specs.declared.migration.MigrateError.TheVariants.{Read, Write}
 use Rattle.tv_writer.specs.Error.{write_stop, IsIoOrMemory}
 
--- these documents are encoded, one behind the other
+-- these documents are encoded, one after the other
 abbrev pub EncodesBlock : Version → List ℕ → List Document → Type 0
 EncodesBlock v block documents = Each (EncodesDocument Legacy v) block documents
 
@@ -59,7 +59,7 @@ abbrev pub IsUnmigrated : Version → Version → List ℕ → List ℕ → Migr
 IsUnmigrated from to bytes text (Read e) = IsUnread from bytes e × (text ≡ [])
 IsUnmigrated from to bytes text (Write e) = ((rest : List ℕ) × Transcribes from to bytes rest text) × IsIoOrMemory e
 
--- no write failed where the document couldn't be read, else there is the failure that is told
+-- no write failed where the document couldn't be read, else there is the failure that is reported
 abbrev pub CountsUnmigrated : MigrateError → Failures → Failures → Type 0
 CountsUnmigrated (Read e) old new = new ≡ old
 CountsUnmigrated (Write e) old new = CountsStop (write_stop e) old new
@@ -71,8 +71,8 @@ pub record MigratesAll {K : Type 0} (from to : Version) (block : List ℕ) (sink
   pub counted : number ≡ length migrated.documents
   pub held : sink.is_known old → sink.held new ≡ sink.held old ++ text
 
--- The documents before the byte that is told were carried over, and `text` is what they are in the other version. Some bytes stand behind
--- them, and the document with which these begin wasn't carried over, for the reason that is told: `next` was to be written of it.
+-- The documents before the byte that is reported were carried over, and `text` is what they are in the other version. Some bytes stand after
+-- them, and the document with which these begin wasn't carried over, for the reason that is reported: `next` was to be written of it.
 pub record MigratesBefore {K : Type 0} (from to : Version) (block : List ℕ) (sink : Sink K) (old new : K) (error : MigrateBlockError) : Type 0 where
   pub before : List ℕ
   pub behind : List ℕ

@@ -1,4 +1,4 @@
--- What is read of documents that stand one behind the other.
+-- What is read of documents that stand one after the other.
 use Rattle.std.specs.Prelude.{◌≡◌, Bool, true, false, Some, Result, Ok, Err}
 use Rattle.tv_base.specs.declared.cause.Cause.TheVariants.{UnexpectedEnd}
 use Rattle.tv_reader.specs.declared.error.DeserializeError.{DeserializeError}

@@ -70,7 +70,7 @@ StepsTo source zero source_old old source_new new = (source_new ≡ source_old) 
 StepsTo {S} source (suc n) source_old old source_new new =
     (source_mid : S) × (mid : DirectDecoder) × (result : Result Step DeserializeError) × StepsTo source n source_old old source_mid mid × ReadsStep source source_mid source_new mid new result
 
--- a decoder of this version that had read nothing, behind that many steps
+-- a decoder of this version that had read nothing, after that many steps
 pub record IsStepped {S : Type 0} (source : Ghosts S) (version : DocStoreVersion) (steps : ℕ) (source_old source_new : S) (d : DirectDecoder) : Type 0 where
   pub start : DirectDecoder
   pub nothing : parts_read start.reading ≡ []

@@ -228,7 +228,7 @@ EndsPart limits source source_old source_new old result =
     old.failed ≡ false → ¬ IsDone old.reading → ¬ IsPast limits.bytes old.count → source.is_known source_old → IsErrOf result (limited.Limit limit.Bytes)
     → EndsEarly (corrupted UnexpectedEnd) (IsMalformedNext (version_of old.version) old.reading) (source.left source_old) (source.left source_new)
 
--- A part that has come is within the limits, or the limit that is told is passed.
+-- A part that has come is within the limits, or the limit that is reported is passed.
 abbrev pub TestsPart : ReadLimits → DirectDecoder → DirectDecoder → Result Step LimitedReadError → Type 0
 TestsPart limits old new result =
     old.failed ≡ false → ¬ IsDone old.reading → TestsLimits limits old.count new.count (length (heap_so_far new.reading.builder)) (length (lists_of (state_of new.reading.builder))) result

@@ -2,7 +2,7 @@
 --
 -- A call that makes this promise reads a document as `read_document` does, and returns its error if there is none; then nothing is written.
 -- A document that was read is written in the other version, in the shortest encoding. After an error of writing the sink holds a beginning of
--- that, and the source stands behind the document.
+-- that, and the source stands after the document.
 use Rattle.std.specs.Prelude.{◌≡◌, Result, Ok, Err, IfErr}
 use Rattle.tv_base.specs.declared.sink.ByteSink.{Ghosts as Sink}
 use Rattle.tv_base.specs.declared.source.ByteSource.{Ghosts as Source}

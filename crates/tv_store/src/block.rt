@@ -1,4 +1,4 @@
-//! Documents that stand one behind the other, read in the memory of one.
+//! Documents that stand one after the other, read in the memory of one.
 
 ghost use Rattle.std.specs.Prelude.{◌≡◌, ◌≢◌, ◌<◌, [], length, true, false, Ok, Err, IsErrOf, OnOk, OnErr};
 ghost use Rattle.tv_base.specs.declared.cause.Cause.TheVariants.{UnexpectedEnd};
@@ -49,7 +49,7 @@ fn next_within(read: Result<(), LimitedReadError>, count: u64) -> Result<bool, L
     }
 }
 
-/// Reads documents that stand one behind the other, as a block of a store has them, each in place of the one before and in its memory. So a
+/// Reads documents that stand one after the other, as a block of a store has them, each in place of the one before and in its memory. So a
 /// block takes memory once. (Not in tantivy.)
 ///
 /// It is lent the source for each call, so it holds none. After a refusal each call returns `AlreadyFailed` and reads nothing.
@@ -108,7 +108,7 @@ impl BlockReader {
         ensures none { self.old.failed ≡ false → result ≢ Ok true
             → document_of self.new.document ≡ [] }
 
-        // the end is told where nothing is left, and only there
+        // the end is reported where nothing is left, and only there
         ensures end { self.old.failed ≡ false → S.is_known source.old → result ≡ Ok false
             → S.left source.old ≡ [] }
         ensures ended { self.old.failed ≡ false → S.is_known source.old → S.left source.old ≡ []
@@ -177,11 +177,11 @@ impl BlockReader {
         ensures none { self.old.failed ≡ false → result ≢ Ok true
             → document_of self.new.document ≡ [] }
 
-        // what was taken passes the limit that is told
+        // what was taken passes the limit that is reported
         ensures stops { StopsWithin (version_of self.old.version) limits S.ByteSource source.old
             source.new result }
 
-        // the end is told where nothing is left, and only there
+        // the end is reported where nothing is left, and only there
         ensures end { self.old.failed ≡ false → S.is_known source.old → result ≡ Ok false
             → S.left source.old ≡ [] }
         ensures ended { self.old.failed ≡ false → S.is_known source.old → S.left source.old ≡ []
@@ -223,7 +223,7 @@ impl BlockReader {
             → length (S.left source.new) < length (S.left source.old) }
         ensures no_heap { ¬ IsErrOf result HeapFull }
 
-        // the end is told where nothing is left, and only there
+        // the end is reported where nothing is left, and only there
         ensures end { self.old.failed ≡ false → S.is_known source.old → result ≡ Ok false
             → S.left source.old ≡ [] }
         ensures ended { self.old.failed ≡ false → S.is_known source.old → S.left source.old ≡ []

@@ -23,7 +23,7 @@ pub struct MigrateBlockError {
     pub error: MigrateError,
 }
 
-/// Reads the documents of a block, which stand one behind the other in one version of the store, and appends each to the sink in the shortest
+/// Reads the documents of a block, which stand one after the other in one version of the store, and appends each to the sink in the shortest
 /// encoding of the other, as `migrate` does. Returns how many there were; an empty block has none. (Not in tantivy.)
 ///
 /// Errors: those of `migrate` for the first document that isn't carried over, with the byte of the block at which it begins. `Read` with an error
@@ -50,7 +50,7 @@ pub fn migrate_block<K: ByteSink>(
     ensures all { IfOk result (λ number. MigratesAll (version_of from) (written_version to) block.now
         K.ByteSink sink.old sink.new number) }
 
-    // the documents before the byte that is told are carried over, and the next isn't, for the reason that is told
+    // the documents before the byte that is reported are carried over, and the next isn't, for the reason that is reported
     ensures before { IfErr result (λ error. MigratesBefore (version_of from) (written_version to)
         block.now K.ByteSink sink.old sink.new error) }
     ensures stays_known { K.is_known sink.old → K.is_known sink.new }

@@ -52,7 +52,7 @@ pub(crate) fn take_in_place<S: ByteSource>(
     put_read(document, read)
 }
 
-/// Reads a document, however the source cuts its bytes, and takes no byte behind it. Values of every type are read, to any
+/// Reads a document, however the source cuts its bytes, and takes no byte after it. Values of every type are read, to any
 /// depth, straight into the document's heap, by a recursion of `MAX_DEPTH` levels at most; and objects as older stores hold them.
 ///
 /// Errors, the first error in reading order: `CorruptedValue` where the bytes encode no document, `TypeMismatch` where in a key's

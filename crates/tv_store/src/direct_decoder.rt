@@ -111,7 +111,7 @@ impl DirectDecoder {
         ensures at_most { S.is_known source.old
             → IsFew self.old.reading (S.left source.old) self.old.count self.new.count }
 
-        // the heap grows at its end, and ends behind the finished pairs after a refusal; these are kept
+        // the heap grows at its end, and ends after the finished pairs after a refusal; these are kept
         ensures grows { OnOk result (Grows self.old.reading self.new.reading) }
         ensures kept { OnErr result (KeepsPairs self.old.reading self.new.reading) }
 
@@ -181,7 +181,7 @@ impl DirectDecoder {
         self.failed = true;
     }
 
-    /// The document of the finished pairs, at any time, also after a refusal. Its heap ends behind the last of their values.
+    /// The document of the finished pairs, at any time, also after a refusal. Its heap ends after the last of their values.
     pub fn into_doc(self) -> CompactDoc
         ensures document { document_of result ≡ built self.reading.builder }
         ensures heap { heap_of result ≡ kept_heap self.reading.builder }

@@ -28,7 +28,7 @@ use tv_value::children::Children;
 use tv_writer::leaf_writer::{write_code, write_coded_bool, write_coded_count, write_coded_u64};
 use tv_writer::value_writer::{write_child_key, write_key, write_object_head};
 
-// A code, and the bytes behind it.
+// A code, and the bytes after it.
 #[inline]
 #[tactic(auto, using(tv_writer::proofs::Coded::Coded_then))]
 fn write_behind<K: ByteSink>(sink: &mut K, code: u8, content: &[u8]) -> Result<(), WriteError>
@@ -38,7 +38,7 @@ fn write_behind<K: ByteSink>(sink: &mut K, code: u8, content: &[u8]) -> Result<(
     write_all(sink, content)
 }
 
-// A text and its tokens, as they are encoded behind their two codes.
+// A text and its tokens, as they are encoded after their two codes.
 #[tactic(auto, using(tv_base::proofs::Written::Writes_then, tv_base::proofs::Written::Writes_prefix))]
 fn write_encoded_tokens<K: ByteSink>(sink: &mut K, content: &[u8]) -> Result<(), WriteError>
     ensures { Writes K.ByteSink sink.old sink.new result (7 ∷ 0 ∷ content.now) }

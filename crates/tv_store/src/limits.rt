@@ -162,7 +162,7 @@ fn refused(error: DeserializeError, took_all: bool) -> LimitedReadError
     }
 }
 
-// Reads the next part, behind as many bytes as were taken of those that may be.
+// Reads the next part, after as many bytes as were taken of those that may be.
 fn step_capped<S: ByteSource>(
     decoder: &mut DirectDecoder,
     source: &mut S,
@@ -342,13 +342,13 @@ impl DirectDecoder {
         ensures steps { ReadsStepWithin limits S.ByteSource source.old source.new self.old self.new
             result }
 
-        // a limit is passed exactly where it is told
+        // a limit is passed exactly where it is reported
         ensures ends { EndsPart limits S.ByteSource source.old source.new self.old result }
         ensures limits { TestsPart limits self.old self.new result }
         ensures most { ¬ IsPast limits.bytes self.old.count
             → ¬ IsPast limits.bytes self.new.count }
 
-        // the heap grows at its end, or ends behind the finished pairs after a refusal; these are kept
+        // the heap grows at its end, or ends after the finished pairs after a refusal; these are kept
         ensures leaves { LeavesPart self.old self.new result }
 
         // as of `step`: how many bytes are taken, objects of older stores, and what is paid for by the bytes that were read
@@ -386,8 +386,8 @@ impl DirectDecoder {
 /// than `bytes` bytes are taken of the source, also within a part. (Not in tantivy.)
 ///
 /// Errors: `Limit(Bytes)` where all these were taken and the document needs more, so no prefix of them encodes one; `Limit(Depth)` right
-/// behind the head of the list with which more than `depth` lists are open, `Limit(HeapBytes)` right behind the part with which the
-/// document's heap takes more than `heap_bytes` bytes, and the first of them where both hold; `Limit(Depth)` behind a document of which a
+/// after the head of the list with which more than `depth` lists are open, `Limit(HeapBytes)` right after the part with which the
+/// document's heap takes more than `heap_bytes` bytes, and the first of them where both hold; `Limit(Depth)` after a document of which a
 /// value nests deeper by an object of an older store or by a list without children; else `Read` with the error of `read_document`, also
 /// where the last byte that may be taken shows it, and with `Memory` where it is refused for that test.
 ///
@@ -415,7 +415,7 @@ pub fn read_document_within<S: ByteSource>(
     ensures shallow { IfOk result (λ d. AllNestWithinLimit limits.depth (document_of d)) }
     ensures small { IfOk result (λ d. ¬ IsPast limits.heap_bytes (length (heap_of d))) }
 
-    // what was taken passes the limit that is told
+    // what was taken passes the limit that is reported
     ensures stops { StopsWithin (version_of version) limits S.ByteSource source.old source.new
         result }
 {

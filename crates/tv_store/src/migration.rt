@@ -55,7 +55,7 @@ impl From<SerializeError> for MigrateError {
 /// encoding of the other. A text with its tokens keeps them, also where it is a pair's value. (Not in tantivy.)
 ///
 /// Errors: `Read` with an error of `read_document`, and then nothing was written; else `Write` with `Io` where the sink failed, and
-/// with `Memory` where memory was refused for a value that nests deeper than `MAX_DEPTH` levels. The source then stands behind the document,
+/// with `Memory` where memory was refused for a value that nests deeper than `MAX_DEPTH` levels. The source then stands after the document,
 /// and the sink holds what it held before and a beginning of what was to be written.
 pub fn migrate<S: ByteSource, K: ByteSink>(
     alloc: Global,

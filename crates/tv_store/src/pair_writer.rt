@@ -36,7 +36,7 @@ use tv_value::nesting::MAX_DEPTH;
 use tv_value::value::{ReferenceValue, Value};
 use tv_writer::leaf_writer::{write_coded_text, write_leaf};
 
-// Writes a field and bytes behind their code.
+// Writes a field and bytes after their code.
 #[inline(always)]
 #[tactic(auto, using(tv_base::proofs::Written::Writes_then, tv_base::proofs::Written::Writes_prefix))]
 fn write_field_bytes<K: ByteSink>(

@@ -36,7 +36,7 @@ pub struct RoundTrip {
     pub added: CompactDoc,
     /// What `serialize_doc` wrote of it.
     pub written: Vec<u8>,
-    /// What `read_document` read of that, with other bytes behind.
+    /// What `read_document` read of that, with other bytes after.
     pub back: CompactDoc,
     /// What it left unread.
     pub left: Vec<u8>,
@@ -103,7 +103,7 @@ fn reading_error(error: &DeserializeError) -> RoundTripError
     }
 }
 
-// The document of which these bytes begin with the shortest encoding in a version that is written, and the bytes behind it.
+// The document of which these bytes begin with the shortest encoding in a version that is written, and the bytes after it.
 pub(crate) fn read_back(
     alloc: Global,
     bytes: &[u8],
@@ -133,7 +133,7 @@ pub(crate) fn read_back(
 }
 
 /// The headline, over the calls: each value is added with `add_field_value`, whatever the call before it returned; the document is written
-/// with `serialize_doc`; and it is read back with `read_document` from what was written and other bytes behind it. Each addition returned
+/// with `serialize_doc`; and it is read back with `read_document` from what was written and other bytes after it. Each addition returned
 /// what it had to, the document has just the accepted pairs, and its heap reads each at its place. What was written is the stored pairs
 /// in the shortest encoding. What is read back is the stored pairs, and just the other bytes are left. (Not in tantivy.)
 ///

@@ -11,7 +11,7 @@ use tv_base::ByteSource;
 use tv_reader::version::DocStoreVersion;
 use tv_reading::items::{pass_document, pass_value};
 
-/// Passes over a document: takes all of its bytes and no byte behind it, tests them as `read_document` does, and keeps nothing, whatever it holds
+/// Passes over a document: takes all of its bytes and no byte after it, tests them as `read_document` does, and keeps nothing, whatever it holds
 /// and however deep that nests. There is no heap that could be full. (Not in tantivy.)
 ///
 /// Pairs that the source has buffered whole are tested where they lie, by a recursion of `MAX_DEPTH` levels at most. The others are taken part by part, by no

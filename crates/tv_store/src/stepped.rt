@@ -10,7 +10,7 @@ use crate::direct_decoder::DirectDecoder;
 use std::alloc::Global;
 use tv_base::ByteSource;
 
-/// A decoder of a document of this version, behind this many steps over one source, whatever each of them returned.
+/// A decoder of a document of this version, after this many steps over one source, whatever each of them returned.
 ///
 /// What it holds is paid for by the bytes that it read: its heap takes at most 7 bytes for each, two of them or more stand for each list that
 /// is open, and one for each finished child of an open list. So announced numbers alone take nothing. Of objects as older stores hold them,

@@ -1,4 +1,4 @@
--- Byte strings that begin with some bytes stand one behind the other in the order of bytes.
+-- Byte strings that begin with some bytes stand one after the other in the order of bytes.
 use Rattle.std.proofs.Common.{◌≡◌, ◌≢◌, ℕ, suc, ◌+◌, ◌<◌, ◌≤◌, ◌↔◌, Bool, true, false, cond, ◌&&◌, List, [], ◌∷◌, ◌++◌, length, drop, get_or, length-drop, append_assoc, append-nil, IsTrue, Option, Some, None, eqb, ltb, refl, sym, ◌∙◌, ap, arith}
 use Rattle.std.specs.Ordering.{is_le, is_lt, nat_cmp}
 use Rattle.std.specs.declared.cmp.Ordering.{Ordering}
@@ -88,7 +88,7 @@ first-within x t (y ∷ b) h k = step x y (upto t b) (begins t b) (below b []) (
 deeper : (c y : ℕ) (u l g : Bool) → (u && l) ≡ g → (cond (eqb c y) u (ltb c y) && cond (eqb y c) l (ltb y c)) ≡ cond (eqb c y) g false
 deeper c y u l g rest = grind (arith, nat_tests)
 
--- the same behind other bytes
+-- the same after other bytes
 all-within : (q : List ℕ) (x : ℕ) (t b : List ℕ) → AreLargest t → AreBytes b → (upto (q ++ x ∷ t) b && below b (q ++ (x + 1) ∷ [])) ≡ begins (q ++ x ∷ t) b
 all-within [] x t b h k = first-within x t b h k
 all-within (c ∷ q) x t [] h k = refl
@@ -129,7 +129,7 @@ ends-none p largest bytes are =
     let all = largest-upto p bytes largest (λ k inside. are k 0 inside) in
     ((λ w. prefix-begins p bytes (sym all ∙ sym from ∙ w.0)), (λ h. (from ∙ all ∙ begins-prefix p bytes h, tt)))
 
--- behind those that are left all are the largest
+-- after those that are left all are the largest
 pub dropped : (n : ℕ) (p : List ℕ) → ((k : ℕ) → n ≤ k → k < length p → get_or p k 0 ≡ 255) → AreLargest (drop n p)
 dropped n p h k inside = get_or-drop n p k 0 ∙ h (n + k) (omega arith) (omega (arith, length-drop n p))
 
@@ -150,7 +150,7 @@ pub ends-kept : (p kept rest front : List ℕ) (last : ℕ) (end : Vec ℕ) → 
 ends-kept p kept rest front last end is ends largest end_is =
     ends-some p front rest last end (joined_front p kept rest front last is ends) largest end_is
 
--- above a byte string are those from it with a zero behind it on
+-- above a byte string are those from it with a zero after it on
 next-upto : (p b : List ℕ) → upto (p ++ 0 ∷ []) b ≡ below p b
 next-upto [] [] = refl
 next-upto [] (y ∷ b) = grind (arith, nat_tests)
@@ -189,7 +189,7 @@ longer-within p end bytes ends =
           (next ∙ ap (below p) rest.1 ∙ longer-below p rest.0 some, (ends.1 rest).1)),
     )
 
--- ---- bounds behind a prefix
+-- ---- bounds after a prefix
 
 upto_more : (x y : ℕ) (u v : Bool) → (u ≡ true → v ≡ true) → cond (eqb x y) u (ltb x y) ≡ true → cond (eqb x y) v (ltb x y) ≡ true
 upto_more x y u v more h = grind (arith, nat_tests)
@@ -215,7 +215,7 @@ begins-upto [] b h = refl
 begins-upto (x ∷ p) [] h = h
 begins-upto (x ∷ p) (y ∷ b) h = begins_first x y (begins p b) (upto p b) (begins-upto p b) h
 
--- below a byte string with a zero behind it are those up to the string
+-- below a byte string with a zero after it are those up to the string
 before-upto : (b p : List ℕ) → below b (p ++ 0 ∷ []) ≡ upto b p
 before-upto [] [] = refl
 before-upto [] (x ∷ p) = refl

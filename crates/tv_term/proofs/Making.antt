@@ -10,7 +10,7 @@ pub without_nul : {T HasNoNul : Type 0} (r : Result T TermError) → HasNoNul �
 without_nul (Ok made) no_nul only = record { has_no_nul = no_nul; nul = (λ is given. (cc), λ none. absurd (none no_nul)); memory = λ given. tt }
 without_nul (Err error) no_nul only = record { has_no_nul = tt; nul = (λ is given. (cc), λ none. absurd (none no_nul)); memory = λ given. only }
 
--- bytes behind others
+-- bytes after others
 behind : (old rest : List ℕ) (b : ℕ) → old ++ b ∷ rest ≢ []
 behind [] rest b e = cc
 behind (c ∷ old) rest b e = cc

@@ -7,7 +7,7 @@ use Rattle.tv_term.specs.Key.{HasNoZero}
 use Rattle.tv_term.specs.Segments.{HaveNoZero, joined_segments}
 use Rattle.tv_term.proofs.Written.{HasNoZero-append}
 
--- no text, for places behind the last
+-- no text, for places after the last
 abbrev pub nothing : Bor (List ℕ)
 nothing = record { ref_ptr = (0, 0); now = [] }
 
@@ -23,7 +23,7 @@ join-one : (first : List ℕ) (l : List (List ℕ)) (last : List ℕ) → join_w
 join-one first [] last = refl
 join-one first (x ∷ l) last = ap (λ t. first ++ 1 ∷ t) (join-one x l last) ∙ sym (append_assoc first (1 ∷ join_with_byte 1 (x ∷ l)) (1 ∷ last))
 
--- one more segment behind the others
+-- one more segment after the others
 pub joined-more : (first : List ℕ) (others : List (Bor (List ℕ))) (i : ℕ) → i < length others → joined first others (i + 1) ≡ joined first others i ++ 1 ∷ (get_or others i nothing).now
 joined-more first others i h =
     let now = λ (segment : Bor (List ℕ)). segment.now in
@@ -51,6 +51,6 @@ join-behind : (old first : List ℕ) (l : List (List ℕ)) → join_with_byte 1 
 join-behind old first [] = refl
 join-behind old first (x ∷ l) = append_assoc old first (1 ∷ join_with_byte 1 (x ∷ l))
 
--- the same behind another text
+-- the same after another text
 pub joined-behind : (old first : List ℕ) (others : List (Bor (List ℕ))) (n : ℕ) → joined (old ++ first) others n ≡ old ++ joined first others n
 joined-behind old first others n = join-behind old first (map (λ (segment : Bor (List ℕ)). segment.now) (take n others))

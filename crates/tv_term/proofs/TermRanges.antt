@@ -150,7 +150,7 @@ is_facet (Bytes bytes) s e p = cc
 is_facet (Address n) s e p = cc
 is_facet (Json path value) s e p = cc
 
--- the terms that begin with that of a facet which isn't the root, with a zero behind it
+-- the terms that begin with that of a facet which isn't the root, with a zero after it
 pub of_facet : (id f : ℕ) (upper : List ℕ) (value : TermValue) → id < 2 ^ 32 → f < 2 ^ 32 → upper ≢ []
     → IsPrefix (term id (Facet upper) ++ 0 ∷ []) (term f value) ↔ IsBelowFacet id upper f value
 of_facet id f upper value h k some =

@@ -43,7 +43,7 @@ rising_before bytes terms n rising i j d order within =
     let nearer : i < n = omega (arith, order, near) in
     rw (get_or-take n terms i d nearer, get_or-take n terms j d near) (rising i j d order (omega (arith, within, length-take n terms)))
 
--- a part's first element that fails is the first of all, where the element before the part passes, and the one behind it fails or there is none
+-- a part's first element that fails is the first of all, where the element before the part passes, and the one after it fails or there is none
 pub point_in_part : {T : Type 0} (p : T → Bool) (terms : List T) (start size m : ℕ) → IsPartitionedBy p terms → start ≤ length terms → ((k : ℕ) (d : T) → k + 1 ≡ start → p (get_or terms k d) ≡ true)
     → ((d : T) → start + size < length terms → p (get_or terms (start + size) d) ≡ false) → m ≤ length (take size (drop start terms))
     → IsPartitionPoint (λ t. p t ≡ true) (λ t. p t ≡ false) (take size (drop start terms)) m → IsPartitionPoint (λ t. p t ≡ true) (λ t. p t ≡ false) terms (start + m)

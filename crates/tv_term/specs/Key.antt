@@ -52,7 +52,7 @@ from_least (negsuc n) = 2 ^ 63 - 1 - n
 abbrev pub truth_number : Bool → ℕ
 truth_number b = if b then 1 else 0
 
--- the bytes of a value behind its code
+-- the bytes of a value after its code
 abbrev pub payload : TermValue → List ℕ
 payload (Text bytes) = bytes
 payload (Unsigned n) = to_be_bytes w64 n

@@ -17,7 +17,7 @@
 --   memory      Where the path has no U+0000, the only error is `Memory`.
 --
 -- `AppendsValue` is the promise of a call that appends a value to a term.
---   appended   On success the value stands behind the bytes that were there.
+--   appended   On success the value stands after the bytes that were there.
 --   has_term   On success there is a term.
 --   unchanged  After an error the bytes are as they were.
 use Rattle.std.specs.Prelude.{◌≡◌, ◌≢◌, ◌↔◌, ℕ, ℤ, Bool, List, [], Option, Some, Result, Err, IfOk, IfErr, OnOk, OnErr, option_map, String, string_bytes}

@@ -49,7 +49,7 @@ signed_at n = pos n -ℤ pos (2 ^ 63)
 abbrev pub is_true : ℕ → Bool
 is_true n = not (n == 0)
 
--- the bytes up to the first zero and with it, and those behind it
+-- the bytes up to the first zero and with it, and those after it
 abbrev pub cut_behind_zero : List ℕ → Option (List ℕ × List ℕ)
 cut_behind_zero bytes = option_map (λ end. (take (end + 1) bytes, drop (end + 1) bytes)) (position (λ b. b == 0) bytes)
 
@@ -61,12 +61,12 @@ json_parts bytes = option_and_then cut_behind_zero (payload_of tag.Json bytes)
 abbrev pub json_path : List ℕ → Option (List ℕ)
 json_path bytes = option_map (λ parts. take (length parts.0 - 1) parts.0) (json_parts bytes)
 
--- the value behind the path, if a byte is there
+-- the value after the path, if a byte is there
 abbrev pub value_behind : Option (List ℕ × List ℕ) → Option (List ℕ)
 value_behind None = None
 value_behind (Some parts) = if length parts.1 == 0 then None else Some parts.1
 
--- the type of the value behind the path
+-- the type of the value after the path
 abbrev pub json_type : List ℕ → Option TypeTag
 json_type bytes = option_and_then (λ parts. type_at parts.1) (json_parts bytes)
 
@@ -111,12 +111,12 @@ ReadsFacet bytes found = ReadsText (payload_of tag.Facet bytes) found
 abbrev pub ReadsPath : List ℕ → Option (List ℕ) → Type 0
 ReadsPath bytes found = ReadsText (json_path (value_of bytes)) found
 
--- the path behind a dot
+-- the path after a dot
 abbrev pub dotted : Option (List ℕ) → List ℕ
 dotted None = []
 dotted (Some path) = 46 ∷ path
 
--- the field's name, and behind a dot the path, if there is one and it is a text
+-- the field's name, and after a dot the path, if there is one and it is a text
 abbrev pub IsFullPath : List ℕ → List ℕ → List ℕ → Type 0
 IsFullPath name bytes text = (path : Option (List ℕ)) × ReadsText (json_path bytes) path × (text ≡ name ++ dotted path)
 

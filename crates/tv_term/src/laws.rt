@@ -109,7 +109,7 @@ pub fn appended_fast_values_make_terms<T: FastValue>(
     Ok(term)
 }
 
-/// Fast values behind one path compare as the values.
+/// Fast values after one path compare as the values.
 pub fn appended_fast_values_compare_as_values<T: FastValue>(
     alloc: Global,
     field: Field,
@@ -157,7 +157,7 @@ pub fn appended_texts_are_read_back(
     }
 }
 
-// The text behind the path of a JSON term.
+// The text after the path of a JSON term.
 fn text_behind_path(term: &Term) -> Option<&str>
     ensures { (f : ℕ) (path text : List ℕ) → IsUtf8 text → IsTerm term.now f (Json path (Text text))
         → option_copied result ≡ Some text }
@@ -165,7 +165,7 @@ fn text_behind_path(term: &Term) -> Option<&str>
     value_behind_path(term)?.as_str()
 }
 
-// The value behind the path of a JSON term.
+// The value after the path of a JSON term.
 fn value_behind_path(term: &Term) -> Option<ValueBytes<'_>>
     ensures { (f : ℕ) (path : List ℕ) (value : TermValue) → IsTerm term.now f (Json path value) →
         option_map (λ found. found.serialized.now) result ≡ Some (coded_value value) }
@@ -188,7 +188,7 @@ pub fn appended_numbers_are_read_back(
     Ok(number_behind_path(&term))
 }
 
-// The number behind the path of a JSON term.
+// The number after the path of a JSON term.
 fn number_behind_path(term: &Term) -> Option<i64>
     ensures { (f : ℕ) (path : List ℕ) (number : ℤ) → IsTerm term.now f (Json path (Signed number))
         → result ≡ Some number }

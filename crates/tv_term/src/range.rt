@@ -33,7 +33,7 @@ pub struct TermRange {
     end: Option<Vec<u8>>,
 }
 
-// By hand, so that a range is let go by one call.
+// By hand, so that a range is dropped by one call.
 impl Drop for TermRange {
     fn drop(self) {
         let TermRange { start: _, end: _ } = self;

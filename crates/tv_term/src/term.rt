@@ -39,7 +39,7 @@ const SIGNED_END: u64 = 1 << 63;
 /// A field, and a value of it: the field's number in four bytes, the highest first, the code of the value's type, and the
 /// value's payload. Terms are compared as these bytes, and so by field, then by type, then by value.
 ///
-/// The value bytes are what stands behind the type's code. Where a call says nothing of errors and has a `Result`, its error is
+/// The value bytes are what stands after the type's code. Where a call says nothing of errors and has a `Result`, its error is
 /// `Memory`.
 ///
 /// ```
@@ -53,7 +53,7 @@ pub struct Term {
     bytes: Vec<u8>,
 }
 
-// By hand, so that a term is let go by one call.
+// By hand, so that a term is dropped by one call.
 impl Drop for Term {
     fn drop(self) {
         let Term { bytes: _ } = self;
@@ -123,10 +123,10 @@ impl Term {
     }
 
     /// The term of a path into a field of JSON objects: the path's segments with U+0001 between each two of them, and U+0000.
-    /// Dots separate segments; a backslash goes and keeps the character behind it; where dots are expanded, a dot that it
+    /// Dots separate segments; a backslash goes and keeps the character after it; where dots are expanded, a dot that it
     /// keeps separates too. A value there is appended by `append_type_and_fast_value` or `append_type_and_str`.
     ///
-    /// Errors: `NulInPath`, exactly where the path has U+0000, also behind a backslash, and before memory is asked for; else
+    /// Errors: `NulInPath`, exactly where the path has U+0000, also after a backslash, and before memory is asked for; else
     /// `Memory`. (tantivy takes such a path, and its readers end it at the first U+0000.)
     pub fn from_field_json_path(
         alloc: Global,
@@ -307,14 +307,14 @@ impl Term {
         self.bytes[4] = value_type.to_code();
     }
 
-    /// Whether there are no value bytes behind the type's code.
+    /// Whether there are no value bytes after the type's code.
     pub fn is_empty(&self) -> bool
         ensures { IsTrue result ↔ (length self.now ≡ 5) }
     {
         self.bytes.len() == 5
     }
 
-    /// How many value bytes there are behind the type's code.
+    /// How many value bytes there are after the type's code.
     pub fn len_bytes(&self) -> usize
         ensures { result + 5 ≡ length self.now }
     {
@@ -339,7 +339,7 @@ impl Term {
         }
     }
 
-    /// Puts these value bytes in the place of those behind the type's code.
+    /// Puts these value bytes in the place of those after the type's code.
     ///
     /// Errors: memory was refused. Then the term is as it was.
     pub fn set_bytes(&mut self, bytes: &[u8]) -> Result<(), AllocError>
@@ -372,7 +372,7 @@ impl Term {
         self.bytes.slice_mut(5 + start..)
     }
 
-    /// Appends the code of the value's type and the eight bytes of its number. In a term of a JSON field it stands behind the
+    /// Appends the code of the value's type and the eight bytes of its number. In a term of a JSON field it stands after the
     /// path.
     ///
     /// Errors: memory was refused. Then the term is as it was.
@@ -383,7 +383,7 @@ impl Term {
     }
 
     /// Appends a number as the term of a JSON value has it: one up to `i64::MAX` as one with a sign, and only one above that as one without.
-    /// (Not in tantivy.) In a term of a JSON field it stands behind the path, and the term is then that of `term_values`. By
+    /// (Not in tantivy.) In a term of a JSON field it stands after the path, and the term is then that of `term_values`. By
     /// `append_type_and_fast_value` a `u64` has another term, which no document has.
     ///
     /// Errors: memory was refused. Then the term is as it was.
@@ -397,7 +397,7 @@ impl Term {
         }
     }
 
-    /// Appends the code of texts and the text. In a term of a JSON field it stands behind the path.
+    /// Appends the code of texts and the text. In a term of a JSON field it stands after the path.
     ///
     /// Errors: memory was refused. Then the term is as it was.
     pub fn append_type_and_str(&mut self, text: &str) -> Result<(), AllocError>
@@ -430,7 +430,7 @@ impl Term {
         Type::from_code(self.bytes[4])
     }
 
-    /// The value bytes, behind the type's code.
+    /// The value bytes, after the type's code.
     pub fn serialized_value_bytes(&self) -> &[u8]
         ensures { result.now ≡ drop 5 self.now }
     {
@@ -444,7 +444,7 @@ impl Term {
         ValueBytes::of(&self.bytes[4..])
     }
 
-    /// The path of a term of a JSON field: what stands behind the type's code up to the first U+0000, without that. U+0001
+    /// The path of a term of a JSON field: what stands after the type's code up to the first U+0000, without that. U+0001
     /// separates its segments. `None` where the type is another, no U+0000 ends a path, or the path isn't UTF-8.
     ///
     /// Errors: memory was refused.
@@ -457,7 +457,7 @@ impl Term {
         }
     }
 
-    /// The name of the term's field, and where `get_json_path` returns a path, behind a dot that path. The field is one of the
+    /// The name of the term's field, and where `get_json_path` returns a path, after a dot that path. The field is one of the
     /// schema, as `has_field` tests.
     ///
     /// Errors: memory was refused.
@@ -535,7 +535,7 @@ fn bytes_with_room(alloc: Global, capacity: usize) -> Result<Vec<u8>, AllocError
     Ok(bytes)
 }
 
-// The name, and behind a dot the path, if there is one.
+// The name, and after a dot the path, if there is one.
 fn dotted(alloc: Global, name: &str, path: Option<&str>) -> Result<String, AllocError>
     ensures { IfOk result
         (λ text. string_bytes text ≡ name.now ++ dotted (option_copied path.entry)) }

@@ -1,4 +1,4 @@
-//! Terms as they are printed for people who look for a mistake.
+//! Terms as `Debug` prints them.
 
 ghost use Rattle.std.specs.Prelude.{◌++◌, Some, codes, slice_index};
 ghost use Rattle.std.specs.Fmt.{◌++?◌, DisplaysOnOk};
@@ -19,8 +19,8 @@ use tv_base::Facet;
 use tv_options::Type;
 
 /// Prints the field, the type and the value, as tantivy does: `Term(field=1, type=U64, 12)`, and of a value in a JSON object the path too,
-/// with a dot between each two segments: `Term(field=1, type=Json, path=a.b, type=Str, "c")`. Where the bytes behind a type's code are
-/// no value of the type, nothing stands behind the type. Where no type has the code, the code's number stands for the type. The contract says all
+/// with a dot between each two segments: `Term(field=1, type=Json, path=a.b, type=Str, "c")`. Where the bytes after a type's code are
+/// no value of the type, nothing stands after the type. Where no type has the code, the code's number stands for the type. The contract says all
 /// of this but for how a text is escaped that isn't ASCII, which is as std's `Debug` of texts has it.
 impl fmt::Debug for Term {
     ghost debug_output = { λ term. term_printed term };
@@ -46,7 +46,7 @@ fn print_type<W: fmt::Write>(value: ValueBytes<'_>, f: &mut fmt::Formatter<W>) -
     }
 }
 
-// Prints what stands behind a type: of a value in a JSON object the path and the value there, else the value.
+// Prints what stands after a type: of a value in a JSON object the path and the value there, else the value.
 fn print_content<W: fmt::Write>(value: ValueBytes<'_>, f: &mut fmt::Formatter<W>) -> fmt::Result
     ensures { let bytes = value.entry.serialized.now in
         DisplaysOnOk W.write_str_gives f.old result

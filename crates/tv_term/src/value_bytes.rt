@@ -121,7 +121,7 @@ impl<'a> ValueBytes<'a> {
         self.text(Type::Str)
     }
 
-    /// The bytes behind the code, exactly where that is the code of bytes.
+    /// The bytes after the code, exactly where that is the code of bytes.
     pub fn as_bytes(&self) -> Option<&'a [u8]>
         ensures { option_copied result ≡ bytes_of self.now.serialized.now }
     {
@@ -139,7 +139,7 @@ impl<'a> ValueBytes<'a> {
         Ok(Facet::from_encoded(copy).ok())
     }
 
-    /// The type of the value behind a JSON field's path, or `None` where the code is another, no U+0000 ends a path, nothing
+    /// The type of the value after a JSON field's path, or `None` where the code is another, no U+0000 ends a path, nothing
     /// follows it, or no type has the code that follows it. The value of a term that has a path alone has no type.
     pub fn json_path_type(&self) -> Option<Type>
         ensures { result ≡ json_type self.now.serialized.now }
@@ -148,7 +148,7 @@ impl<'a> ValueBytes<'a> {
         type_behind(rest)
     }
 
-    /// The path of a value of a JSON field, up to its first U+0000 and with it, and the bytes behind it. `None` where the code
+    /// The path of a value of a JSON field, up to its first U+0000 and with it, and the bytes after it. `None` where the code
     /// is another or no byte is U+0000.
     pub fn as_json(&self) -> Option<(&'a [u8], &'a [u8])>
         ensures { option_map (λ parts. (parts.0.now, parts.1.now)) result
@@ -173,7 +173,7 @@ impl<'a> ValueBytes<'a> {
         self.serialized[0]
     }
 
-    // The value behind the path of a value of a JSON field, if there is one.
+    // The value after the path of a value of a JSON field, if there is one.
     pub(crate) fn json_value(&self) -> Option<ValueBytes<'a>>
         ensures { option_map (λ value. value.serialized.now) result
             ≡ value_behind (json_parts self.now.serialized.now) }
@@ -215,7 +215,7 @@ fn type_behind(bytes: &[u8]) -> Option<Type>
     Type::from_code(*first)
 }
 
-// The bytes up to the first zero and with it, and those behind it.
+// The bytes up to the first zero and with it, and those after it.
 fn split_behind_zero(bytes: &[u8]) -> Option<(&[u8], &[u8])>
     ensures { option_map (λ parts. (parts.0.now, parts.1.now)) result ≡ cut_behind_zero bytes.now }
 {

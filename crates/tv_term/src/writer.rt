@@ -46,7 +46,7 @@ pub struct TermWriter {
     path: String,
 }
 
-// By hand, so that a writer is let go by one call.
+// By hand, so that a writer is dropped by one call.
 impl Drop for TermWriter {
     fn drop(self) {
         let TermWriter {
@@ -187,7 +187,7 @@ impl TermWriter {
     /// Makes the term of a path into a field of JSON objects, as `Term::from_field_json_path` does. A value there is appended by
     /// `append_fast_value` or `append_text`.
     ///
-    /// Errors: `NulInPath`, exactly where the path has U+0000, also behind a backslash, and before memory is asked for; else `Memory`.
+    /// Errors: `NulInPath`, exactly where the path has U+0000, also after a backslash, and before memory is asked for; else `Memory`.
     pub fn write_json_path(
         &mut self,
         field: Field,
@@ -234,7 +234,7 @@ impl TermWriter {
     }
 
     /// Appends the code of a value's type and the eight bytes of its number to the term, as `Term::append_type_and_fast_value` does. In
-    /// a term of a JSON field it stands behind the path. There is a term, as `has_term` tests.
+    /// a term of a JSON field it stands after the path. There is a term, as `has_term` tests.
     pub fn append_fast_value<T: FastValue>(&mut self, value: T) -> Result<(), AllocError>
         requires { self.old ≢ [] }
         ensures { AppendsValue self.old self.new (T.as_value value) result }
@@ -246,7 +246,7 @@ impl TermWriter {
     }
 
     /// Appends the code of texts and the text to the term, as `Term::append_type_and_str` does. In a term of a JSON field it stands
-    /// behind the path. There is a term, as `has_term` tests.
+    /// after the path. There is a term, as `has_term` tests.
     pub fn append_text(&mut self, text: &str) -> Result<(), AllocError>
         requires { self.old ≢ [] }
         ensures { AppendsValue self.old self.new (Text text.now) result }

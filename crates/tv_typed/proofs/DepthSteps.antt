@@ -14,7 +14,7 @@ use Rattle.tv_typed.specs.Typed.{ReadsIf, DeserializesBy}
 use Rattle.tv_typed.specs.declared.store_reader.StoreReader.{StoreReader}
 use Rattle.tv_reader.specs.Error.{StoreMayStop}
 
--- what stands behind a part that was read, at the version and the depth that the reader had before
+-- what stands after a part that was read, at the version and the depth that the reader had before
 pub deep_behind : {S X : Type 0} {is_known : S → Type 0} {left : S → List ℕ} {failures : S → Failures} {old mid : StoreReader S} {x : X} {R : List ℕ → X → Type 0} {Q : List ℕ → DeserializeError → Type 0} {P : Type 0} (behind : List ℕ) (Next : Version → ℕ → List ℕ → List ℕ → Type 0)
     → ReadsIf StoreMayStop is_known left failures old mid (Ok x) R Q → (mid.has_failed ≡ false → is_known mid.source → P → Next (version_of mid.version) mid.levels (left mid.source) behind)
     → old.has_failed ≡ false → is_known old.source → P → Begins (λ b. R b x) (left old.source) (left mid.source) × Next (version_of old.version) old.levels (left mid.source) behind

@@ -159,7 +159,7 @@ goes_told {result = result} has_failed marks p = record {
 no_cons : (b : ℕ) (rest : List ℕ) → [] ≡ b ∷ rest → ⊥
 no_cons b rest e = absurd cc
 
--- its code was taken, and then what stands behind it
+-- its code was taken, and then what stands after it
 pub next_then : {S X : Type 0} {is_known : S → Type 0} {left : S → List ℕ} {failures : S → Failures} {old mid new : StoreReader S} {kind : ValueType} {result : Result X DeserializeError}
     (is : Tree → X → Type 0) (refused : Version → ValueType → List ℕ → DeserializeError → Type 0)
     → ReadsIf StoreMayStop is_known left failures old mid (Ok kind) IsCoded CodeRefused → DeserializesBy is_known left failures mid new result (EncodedAs is (version_of mid.version) kind) (refused (version_of mid.version) kind)
@@ -206,7 +206,7 @@ only_by {left = left} {old = old} {new = new} {result = result} is v code Q excl
     λ is_open told few t x prefix rest joined encoded same.
     read_of is v code Q result (left old.source) (left new.source) new.count (few_more (left old.source) (left new.source) old.count new.count (h.taken is_open told) few) excludes (h.found is_open told) t x prefix rest joined encoded same
 
--- a leaf behind the code of its type
+-- a leaf after the code of its type
 pub leaf_deserializes : {S X : Type 0} {is_known : S → Type 0} {left : S → List ℕ} {failures : S → Failures} {old new : StoreReader S} {result : Result X DeserializeError} {Q : List ℕ → DeserializeError → Type 0} (make : X → Leaf) (v : Version) (kind : ValueType)
     → ReadsIf StoreMayStop is_known left failures old new result (EncodesLeaf v kind make) Q → DeserializesBy is_known left failures old new result (EncodedAs (IsLeafOf make) v kind) Q
 leaf_deserializes make v kind h = deserializes (EncodedAs (IsLeafOf make) v kind) (λ b x p. (leaf (make x), p, refl)) h
@@ -233,7 +233,7 @@ reads_leaf {old = old} expected make typed kind h spares =
     let as_type = leaf_deserializes make v kind h in
     record { reads = h; only = only_by (IsLeafOf make) v (type_prefix kind) (LeafRefused expected v kind) (leaf_excludes expected make typed v kind) as_type; deserializes = as_type; no_memory = spares; not_too_deep = reads_calm _ refl h }
 
--- a value of any type behind its code
+-- a value of any type after its code
 pub tree_deserializes : {May : DeserializeError → ℕ → Type 0} {S : Type 0} {is_known : S → Type 0} {left : S → List ℕ} {failures : S → Failures} {old new : StoreReader S} {result : Result OwnedValue DeserializeError} {Q : List ℕ → DeserializeError → Type 0} (v : Version) (kind : ValueType)
     → ReadsIf May is_known left failures old new result (EncodesBehind v kind) Q → DeserializesBy is_known left failures old new result (EncodedAs IsTree v kind) Q
 tree_deserializes v kind h = deserializes (EncodedAs IsTree v kind) (λ b x p. (owned_tree x, p, refl)) h

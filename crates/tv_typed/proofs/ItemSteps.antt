@@ -56,7 +56,7 @@ into_more {y = y} {m = m} Made Item d more p q =
     (λ a b z r s e. (r.0 ++ y ∷ [], more r.0 r.1, omega (arith, length-append r.0 (y ∷ []), r.2), each_push Item r.0 y a b r.3 (subst (Item b) e s)))
     (λ a w c r f. tt) (λ a f r _ _ start byte last. tt) p q)
 
--- behind some items stands one that is refused
+-- after some items stands one that is refused
 behind_items : {X : Type 0} (Item : List ℕ → X → Type 0) (Refused : List ℕ → DeserializeError → Type 0) (xs : List X) (n : ℕ) (a w : List ℕ) (e : DeserializeError) → length xs < n → Each Item a xs → Refused w e → InEach Refused Item n (a ++ w) e
 behind_items Item Refused [] zero a w e fewer p f = absurd (omega (arith, fewer))
 behind_items Item Refused [] (suc n) a w e fewer p f = inl (subst (λ l. Refused (l ++ w) e) (sym p) f)

@@ -1,4 +1,4 @@
--- Legacy objects as lists and maps: a code and the object behind it are read, and then the encoding of its tree.
+-- Legacy objects as lists and maps: a code and the object after it are read, and then the encoding of its tree.
 use Rattle.std.proofs.Common.{◌≡◌, ◌≢◌, ℕ, ◌-◌, ◌^◌, ◌<◌, Bool, true, false, List, [], ◌∷◌, ◌++◌, Some, None, Result, Ok, Err, refl, sym, ap, subst, ◌∙◌, length, length-append, arith, inl, inr}
 use Rattle.std.specs.Prelude.{OnOk}
 use Rattle.std.specs.declared.io.ErrorKind.{ErrorKind}

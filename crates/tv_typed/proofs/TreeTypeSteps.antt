@@ -27,7 +27,7 @@ use Rattle.tv_value.specs.Owned.{owned_tree}
 use Rattle.tv_value.specs.declared.owned_value.OwnedValue.{OwnedValue}
 use Rattle.tv_typed.proofs.DeserializeSteps.{end, deserializes, goes_then, goes_fails}
 
--- without its last byte a value behind its code ends too early
+-- without its last byte a value after its code ends too early
 pub early_behind : (v : Version) (kind : ValueType) (t : Tree) (a start : List ℕ) (byte : ℕ) → Encodes Legacy v (type_prefix kind ++ a) t → a ≡ start ++ byte ∷ [] → NoneBehind v kind start (corrupted UnexpectedEnd)
 early_behind v kind t a start byte p last =
     (early_value Legacy ErrorInLegacy v early_legacy t).early (type_prefix kind ++ a) (type_prefix kind ++ start) (byte ∷ []) p
@@ -45,7 +45,7 @@ both e = absurd cc
 counts_none : (s : Stop DeserializeError) (e : DeserializeError) (f : Failures) → s ≡ InputError e → CountsStop s f f
 counts_none s e f stop = subst (λ z. CountsStop z f f) (sym stop) refl
 
--- A tree was read, and it is refused with an error that is told of the bytes.
+-- A tree was read, and it is refused with an error that is reported of the bytes.
 pub tree_type_refuses : {May : DeserializeError → ℕ → Type 0} {S X : Type 0} {is_known : S → Type 0} {left : S → List ℕ} {failures : S → Failures} {old new : StoreReader S} {tree : OwnedValue} (is : Tree → X → Type 0) (Refuses : ValueType → Tree → DeserializeError → Type 0) (v : Version) (kind : ValueType) (e : DeserializeError)
     → typed_stop e ≡ InputError e → e ≢ end → Refuses kind (owned_tree tree) e
     → ReadsIf May is_known left failures old new (Ok tree) (EncodesBehind v kind) (TreeRefused v kind) → DeserializesBy {X = X} is_known left failures old new (Err e) (EncodedAs is v kind) (TreeTypeRefused Refuses v kind)

@@ -141,7 +141,7 @@ reads_then {is_known = is_known} {left = left} {failures = failures} {s = s} {k 
     (subst (λ z. TakesIf MayStop is_known left failures z old.count s k view answer reading) source (subst (λ n. TakesIf MayStop is_known left failures mid.source n s k view answer reading) count part))
     source_new count_new (version_new ∙ version) (levels_new ∙ levels) marks told
 
--- what was read is encoded behind the code of the type that was expected
+-- what was read is encoded after the code of the type that was expected
 pub leaf_reads : {S X Y : Type 0} {is_known : S → Type 0} {left : S → List ℕ} {failures : S → Failures} {s : S} {k : ℕ} {view : X → Y} {answer : Result X ReadError} {reading : List ℕ → Result (Y × List ℕ) (Cause × List ℕ)} {R : List ℕ → Y → Type 0} {F : List ℕ → Cause → Type 0}
     (old mid new : StoreReader S) (result : Result X DeserializeError) (v : Version) (kind expected : ValueType) (make : X → Leaf)
     → ((source : S) → is_known source → AllBytes (left source)) → Agrees UnexpectedEnd reading R F → ((a : List ℕ) (x : X) → R a (view x) → LeafOf v expected a (leaf (make x))) → ((w : List ℕ) (c : Cause) → F w c → ErrorInLeafOf v expected w c)
@@ -282,7 +282,7 @@ tree_reads {left = left} {failures = failures} old new result B F is_open h vers
 
 -- ---- calls that are given no memory
 
--- what was taken without memory is told without it
+-- what was taken without memory is reported without it
 pub raised_spares : {X : Type 0} (answer : Result X ReadError) (result : Result X DeserializeError) (count : ℕ) → result ≡ raised answer → IfErr answer (λ e. MayStopLean e count) → IsErrOf result errors.Memory → ⊥
 raised_spares (Ok x) result count told none is = let e = sym told ∙ is in absurd cc
 raised_spares (Err (reads.Corrupted c)) result count told none is = let e = sym told ∙ is in absurd cc

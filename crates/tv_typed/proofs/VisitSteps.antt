@@ -170,7 +170,7 @@ legacy_visited {new = new} tree result h made = record { behind_object = new; re
 
 -- ---- failed reads
 
--- an error that is told in the same words
+-- an error that is reported in the same words
 told_as : {X : Type 0} (e : DeserializeError) (result : Result X DeserializeError) (f g : Failures) → CountsStop (typed_stop e) f g → result ≡ Err e → Counts typed_stop result f g
 told_as e result f g h is = subst (λ r. Counts typed_stop r f g) (sym is) h
 

@@ -19,23 +19,23 @@ use Rattle.tv_typed.specs.declared.store_reader.StoreReader.{StoreReader}
 use Rattle.tv_value.specs.Owned.{owned_tree}
 use Rattle.tv_value.specs.declared.owned_value.OwnedValue.{OwnedValue}
 
--- behind the code of a type the bytes that were taken end with the code of the first list that is one too many
+-- after the code of a type the bytes that were taken end with the code of the first list that is one too many
 abbrev pub OpensBehind : Version → ℕ → ValueType → List ℕ → List ℕ → Type 0
 OpensBehind v levels kind old new = Begins (λ b. Opens v levels (type_prefix kind ++ b)) old new
 
--- the bytes that were taken behind the code of a type encode a tree within the depth
+-- the bytes that were taken after the code of a type encode a tree within the depth
 abbrev pub NestsBehind : Version → ℕ → ValueType → List ℕ → List ℕ → Type 0
 NestsBehind v levels kind old new = (t : Tree) × Begins (λ b. EncodesWithin v levels (type_prefix kind ++ b) t) old new
 
--- what is said of a value behind its code, said of the next value with its code
+-- what is said of a value after its code, said of the next value with its code
 abbrev pub AtValue : (Version → ℕ → ValueType → List ℕ → List ℕ → Type 0) → Version → ℕ → List ℕ → List ℕ → Type 0
 AtValue says v levels old new = (kind : ValueType) × (mid : List ℕ) × Begins (λ b. IsCoded b kind) old mid × says v levels kind mid new
 
--- of the next value behind a key
+-- of the next value after a key
 abbrev pub AtEntry : (Version → ℕ → ValueType → List ℕ → List ℕ → Type 0) → Version → ℕ → List ℕ → List ℕ → Type 0
 AtEntry says v levels old new = (key : List ℕ) × (mid : List ℕ) × Begins (λ b. Key v b key) old mid × AtValue says v levels mid new
 
--- of the next value behind the four bytes of a field
+-- of the next value after the four bytes of a field
 abbrev pub AtField : (Version → ℕ → ValueType → List ℕ → List ℕ → Type 0) → Version → ℕ → List ℕ → List ℕ → Type 0
 AtField says v levels old new = (field : ℕ) × (mid : List ℕ) × Begins (λ b. Fixed 4 b field) old mid × AtValue says v levels mid new
 
@@ -56,11 +56,11 @@ pub record AmongRead {X : Type 0} (Item : List ℕ → X → Type 0) (Next : Lis
   pub read : Begins (λ b. Each Item b before) old behind
   pub next : Next behind new
 
--- the same behind the number of them, of a collection whose code was read
+-- the same after the number of them, of a collection whose code was read
 abbrev pub ItemsTooDeep : {X : Type 0} → ValueType → (ℕ → ℕ) → (List ℕ → X → Type 0) → (List ℕ → List ℕ → Type 0) → ValueType → List ℕ → List ℕ → Type 0
 ItemsTooDeep collection total Item Next kind old new = (count : ℕ) × (mid : List ℕ) × Begins (λ b. Length collection total kind b count) old mid × AmongRead Item Next count mid new
 
--- Of each item of a collection whose code was read it is so, behind the number of them.
+-- Of each item of a collection whose code was read it is so, after the number of them.
 abbrev pub ItemsWithin : ValueType → (ℕ → ℕ) → (List ℕ → List ℕ → Type 0) → ValueType → List ℕ → List ℕ → Type 0
 ItemsWithin collection total Next kind old new = (count : ℕ) × (mid : List ℕ) × Begins (λ b. Length collection total kind b count) old mid × AtEach Next count mid new
 
@@ -90,12 +90,12 @@ abbrev pub IsWithinBy : {S : Type 0} (is_known : S → Type 0) (left : S → Lis
 IsWithinBy is_known left old new result code =
     old.has_failed ≡ false → is_known old.source → IfOk result (λ made. Begins (λ b. EncodesWithin (version_of old.version) old.levels (code ++ b) (owned_tree made)) (left old.source) (left new.source))
 
--- where that is told to be too deep, the bytes that were taken end with the code of the first list that is one too many
+-- where that is reported to be too deep, the bytes that were taken end with the code of the first list that is one too many
 abbrev pub IsTooDeepBy : {S X : Type 0} (is_known : S → Type 0) (left : S → List ℕ) (old new : StoreReader S) (result : Result X DeserializeError) (code : List ℕ) → Type 0
 IsTooDeepBy is_known left old new result code =
     old.has_failed ≡ false → is_known old.source → IsErrOf result errors.TooDeep → Begins (λ b. Opens (version_of old.version) old.levels (code ++ b)) (left old.source) (left new.source)
 
--- Where the result is such a one, this holds of the version, of the depth of the reader, and of the bytes before and behind what was read.
+-- Where the result is such a one, this holds of the version, of the depth of the reader, and of the bytes before and after what was read.
 abbrev pub WhereBy : {S : Type 0} (is_known : S → Type 0) (left : S → List ℕ) (old new : StoreReader S) → Type 0 → (Version → ℕ → List ℕ → List ℕ → Type 0) → Type 0
 WhereBy is_known left old new Such shows =
     old.has_failed ≡ false → is_known old.source → Such → shows (version_of old.version) old.levels (left old.source) (left new.source)

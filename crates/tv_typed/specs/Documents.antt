@@ -36,7 +36,7 @@ pub data NumberRefused (whole : List ℕ) : DeserializeError → Type 0 where
 abbrev pub FieldEnds : List ℕ → DeserializeError → Type 0
 FieldEnds = GivesError (Corrupt (ErrorInBytes 4))
 
--- a field, or the value behind it
+-- a field, or the value after it
 abbrev pub FieldRefused : (Version → ValueType → List ℕ → DeserializeError → Type 0) → Version → List ℕ → DeserializeError → Type 0
 FieldRefused refused v = InThen FieldEnds (Fixed 4) (λ _. NextRefused refused v)
 

@@ -38,11 +38,11 @@ mutual
       let s = p.second in
       record { prefix = p.prefix; rest = p.rest; joined = p.joined; first = p.first; second = record { prefix = s.prefix; rest = s.rest; joined = s.joined; first = with_legacy v t s.prefix s.first; second = entries_with_legacy v es s.rest s.second } }
 
--- malformed bytes, whatever stands behind a prefix of them
+-- malformed bytes, whatever stands after a prefix of them
 pub malformed : (v : Version) (prefix rest : List ℕ) (r : Refusal) (t : Tree) → NoValue v (prefix ++ rest) r → Encodes NoLegacy v prefix t → ⊥
 malformed v prefix rest r t f p = value_excludes Legacy ErrorInLegacy v one_legacy legacy_excludes f t prefix rest (with_legacy v t prefix p) refl
 
--- the same behind the code of a type
+-- the same after the code of a type
 pub malformed_behind : (v : Version) (kind : ValueType) (prefix rest : List ℕ) (r : Refusal) (t : Tree) → NoValue v (type_prefix kind ++ (prefix ++ rest)) r → Encodes NoLegacy v (type_prefix kind ++ prefix) t → ⊥
 malformed_behind v kind prefix rest r t f p = malformed v (type_prefix kind ++ prefix) rest r t (subst (λ w. NoValue v w r) (sym (append_assoc (type_prefix kind) prefix rest)) f) p
 

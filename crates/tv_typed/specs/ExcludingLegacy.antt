@@ -15,7 +15,7 @@ use Rattle.tv_typed.specs.Lists.{ObjectOf, ObjectRefused}
 use Rattle.tv_typed.specs.Values.{RefusalsExclude}
 use Rattle.tv_typed.specs.LegacyObjects.{MembersRefused, in_other, in_legacy_object}
 
--- behind the code of a legacy object nothing else is encoded
+-- after the code of a legacy object nothing else is encoded
 no_other : (v : Version) (a : List ℕ) (t : Tree) → Encodes NoLegacy v (8 ∷ a) t → ⊥
 no_other v a (leaf l) p = let e = p.joined in let same : store_code (type_of l) ≡ 8 = cc in (leaf_coded (type_of l)).no_legacy same
 no_other v a (array ts) p = let e = p.joined in absurd cc

@@ -88,7 +88,7 @@ array_excludes is refused excludes v kind prefix rest e t xs r p o =
 
 -- ---- objects
 
--- a key, and the tree behind it
+-- a key, and the tree after it
 abbrev pub KeyAndTree : (List ℕ → Entries → Type 0) → Version → List ℕ → List ℕ × Tree → Type 0
 KeyAndTree L v b e = Then (λ w. Key v w e.0) (λ w. Encodes L v w e.1) b
 

@@ -18,7 +18,7 @@ use Rattle.tv_reader.specs.declared.value_type.ValueType.TheVariants as types
 use Rattle.tv_typed.specs.Typed.{typed_stop}
 use Rattle.tv_typed.specs.Values.{TreeRefused, NextRefused}
 
--- A refusal of what a legacy object's tree encodes is told as it is. To read past the end of that encoding is to ask for what isn't there.
+-- A refusal of what a legacy object's tree encodes is reported as it is. To read past the end of that encoding is to ask for what isn't there.
 pub data Retold (e : DeserializeError) : DeserializeError → Type 0 where
   as_it_is : e ≢ errors.CorruptedValue UnexpectedEnd → Retold e e
   past_the_end : e ≡ errors.CorruptedValue UnexpectedEnd → Retold e (errors.UnsupportedType types.JSONObject)
@@ -27,17 +27,17 @@ pub data Retold (e : DeserializeError) : DeserializeError → Type 0 where
 abbrev pub EncodingRefused : (List ℕ → DeserializeError → Type 0) → Tree → DeserializeError → Type 0
 EncodingRefused Refused t told = (e : DeserializeError) × Refused (short V2 t) e × Retold e told
 
--- behind its code a legacy object is malformed, or what its tree encodes is refused
+-- after its code a legacy object is malformed, or what its tree encodes is refused
 abbrev pub LegacyRefused : (Version → ValueType → List ℕ → DeserializeError → Type 0) → Version → List ℕ → DeserializeError → Type 0
 LegacyRefused refused v =
     InThen (TreeRefused v types.JSONObject) (λ b t. Encodes Legacy v (type_prefix types.JSONObject ++ b) t) (λ t _. EncodingRefused (NextRefused refused V2) t)
 
--- behind the code of a type, where legacy objects are read too
+-- after the code of a type, where legacy objects are read too
 pub data MembersRefused (refused : Version → ValueType → List ℕ → DeserializeError → Type 0) (v : Version) (kind : ValueType) (whole : List ℕ) (e : DeserializeError) : Type 0 where
   in_other : kind ≢ types.JSONObject → refused v kind whole e → MembersRefused refused v kind whole e
   in_legacy_object : kind ≡ types.JSONObject → LegacyRefused refused v whole e → MembersRefused refused v kind whole e
 
--- Why an encoding is refused, as it is told. No read of it fails.
+-- Why an encoding is refused, as it is reported. No read of it fails.
 abbrev pub ToldOf : (List ℕ → DeserializeError → Type 0) → List ℕ → Stop DeserializeError → Type 0
 ToldOf Refused bytes (InputError told) = (e : DeserializeError) × Refused bytes e × Retold e told
 ToldOf Refused bytes (Uncounted e) = ⊥

@@ -25,7 +25,7 @@ pub record ArrayOf {X : Type 0} (is : Tree → X → Type 0) (t : Tree) (xs : Li
   pub whole : t ≡ array (elements trees)
   pub each : AllZip is trees xs
 
--- the key, and a value of the tree behind it
+-- the key, and a value of the tree after it
 abbrev pub IsEntry : {X : Type 0} → (Tree → X → Type 0) → List ℕ × Tree → String Global × X → Type 0
 IsEntry is e p = (e.0 ≡ string_bytes p.0) × is e.1 p.1
 
@@ -51,7 +51,7 @@ pub record MapOf {X : Type 0} (is : Tree → X → Type 0) (t : Tree) (get : Lis
 
 -- ---- what bytes encode
 
--- How many values an array or an object has, behind the code of its type. This many are announced by `total`.
+-- How many values an array or an object has, after the code of its type. This many are announced by `total`.
 abbrev pub Length : ValueType → (ℕ → ℕ) → ValueType → List ℕ → ℕ → Type 0
 Length collection total kind b n = (kind ≡ collection) × VNum b (total n)
 
@@ -87,7 +87,7 @@ ArrayRefused is refused v = ItemsRefused types.Array element_total (EncodesAs is
 abbrev pub KeyRefused : Version → List ℕ → DeserializeError → Type 0
 KeyRefused v = GivesError (ErrorInKey v)
 
--- a key, or the value behind it
+-- a key, or the value after it
 abbrev pub EntryRefused : (Version → ValueType → List ℕ → DeserializeError → Type 0) → Version → List ℕ → DeserializeError → Type 0
 EntryRefused refused v = InThen (KeyRefused v) (Key v) (λ _. NextRefused refused v)
 

@@ -14,7 +14,7 @@ use Rattle.tv_reader.specs.declared.value_type.ValueType.{ValueType}
 use Rattle.tv_typed.specs.Excluding.{tree_excludes, with_legacy}
 use Rattle.tv_typed.specs.Values.{TreeRefused, RefusalsExclude}
 
--- no tree is read, or the tree that was read behind the code of a type is refused
+-- no tree is read, or the tree that was read after the code of a type is refused
 abbrev pub TreeTypeRefused : (ValueType → Tree → DeserializeError → Type 0) → Version → ValueType → List ℕ → DeserializeError → Type 0
 TreeTypeRefused Refuses v kind = InThen (TreeRefused v kind) (λ b t. Encodes Legacy v (type_prefix kind ++ b) t) (λ t _. Refuses kind t)
 

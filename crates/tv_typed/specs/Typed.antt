@@ -12,7 +12,7 @@ use Rattle.tv_reader.specs.declared.error.DeserializeError.{DeserializeError}
 use Rattle.tv_reader.specs.declared.error.DeserializeError.TheVariants as errors
 use Rattle.tv_typed.specs.declared.store_reader.StoreReader.{StoreReader}
 
--- Why a typed read stopped. What is refused is told by the error itself. Where no more bytes can be counted, those that were taken end too
+-- Why a typed read stopped. What is refused is reported by the error itself. Where no more bytes can be counted, those that were taken end too
 -- early.
 abbrev pub typed_stop : DeserializeError → Stop DeserializeError
 typed_stop (errors.CorruptedValue TooLong) = Uncounted (errors.CorruptedValue UnexpectedEnd)

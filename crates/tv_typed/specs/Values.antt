@@ -32,7 +32,7 @@ use Rattle.tv_typed.specs.declared.store_reader.StoreReader.{StoreReader}
 abbrev pub EncodesAs : {X : Type 0} → (Tree → X → Type 0) → Version → List ℕ → X → Type 0
 EncodesAs is v b x = (t : Tree) × Encodes Legacy v b t × is t x
 
--- the same behind the code of a type
+-- the same after the code of a type
 abbrev pub EncodedAs : {X : Type 0} → (Tree → X → Type 0) → Version → ValueType → List ℕ → X → Type 0
 EncodedAs is v kind b x = EncodesAs is v (type_prefix kind ++ b) x
 
@@ -49,7 +49,7 @@ IsLeafOf make t x = t ≡ leaf (make x)
 abbrev pub IsTree : Tree → OwnedValue → Type 0
 IsTree t x = t ≡ owned_tree x
 
--- a leaf behind the code of its type
+-- a leaf after the code of its type
 abbrev pub EncodesLeaf : {X : Type 0} → Version → ValueType → (X → Leaf) → List ℕ → X → Type 0
 EncodesLeaf v kind make b x = Encodes Legacy v (type_prefix kind ++ b) (leaf (make x))
 
@@ -59,7 +59,7 @@ EncodesLeaf v kind make b x = Encodes Legacy v (type_prefix kind ++ b) (leaf (ma
 pub data CodeRefused (whole : List ℕ) : DeserializeError → Type 0 where
   in_code : {c : Cause} → ErrorInCode whole c → CodeRefused whole (errors.CorruptedValue c)
 
--- A value of one type is expected: behind the code of its own type stands a value of another, or its bytes are malformed.
+-- A value of one type is expected: after the code of its own type stands a value of another, or its bytes are malformed.
 pub data LeafRefused (expected : ValueType) (v : Version) (kind : ValueType) (whole : List ℕ) : DeserializeError → Type 0 where
   other_type : kind ≢ expected → LeafRefused expected v kind whole (errors.TypeMismatch expected kind)
   in_body : {c : Cause} → kind ≡ expected → NoneBehind v kind whole (corrupted c) → LeafRefused expected v kind whole (errors.CorruptedValue c)
@@ -74,13 +74,13 @@ pub record GivesError (HasError : List ℕ → Refusal → Type 0) (whole : List
 abbrev pub TreeRefused : Version → ValueType → List ℕ → DeserializeError → Type 0
 TreeRefused v kind = GivesError (NoneBehind v kind)
 
--- the next value: its code is malformed, or what stands behind that is refused
+-- the next value: its code is malformed, or what stands after that is refused
 abbrev pub NextRefused : (Version → ValueType → List ℕ → DeserializeError → Type 0) → Version → List ℕ → DeserializeError → Type 0
 NextRefused refused v = InThen CodeRefused IsCoded (λ kind. refused v kind)
 
 -- ---- what both say of each other
 
--- Where bytes behind a code are refused, no prefix of them encodes, without legacy objects, a tree of which a value is read.
+-- Where bytes after a code are refused, no prefix of them encodes, without legacy objects, a tree of which a value is read.
 abbrev pub RefusalsExclude : {X : Type 0} → (Tree → X → Type 0) → (Version → ValueType → List ℕ → DeserializeError → Type 0) → Type 0
 RefusalsExclude {X} is refused =
     (v : Version) (kind : ValueType) (prefix rest : List ℕ) (e : DeserializeError) (t : Tree) (x : X) → refused v kind (prefix ++ rest) e → Encodes NoLegacy v (type_prefix kind ++ prefix) t → is t x → ⊥
@@ -105,7 +105,7 @@ OnlyBy {X = X} is_known left old new result is v code =
     old.has_failed ≡ false → is_known old.source → old.count + length (left old.source) < 2 ^ 64 - 1
     → (t : Tree) (x : X) (prefix rest : List ℕ) → left old.source ≡ prefix ++ rest → Encodes NoLegacy v (code ++ prefix) t → is t x → IsReadOf is t rest result (left new.source)
 
--- What is promised of a call that reads a value behind the code of a type: `is` says which values are read of which trees, and `refused` which refusal bytes have.
+-- What is promised of a call that reads a value after the code of a type: `is` says which values are read of which trees, and `refused` which refusal bytes have.
 abbrev pub DeserializesAsBy : {S X : Type 0} (is_known : S → Type 0) (left : S → List ℕ) (failures : S → Failures) → (Tree → X → Type 0) → (Version → ValueType → List ℕ → DeserializeError → Type 0) → ValueType → StoreReader S → StoreReader S → Result X DeserializeError → Type 0
 DeserializesAsBy is_known left failures is refused kind old new result =
     DeserializesBy is_known left failures old new result (EncodedAs is (version_of old.version) kind) (refused (version_of old.version) kind)

@@ -32,7 +32,7 @@ single_leaf (leaf l) = l
 single_leaf (array ts) = null
 single_leaf (object es) = null
 
--- no failed read is told
+-- no failed read is reported
 abbrev pub TellsNoFailure : {X : Type 0} → Result X DeserializeError → Type 0
 TellsNoFailure result = (f : Failures) → Counts typed_stop result f f
 
@@ -41,7 +41,7 @@ abbrev pub Answered : {A X : Type 0} → (A → Result X DeserializeError → Ty
 Answered answers (Ok a) result = answers a result
 Answered answers (Err e) result = result ≡ Err e
 
--- The leaf behind the code of its type was read, and the answer to it is given. Where none was read, its refusal is. The reader is
+-- The leaf after the code of its type was read, and the answer to it is given. Where none was read, its refusal is. The reader is
 -- as reading has left it, but that its mark may also tell of an answer that is an error.
 pub record VisitsBy {S X : Type 0} (is_known : S → Type 0) (left : S → List ℕ) (failures : S → Failures) (old new : StoreReader S) (kind : ValueType) (answers : Leaf → Result X DeserializeError → Type 0) (result : Result X DeserializeError) : Type 0 where
   pub read : Result Leaf DeserializeError
@@ -59,12 +59,12 @@ EncodesVisited collection total Made kind b x = (n : ℕ) × Then (λ w. Length 
 abbrev pub VisitRefused : ValueType → (ℕ → ℕ) → (ℕ → List ℕ → DeserializeError → Type 0) → ValueType → List ℕ → DeserializeError → Type 0
 VisitRefused collection total Refused kind = InThen (LengthRefused collection total kind) (Length collection total kind) Refused
 
--- What was made of this many values, as it is said by who made it. Where no number was read, nothing was done, and its refusal is given.
+-- What was made of this many values, as its maker says it. Where no number was read, nothing was done, and its refusal is given.
 abbrev pub Handed : {S X : Type 0} (is_known : S → Type 0) (left : S → List ℕ) (failures : S → Failures) (mid new : StoreReader S) → (ℕ → List ℕ → X → Type 0) → (ℕ → List ℕ → DeserializeError → Type 0) → Result ℕ DeserializeError → Result X DeserializeError → Type 0
 Handed is_known left failures mid new Made Refused (Ok n) result = DeserializesBy is_known left failures mid new result (Made n) (Refused n)
 Handed is_known left failures mid new Made Refused (Err e) result = (result ≡ Err e) × (new ≡ mid)
 
--- The number of the values was read behind the code, and then they were handed on.
+-- The number of the values was read after the code, and then they were handed on.
 pub record VisitsItemsBy {S X : Type 0} (is_known : S → Type 0) (left : S → List ℕ) (failures : S → Failures) (old new : StoreReader S) (collection : ValueType) (total : ℕ → ℕ) (Made : ℕ → List ℕ → X → Type 0) (Refused : ℕ → List ℕ → DeserializeError → Type 0) (kind : ValueType) (result : Result X DeserializeError) : Type 0 where
   pub behind_number : StoreReader S
   pub announced : Result ℕ DeserializeError
@@ -73,11 +73,11 @@ pub record VisitsItemsBy {S X : Type 0} (is_known : S → Type 0) (left : S → 
 
 -- ---- legacy objects
 
--- An object behind its code, in version 2: this many entries, of which this is made.
+-- An object after its code, in version 2: this many entries, of which this is made.
 abbrev pub EncodesNextVisited : {X : Type 0} → (ℕ → List ℕ → X → Type 0) → List ℕ → X → Type 0
 EncodesNextVisited Made b x = (kind : ValueType) × Then (λ w. IsCoded w kind) (λ w. EncodesVisited types.Object (entry_total V2) Made kind w x) b
 
--- The code is malformed, or the entries behind it are refused.
+-- The code is malformed, or the entries after it are refused.
 abbrev pub NextVisitRefused : (ℕ → List ℕ → DeserializeError → Type 0) → List ℕ → DeserializeError → Type 0
 NextVisitRefused Refused = InThen CodeRefused IsCoded (λ kind. VisitRefused types.Object (entry_total V2) Refused kind)
 
@@ -86,7 +86,7 @@ abbrev pub GivesEntries : {X : Type 0} → (ℕ → List ℕ → X → Type 0) �
 GivesEntries Made Refused (Ok tree) result = OfEncoding (EncodesNextVisited Made) (NextVisitRefused Refused) (short V2 (owned_tree tree)) result
 GivesEntries Made Refused (Err e) result = result ≡ Err e
 
--- A legacy object was read whole behind its code, and then the entries that its tree encodes were handed on, or its refusal is given. Nothing more is taken
+-- A legacy object was read whole after its code, and then the entries that its tree encodes were handed on, or its refusal is given. Nothing more is taken
 -- through the reader, whose mark may also tell of an answer that is an error.
 pub record VisitsLegacyBy {S X : Type 0} (is_known : S → Type 0) (left : S → List ℕ) (failures : S → Failures) (old new : StoreReader S) (Made : ℕ → List ℕ → X → Type 0) (Refused : ℕ → List ℕ → DeserializeError → Type 0) (result : Result X DeserializeError) : Type 0 where
   pub behind_object : StoreReader S
@@ -100,8 +100,8 @@ pub record VisitsLegacyBy {S X : Type 0} (is_known : S → Type 0) (left : S →
 
 -- ---- a value of any type
 
--- What stands behind the code of a type was handed to the visitor's call for it: a leaf, the values of an array, or the entries of an object or of a legacy one.
--- Each failed read is told.
+-- What stands after the code of a type was handed to the visitor's call for it: a leaf, the values of an array, or the entries of an object or of a legacy one.
+-- Each failed read is reported.
 pub record VisitsKindBy {S X : Type 0} (is_known : S → Type 0) (left : S → List ℕ) (failures : S → Failures) (kind : ValueType) (answers : Leaf → Result X DeserializeError → Type 0) (of_array : Version → ℕ → List ℕ → X → Type 0) (array_refused : Version → ℕ → List ℕ → DeserializeError → Type 0) (of_object : Version → ℕ → List ℕ → X → Type 0) (object_refused : Version → ℕ → List ℕ → DeserializeError → Type 0) (old new : StoreReader S) (result : Result X DeserializeError) : Type 0 where
   pub leaf : is_leaf_type kind ≡ true → VisitsBy is_known left failures old new kind answers result
   pub array : kind ≡ types.Array → VisitsItemsBy is_known left failures old new types.Array element_total (of_array (version_of old.version)) (array_refused (version_of old.version)) kind result

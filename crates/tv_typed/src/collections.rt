@@ -5,7 +5,7 @@
 //! value. `Memory` where the list or the map can't grow: nothing is reserved from the number.
 //!
 //! A legacy object is read too, as a list of keys and values and as a map: its tree is encoded in memory, in its shortest encoding, and read
-//! from there. Its own errors are those of `deserialize_tree` but `TooDeep`; the first refusal of a value in it comes behind the whole object.
+//! from there. Its own errors are those of `deserialize_tree` but `TooDeep`; the first refusal of a value in it comes after the whole object.
 //! `UnsupportedType(JSONObject)` where the type of its values reads past the end of that encoding, which none of this library does.
 
 ghost use Rattle.std.specs.Prelude.{◌≡◌, true, OnErr};

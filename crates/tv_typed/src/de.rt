@@ -28,7 +28,7 @@ use tv_reader::trees::take_behind;
 use tv_reader::{DeserializeError, ValueType};
 use tv_value::owned_value::OwnedValue;
 
-/// A value whose code was read. Each call reads the value behind it.
+/// A value whose code was read. Each call reads the value after it.
 ///
 /// A call for one type returns `TypeMismatch` where the value is of another type, and nothing more is taken then;
 /// `CorruptedValue` where its bytes encode none, and just the bytes that show the cause are taken then; `Io` where the source
@@ -66,7 +66,7 @@ impl<'de, S: ByteSource> BinaryValueDeserializer<'de, S> {
     /// Reads a value of any type, legacy objects too, to the depth of the reader. Nothing is reserved from announced numbers.
     ///
     /// Errors, the first error in reading order: `CorruptedValue`;
-    /// `TypeMismatch` where in a key's place stands a value that isn't a text; `TooDeep` right behind the code of an array or an object that
+    /// `TypeMismatch` where in a key's place stands a value that isn't a text; `TooDeep` right after the code of an array or an object that
     /// is one too many; `Io`; `Memory`; `AlreadyFailed`.
     pub fn deserialize_tree(self, alloc: Global) -> Result<OwnedValue, DeserializeError>
         ensures reads { ReadsDeep S.ByteSource self.entry.reader.now self.exit.1.0.now
@@ -102,11 +102,11 @@ pub trait ValueDeserialize: Sized + Drop {
     /// Which values are read of which trees.
     ghost is: { Tree → Self → Type 0 };
 
-    /// Which refusal bytes behind the code of a type have: the first error in reading order.
+    /// Which refusal bytes after the code of a type have: the first error in reading order.
     ghost refused: { Version → ValueType → List ℕ → DeserializeError → Type 0 };
 
     /// What stands where a value of any type in it is too deep for the reader. It speaks of the version, the depth of the reader, the type
-    /// whose code was read, the bytes behind that and those that are left in the end. By default it says nothing.
+    /// whose code was read, the bytes after that and those that are left in the end. By default it says nothing.
     ghost deep: { Version → ℕ → ValueType → List ℕ → List ℕ → Type 0 } = { λ _ _ _ _ _. Unit {0} };
 
     /// What holds where a value was read: how deep the values of any type in it nest. It speaks of the same things as `deep`. By default it says
@@ -125,12 +125,12 @@ pub trait ValueDeserialize: Sized + Drop {
         ensures within { WhereRead S.ByteSource deserializer.entry.reader.now
             deserializer.exit.1.0.now result (λ v levels. within v levels deserializer.entry.kind) };
 
-    /// Where bytes behind the code of a type are refused, no prefix of them encodes a tree of which a value is read.
+    /// Where bytes after the code of a type are refused, no prefix of them encodes a tree of which a value is read.
     ghost excludes: { RefusalsExclude is refused };
 }
 
 impl<S: ByteSource> StoreReader<S> {
-    /// Reads the next value: its code, and what stands behind it. Errors: those of `BinaryValueDeserializer::from_reader` and of
+    /// Reads the next value: its code, and what stands after it. Errors: those of `BinaryValueDeserializer::from_reader` and of
     /// the type's own `deserialize`. Each is marked, whoever it is of, so that every later read returns `AlreadyFailed`.
     pub fn read<V: ValueDeserialize>(&mut self, alloc: Global) -> Result<V, DeserializeError>
         ensures deserializes { Deserializes S.ByteSource self.old self.new result
@@ -152,7 +152,7 @@ impl<S: ByteSource> StoreReader<S> {
         }
     }
 
-    // Reads the next key, and the value behind it.
+    // Reads the next key, and the value after it.
     pub(crate) fn entry<V: ValueDeserialize>(
         &mut self,
         alloc: Global,

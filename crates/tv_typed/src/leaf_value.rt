@@ -26,7 +26,7 @@ pub(crate) trait LeafValue: Sized + Drop {
     /// The leaf of which this is read.
     ghost make: { Self → Leaf };
 
-    /// Takes a value behind its codes. Errors: those of its parts.
+    /// Takes a value after its codes. Errors: those of its parts.
     fn take<S: ByteSource>(
         alloc: Self::Alloc,
         reader: &mut StoreReader<S>,
@@ -44,7 +44,7 @@ pub(crate) trait LeafValue: Sized + Drop {
 }
 
 impl<'de, S: ByteSource> BinaryValueDeserializer<'de, S> {
-    // Reads a value behind its codes, of the type that is expected.
+    // Reads a value after its codes, of the type that is expected.
     pub(crate) fn leaf<T: LeafValue>(
         self,
         alloc: T::Alloc,

@@ -470,16 +470,16 @@ pub trait ValueVisitor {
         (result : Result Self.Value DeserializeError) → answers visitor leaf result
         → TellsNoFailure result };
 
-    /// What is made of an array, by how many values it announces and the bytes behind their number that are read.
+    /// What is made of an array, by how many values it announces and the bytes after their number that are read.
     ghost of_array: { Self → Version → ℕ → List ℕ → Self.Value → Type 0 };
 
-    /// Which refusal bytes behind the number of an array's values have.
+    /// Which refusal bytes after the number of an array's values have.
     ghost array_refused: { Self → Version → ℕ → List ℕ → DeserializeError → Type 0 };
 
-    /// What is made of an object, by how many entries it has and the bytes behind their number that are read.
+    /// What is made of an object, by how many entries it has and the bytes after their number that are read.
     ghost of_object: { Self → Version → ℕ → List ℕ → Self.Value → Type 0 };
 
-    /// Which refusal bytes behind the number of an object's entries have.
+    /// Which refusal bytes after the number of an object's entries have.
     ghost object_refused: { Self → Version → ℕ → List ℕ → DeserializeError → Type 0 };
 
     /// Null stands there.

@@ -26,7 +26,7 @@ use tv_value::owned_value::OwnedValue;
 use tv_writer::encoding::has_encoding;
 use tv_writer::value_writer::write_value;
 
-// The code, and the value behind it.
+// The code, and the value after it.
 fn next_object<T: ValueDeserialize, C: Entries<T>, S: ByteSource>(
     alloc: Global,
     reader: &mut StoreReader<S>,
@@ -39,7 +39,7 @@ fn next_object<T: ValueDeserialize, C: Entries<T>, S: ByteSource>(
     read_coded::<T, C, S>(alloc, kind, reader)
 }
 
-// The shortest encoding of a value in version 2. The only error is that memory was refused, which is told too where it has none.
+// The shortest encoding of a value in version 2. The only error is that memory was refused, which is reported too where it has none.
 pub(crate) fn encoded(alloc: Global, value: &OwnedValue) -> Result<Vec<u8>, AllocError>
     ensures ok { IfOk result (λ bytes. bytes.items ≡ short V2 (owned_tree value.now)) }
     ensures valid { OnOk result (IsValue (owned_tree value.now)) }
@@ -52,7 +52,7 @@ pub(crate) fn encoded(alloc: Global, value: &OwnedValue) -> Result<Vec<u8>, Allo
     }
 }
 
-// How a refusal of what was encoded is told.
+// How a refusal of what was encoded is reported.
 pub(crate) fn retold(error: DeserializeError) -> DeserializeError
     ensures { Retold error result }
 {
@@ -81,7 +81,7 @@ fn of_encoding<T: ValueDeserialize, C: Entries<T>>(
 }
 
 impl<S: ByteSource> StoreReader<S> {
-    // Reads a legacy object behind its code.
+    // Reads a legacy object after its code.
     pub(crate) fn legacy_tree(&mut self, alloc: Global) -> Result<OwnedValue, DeserializeError>
         ensures reads { ReadsThrough S.ByteSource self.old self.new result
             (EncodesBehind (version_of self.old.version) types.JSONObject)
@@ -94,7 +94,7 @@ impl<S: ByteSource> StoreReader<S> {
     }
 }
 
-// The value of a legacy object, behind its code.
+// The value of a legacy object, after its code.
 fn legacy_object<T: ValueDeserialize, C: Entries<T>, S: ByteSource>(
     alloc: Global,
     reader: &mut StoreReader<S>,
@@ -108,7 +108,7 @@ fn legacy_object<T: ValueDeserialize, C: Entries<T>, S: ByteSource>(
     of_encoding::<T, C>(alloc, &bytes)
 }
 
-// Reads a value behind its code, of a legacy object too.
+// Reads a value after its code, of a legacy object too.
 pub(crate) fn read_object<T: ValueDeserialize, C: Entries<T>, S: ByteSource>(
     alloc: Global,
     kind: ValueType,

@@ -141,7 +141,7 @@ pub(crate) fn read_entries<T: ValueDeserialize, C: Entries<T>, S: ByteSource>(
     Ok(entries)
 }
 
-// Reads the entries of an object that isn't a legacy one, behind the code of its type.
+// Reads the entries of an object that isn't a legacy one, after the code of its type.
 pub(crate) fn read_coded<T: ValueDeserialize, C: Entries<T>, S: ByteSource>(
     alloc: Global,
     kind: ValueType,

@@ -24,7 +24,7 @@ use tv_value::nesting::MAX_DEPTH;
 /// may nest. After a refusal every later read returns `AlreadyFailed` and takes nothing.
 ///
 /// The depth limits each `OwnedValue` that is read, for itself: one in which more lists would be open at once is refused with `TooDeep`.
-/// Lists, maps, visitors and types of one's own nest as deep as their type does, and each `OwnedValue` in them has the whole limit. A legacy
+/// Lists, maps, visitors and types of your own nest as deep as their type does, and each `OwnedValue` in them has the whole limit. A legacy
 /// object isn't counted, nor what it holds: its JSON nests 127 levels deep at most.
 ///
 /// ```
@@ -169,7 +169,7 @@ impl<S: ByteSource> StoreReader<S> {
         self.marked(answer)
     }
 
-    // Takes the number of an array's values, behind its code.
+    // Takes the number of an array's values, after its code.
     pub(crate) fn array_length(&mut self, kind: ValueType) -> Result<u64, DeserializeError>
         ensures reads { ReadsThrough S.ByteSource self.old self.new result
             (Length types.Array element_total kind) (LengthRefused types.Array element_total kind) }
@@ -184,7 +184,7 @@ impl<S: ByteSource> StoreReader<S> {
         self.marked(answer)
     }
 
-    // Takes the number of an object's entries, behind its code.
+    // Takes the number of an object's entries, after its code.
     pub(crate) fn object_length(&mut self, kind: ValueType) -> Result<u64, DeserializeError>
         ensures reads { ReadsThrough S.ByteSource self.old self.new result
             (Length types.Object (entry_total (version_of self.old.version)) kind)

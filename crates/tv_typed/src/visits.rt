@@ -41,7 +41,7 @@ fn visit_encoding<V: ValueVisitor>(
 }
 
 impl<S: ByteSource> StoreReader<S> {
-    // Hands the visitor a value that holds no others, behind the codes of its type. What it refuses isn't marked yet.
+    // Hands the visitor a value that holds no others, after the codes of its type. What it refuses isn't marked yet.
     fn visit_leaf<V: ValueVisitor>(
         &mut self,
         alloc: Global,
@@ -132,7 +132,7 @@ impl<S: ByteSource> StoreReader<S> {
         visit_encoding(alloc, &bytes, visitor)
     }
 
-    // Hands the visitor what stands behind the code of a type. What it refuses isn't marked yet.
+    // Hands the visitor what stands after the code of a type. What it refuses isn't marked yet.
     fn visit_kind<V: ValueVisitor>(
         &mut self,
         alloc: Global,

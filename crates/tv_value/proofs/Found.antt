@@ -43,7 +43,7 @@ tokenized_found bytes payload rest n t ts e after h =
 pub coded_found : (bytes behind rest k : List ℕ) → bytes ≡ 0 ∷ behind → Begins (λ b. Text b k) behind rest → Begins (Behind 0 (λ b. Text b k)) bytes rest
 coded_found bytes behind rest k e h = subst (λ z. Begins (Behind 0 (λ b. Text b k)) z rest) (sym e) (begins_behind 0 behind rest h)
 
--- a key behind its code, which version 3 leaves out
+-- a key after its code, which version 3 leaves out
 pub key_found : (version : WriteVersion) (bytes behind rest k : List ℕ) → (version ≡ versions.V2 → bytes ≡ 0 ∷ behind) → (version ≡ versions.V3 → bytes ≡ behind) → Begins (λ b. Text b k) behind rest → Begins (λ b. Key (written_version version) b k) bytes rest
 key_found versions.V2 bytes behind rest k coded bare h = coded_found bytes behind rest k (coded refl) h
 key_found versions.V3 bytes behind rest k coded bare h = subst (λ z. Begins (λ b. Text b k) z rest) (sym (bare refl)) h
@@ -57,7 +57,7 @@ no_scale versions.V3 types.Date = refl
 no_scale versions.V2 _ = refl
 no_scale versions.V3 _ = refl
 
--- the leaf of a type that holds this is encoded behind the type's code
+-- the leaf of a type that holds this is encoded after the type's code
 pub leaf_begins : (version : WriteVersion) (t : LeafType) (c : Content) (code : ℕ) (bytes rest : List ℕ) → store_code t ≡ code → form_of c ≡ form t → Begins (λ b. ContentBody plain b c) bytes rest
     → (l : Leaf) × ((type_of l ≡ t) × (content l ≡ c)) × Begins (λ b. Encodes NoLegacy (written_version version) b (leaf l)) (code ∷ bytes) rest
 leaf_begins version t c code bytes rest is formed begins =

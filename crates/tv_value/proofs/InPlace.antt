@@ -15,7 +15,7 @@ pub if_none : {A : Type 0} {P : Type 0} (r : Option A) → P → IfNone r P
 if_none None p = p
 if_none (Some x) p = tt
 
--- the first part is nowhere, or is there, and the next part is nowhere behind it
+-- the first part is nowhere, or is there, and the next part is nowhere after it
 pub first_none : {A : Type 0} {Q : List ℕ → Type 0} (R : List ℕ → A → Type 0) (whole : List ℕ) → ((x : A) → NoPrefix (λ b. R b x) whole) → (y : A) → NoPrefix (Then (λ b. R b y) Q) whole
 first_none R whole h y = record { none = λ prefix rest e p. (h y).none p.prefix (p.rest ++ rest) (e ∙ ap (λ z. z ++ rest) p.joined ∙ append_assoc p.prefix p.rest rest) p.first }
 
@@ -28,7 +28,7 @@ second_none R one x whole behind b h y = record {
       h.none p.rest rest (append_cancel_left p.prefix _ _ (ap (λ z. z ++ behind) (sym same.0) ∙ cut)) p.second;
 }
 
--- no text stands where its length doesn't, where there are fewer bytes behind the length, and where they are no UTF-8
+-- no text stands where its length doesn't, where there are fewer bytes after the length, and where they are no UTF-8
 pub text_none : (whole : List ℕ) → ((n : ℕ) → NoPrefix (λ b. VNum b n) whole) → (content : List ℕ) → NoPrefix (λ b. Text b content) whole
 text_none whole h content = record {
   none = λ prefix rest e p.
@@ -50,7 +50,7 @@ text_wrong whole behind content b wrong other = record {
       wrong (subst IsUtf8 (sym same.1) p.utf8);
 }
 
--- behind fewer tokens than there should be stands none
+-- after fewer tokens than there should be stands none
 pub token_missing : (done : List Token) (whole rest : List ℕ) → Begins (λ b. Each TokenEncoding b done) whole rest → ((t : Token) → NoPrefix (λ b. TokenEncoding b t) rest)
     → (all : List Token) → length done < length all → NoPrefix (λ b. Each TokenEncoding b all) whole
 token_missing done whole rest b none [] fewer = absurd (omega arith)
@@ -64,7 +64,7 @@ token_missing (d ∷ ds) whole rest b none (t ∷ ts) fewer =
     let others : Begins (λ s. Each TokenEncoding s ds) behind rest = record { prefix = parts.rest; joined = refl; encoded = parts.second } in
     second_none TokenEncoding one_token d whole behind first (token_missing ds behind rest others none ts (omega arith)) t
 
--- behind a number stand fewer tokens than that
+-- after a number stand fewer tokens than that
 pub counted_none : (whole behind : List ℕ) (count : ℕ) → Begins (λ b. VNum b count) whole behind → NoTokens count behind → (tokens : List Token)
     → NoPrefix (λ b. Counted TokenEncoding b tokens) whole
 counted_none whole behind count b h tokens = record {

@@ -24,7 +24,7 @@ mask_is n h =
 zero_past : (m i : ℕ) → get_or (zeros m) i 0 ≡ 0
 zero_past m i = elim (cases_lt i m) [ inl l ↦ get_or-replicate m i 0 0 l | inr g ↦ get_or_past (zeros m) i 0 (omega (arith, length-replicate {A = ℕ} m 0)) ]
 
--- a byte before the end, and one behind it
+-- a byte before the end, and one after it
 kept : (block : List ℕ) (n i : ℕ) → length block ≡ 64 → n ≤ 64 → i < n → get_or block i 0 < 256 → bit_and (get_or block i 0) (get_or (ones n ++ zeros (64 - n)) i 0) ≡ get_or (take n block ++ zeros (64 - n)) i 0
 kept block n i long h l small =
     let one : get_or (ones n ++ zeros (64 - n)) i 0 ≡ 255 = get_or_append_left (ones n) (zeros (64 - n)) 0 i (omega (arith, length-replicate {A = ℕ} n 255)) ∙ get_or-replicate n i 255 0 l in

@@ -1,4 +1,4 @@
--- Tokens that are left to be taken: some are kept as they are, and behind them this many are encoded in bytes.
+-- Tokens that are left to be taken: some are kept as they are, and after them this many are encoded in bytes.
 use Rattle.std.specs.Prelude.{◌≡◌, ℕ, List, ◌++◌, length, map}
 use Rattle.std.specs.String.{string_bytes}
 use Rattle.std.specs.Coded.{coded_list}

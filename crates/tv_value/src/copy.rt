@@ -49,7 +49,7 @@ fn owned_object<N: Nested>(alloc: Global, members: N::ObjectIter) -> Result<Owne
     Ok(OwnedValue::Object(owned))
 }
 
-/// A copy of any value, however deep it nests. (Not in tantivy.) It is made by a recursion, and let go by one, of as many levels as the
+/// A copy of any value, however deep it nests. (Not in tantivy.) It is made by a recursion, and dropped by one, of as many levels as the
 /// value has; so it is for values that are known to nest within some depth. The only error is that memory was refused.
 pub fn copy_of<'a, V: Value<'a>>(alloc: Global, value: &V) -> Result<OwnedValue, AllocError>
     ensures { IfOk result (λ made. owned_tree made ≡ V.tree value.now) }

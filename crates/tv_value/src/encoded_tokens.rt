@@ -10,7 +10,7 @@ use crate::encode::push_token;
 use crate::pre_tokenized::{PreTokenizedStr, TokenRef};
 use std::alloc::{AllocError, Global};
 
-/// Tokens in their shortest encoding, one behind the other (not in tantivy).
+/// Tokens in their shortest encoding, one after the other (not in tantivy).
 #[derive(Debug, Drop)]
 pub struct EncodedTokens {
     pub(crate) bytes: Vec<u8>,

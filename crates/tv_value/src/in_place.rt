@@ -91,7 +91,7 @@ pub(crate) fn behind_tokens(count: u64, bytes: &[u8]) -> Option<&[u8]>
     Some(rest)
 }
 
-/// The bytes behind their length at the start, and what follows them. `None` where they aren't all there.
+/// The bytes after their length at the start, and what follows them. `None` where they aren't all there.
 pub fn sized_at(bytes: &[u8]) -> Option<(&[u8], &[u8])>
     ensures { IfSome result (λ x. Begins (λ b. Sized b x.0.now) bytes.now x.1.now) }
 {
@@ -142,7 +142,7 @@ pub fn truth_at(bytes: &[u8]) -> Option<(bool, &[u8])>
     }
 }
 
-/// The text with its tokens at the start, behind the code of an extension, and what follows them. `None` where none are there.
+/// The text with its tokens at the start, after the code of an extension, and what follows them. `None` where none are there.
 pub fn tokenized_at(bytes: &[u8]) -> Option<(PreTokenizedStr<'_>, &[u8])>
     ensures { IfSome result
         (λ x. Begins (Behind 0 (λ b. Tokenized b (text_of x.0) (tokens_of x.0))) bytes.now
@@ -156,7 +156,7 @@ pub fn tokenized_at(bytes: &[u8]) -> Option<(PreTokenizedStr<'_>, &[u8])>
     Some((content, &payload[len..]))
 }
 
-// What stands behind the code of a key, which only version 3 leaves out.
+// What stands after the code of a key, which only version 3 leaves out.
 #[inline(always)]
 fn behind_key_code(bytes: &[u8], version: WriteVersion) -> Option<&[u8]>
     ensures coded { version ≡ WriteVersion.V2 → MatchOption result
@@ -206,7 +206,7 @@ pub fn entry_count_at(bytes: &[u8], version: WriteVersion) -> Option<(u64, &[u8]
     }
 }
 
-/// What a value without children of this form holds, as it stands at the start behind the value's code, and what follows it. `None` where none
+/// What a value without children of this form holds, as it stands at the start after the value's code, and what follows it. `None` where none
 /// is there. (Not in tantivy.)
 #[inline(always)]
 pub fn content_at(form: Form, bytes: &[u8]) -> Option<(LeafContent<'_>, &[u8])>

@@ -175,7 +175,7 @@ impl OwnedValue {
     }
 
     /// A copy of a value that nests within `depth` lists. (Not in tantivy.) Errors: `TooDeep` exactly where it nests deeper, before anything
-    /// is made, else `Memory` where memory was refused. A copy is made by a recursion, and let go by one, of as many levels as it has.
+    /// is made, else `Memory` where memory was refused. A copy is made by a recursion, and dropped by one, of as many levels as it has.
     pub fn from_value_within<'a, V: Value<'a>>(
         alloc: Global,
         value: &V,

@@ -1,4 +1,4 @@
-//! Whether bytes are UTF-8, where others stand behind them.
+//! Whether bytes are UTF-8, where others stand after them.
 
 ghost use Rattle.std.specs.Prelude.{◌≡◌, ℕ, ◌-◌, ◌<◌, ◌≤◌, ◌↔◌, ◌++◌, length, take, replicate};
 ghost use Rattle.std.specs.Prelude.{slice_index, IsTrue};
@@ -38,7 +38,7 @@ fn common(a: u8x64, b: u8x64) -> u8x64
     a & b
 }
 
-// The first bytes of the block, and zeros behind them.
+// The first bytes of the block, and zeros after them.
 #[inline(always)]
 fn prefix_of(block: u8x64, len: usize) -> u8x64
     requires { len ≤ 64 }
@@ -70,7 +70,7 @@ pub(crate) fn is_utf8_prefix(bytes: &[u8], len: usize) -> bool
     is_utf8_in_blocks(bytes, len)
 }
 
-// The same of any bytes. Their last block is read where it stands, without a copy, if with what stands behind them it has 64 bytes.
+// The same of any bytes. Their last block is read where it stands, without a copy, if with what stands after them it has 64 bytes.
 #[inline(never)]
 fn is_utf8_in_blocks(bytes: &[u8], len: usize) -> bool
     requires { len ≤ length bytes.now }

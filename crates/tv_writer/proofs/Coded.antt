@@ -1,4 +1,4 @@
--- A code, and then what stands behind it.
+-- A code, and then what stands after it.
 use Rattle.std.proofs.Common.{◌≡◌, ℕ, List, [], ◌∷◌, ◌++◌, Result, Ok, Err, get_or, ap, ◌∙◌}
 use Rattle.std.specs.Int.{w32, w64, to_le_bytes}
 use Rattle.tv_base.specs.Number.{four_bytes, eight_bytes}
@@ -8,7 +8,7 @@ use Rattle.tv_base.specs.Stop.{Stop}
 use Rattle.tv_base.specs.Sink.{WritesBy}
 use Rattle.tv_base.proofs.Written.{Writes_then, Writes_prefix}
 
--- the code was written, and then what is behind it or a prefix of that
+-- the code was written, and then what is after it or a prefix of that
 pub Coded_then : {S T U E D R Q : Type 0} {stop : E → Stop R} {first_stop : D → Stop Q} {is_known : S → Type 0} {held : S → List ℕ} {failures : S → Failures} {old mid new : S} {x : T} {result : Result U E} {code : ℕ} {body : List ℕ}
     → WritesBy first_stop is_known held failures old mid (Ok x) (Ok (code ∷ [])) → WritesBy stop is_known held failures mid new result (Ok body) → WritesBy stop is_known held failures old new result (Ok (code ∷ body))
 Coded_then {code = code} {body = body} first second = Writes_then (code ∷ []) body first second

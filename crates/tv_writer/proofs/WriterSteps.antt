@@ -17,7 +17,7 @@ pub short_members : (v : Version) (es : List (List ℕ × Tree)) → short_entri
 short_members v [] = refl
 short_members v (e ∷ es) = ap (λ z. short_key v e.0 ++ (short v e.1 ++ z)) (short_members v es)
 
--- a list is its head, and its children behind it
+-- a list is its head, and its children after it
 pub array_parts : (v : Version) {tree : Tree} (ts : List Tree) {count : ℕ} → tree ≡ array (elements ts) → count ≡ child_count tree → short v tree ≡ (12 ∷ vnum count) ++ short_children v (map without_key ts)
 array_parts v ts {count = n} is counted =
     ap (short v) is ∙ ap (λ m. (12 ∷ vnum m) ++ short_elements v (elements ts)) (sym (counted ∙ ap child_count is)) ∙ ap (λ z. (12 ∷ vnum n) ++ z) (short_items v ts)

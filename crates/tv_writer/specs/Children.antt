@@ -12,7 +12,7 @@ child_count (leaf l) = 0
 child_count (array ts) = element_count ts
 child_count (object es) = entry_count es
 
--- each in its shortest encoding, behind its key, if it has one
+-- each in its shortest encoding, after its key, if it has one
 abbrev pub short_key_of : Version → Option (List ℕ) → List ℕ
 short_key_of v None = []
 short_key_of v (Some key) = short_key v key

@@ -34,7 +34,7 @@ pub fn write_code<K: ByteSink>(sink: &mut K, code: u8) -> Result<(), WriteError>
     write_u8(sink, code)
 }
 
-/// Writes a code, and a text behind its length.
+/// Writes a code, and a text after its length.
 ///
 /// The only error is the kind with which a write failed. The sink then holds what it held before, and a beginning of these bytes.
 /// (Not in tantivy.)
@@ -45,7 +45,7 @@ pub fn write_coded_text<K: ByteSink>(sink: &mut K, code: u8, text: &str) -> Resu
     write_coded_bytes(sink, code, text.as_bytes())
 }
 
-// A code, and bytes behind their length. A length of one byte is written with the code.
+// A code, and bytes after their length. A length of one byte is written with the code.
 #[inline(always)]
 #[tactic(auto, using(crate::proofs::Coded::Coded_then))]
 fn write_coded_bytes<K: ByteSink>(sink: &mut K, code: u8, content: &[u8]) -> Result<(), WriteError>
@@ -155,7 +155,7 @@ fn write_tokenized<K: ByteSink>(sink: &mut K, text: PreTokenizedStr<'_>) -> Resu
     write_tokens(sink, text.tokens())
 }
 
-// A code, and a text with its tokens behind a code of its own.
+// A code, and a text with its tokens after a code of its own.
 #[tactic(auto, using(crate::proofs::Coded::Coded_then))]
 fn write_extension<K: ByteSink>(
     sink: &mut K,

@@ -23,7 +23,7 @@ use tv_value::children::Children;
 use tv_value::nested::{Nested, NestedValue, lend};
 use tv_value::value::Value;
 
-/// Writes a key of an object: its length and its text, in version 2 behind the code of a text. It takes no memory.
+/// Writes a key of an object: its length and its text, in version 2 after the code of a text. It takes no memory.
 ///
 /// The only error is the kind with which a write failed. The sink then holds what it held before, and a beginning of the key.
 /// (Not in tantivy.)
@@ -124,7 +124,7 @@ fn write_nested<K: ByteSink, N: Nested>(
     }
 }
 
-// The children that are left of a list, in order, each behind its key, if it has one. Those of a list among them are counted first, on a
+// The children that are left of a list, in order, each after its key, if it has one. Those of a list among them are counted first, on a
 // walk of their own.
 #[cycle(values)]
 fn write_children<K: ByteSink, N: Nested>(

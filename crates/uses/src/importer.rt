@@ -8,7 +8,7 @@ use tantivy_schema::common::VecSink;
 use tantivy_schema::schema::document::ParseBuffers;
 use tantivy_schema::schema::{Schema, TantivyDocument};
 
-/// Stores the documents of lines one behind the other, and says of each other line why it is refused.
+/// Stores the documents of lines one after the other, and says of each other line why it is refused.
 pub fn import(
     alloc: Global,
     schema: &Schema,

@@ -7,7 +7,7 @@ use tantivy_schema::common::{SliceSource, VecSink};
 use tantivy_schema::schema::{Schema, TantivyDocument};
 use tantivy_schema::store::{DocStoreVersion, read_document};
 
-/// Documents one behind the other, and where each begins.
+/// Documents one after the other, and where each begins.
 #[derive(Drop)]
 pub struct Store {
     block: Vec<u8>,
@@ -35,7 +35,7 @@ impl Store {
             return Ok(None);
         };
         let Some(bytes) = self.block.get(*start..) else {
-            return Err(anyhow!("a document begins behind the block"));
+            return Err(anyhow!("a document begins after the block"));
         };
         let mut source = SliceSource::new(bytes);
         Ok(Some(read_document(alloc, &mut source, DocStoreVersion::V2)?))

@@ -31,7 +31,7 @@ impl<'a> Read for SlowReader<'a> {
     }
 }
 
-// Puts the next bytes behind these, each time by another call of the source, and gives their number.
+// Puts the next bytes after these, each time by another call of the source, and gives their number.
 fn take_some<R: Read>(
     source: &mut BufferedSource<R>,
     bytes: &mut Vec<u8>,

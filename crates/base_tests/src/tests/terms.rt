@@ -12,7 +12,7 @@ use tv_term::{Term, TermError, TermRange, TermWriter};
 use tv_value::date_time::DateTime;
 use tv_value::field::Field;
 
-// Whether a term is another one, which is let go.
+// Whether a term is another one, which is dropped.
 fn is_same(term: &Term, other: Result<Term, TermError>) -> Result<bool, Fail> {
     Ok(*term == other?)
 }
@@ -166,7 +166,7 @@ fn counts_are_printed(rt: HostRuntime) -> Result<(), Fail> {
     Ok(())
 }
 
-// Whether `Debug` prints this of a term, which is let go.
+// Whether `Debug` prints this of a term, which is dropped.
 fn is_shown(alloc: Global, term: Result<Term, TermError>, expected: &str) -> Result<bool, Fail> {
     Ok(format!(in alloc; "{:?}", term?)?.as_str() == expected)
 }

@@ -76,7 +76,7 @@ pub enum Call {
 }
 
 impl Call {
-    /// The name under which it is told.
+    /// The name under which it is printed.
     pub fn name(self) -> &'static str {
         match self {
             Call::Parse => "parse",

@@ -196,7 +196,7 @@ pub fn same(sample: &Sample) -> Result<Option<usize>> {
 
 /// Reads the first value into one that owns what it holds. Gives the length of its JSON.
 pub fn read_owned(alloc: Global, sample: &Sample) -> Result<Option<usize>> {
-    // behind the number of the pairs and the field
+    // after the number of the pairs and the field
     let bytes = sample.stored.as_slice().get(5..).context("a pair")?;
     let mut reader = StoreReader::new(SliceSource::new(bytes), DocStoreVersion::V2);
     match reader.read::<OwnedValue>(alloc) {

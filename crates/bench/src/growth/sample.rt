@@ -22,13 +22,13 @@ pub struct Sample {
     pub path: String,
     // The schema's line, and a line for each document; of other shapes no lines.
     pub lines: Vec<u8>,
-    // The stored bytes of documents one behind the other; of other shapes none.
+    // The stored bytes of documents one after the other; of other shapes none.
     pub block: Vec<u8>,
     // How many there are of what the document or the call has many of.
     pub count: u32,
 }
 
-// Written here, so that a sample is let go by one call.
+// Written here, so that a sample is dropped by one call.
 impl Drop for Sample {
     fn drop(self) {
         let Sample {

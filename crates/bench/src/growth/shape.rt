@@ -25,7 +25,7 @@ pub enum Shape {
     Steps,
     /// Lines with a document each.
     Lines,
-    /// Documents one behind the other.
+    /// Documents one after the other.
     Documents,
     /// Terms of numbers.
     Terms,
@@ -34,7 +34,7 @@ pub enum Shape {
 }
 
 impl Shape {
-    // The shapes, each behind the name under which it is asked for.
+    // The shapes, each after the name under which it is asked for.
     const NAMED: [(&'static str, Shape); 13] = [
         ("values", Shape::Values),
         ("items", Shape::Items),

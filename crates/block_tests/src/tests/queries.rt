@@ -16,14 +16,14 @@ const SCHEMA: &[u8] = br#"[{"name":"s","type":"text","options":{}},
 // Where nothing was written.
 const KEPT: u8 = 0xa5;
 
-// The term of 258 in field 1, behind its length.
+// The term of 258 in field 1, after its length.
 const NUMBER: &[u8] = b"\x0d\0\0\0\0\0\0\0\0\0\0\x01u\0\0\0\0\0\0\x01\x02";
 
 // Those of 7 below `j.a.b`: of the text, and of the number.
 const BELOW: &[u8] =
     b"\x0b\0\0\0\0\0\0\0\0\0\0\x04ja\x01b\0s7\x12\0\0\0\0\0\0\0\0\0\0\x04ja\x01b\0i\x80\0\0\0\0\0\0\x07";
 
-// From 10 on and below 20 in field 1, behind the lengths of both.
+// From 10 on and below 20 in field 1, after the lengths of both.
 const RANGE: &[u8] =
     b"\x0d\0\0\0\0\0\0\0\x0d\0\0\0\0\0\0\0\0\0\0\x01u\0\0\0\0\0\0\0\x0a\0\0\0\x01u\0\0\0\0\0\0\0\x14";
 

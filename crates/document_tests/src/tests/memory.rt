@@ -9,7 +9,7 @@ use tv_value::field::Field;
 use tv_value::leaf::ReferenceValueLeaf;
 use tv_value::owned_value::OwnedValue;
 
-// The heap of this many of the first four pairs, behind one another.
+// The heap of this many of the first four pairs, one after the other.
 fn heap_of(finished: usize) -> &'static [u8] {
     match finished {
         0 => b"",
@@ -114,7 +114,7 @@ fn keeps_the_finished_pairs_where_memory_is_refused(rt: HostRuntime) -> Result<(
     Ok(())
 }
 
-// Whether this many of the first pairs stand in a document as they are to, and nothing behind the first four.
+// Whether this many of the first pairs stand in a document as they are to, and nothing after the first four.
 fn has_pairs(document: &CompactDoc, finished: usize) -> bool {
     for (index, place) in PLACES.iter().enumerate().take(finished) {
         if document.addr_of(index) != Some(*place) {

@@ -31,7 +31,7 @@ const NEWER_PAIR: &[u8] = b"\x02\0\0\0\x0d\x82\x81a\x0b\x82bc\x0d\x80";
 // The places of all pairs.
 const ALL: [usize; 7] = [0, 1, 2, 3, 4, 5, 6];
 
-// Puts the bytes of a document of the pairs at these places behind those that are there.
+// Puts the bytes of a document of the pairs at these places after those that are there.
 fn append_document(
     bytes: &mut Vec<u8>,
     version: DocStoreVersion,
@@ -83,7 +83,7 @@ fn same(one: &TantivyDocument, other: &TantivyDocument) -> bool {
     true
 }
 
-// Whether the pairs at these places are kept of all pairs, whatever is buffered, and the byte behind the document comes next.
+// Whether the pairs at these places are kept of all pairs, whatever is buffered, and the byte after the document comes next.
 fn keeps(
     alloc: Global,
     version: DocStoreVersion,

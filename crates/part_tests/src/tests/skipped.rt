@@ -37,7 +37,7 @@ const OLDER_OBJECT: &[u8] = b"\x0d\x84\0\x81a\x0b\0\x82bc\x0d\x80";
 
 const NEWER_OBJECT: &[u8] = b"\x0d\x82\x81a\x0b\x82bc\x0d\x80";
 
-// Whether the value is passed over, and two bytes behind it are left.
+// Whether the value is passed over, and two bytes after it are left.
 fn passes(alloc: Global, value: &[u8], version: DocStoreVersion) -> Result<bool, AllocError> {
     let mut bytes = value.to_vec(alloc)?;
     bytes.extend_from_slice(b"\xff\xff")?;
@@ -46,7 +46,7 @@ fn passes(alloc: Global, value: &[u8], version: DocStoreVersion) -> Result<bool,
     Ok(answer.is_ok() && source.rest().len() == 2)
 }
 
-// Whether the value is passed over also where the source has no more than this many bytes buffered, and the byte behind it comes next.
+// Whether the value is passed over also where the source has no more than this many bytes buffered, and the byte after it comes next.
 fn passes_buffered(
     alloc: Global,
     value: &[u8],
@@ -83,7 +83,7 @@ fn corrupt(cause: Cause) -> DeserializeError {
     DeserializeError::CorruptedValue(cause)
 }
 
-// Values that are malformed, the error, and how many bytes stand behind it.
+// Values that are malformed, the error, and how many bytes stand after it.
 fn malformed() -> [(&'static [u8], DeserializeError, usize); 15] {
     [
         (b"", corrupt(Cause::UnexpectedEnd), 0),
@@ -211,7 +211,7 @@ fn documents_of_a_block_are_passed_over(rt: HostRuntime) -> Result<(), Fail> {
     assert!(rt; reader.skip(&mut source) == Ok(false));
     assert!(rt; reader.skip(&mut source) == Ok(false));
     assert!(rt; reader.document().len() == 1);
-    // nothing is read behind a refusal
+    // nothing is read after a refusal
     let mut source = SliceSource::new(b"\x81\0\0\0\0\x06\x80");
     let refused = Err(DeserializeError::CorruptedValue(Cause::FloatCode));
     assert!(rt; reader.skip(&mut source) == refused);

@@ -1,4 +1,4 @@
-//! Documents of a block that are read one behind the other within limits.
+//! Documents of a block that are read one after the other within limits.
 
 use std::test::Fail;
 use tantivy_schema::common::{BufferedSource, ByteSource, Cause, SliceSource};
@@ -90,7 +90,7 @@ fn a_document_past_a_limit_is_refused(rt: HostRuntime) -> Result<(), Fail> {
         assert!(rt; reader.advance_within(&mut source, limits) == passed(limit));
         assert!(rt; source.rest().len() == left);
         assert!(rt; reader.document().len() == 0);
-        // nothing is read behind a refusal
+        // nothing is read after a refusal
         let none = within(None, None, None);
         let again = reader.advance_within(&mut source, none);
         assert!(rt; again == refused(DeserializeError::AlreadyFailed));

@@ -8,7 +8,7 @@ use tv_typed::{BinaryDocumentDeserializer, DocumentDeserializer, StoreReader};
 
 #[test]
 fn no_more_is_counted_than_fits(rt: HostRuntime) {
-    // a text and null, 14 bytes, and a byte behind
+    // a text and null, 14 bytes, and a byte after
     let bytes = b"\x82\0\0\0\0\0\x82ab\x01\0\0\0\x0b\xff";
     for (room, is_read) in [(13, false), (14, true), (15, true)] {
         let version = DocStoreVersion::V2;

@@ -30,7 +30,7 @@ fn arrays_nest_128_levels_deep(rt: HostRuntime) -> Result<(), Fail> {
             }
             Err(error) => {
                 assert!(rt; !is_read && error == DeserializeError::TooDeep);
-                // right behind the code of the 129th
+                // right after the code of the 129th
                 assert!(rt; reader.bytes_read() == 129 * 2 - 1);
                 assert!(rt; reader.has_failed());
             }

@@ -92,7 +92,7 @@ impl ValueVisitor for Numbers {
     }
 }
 
-// The number that is told for the value which these bytes begin with, and whether the reader is marked then.
+// The number that is reported for the value which these bytes begin with, and whether the reader is marked then.
 fn told(alloc: Global, bytes: &[u8]) -> (Result<u64, DeserializeError>, bool) {
     let mut reader = StoreReader::new(SliceSource::new(bytes), DocStoreVersion::V2);
     let answer = match BinaryValueDeserializer::from_reader(&mut reader) {

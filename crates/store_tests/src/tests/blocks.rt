@@ -1,4 +1,4 @@
-//! Documents that stand one behind the other, read in the memory of one.
+//! Documents that stand one after the other, read in the memory of one.
 
 use std::alloc::Global;
 use std::test::Fail;
@@ -63,7 +63,7 @@ fn a_block_is_read_to_its_end(rt: HostRuntime) -> Result<(), Fail> {
     Ok(())
 }
 
-// Reads a block that is cut off behind this many bytes, in which this many documents are whole.
+// Reads a block that is cut off after this many bytes, in which this many documents are whole.
 fn ends_early<S: ByteSource>(alloc: Global, source: &mut S, whole: usize) -> bool {
     let mut reader = BlockReader::new(alloc, DocStoreVersion::V2);
     for _ in 0..whole {
@@ -84,7 +84,7 @@ fn a_block_that_is_cut_off_is_refused(rt: HostRuntime) -> Result<(), Fail> {
         let mut source = BufferedSource::with_capacity(alloc, 8, &BLOCK[..len])?;
         assert!(rt; ends_early(alloc, &mut source, whole));
     }
-    // nothing is read behind a refusal
+    // nothing is read after a refusal
     let mut reader = BlockReader::new(alloc, DocStoreVersion::V2);
     let mut source = SliceSource::new(b"\x81\0\0\0\0\x06\x81\0\0\0\0\x0b");
     let refused = Err(DeserializeError::CorruptedValue(Cause::FloatCode));

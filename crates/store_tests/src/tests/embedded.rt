@@ -1,4 +1,4 @@
-//! A store of one's own: that a document gets through, and what a full store returns.
+//! A store of your own: that a document gets through, and what a full store returns.
 
 use embedding::{BoundedSink, PacketSource, fetch_document, store_document};
 use std::alloc::Global;

@@ -214,7 +214,7 @@ const KINDS: [io::ErrorKind; 3] = [
 ];
 
 // A failure that isn't told as it is to be, by its kind and by how many reads come before it. There is to be none: each read of the
-// bytes fails in turn, with its kind, just the bytes before it are read, and no call comes behind it; where none fails, all are read.
+// bytes fails in turn, with its kind, just the bytes before it are read, and no call comes after it; where none fails, all are read.
 fn wrong_failure<R: Reading>(
     alloc: Global,
     bytes: &[u8],

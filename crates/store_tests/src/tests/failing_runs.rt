@@ -26,7 +26,7 @@ fn answers(alloc: Global, count: usize) -> Result<Vec<u8>, AllocError> {
     Ok(bytes)
 }
 
-// Behind this many calls none is made.
+// After this many calls none is made.
 const NEVER: u64 = u64::MAX;
 
 // The kinds of the errors.
@@ -36,7 +36,7 @@ const KINDS: [io::ErrorKind; 3] = [
     io::ErrorKind::Other,
 ];
 
-// How a run ends and what it has written, where the read behind this many fails, or the write.
+// How a run ends and what it has written, where the read after this many fails, or the write.
 fn ran(
     alloc: Global,
     input: &[u8],
@@ -50,8 +50,8 @@ fn ran(
     (end, sink.into_inner())
 }
 
-// How many documents are answered where the read behind this many fails: those whose line has come whole. A first read at the end of the
-// input finds the end of the last line, and a second one finds no line behind that.
+// How many documents are answered where the read after this many fails: those whose line has come whole. A first read at the end of the
+// input finds the end of the last line, and a second one finds no line after that.
 fn answered(place: usize) -> usize {
     let feeds = INPUT
         .iter()

@@ -101,7 +101,7 @@ const KINDS: [io::ErrorKind; 3] = [
 ];
 
 // A failure that isn't told as it is to be, by its kind and by how many writes come before it. There is to be none: each write of the
-// bytes fails in turn, with its kind, just the bytes before it are written, and no call comes behind it; where none fails, all are written.
+// bytes fails in turn, with its kind, just the bytes before it are written, and no call comes after it; where none fails, all are written.
 fn wrong_failure<W: Writing>(
     alloc: Global,
     bytes: &[u8],

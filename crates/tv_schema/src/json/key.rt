@@ -66,7 +66,7 @@ impl SchemaKey {
         }
     }
 
-    // What the key stands under, with a dot behind each.
+    // What the key stands under, with a dot after each.
     fn parents(self) -> &'static str {
         match self {
             SchemaKey::Name | SchemaKey::Type | SchemaKey::Options => "",

@@ -13,7 +13,7 @@ decreases-put_encoded_array l = 2 * l.levels
 abbrev pub decreases-put_encoded_object : goal.decreases-put_encoded_object
 decreases-put_encoded_object l = 2 * l.levels
 
--- the children's places stand behind those of others
+-- the children's places stand after those of others
 abbrev pub invariant-put_encoded_array-loop-i : goal.invariant-put_encoded_array-loop-i
 invariant-put_encoded_array-loop-i l =
     ItemsPut (written_version l.version) l.announced l._i l.bytes l.rest l.fn.heap.items l.fn.places.items l.heap.items l.places.items

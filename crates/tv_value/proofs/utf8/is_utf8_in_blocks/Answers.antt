@@ -7,7 +7,7 @@ use Rattle.simdutf8.specs.declared.checker.Checker.{Checker}
 use Rattle.simdutf8.proofs.StepsLemmas.{IsUtf8-append_ascii, IsAscii-replicate}
 use Rattle.tv_value.proofs.utf8.is_utf8_in_blocks.Goals as goal
 
--- What a checker says that has read the first bytes, and a block with the last ones and zeros behind them.
+-- What a checker says that has read the first bytes, and a block with the last ones and zeros after them.
 says : (bs block : List ℕ) (at left len : ℕ) (checker : Checker) (b : Bool) → at + left ≡ len → left ≤ 64 → block ≡ take left (take 64 (drop at bs)) ++ replicate (64 - left) 0 → HasRead checker (take at bs ++ block)
     → ((read : List ℕ) → HasRead checker read → IsTrue b ↔ IsUtf8 read) → IsTrue b ↔ IsUtf8 (take len bs)
 says bs block at left len checker b all short is has said =

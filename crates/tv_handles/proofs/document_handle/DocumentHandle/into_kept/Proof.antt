@@ -1,4 +1,4 @@
--- The pointer goes out of the handle with what is kept behind it.
+-- The pointer goes out of the handle with what is kept after it.
 use Rattle.std.proofs.Common.{refl}
 use Rattle.tv_handles.proofs.Pointers.{passes}
 use Rattle.tv_handles.proofs.document_handle.DocumentHandle.TheLaws as handle_laws

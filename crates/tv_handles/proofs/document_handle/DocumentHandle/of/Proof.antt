@@ -1,4 +1,4 @@
--- The pointer goes into the handle with what is kept behind it.
+-- The pointer goes into the handle with what is kept after it.
 use Rattle.tv_doc.proofs.document.CompactDoc.TheLaws as document_laws
 use Rattle.std.proofs.Common.{refl}
 use Rattle.tv_handles.proofs.Pointers.{passes}

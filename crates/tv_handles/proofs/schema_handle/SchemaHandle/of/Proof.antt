@@ -1,4 +1,4 @@
--- The pointer goes into the handle with what is kept behind it.
+-- The pointer goes into the handle with what is kept after it.
 use Rattle.tv_handles.proofs.schema_memory.SchemaMemory.TheLaws as schema_laws
 use Rattle.std.proofs.Common.{refl}
 use Rattle.tv_handles.proofs.Pointers.{passes}

@@ -6,14 +6,14 @@ use Rattle.tv_schema.specs.SchemaJsonEarly.{first_error, head_error}
 use Rattle.tv_schema.specs.declared.json.error.SchemaJsonError.{SchemaJsonError}
 use Rattle.tv_schema.proofs.json.entries.builder_of.Goals as goal
 
--- what is told of the entry at a place before which there is no error, is told of the first
+-- what is said of the entry at a place before which there is no error, is reported of the first
 first_told : {A : Type 0} (items : List Value) (place : ℕ) (description : Value) (result : Result A SchemaJsonError) → place < length items → description ≡ get_or items place description
     → (0 < place → first_error (items_view items) ≡ None) → IfSome (head_error place (view description)) (λ error. result ≡ Err error) → IfSome (first_error (items_view items)) (λ error. result ≡ Err error)
 first_told [] place description result within is passed told = absurd (omega arith)
 first_told (first ∷ others) zero description result within is passed told = subst (λ (item : Value). IfSome (head_error 0 (view item)) (λ error. result ≡ Err error)) is told
 first_told (first ∷ others) (suc place) description result within is passed told = rw (passed (omega arith)) tt
 
--- two results with one error are told the same
+-- two results with one error are reported the same
 same_told : {A B : Type 0} (known : Option SchemaJsonError) (error : SchemaJsonError) (one : Result A SchemaJsonError) (other : Result B SchemaJsonError) → one ≡ Err error → other ≡ Err error
     → IfSome known (λ told. one ≡ Err told) → IfSome known (λ told. other ≡ Err told)
 same_told None error one other first second h = tt
