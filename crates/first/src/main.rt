@@ -3,7 +3,7 @@
 use anyhow::{Result, anyhow};
 use tantivy_schema::common::{SliceSource, VecSink};
 use tantivy_schema::schema::document::BinaryDocumentSerializer;
-use tantivy_schema::schema::{Document, INDEXED, STORED, Schema, TEXT, TantivyDocument};
+use tantivy_schema::schema::{Document, INDEXED, STORED, Schema, TEXT, TantivyDocument, Value};
 use tantivy_schema::store::{DocStoreVersion, read_document};
 
 fn main(rt: HostRuntime) -> Result<()> {
@@ -22,8 +22,19 @@ fn main(rt: HostRuntime) -> Result<()> {
 
     let mut sink = VecSink::new(alloc);
     BinaryDocumentSerializer::new(&mut sink, &schema).serialize_doc(&document)?;
+    let stored = hex::encode(alloc, sink.as_slice())?;
+    println!(rt; "{stored}")?;
+
     let mut source = SliceSource::new(sink.as_slice());
     let read = read_document(alloc, &mut source, DocStoreVersion::V2)?;
+    for (field, value) in read.field_values() {
+        let number = field.field_id();
+        match (value.as_str(), value.as_u64()) {
+            (Some(text), _) => println!(rt; "{number} {text}")?,
+            (None, Some(count)) => println!(rt; "{number} {count}")?,
+            (None, None) => {}
+        }
+    }
     let json = read.to_json(alloc, &schema)?;
     println!(rt; "{json}")?;
     Ok(())
