@@ -21,3 +21,4 @@ pub mod ChosenPairs
 pub mod ChosenDocuments
 pub mod RoomChosen
 pub mod ChosenRuns
+mod WantedFields

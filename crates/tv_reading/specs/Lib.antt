@@ -10,5 +10,6 @@ pub mod Buffered
 pub mod PairValue
 pub mod Skip
 pub mod ChosenFields
+pub mod Wanted
 pub mod ChosenPair
 pub mod ChosenBuffered

@@ -2,7 +2,7 @@
 
 ghost use Rattle.std.specs.Prelude.{◌≡◌, [], Ok, IfSome, IsErrOf, true};
 ghost use Rattle.tv_builder.specs.HeldPairs.{document_of};
-ghost use Rattle.tv_reading.specs.ChosenFields.{is_among, EncodesChosen, HasNoRoomChosen};
+ghost use Rattle.tv_reading.specs.ChosenFields.{EncodesChosen, HasNoRoomChosen};
 ghost use Rattle.tv_reading.specs.ChosenPair.{BeginsAsPair, AddsIf, FindsPair, FindsNoPair};
 ghost use Rattle.tv_reading.specs.ChosenPair.{PairHasNoRoom};
 ghost use Rattle.tv_reading.specs.Documents.{NoDocument};
@@ -15,6 +15,7 @@ use crate::buffered::take_buffered_pairs;
 use crate::chosen_buffered::take_buffered_chosen;
 use crate::document::take_pair_value;
 use crate::items::pass_value;
+use crate::wanted::is_among;
 use std::alloc::Global;
 use tv_base::ByteSource;
 use tv_builder::heap_pairs::HeapPairs;
@@ -22,13 +23,6 @@ use tv_reader::fields::take_field;
 use tv_reader::heads::take_document_head;
 use tv_reader::{DeserializeError, DocStoreVersion};
 use tv_value::field::Field;
-
-// Whether a field is among these, which are few: they are looked through.
-pub(crate) fn is_among(fields: &[Field], field: u32) -> bool
-    ensures { result ≡ is_among fields.now field }
-{
-    fields.iter().any(|chosen| chosen.field_id() == field)
-}
 
 // The field of a pair that the bytes begin with.
 fn field_at(bytes: &[u8]) -> Option<u32>
@@ -121,7 +115,7 @@ fn take_chosen_pair<S: ByteSource>(
 /// as if they were read, and passed over as `pass_value` does. Values that are kept are read straight into the heap, to any depth, by a recursion of
 /// `MAX_DEPTH` levels at most. Nothing is reserved from announced numbers, and no byte after the document is taken.
 ///
-/// The fields are looked through for each pair, so they should be few. Without any, all pairs are passed over.
+/// Fields with numbers below 64 are looked up in a table, and others are looked through for each pair. Without any, all pairs are passed over.
 ///
 /// Errors: `CorruptedValue` and `TypeMismatch` with the first error in the bytes, whether or not it is in a pair that is kept; `HeapFull`
 /// where what has come of the kept pairs needs more room than 4294967295 bytes; `Io` where the source failed; `Memory`.

@@ -7,8 +7,8 @@ ghost use Rattle.tv_reader.specs.Finds.{Finds, Nothing};
 ghost use Rattle.tv_reader.specs.Version.{version_of};
 ghost use Rattle.tv_reading.specs.ChosenBuffered.{AddsBufferedChosen, AddsChosenPair, AddsChosenPairs};
 
-use crate::chosen::is_among;
 use crate::encoded::behind_value;
+use crate::wanted::WantedFields;
 use tv_base::ByteSource;
 use tv_builder::heap_pairs::HeapPairs;
 use tv_format::version::WriteVersion;
@@ -23,15 +23,15 @@ fn add_chosen_pair<'a>(
     document: &mut HeapPairs,
     bytes: &'a [u8],
     version: WriteVersion,
-    fields: &[Field],
+    wanted: &WantedFields<'_>,
 ) -> Option<&'a [u8]>
     ensures added { IfSome result
-        (λ rest. AddsChosenPair (written_version version) fields.now document.old document.new
+        (λ rest. AddsChosenPair (written_version version) wanted.now.fields.now document.old document.new
         bytes.now rest.now) }
     ensures none { IfNone result (IsUnchanged document.old document.new) }
 {
     let (prefix, value) = bytes.split_first_chunk::<4>()?;
-    if !is_among(fields, u32::from_le_bytes(*prefix)) {
+    if !wanted.has(u32::from_le_bytes(*prefix)) {
         return behind_value(value, version, MAX_DEPTH);
     }
     let (rest, added) = document.add_encoded(bytes, version, 1);
@@ -46,16 +46,16 @@ fn add_chosen<'a>(
     document: &mut HeapPairs,
     bytes: &'a [u8],
     version: WriteVersion,
-    fields: &[Field],
+    wanted: &WantedFields<'_>,
     most: u64,
 ) -> (&'a [u8], u64)
-    ensures added { AddsChosenPairs (written_version version) fields.now document.old document.new
-        bytes.now result.0.now result.1 }
+    ensures added { AddsChosenPairs (written_version version) wanted.now.fields.now document.old
+        document.new bytes.now result.0.now result.1 }
     ensures most { result.1 ≤ most }
 {
     let mut rest = bytes;
     for count in 0..most {
-        let Some(behind) = add_chosen_pair(document, rest, version, fields) else {
+        let Some(behind) = add_chosen_pair(document, rest, version, wanted) else {
             return (rest, count);
         };
         rest = behind;
@@ -87,7 +87,8 @@ pub(crate) fn take_buffered_chosen<S: ByteSource>(
     }
     let pairs = document.pairs.len();
     let heap = document.heap.len();
-    let (rest, taken) = add_chosen(document, lent, known, fields, most);
+    let wanted = WantedFields::new(fields);
+    let (rest, taken) = add_chosen(document, lent, known, &wanted, most);
     let len = lent.len() - rest.len();
     if len == 0 {
         return taken;

@@ -12,3 +12,4 @@ pub mod items;
 mod parts;
 pub mod reading;
 mod tokens;
+mod wanted;

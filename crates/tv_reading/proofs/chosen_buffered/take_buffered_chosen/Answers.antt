@@ -22,14 +22,14 @@ returns-then-len-eq0-clause-finds g c =
     let rest = c.add_chosen-taken.result.0.now in
     let n = c.add_chosen-taken.result.1 in
     let known = written_version c.in-Some.known in
-    let pairs = pairs_taken known fields old new lent rest n c.add_chosen-taken.ensures.added in
+    let pairs = pairs_taken known fields old new lent rest n (rw c.new-wanted.ensures at c.add_chosen-taken.ensures.added) in
     let here = subst (λ z. AddsBufferedChosen z fields old new (take (length lent - length rest) lent) n) c.in-Some.ensures pairs in
     none_buffered (λ b m. AddsBufferedChosen v fields old new b m) n (subst (λ z. AddsBufferedChosen v fields old new (take z lent) n) c.if-len-eq0.true here)
 
 pub take_back-requires : goal.take_back-requires
 take_back-requires g c = (
   c.args.document.now,
-  stood_in (written_version c.in-Some.known) c.args.fields.now c.args.document.now c.add_chosen-taken.new.document _ _ c.add_chosen-taken.ensures.added (omega (arith, c.len-pairs.ensures, c.args.document.now.pairs.ok.0, document_length c.args.document.now)) (omega (arith, c.len-heap.ensures, c.args.document.now.heap.ok.0)),
+  stood_in (written_version c.in-Some.known) c.args.fields.now c.args.document.now c.add_chosen-taken.new.document _ _ (rw c.new-wanted.ensures at c.add_chosen-taken.ensures.added) (omega (arith, c.len-pairs.ensures, c.args.document.now.pairs.ok.0, document_length c.args.document.now)) (omega (arith, c.len-heap.ensures, c.args.document.now.heap.ok.0)),
 )
 
 pub returns-then-not-pass-clause-finds : goal.returns-then-not-pass-clause-finds
@@ -38,7 +38,7 @@ returns-then-not-pass-clause-finds g c =
     let fields = c.args.fields.now in
     let old = c.args.document.now in
     let new = c.take_back.new.self in
-    let stood = stood_in (written_version c.in-Some.known) fields old c.add_chosen-taken.new.document _ _ c.add_chosen-taken.ensures.added (omega (arith, c.len-pairs.ensures, old.pairs.ok.0, document_length old)) (omega (arith, c.len-heap.ensures, old.heap.ok.0)) in
+    let stood = stood_in (written_version c.in-Some.known) fields old c.add_chosen-taken.new.document _ _ (rw c.new-wanted.ensures at c.add_chosen-taken.ensures.added) (omega (arith, c.len-pairs.ensures, old.pairs.ok.0, document_length old)) (omega (arith, c.len-heap.ensures, old.heap.ok.0)) in
     let back = none_kept v fields old new (c.take_back.ensures old stood) in
     let pass = c.if-not-pass.ensures in
     not_passed (λ b m. AddsBufferedChosen v fields old new b m) 0 back pass.bytes pass.is_known pass.failures
@@ -53,7 +53,7 @@ returns-clause-finds g c =
     let rest = c.add_chosen-taken.result.0.now in
     let n = c.add_chosen-taken.result.1 in
     let known = written_version c.in-Some.known in
-    let pairs = pairs_taken known fields old new lent rest n c.add_chosen-taken.ensures.added in
+    let pairs = pairs_taken known fields old new lent rest n (rw c.new-wanted.ensures at c.add_chosen-taken.ensures.added) in
     let here = subst (λ z. AddsBufferedChosen z fields old new (take (length lent - length rest) lent) n) c.in-Some.ensures pairs in
     let pass = c.if-not-pass.ensures in
     passed_over (λ b m. AddsBufferedChosen v fields old new b m) n lent (length lent - length rest) c.buffered-lent.ensures (omega arith) (λ a same many. subst (λ z. AddsBufferedChosen v fields old new z n) same here) pass.bytes pass.is_known pass.failures refl
