@@ -12,6 +12,16 @@ use tantivy_schema::store::{
     DocStoreVersion, WriteVersion, migrate, read_document, read_document_into,
 };
 
+// Every other one of the first twelve fields.
+const HALF: [u32; 6] = [10, 2, 6, 0, 8, 4];
+
+// The first field among 63 that no document has.
+const MANY: [u32; 64] = [
+    31, 60, 26, 55, 21, 50, 79, 45, 74, 40, 69, 35, 64, 30, 59, 25, 54, 20, 49, 78, 44, 73, 39, 68,
+    34, 63, 29, 58, 24, 53, 82, 48, 77, 43, 72, 38, 67, 33, 62, 28, 0, 57, 23, 52, 81, 47, 76, 42,
+    71, 37, 66, 32, 61, 27, 56, 22, 51, 80, 46, 75, 41, 70, 36, 65,
+];
+
 /// A call that is made for each document, or for each field, path, term, text, range or facet.
 #[derive(Clone, Copy)]
 pub enum Call {
@@ -49,6 +59,12 @@ pub enum Call {
     ReadBlock,
     /// The values of the schema's first field out of the documents of a block, each document in the memory of the one before.
     ReadFields,
+    /// The same with no field at all.
+    ReadNoFields,
+    /// The same with every other one of the first twelve fields.
+    ReadHalfFields,
+    /// The same with the schema's first field and 63 others that no document has, in no order.
+    ReadManyFields,
     /// The documents of a block, passed over.
     SkipDocument,
     /// The same value by value.
@@ -132,6 +148,9 @@ impl Call {
         Call::ReadBuffered,
         Call::ReadBlock,
         Call::ReadFields,
+        Call::ReadNoFields,
+        Call::ReadHalfFields,
+        Call::ReadManyFields,
         Call::SkipDocument,
         Call::SkipValue,
         Call::Run,
@@ -171,6 +190,9 @@ impl Call {
             Call::ReadBuffered => "read_buffered",
             Call::ReadBlock => "read_block",
             Call::ReadFields => "read_fields",
+            Call::ReadNoFields => "read_no_fields",
+            Call::ReadHalfFields => "read_half_fields",
+            Call::ReadManyFields => "read_many_fields",
             Call::SkipDocument => "skip_document",
             Call::SkipValue => "skip_value",
             Call::Run => "run",
@@ -213,7 +235,10 @@ impl Call {
             Call::ReadSource => layer::read_source_each(alloc, inputs, documents),
             Call::ReadBuffered => layer::read_buffered_each(alloc, inputs, documents),
             Call::ReadBlock => layer::read_block_each(alloc, inputs, documents),
-            Call::ReadFields => layer::read_fields_each(alloc, inputs, documents),
+            Call::ReadFields => layer::read_fields_each(alloc, inputs, documents, &[0]),
+            Call::ReadNoFields => layer::read_fields_each(alloc, inputs, documents, &[]),
+            Call::ReadHalfFields => layer::read_fields_each(alloc, inputs, documents, &HALF),
+            Call::ReadManyFields => layer::read_fields_each(alloc, inputs, documents, &MANY),
             Call::SkipDocument => layer::skip_each(alloc, inputs, documents),
             Call::SkipValue => layer::skip_values_each(alloc, inputs, documents),
             Call::Run => layer::run_lines(alloc, inputs, documents),

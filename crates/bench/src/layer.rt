@@ -116,12 +116,20 @@ pub fn read_block_each(alloc: Global, inputs: &Inputs, documents: usize) -> Resu
     Ok(round)
 }
 
-/// The values of the schema's first field out of the documents of a block, each document in the memory of the one before.
-pub fn read_fields_each(alloc: Global, inputs: &Inputs, documents: usize) -> Result<Round> {
+/// The values of the fields with these numbers out of the documents of a block, each document in the memory of the one before.
+pub fn read_fields_each(
+    alloc: Global,
+    inputs: &Inputs,
+    documents: usize,
+    numbers: &[u32],
+) -> Result<Round> {
     let mut round = Round::new();
     let mut source = SliceSource::new(inputs.block.as_slice());
     let mut document = CompactDoc::new(alloc);
-    let fields = [Field::from_field_id(0)];
+    let mut fields = Vec::new(alloc);
+    for number in numbers {
+        fields.push(Field::from_field_id(*number))?;
+    }
     let version = DocStoreVersion::V2;
     for _ in 0..documents {
         match read_fields_into(alloc, &mut document, &mut source, version, &fields) {

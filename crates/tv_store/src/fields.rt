@@ -46,8 +46,8 @@ fn take_fields_in_place<S: ByteSource>(
 /// Reads a document as `read_document` does, and keeps the values of these fields alone, in the order of the document. All others are tested as
 /// if they were read, and passed over as `skip_document` does: nothing of them is kept, and they need no room in a heap. (Not in tantivy.)
 ///
-/// The fields are looked through for each value of the document, so they should be few. Their order makes no difference, and a field may be named
-/// twice, or be in no document. Without any, nothing is kept.
+/// Fields with numbers below 64 are looked up in a table, so that it makes no difference how many they are; others are looked through for each
+/// value of the document. Their order makes no difference, and a field may be named twice, or be in no document. Without any, nothing is kept.
 ///
 /// Errors: those of `read_document`, each at the same byte, whether or not it is in a value that is kept. But `HeapFull` comes only where what
 /// has come of the kept values needs more room than 4294967295 bytes.
