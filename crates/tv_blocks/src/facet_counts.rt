@@ -45,7 +45,9 @@ fn read_pairs<'a>(alloc: Global, bytes: &'a [u8]) -> Result<Vec<DocumentFacet<'a
         let Some((pair, behind)) = first_pair(rest) else {
             return Err(BlockError::BadPair { start });
         };
-        pairs.push(pair)?;
+        if pairs.push(pair).is_err() {
+            return Err(BlockError::Memory);
+        }
         rest = behind;
     }
     Ok(pairs)
