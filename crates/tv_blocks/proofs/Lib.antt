@@ -5,4 +5,5 @@ pub mod LineDocuments
 pub mod Documents
 pub mod Importing
 pub mod Records
+pub mod FacetPairs
 pub mod Queries
