@@ -7,3 +7,6 @@ pub mod Importing
 pub mod Records
 pub mod FacetPairs
 pub mod Queries
+pub mod Stops
+pub mod SchemaTerms
+pub mod FieldValues
