@@ -53,14 +53,15 @@ terms-snoc first (ts ∷ others) last =
 
 -- as many documents as lists of terms
 as_many : (schema : List Entry) (documents : List Document) (terms : List (List (List ℕ))) → map (document_terms schema) documents ≡ map Ok terms → length documents ≡ length terms
-as_many schema documents terms made = sym (length-map (document_terms schema) documents) ∙ ap length made ∙ length-map Ok terms
+as_many schema documents terms made = sym (length-map documents (document_terms schema)) ∙ ap length made ∙ length-map terms Ok
 
 pub more_terms : {schema : List Entry} {v : Version} {block rest now content more : List ℕ} {number : ℕ} (d : Document) → SchemaTermsSoFar schema v block rest content number
     → BeginsWithDocument v rest now d → AppendsTerms schema number d content more → SchemaTermsSoFar schema v block now more (number + 1)
 more_terms {schema} {v} {block} {rest} {now} {content} {more} {number} d m b added =
     let documents = m.are.documents in
     let terms = m.are.terms in
-    let at : number ≡ 0 + length terms = m.counted ∙ as_many schema documents terms m.are.made in
+    let many = as_many schema documents terms m.are.made in
+    let at : number ≡ 0 + length terms = omega (arith, m.counted, many) in
     record {
       before = m.before ++ b.prefix;
       joined = joined_more block m.before rest b.prefix now m.joined b.joined;

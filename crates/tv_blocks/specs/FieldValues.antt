@@ -85,11 +85,11 @@ AreNamedValues schema name v block content = IsUtf8 name × (field : ℕ) × (fi
 
 -- the bytes begin with no document, or the field's values need too much room in the one with which they begin
 abbrev pub RefusesValues : Version → ℕ → DocumentRefusal → List ℕ → Type 0
-RefusesValues v field documents.HeapFull bytes = HasNoRoomChosen v (field_of field ∷ []) bytes
-RefusesValues v field refusal bytes = RefusesDocument v bytes refusal
+RefusesValues v field documents.HeapFull whole = HasNoRoomChosen v (field_of field ∷ []) whole
+RefusesValues v field refusal whole = RefusesDocument v whole refusal
 
 abbrev pub EncodeDocuments : Version → List ℕ → Type 0
-EncodeDocuments v bytes = (documents : List Document) × EncodesBlock v bytes documents
+EncodeDocuments v whole = (documents : List Document) × EncodesBlock v whole documents
 
 -- the document that begins there is the first that is refused
 abbrev pub IsValueListRefusal : Version → ℕ → List ℕ → BlockError → Type 0
