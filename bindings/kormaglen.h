@@ -50,6 +50,7 @@ enum kormaglen_status {
     KORMAGLEN_BAD_LINE = 11,     /* a line has no document; detail is of kormaglen_line_status, place is the field whose value is refused */
     KORMAGLEN_FOREIGN_FIELD = 12,/* a document has a field that the schema does not have; place is its number */
     KORMAGLEN_BAD_QUERY = 13,    /* a text of a query has no terms, or no ranges; detail says why, place is the field, or 0 for NO_RANGE */
+    KORMAGLEN_BAD_PAIRS = 14,    /* pairs of a document and a facet are refused; place is where the first such pair begins */
     KORMAGLEN_CLOSED = 15,       /* a handle holds nothing */
     KORMAGLEN_BAD_ARGUMENT = 16  /* a pointer can't be used; detail says why, place is its number among the call's pointers, from 1 */
 };
@@ -80,7 +81,7 @@ enum kormaglen_schema_detail {
     KORMAGLEN_SCHEMA_EXPAND_DOTS = 21          /* "expand_dots_enabled" */
 };
 
-/* With KORMAGLEN_BAD_DOCUMENT: kormaglen_answer.detail. */
+/* With KORMAGLEN_BAD_DOCUMENT: kormaglen_answer.detail. From 15 on the document can be read, but has no terms by the schema. */
 enum kormaglen_document_detail {
     KORMAGLEN_DOCUMENT_UNEXPECTED_END = 1,
     KORMAGLEN_DOCUMENT_UNKNOWN_TYPE = 2,
@@ -95,7 +96,11 @@ enum kormaglen_document_detail {
     KORMAGLEN_DOCUMENT_OLD_FLOAT = 11,
     KORMAGLEN_DOCUMENT_KEY_NO_TEXT = 12,
     KORMAGLEN_DOCUMENT_NO_ROOM = 13,
-    KORMAGLEN_DOCUMENT_TOO_LONG = 14
+    KORMAGLEN_DOCUMENT_TOO_LONG = 14,
+    KORMAGLEN_DOCUMENT_FOREIGN_FIELD = 15, /* it has a field that the schema does not have */
+    KORMAGLEN_DOCUMENT_WRONG_TYPE = 16,    /* a value is not of its field's type */
+    KORMAGLEN_DOCUMENT_NUL_IN_KEY = 17,    /* a key in a value of a field of JSON objects has U+0000 */
+    KORMAGLEN_DOCUMENT_NO_TERM = 18        /* a facet, bytes, an address or a pre-tokenized text stands in such a value */
 };
 
 /* What became of a line: kormaglen_line_answer.status, and with KORMAGLEN_BAD_LINE kormaglen_answer.detail. */
@@ -122,6 +127,20 @@ enum kormaglen_query_detail {
     KORMAGLEN_QUERY_BAD_TEXT = 14,   /* a date is out of its range, or a text is no address or facet */
     KORMAGLEN_QUERY_BAD_BASE64 = 15,
     KORMAGLEN_QUERY_FLOAT = 16       /* a number is not whole, or does not fit 64 bits; kept for numbers that are no texts */
+};
+
+/* The kind of a value in what kormaglen_schema_values_of_block writes, and what its bytes are then. */
+enum kormaglen_value_kind {
+    KORMAGLEN_VALUE_NULL = 0,    /* no bytes */
+    KORMAGLEN_VALUE_TEXT = 1,    /* the text, in UTF-8 */
+    KORMAGLEN_VALUE_U64 = 2,     /* eight bytes, the lowest first */
+    KORMAGLEN_VALUE_I64 = 3,     /* eight bytes in two's complement, the lowest first */
+    KORMAGLEN_VALUE_BOOL = 4,    /* one byte, 0 or 1 */
+    KORMAGLEN_VALUE_DATE = 5,    /* nanoseconds since 1970 (UTC), as for I64 */
+    KORMAGLEN_VALUE_FACET = 6,   /* the encoded facet, as kormaglen_facet_of_text writes it */
+    KORMAGLEN_VALUE_BYTES = 7,   /* the bytes */
+    KORMAGLEN_VALUE_IP_ADDR = 8, /* sixteen bytes, the highest first (IPv6 byte order; IPv4 is mapped) */
+    KORMAGLEN_VALUE_JSON = 9     /* a pre-tokenized text, an array or an object: its JSON text, as kormaglen_document_to_json prints it */
 };
 
 /* With KORMAGLEN_BAD_ARGUMENT: kormaglen_answer.detail. */
@@ -225,6 +244,17 @@ kormaglen_answer kormaglen_terms_of_block(
     const uint8_t *block, size_t block_len,
     uint8_t *terms, size_t terms_len);
 
+/* Counts documents by the children of a facet. pairs is records in any order: the number of a document and the length of a facet, each in
+ * eight bytes, the lowest first, and the encoded facet. What is written is a record for each child of parent at or below which a facet of the
+ * pairs lies, in the order of facets: how many documents have a facet at or below that child (a document counts once for a child), the length
+ * of the encoded child, both in eight bytes, the lowest first, and the encoded child. place is where in pairs the first record begins that is
+ * cut short or whose facet is not UTF-8.
+ * Refusals: TOO_SMALL, NO_MEMORY, NOT_UTF8 where parent is not UTF-8, BAD_PAIRS. */
+kormaglen_answer kormaglen_count_facets(
+    const uint8_t *parent, size_t parent_len,
+    const uint8_t *pairs, size_t pairs_len,
+    uint8_t *counts, size_t counts_len);
+
 /* Writes the term of a text. The terms of all texts that begin with it begin with this term.
  * Refusals: TOO_SMALL, NO_MEMORY, NOT_UTF8. */
 kormaglen_answer kormaglen_term_of_text(
@@ -269,6 +299,26 @@ kormaglen_answer kormaglen_schema_export_block(
     uint32_t version,
     const uint8_t *block, size_t block_len,
     uint8_t *lines, size_t lines_len);
+
+/* Writes the values of the field that has this name by the handle's schema in the documents of a block, of version 1, 2 or 3, in their order:
+ * for each the number of its document, from 0, its kind of kormaglen_value_kind and its length, each in eight bytes, the lowest first, and its
+ * bytes. Values of other fields are tested, and passed over. The name is the whole name of a field, and no path.
+ * Refusals: TOO_SMALL, NO_MEMORY, NOT_UTF8, NO_FIELD, BAD_DOCUMENT, WRONG_VERSION, CLOSED. */
+kormaglen_answer kormaglen_schema_values_of_block(
+    kormaglen_schema *schema,
+    const uint8_t *name, size_t name_len,
+    uint32_t version,
+    const uint8_t *block, size_t block_len,
+    uint8_t *values, size_t values_len);
+
+/* As kormaglen_terms_of_block, of all fields that are indexed by the handle's schema, and also of the values in JSON objects: the terms of
+ * each document, in their order. A document that has a value without a term by the schema is refused, as one that can't be read is.
+ * Refusals: TOO_SMALL, NO_MEMORY, BAD_DOCUMENT, WRONG_VERSION, CLOSED. */
+kormaglen_answer kormaglen_schema_terms_of_block(
+    kormaglen_schema *schema,
+    uint32_t version,
+    const uint8_t *block, size_t block_len,
+    uint8_t *terms, size_t terms_len);
 
 /* As kormaglen_find_field, by the handle's schema.
  * Refusals: NOT_UTF8, NO_FIELD, CLOSED. */

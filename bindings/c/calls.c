@@ -144,6 +144,12 @@ kormaglen_answer kormaglen_text_of_facet(const uint8_t *encoded, size_t encoded_
     return raw_text_of_facet(input(encoded), encoded_len, output(text), text_len);
 }
 
+kormaglen_answer kormaglen_count_facets(
+    const uint8_t *parent, size_t parent_len, const uint8_t *pairs, size_t pairs_len, uint8_t *counts, size_t counts_len) {
+    REFUSE_UNLESS_GOOD(reads(parent, parent_len), reads(pairs, pairs_len), writes(counts, counts_len));
+    return raw_count_facets(input(parent), parent_len, input(pairs), pairs_len, output(counts), counts_len);
+}
+
 kormaglen_answer kormaglen_terms_of_block(
     uint32_t field, uint32_t version, const uint8_t *block, size_t block_len, uint8_t *terms, size_t terms_len) {
     REFUSE_UNLESS_GOOD(reads(block, block_len), writes(terms, terms_len));
@@ -196,6 +202,20 @@ kormaglen_answer kormaglen_schema_export_block(
     kormaglen_schema *schema, uint32_t version, const uint8_t *block, size_t block_len, uint8_t *lines, size_t lines_len) {
     REFUSE_UNLESS_GOOD(uses_schema(schema), reads(block, block_len), writes(lines, lines_len));
     return raw_schema_export_block(schema, version, input(block), block_len, output(lines), lines_len);
+}
+
+kormaglen_answer kormaglen_schema_values_of_block(
+    kormaglen_schema *schema, const uint8_t *name, size_t name_len, uint32_t version, const uint8_t *block, size_t block_len,
+    uint8_t *values, size_t values_len) {
+    REFUSE_UNLESS_GOOD(uses_schema(schema), reads(name, name_len), reads(block, block_len), writes(values, values_len));
+    return raw_schema_values_of_block(
+        schema, input(name), name_len, version, input(block), block_len, output(values), values_len);
+}
+
+kormaglen_answer kormaglen_schema_terms_of_block(
+    kormaglen_schema *schema, uint32_t version, const uint8_t *block, size_t block_len, uint8_t *terms, size_t terms_len) {
+    REFUSE_UNLESS_GOOD(uses_schema(schema), reads(block, block_len), writes(terms, terms_len));
+    return raw_schema_terms_of_block(schema, version, input(block), block_len, output(terms), terms_len);
 }
 
 kormaglen_answer kormaglen_schema_terms_of_text(

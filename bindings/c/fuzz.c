@@ -45,7 +45,7 @@ static const char *const LINES[] = {
 };
 
 static uint64_t state = 0x9E3779B97F4A7C15u;
-enum { CALLS = 21 };
+enum { CALLS = 24 };
 
 static uint64_t calls[CALLS];
 static uint64_t accepted[CALLS];
@@ -372,6 +372,154 @@ static void query_once(void) {
     free(ranges);
 }
 
+/* The length of the record of a number and of bytes that stands there, and of a number before it where there are three. */
+static uint64_t record_length(const uint8_t *records, uint64_t len, uint64_t numbers) {
+    if (len < 8 * numbers || number_at(records + 8 * (numbers - 1)) > len - 8 * numbers) {
+        fail("a record that does not end where the answer says");
+    }
+    return 8 * numbers + number_at(records + 8 * (numbers - 1));
+}
+
+/* The numbers of documents do not fall, and the length of a value is that of its kind. */
+static void check_values(const uint8_t *values, uint64_t len) {
+    static const uint64_t lengths[] = {0, UINT64_MAX, 8, 8, 1, 8, UINT64_MAX, UINT64_MAX, 16, UINT64_MAX};
+    uint64_t document = 0;
+    for (uint64_t at = 0, size; at < len; at += size) {
+        size = record_length(values + at, len - at, 3);
+        uint64_t kind = number_at(values + at + 8);
+        if (number_at(values + at) < document || kind > KORMAGLEN_VALUE_JSON) {
+            fail("a document before the one before it, or an unknown kind");
+        }
+        document = number_at(values + at);
+        if (lengths[kind] != UINT64_MAX && lengths[kind] != size - 24) {
+            fail("a value that is too short or too long for its kind");
+        }
+        if (kind == KORMAGLEN_VALUE_BOOL && values[at + 24] > 1) {
+            fail("a truth value that is neither 0 nor 1");
+        }
+    }
+}
+
+/* Of a field that is not of JSON objects, the terms by the schema are those that the field's values have without it. */
+static void compare_terms(const uint8_t *terms, uint64_t len, uint32_t version, const uint8_t *block, size_t block_len) {
+    uint8_t *kept = fresh((size_t)len), *alone = fresh((size_t)len);
+    uint32_t field = (uint32_t)below(7);
+    uint64_t length = 0;
+    for (uint64_t at = 0, size; at < len; at += size) {
+        size = record_length(terms + at, len - at, 2);
+        if (size >= 20 && terms[at + 19] == field) {
+            memcpy(kept + length, terms + at, (size_t)size);
+            length += size;
+        }
+    }
+    kormaglen_answer answer = kormaglen_terms_of_block(field, version, block, block_len, alone, (size_t)len);
+    if (answer.status != KORMAGLEN_OK || answer.bytes != length || memcmp(kept, alone, (size_t)length) != 0) {
+        fail("a field has other terms by the schema");
+    }
+    free(kept);
+    free(alone);
+}
+
+/* The values of a field and the terms of all, by a schema whose fields are indexed, by one whose fields mostly aren't, and by none. */
+static void block_once(void) {
+    static kormaglen_schema handles[3];
+    if (handles[0].at == NULL) {
+        kormaglen_schema_open((const uint8_t *)INDEXED, strlen(INDEXED), &handles[0]);
+        kormaglen_schema_open((const uint8_t *)SCHEMA, strlen(SCHEMA), &handles[1]);
+    }
+    size_t which = below(8) == 0 ? 1 + below(2) : 0;
+    kormaglen_schema *handle = &handles[which];
+    uint8_t block[2 * LARGEST], name[LARGEST];
+    size_t len = below(4) == 0 ? random_bytes(block) : below(2) == 0 ? changed(block, some_block(block)) : some_block(block);
+    const char *named = PATHS[below(sizeof PATHS / sizeof *PATHS)];
+    size_t name_len = strlen(named);
+    memcpy(name, named, name_len);
+    name_len = below(8) == 0 ? random_bytes(name) : name_len;
+    size_t room = below(2 * LARGEST);
+    uint32_t version = (uint32_t)below(5);
+    uint8_t *b = copy_of(block, len), *n = copy_of(name, name_len), *values = fresh(room), *terms = fresh(room);
+    kormaglen_answer found = kormaglen_schema_values_of_block(handle, n, name_len, version, b, len, values, room);
+    check(21, found, values, room);
+    expect_closed(handle->at == NULL, found);
+    kormaglen_answer listed = kormaglen_schema_terms_of_block(handle, version, b, len, terms, room);
+    check(22, listed, terms, room);
+    expect_closed(handle->at == NULL, listed);
+    if (found.status == KORMAGLEN_OK) {
+        check_values(values, found.bytes);
+    }
+    if (listed.status == KORMAGLEN_OK && which == 0) {
+        compare_terms(terms, listed.bytes, version, b, len);
+    }
+    free(b);
+    free(n);
+    free(values);
+    free(terms);
+}
+
+/* Whether the facet is the other one or lies below it. */
+static int is_below(const uint8_t *facet, uint64_t len, const uint8_t *above, uint64_t above_len) {
+    return len >= above_len && memcmp(facet, above, (size_t)above_len) == 0
+        && (len == above_len || facet[above_len] == 0);
+}
+
+/* How many documents, which have numbers below 4, have a facet at or below this one. */
+static uint64_t documents_below(const uint8_t *pairs, uint64_t len, const uint8_t *child, uint64_t child_len) {
+    uint64_t has[4] = {0};
+    for (uint64_t at = 0, size; at < len; at += size) {
+        size = record_length(pairs + at, len - at, 2);
+        if (number_at(pairs + at) < 4 && is_below(pairs + at + 16, size - 16, child, child_len)) {
+            has[number_at(pairs + at)] = 1;
+        }
+    }
+    return has[0] + has[1] + has[2] + has[3];
+}
+
+/* Pairs of a document and a facet of some steps. */
+static size_t some_pairs(uint8_t *pairs) {
+    size_t len = 0, count = below(8);
+    for (size_t i = 0; i < count; i++) {
+        size_t steps = 1 + below(3);
+        memset(pairs + len, 0, 16);
+        pairs[len] = (uint8_t)below(4);
+        pairs[len + 8] = (uint8_t)(2 * steps - 1);
+        for (size_t j = 0; j < steps; j++) {
+            pairs[len + 16 + 2 * j] = (uint8_t)('a' + below(2));
+            pairs[len + 17 + 2 * j] = 0;
+        }
+        len += 15 + 2 * steps;
+    }
+    return len;
+}
+
+/* Counts documents by the children of a facet, and again one by one. */
+static void count_once(void) {
+    static const char *const PARENTS[] = {"", "a", "b", "a\0a"};
+    uint8_t bytes[2 * LARGEST];
+    size_t which = below(4), len = some_pairs(bytes);
+    int is_changed = below(4) == 0;
+    len = is_changed ? changed(bytes, len) : len;
+    size_t room = below(96), parent_len = which == 3 ? 3 : strlen(PARENTS[which]);
+    uint8_t *p = copy_of(bytes, len), *parent = copy_of((const uint8_t *)PARENTS[which], parent_len), *counts = fresh(room);
+    kormaglen_answer answer = kormaglen_count_facets(parent, parent_len, p, len, counts, room);
+    check(23, answer, counts, room);
+    if (answer.status == KORMAGLEN_BAD_PAIRS && (!is_changed || answer.place >= len)) {
+        fail("good pairs are refused, or a place that is not among them");
+    }
+    for (uint64_t at = 0, size; answer.status == KORMAGLEN_OK && !is_changed && at < answer.bytes; at += size) {
+        size = record_length(counts + at, answer.bytes - at, 2);
+        const uint8_t *child = counts + at + 16;
+        if ((parent_len > 0 && !is_below(child, size - 16, parent, parent_len)) || size - 16 <= parent_len) {
+            fail("a child that is not below the parent");
+        }
+        if (number_at(counts + at) != documents_below(p, len, child, size - 16)) {
+            fail("another number of documents");
+        }
+    }
+    free(p);
+    free(parent);
+    free(counts);
+}
+
 /* Prints the schema of a handle, and opens another one by what was printed, which prints the same. */
 static void print_schema(kormaglen_schema *handle) {
     size_t room = below(4 * LARGEST);
@@ -600,6 +748,8 @@ int main(int count, char **words) {
             term_once(8);
             handle_once();
             query_once();
+            block_once();
+            count_once();
             documents_once();
             arguments_once();
         }
@@ -608,7 +758,7 @@ int main(int count, char **words) {
                                          "terms_of_block", "term_of_text", "end_of_prefix", "schema_open", "schema_import_lines",
                                          "schema_export_block", "schema_find_field", "document_read", "document_parse",
                                          "document_to_json", "document_write", "schema_to_json", "arguments", "terms_of_text",
-                                         "ranges_of_text"};
+                                         "ranges_of_text", "values_of_block", "schema_terms", "count_facets"};
     for (int i = 0; i < CALLS; i++) {
         printf("%-19s %10llu calls, %10llu accepted\n", NAMES[i], (unsigned long long)calls[i], (unsigned long long)accepted[i]);
     }

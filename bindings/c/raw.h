@@ -17,6 +17,8 @@ kormaglen_answer raw_find_field(
     const uint8_t *schema, size_t schema_len, const uint8_t *path, size_t path_len, kormaglen_found_field *found);
 kormaglen_answer raw_facet_of_text(const uint8_t *text, size_t text_len, uint8_t *encoded, size_t encoded_len);
 kormaglen_answer raw_text_of_facet(const uint8_t *encoded, size_t encoded_len, uint8_t *text, size_t text_len);
+kormaglen_answer raw_count_facets(
+    const uint8_t *parent, size_t parent_len, const uint8_t *pairs, size_t pairs_len, uint8_t *counts, size_t counts_len);
 kormaglen_answer raw_terms_of_block(
     uint32_t field, uint32_t version, const uint8_t *block, size_t block_len, uint8_t *terms, size_t terms_len);
 kormaglen_answer raw_term_of_text(uint32_t field, const uint8_t *text, size_t text_len, uint8_t *term, size_t term_len);
@@ -33,6 +35,11 @@ kormaglen_answer raw_schema_import_lines(
 kormaglen_answer raw_schema_export_block(
     kormaglen_schema *schema, uint32_t version, const uint8_t *block, size_t block_len,
     uint8_t *lines, size_t lines_len);
+kormaglen_answer raw_schema_values_of_block(
+    kormaglen_schema *schema, const uint8_t *name, size_t name_len, uint32_t version, const uint8_t *block, size_t block_len,
+    uint8_t *values, size_t values_len);
+kormaglen_answer raw_schema_terms_of_block(
+    kormaglen_schema *schema, uint32_t version, const uint8_t *block, size_t block_len, uint8_t *terms, size_t terms_len);
 kormaglen_answer raw_schema_terms_of_text(
     kormaglen_schema *schema, const uint8_t *path, size_t path_len, const uint8_t *text, size_t text_len,
     uint8_t *terms, size_t terms_len);

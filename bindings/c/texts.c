@@ -19,12 +19,13 @@ const char *kormaglen_status_text(uint32_t status) {
     case KORMAGLEN_INVALID_JSON: return "the schema is not JSON";
     case KORMAGLEN_BAD_SCHEMA: return "the JSON describes no schema";
     case KORMAGLEN_NO_FIELD: return "the path names no field";
-    case KORMAGLEN_BAD_DOCUMENT: return "a document can't be read";
+    case KORMAGLEN_BAD_DOCUMENT: return "a document can't be read, or has no terms";
     case KORMAGLEN_WRONG_VERSION: return "there is no such version of the store";
     case KORMAGLEN_NO_END: return "no byte string is above all that begin with the prefix";
     case KORMAGLEN_BAD_LINE: return "a line has no document";
     case KORMAGLEN_FOREIGN_FIELD: return "a document has a field that the schema does not have";
     case KORMAGLEN_BAD_QUERY: return "a text of a query has no terms, or no ranges";
+    case KORMAGLEN_BAD_PAIRS: return "a pair of a document and a facet is cut short, or its facet is not UTF-8";
     case KORMAGLEN_CLOSED: return "a handle is closed";
     case KORMAGLEN_BAD_ARGUMENT: return "an argument can't be used";
     default: return "unknown status";
@@ -76,6 +77,10 @@ static const char *document_text(uint32_t detail) {
     case KORMAGLEN_DOCUMENT_KEY_NO_TEXT: return "a key is not a text";
     case KORMAGLEN_DOCUMENT_NO_ROOM: return "the document needs more than 4294967295 bytes";
     case KORMAGLEN_DOCUMENT_TOO_LONG: return "more than 2^64 - 1 bytes were read";
+    case KORMAGLEN_DOCUMENT_FOREIGN_FIELD: return "a field is none of the schema's";
+    case KORMAGLEN_DOCUMENT_WRONG_TYPE: return "a value is not of its field's type";
+    case KORMAGLEN_DOCUMENT_NUL_IN_KEY: return "a key has U+0000";
+    case KORMAGLEN_DOCUMENT_NO_TERM: return "a facet, bytes, an address or a pre-tokenized text stands in a JSON value";
     default: return "";
     }
 }

@@ -1,7 +1,9 @@
 //! Blocks in buffers of a caller's, by a schema, its text or a handle.
 
 mod buffers;
+mod by_schema;
 mod documents;
+mod facet_counts;
 mod handles;
 mod queries;
 mod schemas;

@@ -6,6 +6,7 @@
 ghost use Rattle.std.specs.Prelude.{◌≡◌, Some, IsUtf8, MatchOption};
 ghost use Rattle.tv_base.specs.Facet.{parse, printed};
 ghost use Rattle.tv_blocks.specs.Blocks.{IsExported};
+ghost use Rattle.tv_blocks.specs.FacetCounts.{AreFacetCounts, IsCountsRefusal};
 ghost use Rattle.tv_blocks.specs.Fields.{FindsInText, IsPathAnswer};
 ghost use Rattle.tv_blocks.specs.Imports.{ImportsInto};
 ghost use Rattle.tv_blocks.specs.Refusals.{IsBlockRefusal, IsExportRefusal};
@@ -17,6 +18,7 @@ ghost use Rattle.tv_format.specs.WriteVersion.{written_version};
 ghost use Rattle.tv_reader.specs.Version.{version_of_number, version_of};
 ghost use Rattle.tv_store.specs.BlockMigration.{IsMigrated};
 
+pub mod blocks;
 pub mod documents;
 pub mod handles;
 pub mod queries;
@@ -46,6 +48,20 @@ pub extern "C" fn raw_text_of_facet(alloc: Global, encoded: &[u8], text: &mut [u
         (IsTextRefusal encoded.now) text.old text.new result }
 {
     written_answer(tv_blocks::text_of_facet(alloc, encoded, text))
+}
+
+/// Counts documents by the children of a facet, see `tv_blocks::count_facets`.
+#[unsafe(no_mangle)]
+pub extern "C" fn raw_count_facets(
+    alloc: Global,
+    parent: &[u8],
+    pairs: &[u8],
+    counts: &mut [u8],
+) -> Answer
+    ensures { AnswersFill (AreFacetCounts parent.now pairs.now)
+        (IsCountsRefusal parent.now pairs.now) counts.old counts.new result }
+{
+    written_answer(tv_blocks::count_facets(alloc, parent, pairs, counts))
 }
 
 // Puts what was found into `found`, and answers what a call returned that finds a field.

@@ -1,4 +1,5 @@
 pub mod Buffer
+pub mod Records
 pub mod Refusals
 pub mod LineRefusals
 pub mod Documents
@@ -8,5 +9,9 @@ pub mod Blocks
 pub mod Imports
 pub mod QueryRefusals
 pub mod Query
+pub mod TermsRefusals
 pub mod Status
 pub mod Terms
+pub mod SchemaTerms
+pub mod FieldValues
+pub mod FacetCounts

@@ -43,6 +43,18 @@ IsSchemaRefusal text (errors.BadSchemaEntry entry e) = (value : Data) × IsJson 
 IsSchemaRefusal text (errors.BadSchema e) = (value : Data) × IsJson text value × (schema_by_key value ≡ Err (Other e))
 IsSchemaRefusal text e = ⊥
 
+-- ---- bytes that are read from the front
+
+-- This many bytes are good, and behind them stand others that are refused.
+pub record StopsBehind (IsGood IsRefused : List ℕ → Type 0) (bytes : List ℕ) (start : ℕ) : Type 0 where
+  pub before : List ℕ
+  pub behind : List ℕ
+  pub joined : bytes ≡ before ++ behind
+  pub measured : start ≡ length before
+  pub good : IsGood before
+  pub some : behind ≢ []
+  pub refused : IsRefused behind
+
 -- ---- documents of a block
 
 -- the document that begins there is refused for this

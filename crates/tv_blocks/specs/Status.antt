@@ -4,6 +4,7 @@ use Rattle.tv_base.specs.declared.cause.Cause.{Cause}
 use Rattle.tv_base.specs.declared.cause.Cause.TheVariants as causes
 use Rattle.tv_blocks.specs.LineRefusals.{line_field, line_number}
 use Rattle.tv_blocks.specs.QueryRefusals.{query_field, query_number}
+use Rattle.tv_blocks.specs.TermsRefusals.{terms_number}
 use Rattle.tv_blocks.specs.declared.block_error.BlockError.{BlockError}
 use Rattle.tv_blocks.specs.declared.block_error.BlockError.TheVariants as errors
 use Rattle.tv_blocks.specs.declared.block_error.DocumentRefusal.{DocumentRefusal}
@@ -91,6 +92,8 @@ error_answer (errors.BadDocument start refusal) = nothing_written 8 (refusal_num
 error_answer (errors.BadLine why) = nothing_written 11 (line_number why) (line_field why)
 error_answer (errors.ForeignField field) = nothing_written 12 0 field
 error_answer (errors.BadQuery why) = nothing_written 13 (query_number why) (query_field why)
+error_answer (errors.NoTerms start refusal) = nothing_written 8 (terms_number refusal) start
+error_answer (errors.BadPair start) = nothing_written 14 0 start
 
 abbrev pub call_answer : Result ℕ BlockError → Answer
 call_answer (Ok bytes) = record { status = 0; detail = 0; place = 0; bytes = bytes; lines = 0 }

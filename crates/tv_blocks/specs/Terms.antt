@@ -1,8 +1,8 @@
 -- The terms of a field's values in a block, and where a prefix of terms ends.
 use Rattle.std.specs.Prelude.{◌≡◌, ℕ, suc, List, [], ◌∷◌, ◌++◌, length, Option, Some, None, IsUtf8}
 use Rattle.std.specs.Global.{Vec}
-use Rattle.std.specs.Int.{to_le_bytes, w64}
 use Rattle.std.specs.List.{flat_map}
+use Rattle.tv_blocks.specs.Records.{record_of}
 use Rattle.tv_blocks.specs.declared.block_error.BlockError.{BlockError}
 use Rattle.tv_blocks.specs.declared.block_error.BlockError.TheVariants as errors
 use Rattle.tv_doc.specs.FieldValues.{values_of}
@@ -13,10 +13,7 @@ use Rattle.tv_store.specs.BlockMigration.{EncodesBlock}
 use Rattle.tv_term.specs.Key.{TermValue, Text, term}
 use Rattle.tv_term.specs.Range.{EndsPrefix}
 
--- the number of a document, the length of the term, both in eight bytes, the lowest first, and the term
-abbrev pub record_of : ℕ → List ℕ → List ℕ
-record_of document serialized = to_le_bytes w64 document ++ to_le_bytes w64 (length serialized) ++ serialized
-
+-- the record of a document's number and the value's term
 abbrev pub term_record : ℕ → ℕ → Option TermValue → List ℕ
 term_record document field None = []
 term_record document field (Some value) = record_of document (term field value)

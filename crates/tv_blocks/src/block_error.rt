@@ -6,6 +6,7 @@ ghost use Rattle.tv_blocks.specs.Refusals.{document_refusal};
 
 use crate::line_refusal::LineRefusal;
 use crate::query_refusal::QueryRefusal;
+use crate::terms_refusal::TermsRefusal;
 use std::alloc::AllocError;
 use thiserror::Error;
 use tv_base::Cause;
@@ -96,6 +97,20 @@ pub enum BlockError {
     /// A text of a query has no terms, or no ranges of them.
     #[error("{0}")]
     BadQuery(QueryRefusal),
+    /// A document of the block can be read, but its values have no terms by the schema.
+    #[error("the document at byte {start}: {refusal}")]
+    NoTerms {
+        /// Where in the block the document begins.
+        start: u64,
+        /// Why its values have no terms.
+        refusal: TermsRefusal,
+    },
+    /// The record of a document and a facet is cut short, or the facet isn't UTF-8.
+    #[error("the pair at byte {start} is cut short, or its facet is not UTF-8")]
+    BadPair {
+        /// Where among the records it begins.
+        start: u64,
+    },
 }
 
 impl From<TermError> for BlockError {

@@ -18,18 +18,20 @@ pub struct Answer {
     /// 0 where the call did what it says; 1 where a buffer is too small, 2 where memory was refused, 3 where a text isn't UTF-8, 4 where it
     /// names no facet, 5 where the schema isn't JSON, 6 where the JSON describes no schema, 7 where the path names no field, 8 where a document
     /// of the block is refused, 9 where there is no such version of the store, 10 where a prefix has no end, 11 where there is no document of
-    /// a line, 12 where a document has a field that the schema doesn't have, 13 where a text of a query has no terms or no ranges of them, and
-    /// 15 where a handle is closed.
+    /// a line, 12 where a document has a field that the schema doesn't have, 13 where a text of a query has no terms or no ranges of them, 14
+    /// where the record of a document and a facet is cut short or its facet isn't UTF-8, and 15 where a handle is closed.
     pub status: u32,
     /// With status 6 why there is no schema: 1 for a bad name, 2 for a name that comes twice, 3 for too many fields, 4 for an entry that is no
     /// object, or with `place` 0 a whole that is no array, 5 for a field of type `f64`; or the key whose value in the entry is not as it has to
     /// be, or is missing: 6 `name`, 7 `type`, 8 `options`, 9 `indexed`, 10 `stored`, 11 `fieldnorms`, 12 `fast`, 13 `fast` of a text or a JSON
     /// object, 14 `coerce`, 15 `precision`, 16 `indexing`, of `indexing` 17 `record`, 18 `fieldnorms` and 19 `tokenizer`, 20 `with_tokenizer`
     /// of `fast`, 21 `expand_dots_enabled`; see `SchemaKey`. With status 8 why the document is refused: 1 to 11 and 14 for the variants of
-    /// `Cause` in their order, 12 where a key is no text, 13 where the document has no room. With status 11 the number of the `LineRefusal`,
+    /// `Cause` in their order, 12 where a key is no text, 13 where the document has no room, and 15 to 18 where it has no terms, see
+    /// `TermsRefusal`. With status 11 the number of the `LineRefusal`,
     /// with status 13 that of the `QueryRefusal`. Else 0.
     pub detail: u32,
-    /// With status 6 the place of the entry, from 1, and 0 where the whole is meant; with status 8 where in the block the document begins;
+    /// With status 6 the place of the entry, from 1, and 0 where the whole is meant; with status 8 where in the block the document begins, with status 14 where among
+    /// the records the pair begins;
     /// with status 11 the number of the field whose value is refused, 0 where it isn't a value that is; with status 12 the number of the
     /// field; with status 13 the number of the field that the path names, 0 where the text is no range. Else 0.
     pub place: u64,
@@ -177,6 +179,11 @@ pub fn error_answer(error: BlockError) -> Answer
         BlockError::BadLine(why) => refusal(11, why.number(), u64::from(why.field())),
         BlockError::ForeignField { field } => refusal(12, 0, u64::from(field)),
         BlockError::BadQuery(why) => refusal(13, why.number(), u64::from(why.field())),
+        BlockError::NoTerms {
+            start,
+            refusal: why,
+        } => refusal(8, why.number(), start),
+        BlockError::BadPair { start } => refusal(14, 0, start),
     }
 }
 

@@ -4,7 +4,7 @@ ghost use Rattle.std.specs.Prelude.{◌≡◌, ◌++◌, [], IfErr, OnOk};
 ghost use Rattle.tv_blocks.specs.Blocks.{IsRefusedBlock};
 ghost use Rattle.tv_blocks.specs.Buffer.{FillsBuffer};
 ghost use Rattle.tv_blocks.specs.Refusals.{IsBlockRefusal, IsTextRefusal};
-ghost use Rattle.tv_blocks.specs.Terms.{document_records, record_of, term_record};
+ghost use Rattle.tv_blocks.specs.Terms.{document_records, term_record};
 ghost use Rattle.tv_blocks.specs.Terms.{IsEnd, IsEndRefusal, IsTermList, IsTextTerm};
 ghost use Rattle.tv_doc.specs.Document.{document_of};
 ghost use Rattle.tv_indexing.specs.LeafTerms.{tree_value};
@@ -12,6 +12,7 @@ ghost use Rattle.tv_reader.specs.Version.{version_of};
 
 use crate::block_error::{BlockError, unread};
 use crate::buffer::put_whole;
+use crate::records::append_record;
 use std::alloc::{AllocError, Global};
 use tv_base::SliceSource;
 use tv_doc::document::CompactDoc;
@@ -20,16 +21,6 @@ use tv_store::{BlockReader, DocStoreVersion};
 use tv_term::{Term, TermWriter, successor};
 use tv_value::field::Field;
 use tv_value::value::{ReferenceValue, Value};
-
-// Appends the number of the document, the length of the term and the term.
-fn append_record(terms: &mut Vec<u8>, document: u64, term: &Term) -> Result<(), AllocError>
-    ensures { OnOk result (terms.new.items ≡ terms.old.items ++ record_of document term.now) }
-{
-    let bytes = term.serialized_term();
-    terms.extend_from_slice(&document.to_le_bytes())?;
-    terms.extend_from_slice(&(bytes.len() as u64).to_le_bytes())?;
-    terms.extend_from_slice(bytes)
-}
 
 // Appends the record of a value, if it has a term.
 fn append_value<'a, V: Value<'a>>(
@@ -47,7 +38,7 @@ fn append_value<'a, V: Value<'a>>(
         return Ok(());
     };
     match write_leaf(writer, field, leaf) {
-        Ok(true) => append_record(terms, document, writer.term()),
+        Ok(true) => append_record(terms, document, writer.term().serialized_term()),
         Ok(false) => Ok(()),
         Err(_) => Err(AllocError),
     }

@@ -1,0 +1,208 @@
+//! Values and terms of a block by a schema. The expected bytes are worked out by hand: of a term the field's number with its highest byte first, the
+//! letter of the type and the value, of a signed number with its highest bit turned.
+
+use std::test::Fail;
+use tantivy_schema::common::Cause;
+use tv_blocks::status::error_answer;
+use tv_blocks::{
+    Answer, BlockError, DocumentRefusal, TermsRefusal, read_schema, schema_terms_of_block,
+    values_of_block,
+};
+use tv_store::DocStoreVersion;
+
+const SCHEMA: &[u8] = br#"[{"name":"s","type":"text","options":{"stored":true,"indexing":{}}},
+{"name":"u","type":"u64","options":{"indexed":true,"stored":true}},
+{"name":"i","type":"i64","options":{"indexed":false,"stored":true}},
+{"name":"j","type":"json_object","options":{"stored":true,"fast":false,"indexing":{}}}]"#;
+
+// Where nothing was written.
+const KEPT: u8 = 0xa5;
+
+const TWO: DocStoreVersion = DocStoreVersion::V2;
+
+// In version 2: `a` in field 0 and 258 in field 1; nothing; `k` with `v` and `n` with 7 in field 3, and `b` in field 0.
+const BLOCK: &[u8] = b"\
+\x82\0\0\0\0\0\x81a\x01\0\0\0\x01\x02\x01\0\0\0\0\0\0\
+\x80\
+\x82\x03\0\0\0\x0d\x84\0\x81k\0\x81v\0\x81n\x01\x07\0\0\0\0\0\0\0\0\0\0\0\0\x81b";
+
+// The values of field 0: the numbers of the documents, 1 for texts, and the lengths.
+const TEXTS: &[u8] = b"\
+\0\0\0\0\0\0\0\0\x01\0\0\0\0\0\0\0\x01\0\0\0\0\0\0\0a\
+\x02\0\0\0\0\0\0\0\x01\0\0\0\0\0\0\0\x01\0\0\0\0\0\0\0b";
+
+// That of field 3, as JSON.
+const OBJECT: &[u8] = b"\
+\x02\0\0\0\0\0\0\0\x09\0\0\0\0\0\0\0\x0f\0\0\0\0\0\0\0{\"k\":\"v\",\"n\":7}";
+
+// The terms of all fields.
+const TERMS: &[u8] = b"\
+\0\0\0\0\0\0\0\0\x06\0\0\0\0\0\0\0\0\0\0\0sa\
+\0\0\0\0\0\0\0\0\x0d\0\0\0\0\0\0\0\0\0\0\x01u\0\0\0\0\0\0\x01\x02\
+\x02\0\0\0\0\0\0\0\x09\0\0\0\0\0\0\0\0\0\0\x03jk\0sv\
+\x02\0\0\0\0\0\0\0\x10\0\0\0\0\0\0\0\0\0\0\x03jn\0i\x80\0\0\0\0\0\0\x07\
+\x02\0\0\0\0\0\0\0\x06\0\0\0\0\0\0\0\0\0\0\0sb";
+
+// A document with a value of each kind in field 0, and with `z` in field 1.
+const KINDS: &[u8] = b"\
+\x8d\
+\0\0\0\0\x0b\
+\0\0\0\0\0\x81a\
+\0\0\0\0\x01\x07\0\0\0\0\0\0\0\
+\0\0\0\0\x02\xfe\xff\xff\xff\xff\xff\xff\xff\
+\x01\0\0\0\0\x81z\
+\0\0\0\0\x09\x01\
+\0\0\0\0\x05\xff\xff\xff\xff\xff\xff\xff\xff\
+\0\0\0\0\x03\x83a\0b\
+\0\0\0\0\x04\x82\0\xff\
+\0\0\0\0\x0a\x01\0\0\0\0\0\0\0\0\0\0\0\0\0\0\0\
+\0\0\0\0\x07\0\x81x\x80\
+\0\0\0\0\x0c\x82\x0b\0\x81y\
+\0\0\0\0\x0d\x82\0\x81k\x0b";
+
+// The values of field 0: nothing, `a`, 7, -2, true, a nanosecond before 1970, `/a/b`, bytes, `::1`, a text with tokens, an array, an object.
+const EACH_KIND: &[u8] = b"\
+\0\0\0\0\0\0\0\0\0\0\0\0\0\0\0\0\0\0\0\0\0\0\0\0\
+\0\0\0\0\0\0\0\0\x01\0\0\0\0\0\0\0\x01\0\0\0\0\0\0\0a\
+\0\0\0\0\0\0\0\0\x02\0\0\0\0\0\0\0\x08\0\0\0\0\0\0\0\x07\0\0\0\0\0\0\0\
+\0\0\0\0\0\0\0\0\x03\0\0\0\0\0\0\0\x08\0\0\0\0\0\0\0\xfe\xff\xff\xff\xff\xff\xff\xff\
+\0\0\0\0\0\0\0\0\x04\0\0\0\0\0\0\0\x01\0\0\0\0\0\0\0\x01\
+\0\0\0\0\0\0\0\0\x05\0\0\0\0\0\0\0\x08\0\0\0\0\0\0\0\xff\xff\xff\xff\xff\xff\xff\xff\
+\0\0\0\0\0\0\0\0\x06\0\0\0\0\0\0\0\x03\0\0\0\0\0\0\0a\0b\
+\0\0\0\0\0\0\0\0\x07\0\0\0\0\0\0\0\x02\0\0\0\0\0\0\0\0\xff\
+\0\0\0\0\0\0\0\0\x08\0\0\0\0\0\0\0\x10\0\0\0\0\0\0\0\0\0\0\0\0\0\0\0\0\0\0\0\0\0\0\x01\
+\0\0\0\0\0\0\0\0\x09\0\0\0\0\0\0\0\x18\0\0\0\0\0\0\0{\"text\":\"x\",\"tokens\":[]}\
+\0\0\0\0\0\0\0\0\x09\0\0\0\0\0\0\0\x0a\0\0\0\0\0\0\0[null,\"y\"]\
+\0\0\0\0\0\0\0\0\x09\0\0\0\0\0\0\0\x0a\0\0\0\0\0\0\0{\"k\":null}";
+
+// Documents that have no terms, and why: of field 9, of field 1 with a text, and of field 3 with the key U+0000 and with bytes.
+const WITHOUT_TERMS: [(&[u8], TermsRefusal); 4] = [
+    (b"\x81\x09\0\0\0\0\x81a", TermsRefusal::ForeignField),
+    (b"\x81\x01\0\0\0\0\x81a", TermsRefusal::WrongType),
+    (
+        b"\x81\x03\0\0\0\x0d\x82\0\x81\0\0\x81v",
+        TermsRefusal::NulInKey,
+    ),
+    (b"\x81\x03\0\0\0\x04\x81v", TermsRefusal::NoTerm),
+];
+
+#[test]
+fn a_field_has_values(rt: HostRuntime) -> Result<(), Fail> {
+    let alloc = rt.alloc();
+    let schema = read_schema(alloc, SCHEMA).expect(&rt, "a schema");
+    let mut values = [KEPT; 52];
+    let texts = values_of_block(alloc, &schema, b"s", TWO, BLOCK, &mut values);
+    assert!(rt; texts == Ok(50));
+    assert!(rt; values.starts_with(TEXTS));
+    assert!(rt; values.ends_with(&[KEPT; 2]));
+    let object = values_of_block(alloc, &schema, b"j", TWO, BLOCK, &mut values);
+    assert!(rt; object == Ok(39));
+    assert!(rt; values.starts_with(OBJECT));
+    let none = values_of_block(alloc, &schema, b"i", TWO, BLOCK, &mut values);
+    assert!(rt; none == Ok(0));
+    assert!(rt; values.starts_with(OBJECT));
+    Ok(())
+}
+
+#[test]
+fn values_are_of_each_kind(rt: HostRuntime) -> Result<(), Fail> {
+    let alloc = rt.alloc();
+    let schema = read_schema(alloc, SCHEMA).expect(&rt, "a schema");
+    let mut values = [KEPT; 379];
+    let each = values_of_block(alloc, &schema, b"s", TWO, KINDS, &mut values);
+    assert!(rt; each == Ok(379));
+    assert!(rt; values.as_slice() == EACH_KIND);
+    let mut short = [KEPT; 378];
+    let refused = values_of_block(alloc, &schema, b"s", TWO, KINDS, &mut short);
+    let needed = BlockError::TooSmall {
+        bytes: 379,
+        lines: 0,
+    };
+    assert!(rt; refused == Err(needed));
+    assert!(rt; short == [KEPT; 378]);
+    Ok(())
+}
+
+#[test]
+fn values_are_refused(rt: HostRuntime) -> Result<(), Fail> {
+    let alloc = rt.alloc();
+    let schema = read_schema(alloc, SCHEMA).expect(&rt, "a schema");
+    let mut none = [KEPT; 64];
+    let text = values_of_block(alloc, &schema, b"\xff", TWO, BLOCK, &mut none);
+    assert!(rt; text == Err(BlockError::NotUtf8));
+    for name in [b"".as_slice(), b"none", b"j.k"] {
+        let unnamed = values_of_block(alloc, &schema, name, TWO, BLOCK, &mut none);
+        assert!(rt; unnamed == Err(BlockError::NoField));
+    }
+    let broken = BlockError::BadDocument {
+        start: 22,
+        refusal: DocumentRefusal::Corrupted(Cause::UnexpectedEnd),
+    };
+    let cut = values_of_block(alloc, &schema, b"u", TWO, &BLOCK[..53], &mut none);
+    assert!(rt; cut == Err(broken));
+    assert!(rt; none == [KEPT; 64]);
+    Ok(())
+}
+
+#[test]
+fn documents_have_terms_by_a_schema(rt: HostRuntime) -> Result<(), Fail> {
+    let alloc = rt.alloc();
+    let schema = read_schema(alloc, SCHEMA).expect(&rt, "a schema");
+    let mut terms = [KEPT; 132];
+    let all = schema_terms_of_block(alloc, &schema, TWO, BLOCK, &mut terms);
+    assert!(rt; all == Ok(130));
+    assert!(rt; terms.starts_with(TERMS));
+    assert!(rt; terms.ends_with(&[KEPT; 2]));
+    let mut short = [KEPT; 129];
+    let refused = schema_terms_of_block(alloc, &schema, TWO, BLOCK, &mut short);
+    let needed = BlockError::TooSmall {
+        bytes: 130,
+        lines: 0,
+    };
+    assert!(rt; refused == Err(needed));
+    assert!(rt; short == [KEPT; 129]);
+    Ok(())
+}
+
+#[test]
+fn documents_have_no_terms(rt: HostRuntime) -> Result<(), Fail> {
+    let alloc = rt.alloc();
+    let schema = read_schema(alloc, SCHEMA).expect(&rt, "a schema");
+    let mut none = [KEPT; 64];
+    let broken = BlockError::BadDocument {
+        start: 22,
+        refusal: DocumentRefusal::Corrupted(Cause::UnexpectedEnd),
+    };
+    let cut = schema_terms_of_block(alloc, &schema, TWO, &BLOCK[..53], &mut none);
+    assert!(rt; cut == Err(broken));
+    for (document, refusal) in WITHOUT_TERMS {
+        let mut block = Vec::from_slice(alloc, &BLOCK[..22]).expect(&rt, "memory");
+        block.extend_from_slice(document).expect(&rt, "memory");
+        let refused = schema_terms_of_block(alloc, &schema, TWO, block.as_slice(), &mut none);
+        let start = 22;
+        assert!(rt; refused == Err(BlockError::NoTerms { start, refusal }));
+    }
+    assert!(rt; none == [KEPT; 64]);
+    Ok(())
+}
+
+#[test]
+fn refusals_of_terms_are_numbers(rt: HostRuntime) -> Result<(), Fail> {
+    let rows = [
+        (TermsRefusal::ForeignField, 15),
+        (TermsRefusal::WrongType, 16),
+        (TermsRefusal::NulInKey, 17),
+        (TermsRefusal::NoTerm, 18),
+    ];
+    for (refusal, detail) in rows {
+        let told = Answer {
+            status: 8,
+            detail,
+            place: 7,
+            bytes: 0,
+            lines: 0,
+        };
+        assert!(rt; error_answer(BlockError::NoTerms { start: 7, refusal }) == told);
+    }
+    Ok(())
+}

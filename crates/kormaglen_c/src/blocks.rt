@@ -1,0 +1,112 @@
+//! Calls for C over blocks that write records by a schema that a handle holds.
+
+ghost use Rattle.kormaglen_c.specs.Answers.{AnswersFill, IsWrongVersion};
+ghost use Rattle.kormaglen_c.specs.Handles.{IsClosedHandle};
+ghost use Rattle.std.specs.Prelude.{◌≡◌, MatchOption};
+ghost use Rattle.tv_blocks.specs.FieldValues.{AreNamedValues, IsNamedValuesRefusal};
+ghost use Rattle.tv_blocks.specs.SchemaTerms.{AreSchemaTerms, IsSchemaTermsRefusal};
+ghost use Rattle.tv_handles.specs.Held.{entries_of};
+ghost use Rattle.tv_reader.specs.Version.{version_of_number, version_of};
+
+use crate::handles::closed;
+use std::alloc::Global;
+use tv_blocks::status::{Answer, written_answer, wrong_version};
+use tv_handles::schema_handle::SchemaHandle;
+use tv_schema::Schema;
+use tv_store::DocStoreVersion;
+
+// Writes the values of the field that has a name by a schema.
+fn write_values(
+    alloc: Global,
+    schema: &Schema,
+    name: &[u8],
+    version: u32,
+    block: &[u8],
+    values: &mut [u8],
+) -> Answer
+    ensures { MatchOption (version_of_number version) (IsWrongVersion values.old values.new result)
+        (λ v. AnswersFill (AreNamedValues schema.now name.now (version_of v) block.now)
+        (IsNamedValuesRefusal schema.now name.now (version_of v) block.now) values.old values.new
+        result) }
+{
+    match DocStoreVersion::from_u32(version) {
+        Ok(version) => written_answer(tv_blocks::values_of_block(
+            alloc, schema, name, version, block, values,
+        )),
+        Err(_) => wrong_version(),
+    }
+}
+
+/// Writes the values of the field that has a name by the schema that the handle holds, see `tv_blocks::values_of_block`. The version is 1, 2 or 3.
+#[unsafe(no_mangle)]
+pub extern "C" fn raw_schema_values_of_block(
+    alloc: Global,
+    handle: &mut SchemaHandle,
+    name: &[u8],
+    version: u32,
+    block: &[u8],
+    values: &mut [u8],
+) -> Answer
+    ensures handle { entries_of handle.new ≡ entries_of handle.old }
+    ensures answer { MatchOption (entries_of handle.old) (IsClosedHandle values.old values.new result)
+        (λ entries. MatchOption (version_of_number version)
+        (IsWrongVersion values.old values.new result)
+        (λ v. AnswersFill (AreNamedValues entries name.now (version_of v) block.now)
+        (IsNamedValuesRefusal entries name.now (version_of v) block.now) values.old values.new
+        result)) }
+{
+    match handle.take(alloc) {
+        Some(memory) => {
+            let answer = write_values(alloc, &memory.schema, name, version, block, values);
+            handle.keep(alloc, memory);
+            answer
+        }
+        None => closed(),
+    }
+}
+
+// Writes the terms that documents have by a schema.
+fn write_terms(
+    alloc: Global,
+    schema: &Schema,
+    version: u32,
+    block: &[u8],
+    terms: &mut [u8],
+) -> Answer
+    ensures { MatchOption (version_of_number version) (IsWrongVersion terms.old terms.new result)
+        (λ v. AnswersFill (AreSchemaTerms schema.now (version_of v) block.now)
+        (IsSchemaTermsRefusal schema.now (version_of v) block.now) terms.old terms.new result) }
+{
+    match DocStoreVersion::from_u32(version) {
+        Ok(version) => written_answer(tv_blocks::schema_terms_of_block(
+            alloc, schema, version, block, terms,
+        )),
+        Err(_) => wrong_version(),
+    }
+}
+
+/// Writes the terms that the documents of a block have by the schema that the handle holds, see `tv_blocks::schema_terms_of_block`. The version is
+/// 1, 2 or 3.
+#[unsafe(no_mangle)]
+pub extern "C" fn raw_schema_terms_of_block(
+    alloc: Global,
+    handle: &mut SchemaHandle,
+    version: u32,
+    block: &[u8],
+    terms: &mut [u8],
+) -> Answer
+    ensures handle { entries_of handle.new ≡ entries_of handle.old }
+    ensures answer { MatchOption (entries_of handle.old) (IsClosedHandle terms.old terms.new result)
+        (λ entries. MatchOption (version_of_number version) (IsWrongVersion terms.old terms.new result)
+        (λ v. AnswersFill (AreSchemaTerms entries (version_of v) block.now)
+        (IsSchemaTermsRefusal entries (version_of v) block.now) terms.old terms.new result)) }
+{
+    match handle.take(alloc) {
+        Some(memory) => {
+            let answer = write_terms(alloc, &memory.schema, version, block, terms);
+            handle.keep(alloc, memory);
+            answer
+        }
+        None => closed(),
+    }
+}

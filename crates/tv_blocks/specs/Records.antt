@@ -1,0 +1,7 @@
+-- Records: a number and the length of some bytes, and then the bytes.
+use Rattle.std.specs.Prelude.{ℕ, List, ◌++◌, length}
+use Rattle.std.specs.Int.{to_le_bytes, w64}
+
+-- the number and the length of the bytes, both in eight bytes, the lowest first, and the bytes
+abbrev pub record_of : ℕ → List ℕ → List ℕ
+record_of number bytes = to_le_bytes w64 number ++ to_le_bytes w64 (length bytes) ++ bytes
