@@ -10,7 +10,8 @@ SCHEMA = (
     '[{"name":"name","type":"text","options":{"indexing":{"record":"basic"},"stored":true}},'
     '{"name":"age","type":"u64","options":{"indexed":true,"stored":true}},'
     '{"name":"kind","type":"facet","options":{"stored":true}},'
-    '{"name":"more","type":"json_object","options":{"indexing":{"record":"basic"},"stored":true,"fast":false}}]'
+    '{"name":"more","type":"json_object",'
+    '"options":{"indexing":{"record":"basic"},"stored":true,"fast":false}}]'
 )
 
 NAMES = ["Ada", "Bob", "Cleo", "Zoë", "棚"]

@@ -66,7 +66,8 @@ class WithoutDask(unittest.TestCase):
             done = run(f"import sys; sys.modules['{missing}'] = None; import kormaglen.dask")
             self.assertEqual(done.returncode, 1)
             said = done.stderr.strip().split("\n")[-1]
-            wanted = "ImportError: kormaglen.dask wants Dask with its bags (Debian: python3-dask): the package "
+            wanted = "ImportError: kormaglen.dask wants Dask with its bags (Debian: python3-dask): "
+            wanted += "the package "
             self.assertTrue(said.startswith(wanted) and said.endswith(" is missing"), said)
             if IS_THERE:
                 self.assertEqual(said, f"{wanted}{missing} is missing")
@@ -105,7 +106,8 @@ class Reading(InAFolder):
                 self.assertEqual(b"".join(piece.block for piece in pieces), whole.block)
                 self.assertEqual([answer for piece in pieces for answer in piece.lines], whole.lines)
                 counts = [len(piece.lines) for piece in pieces]
-                self.assertEqual([piece.first for piece in pieces], [1 + sum(counts[:at]) for at in range(len(counts))])
+                firsts = [1 + sum(counts[:at]) for at in range(len(counts))]
+                self.assertEqual([piece.first for piece in pieces], firsts)
                 self.assertEqual([each.line for piece in pieces for each in piece.refused], refused)
                 told = blocks.refused().compute()
                 self.assertEqual([each.line for each in told], refused)
@@ -126,7 +128,8 @@ class Reading(InAFolder):
 
     def test_a_line_longer_than_what_is_read_at_once(self) -> None:
         long = b'{"other":"' + b"x" * 200_000 + b'"}'
-        self.check_file([LINES[3], (long, True), LINES[3], (long, True), LINES[0]], True, [1000, 65536, 200_000, None])
+        lines = [LINES[3], (long, True), LINES[3], (long, True), LINES[0]]
+        self.check_file(lines, True, [1000, 65536, 200_000, None])
 
     def test_values(self) -> None:
         path = self.file("a.jsonl", b'{"age":36}\n{"age":"x"}\r\n{}')
@@ -143,7 +146,8 @@ class Reading(InAFolder):
         self.assertEqual(str(refused), f'{path}:2: field "age": {about}: {{"age":"x"}}\r')
 
     def test_several_files(self) -> None:
-        names = [self.file(f"{name}.jsonl", b"{}\nx\n" * count) for name, count in (("a", 3), ("b", 0), ("c", 2))]
+        counts = (("a", 3), ("b", 0), ("c", 2))
+        names = [self.file(f"{name}.jsonl", b"{}\nx\n" * count) for name, count in counts]
         for path in (names, os.path.join(self.folder, "*.jsonl"), tuple(map(pathlib.Path, names))):
             for blocksize in (1, 4, 100, None):
                 refused = D.read_json_lines(path, AGE_SCHEMA, blocksize).refused().compute()
@@ -203,7 +207,8 @@ class Reading(InAFolder):
     def test_schemas(self) -> None:
         path = self.file("a", b'{"age":36}')
         with K.Schema(AGE_SCHEMA) as schema:
-            several = (AGE_SCHEMA, AGE_SCHEMA.encode(), schema, K.SchemaBuilder().u64("age", indexed=True, stored=True).build())
+            built = K.SchemaBuilder().u64("age", indexed=True, stored=True).build()
+            several = (AGE_SCHEMA, AGE_SCHEMA.encode(), schema, built)
             names = {D.read_json_lines(path, each).blocks.name for each in several}
             self.assertEqual(len(names), 1)
             self.assertEqual(D.read_json_lines(path, schema).schema, schema)
@@ -244,7 +249,8 @@ class Collections(InAFolder):
     """A StoredBlocks as Dask uses it."""
 
     def blocks(self, blocksize: int = 11) -> Any:
-        return D.read_json_lines(self.file("a", b'{"age":36}\n{"age":"x"}\n{}\n{"age":[36,36]}\n'), AGE_SCHEMA, blocksize)
+        path = self.file("a", b'{"age":36}\n{"age":"x"}\n{}\n{"age":[36,36]}\n')
+        return D.read_json_lines(path, AGE_SCHEMA, blocksize)
 
     def test_protocol(self) -> None:
         blocks = self.blocks()
@@ -392,7 +398,8 @@ class Writing(InAFolder):
         before = os.getcwd()
         os.chdir(self.folder)
         try:
-            self.assertEqual(D.write_blocks(self.blocks(1), "a*b"), [os.path.join(os.path.realpath(self.folder), "a0b")])
+            (path,) = D.write_blocks(self.blocks(1), "a*b")
+            self.assertEqual(path, os.path.join(os.path.realpath(self.folder), "a0b"))
         finally:
             os.chdir(before)
 
@@ -414,7 +421,8 @@ class Writing(InAFolder):
                 D.write_blocks(self.blocks(1), path)
             with self.assertRaises(FileExistsError):
                 D.write_blocks(self.blocks(1), path)
-        for path in (os.path.join(folder, "**"), os.path.join(folder, "*", "a"), "a*b*", "s3://bucket/a", "file:///a"):
+        patterns = (os.path.join(folder, "**"), os.path.join(folder, "*", "a"), "a*b*")
+        for path in (*patterns, "s3://bucket/a", "file:///a"):
             with self.assertRaises(ValueError):
                 D.write_blocks(self.blocks(1), path)
         for path in (5, None, b"a"):
@@ -426,10 +434,10 @@ class Writing(InAFolder):
             D.write_blocks(self.blocks(1), self.file("file", b""))
 
     def test_a_file_that_can_t_be_written(self) -> None:
-        for name in ("write", "fsync", "replace"):
+        for name in ("fsync", "replace"):
             folder = os.path.join(self.folder, name)
             written = D.write_blocks(self.blocks(1), folder, compute=False)
-            with mock.patch.object(_pieces.os, "fsync" if name == "write" else name, side_effect=OSError("full")):
+            with mock.patch.object(_pieces.os, name, side_effect=OSError("full")):
                 with self.assertRaisesRegex(OSError, "full"):
                     written[0].compute()
             self.assertEqual(os.listdir(folder), [])
@@ -450,14 +458,24 @@ class Docs(InAFolder):
                 if not member.startswith("_") and not hasattr(tuple, member) and callable(inner):
                     self.assertIn(">>>", inner.__doc__ or "", f"{name}.{member}")
 
+    def test_the_typed_program(self) -> None:
+        done = run("from tests.typed_dask import main; main()")
+        self.assertEqual(done.returncode, 0, done.stderr)
+
     def test_examples(self) -> None:
         people = self.file("people.jsonl", b'{"age":36}\n{"age":"x"}\n{"age":36}\n')
-        facets = self.file("facets.jsonl", b'{"kind":["/shop/light","/shop/light/led"]}\n{"kind":["/shop/light","/shop/garden"]}\n')
-        facet_schema = '[{"name":"kind","type":"facet","options":{"stored":true}}]'
-        names = {**vars(D), "PATH": people, "FACETS": facets, "FACET_SCHEMA": facet_schema, "SCHEMA": AGE_SCHEMA, "os": os}
+        lines = b'{"kind":["/shop/light","/shop/light/led"]}\n{"kind":["/shop/light","/shop/garden"]}\n'
+        names = {
+            **vars(D),
+            "PATH": people,
+            "SCHEMA": AGE_SCHEMA,
+            "FACETS": self.file("facets.jsonl", lines),
+            "FACET_SCHEMA": '[{"name":"kind","type":"facet","options":{"stored":true}}]',
+            "os": os,
+        }
         tried = 0
-        modules = [D, *(importlib.import_module(f"kormaglen.dask.{it.name}") for it in pkgutil.iter_modules(D.__path__))]
-        for module in modules:
+        for name in ["", *(f".{module.name}" for module in pkgutil.iter_modules(D.__path__))]:
+            module = importlib.import_module(f"kormaglen.dask{name}")
             done = doctest.testmod(module, extraglobs=names)
             self.assertEqual(done.failed, 0, module.__name__)
             tried += done.attempted

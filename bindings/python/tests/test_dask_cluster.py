@@ -136,7 +136,8 @@ class Cluster(WithRows):
             paths = D.write_blocks(blocks, os.path.join(self.folder, folder))
             written = b"".join(pathlib.Path(path).read_bytes() for path in paths)
             self.assertEqual((len(paths), written), (blocks.npartitions, self.whole.block))
-            self.assertEqual(sorted(os.listdir(os.path.join(self.folder, folder))), [os.path.basename(it) for it in paths])
+            names = sorted(os.listdir(os.path.join(self.folder, folder)))
+            self.assertEqual(names, [os.path.basename(path) for path in paths])
 
     def test_errors_of_workers(self) -> None:
         path = os.path.join(self.folder, "changing.jsonl")

@@ -65,9 +65,9 @@ class Place(NamedTuple):
 class StoredBlocks(DaskMethodsMixin):
     """A Dask collection of pieces of files of lines, which `read_json_lines` makes.
 
-    It is used as other collections are: `compute`, `persist` and `visualize`, also those of `dask` and
-    of a `Client`. `compute` gives a `Piece` for each. By default it runs in threads, which the library
-    makes use of. Each call that isn't given a collection that was persisted reads the files anew.
+    It is used as other collections are, also by `dask.compute`, `dask.persist` and a `Client`. By
+    default it runs in threads: the library lets others run. What is called with a collection that isn't
+    persisted reads the files anew.
 
     >>> [piece.first for piece in read_json_lines(PATH, SCHEMA, blocksize=17).compute()]
     [1, 3]
@@ -79,6 +79,26 @@ class StoredBlocks(DaskMethodsMixin):
         self._schema = schema
         self._places = tuple(places)
         self._parts = parts
+
+    def compute(self, **options: Any) -> List[Piece]:
+        """A `Piece` for each piece, in the order of the files. The options are those of `dask.compute`.
+
+        >>> [piece.first for piece in read_json_lines(PATH, SCHEMA, blocksize=17).compute()]
+        [1, 3]
+        """
+        (pieces,) = _graphs.compute(self, traverse=False, **options)
+        return list(pieces)
+
+    def persist(self, **options: Any) -> StoredBlocks:
+        """The collection with its pieces imported, or on a cluster begun to be: what is called with it
+        doesn't read the files again. The options are those of `dask.persist`.
+
+        >>> read_json_lines(PATH, SCHEMA, blocksize=17).persist().npartitions
+        2
+        """
+        persisted: StoredBlocks
+        (persisted,) = _graphs.persist(self, traverse=False, **options)
+        return persisted
 
     @property
     def npartitions(self) -> int:
@@ -103,7 +123,8 @@ class StoredBlocks(DaskMethodsMixin):
         """A bag of the blocks, one in each partition: one after the other they are the block of all
         lines.
 
-        >>> [len(block) for block in read_json_lines(PATH, SCHEMA, blocksize=17).blocks.compute(scheduler="threads")]
+        >>> blocks = read_json_lines(PATH, SCHEMA, blocksize=17).blocks
+        >>> [len(block) for block in blocks.compute(scheduler="threads")]
         [14, 14]
         """
         return _graphs.each(_pieces.blocks_of, self._parts).bag()
@@ -119,12 +140,14 @@ class StoredBlocks(DaskMethodsMixin):
     def refused(self) -> Any:
         """A bag of the lines that were refused, a `RefusedLine` for each, in the order of the files.
 
-        >>> print(read_json_lines(PATH, SCHEMA).refused().compute(scheduler="threads")[0])  # doctest: +ELLIPSIS
+        >>> refused = read_json_lines(PATH, SCHEMA).refused()
+        >>> print(refused.compute(scheduler="threads")[0])  # doctest: +ELLIPSIS
         /...:2: field "age": a value is of another kind than the field's: {"age":"x"}
         """
         lines = _graphs.each(_pieces.lines_of, self._parts)
         before = _graphs.before_each(_pieces.first_of, lines, [place.begins for place in self._places])
-        rows = [(key, *before.keys, at, place.path) for at, (key, place) in enumerate(zip(lines.keys, self._places))]
+        numbered = enumerate(zip(lines.keys, self._places))
+        rows = [(key, *before.keys, at, place.path) for at, (key, place) in numbered]
         return _graphs.calls(_refused, rows, lines, before).bag()
 
     def documents(self) -> Any:

@@ -20,6 +20,7 @@ _Delayed: Any = Delayed
 _HighLevelGraph: Any = HighLevelGraph
 _dask: Any = dask
 compute: Any = _dask.compute
+persist: Any = _dask.persist
 in_threads: Any = get
 
 Key = Tuple[str, int]

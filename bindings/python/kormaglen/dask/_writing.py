@@ -12,7 +12,9 @@ from kormaglen.dask._blocks import StoredBlocks
 from kormaglen.dask._files import path_text
 
 
-def write_blocks(blocks: StoredBlocks, path: Union[str, "os.PathLike[str]"], compute: bool = True) -> List[Any]:
+def write_blocks(
+    blocks: StoredBlocks, path: Union[str, "os.PathLike[str]"], compute: bool = True
+) -> List[Any]:
     """Writes the block of each piece into a file of its own. Returns the paths of the files in the order
     of the pieces: one after the other they are one block. With `compute=False` it returns a `Delayed` of
     each path, and a file is written when that is computed.
@@ -32,13 +34,15 @@ def write_blocks(blocks: StoredBlocks, path: Union[str, "os.PathLike[str]"], com
     when it is computed.
 
     >>> folder = os.path.join(os.path.dirname(PATH), "blocks")
-    >>> [os.path.basename(path) for path in write_blocks(read_json_lines(PATH, SCHEMA, blocksize=17), folder)]
+    >>> paths = write_blocks(read_json_lines(PATH, SCHEMA, blocksize=17), folder)
+    >>> [os.path.basename(path) for path in paths]
     ['0.block', '1.block']
     """
     if not isinstance(blocks, StoredBlocks):
         raise TypeError(f"blocks: a StoredBlocks is wanted, not {type_name(blocks)}")
     targets = _targets(path, blocks.npartitions)
-    written = _graphs.calls(_pieces.write_piece, list(zip(blocks._parts.keys, targets)), blocks._parts).delayed()
+    rows = list(zip(blocks._parts.keys, targets))
+    written = _graphs.calls(_pieces.write_piece, rows, blocks._parts).delayed()
     return list(_graphs.compute(*written)) if compute else written
 
 
