@@ -14,14 +14,15 @@ import pickle
 import pickletools
 import pkgutil
 import random
+import subprocess
 import sys
 import tempfile
 import unittest
-from typing import Any, Callable, List, Tuple
+from typing import Any, List, Tuple
 from unittest import mock
 
 import kormaglen as K
-from tests.common import AGE_36, EMPTY, run
+from tests.common import EMPTY, HERE, PACKAGE, run
 from tests.dask_files import SCHEMA, write_bytes
 
 IS_THERE = all(map(importlib.util.find_spec, ("dask", "fsspec", "toolz")))
@@ -34,6 +35,10 @@ if IS_THERE:
 AGE_SCHEMA = '[{"name":"age","type":"u64","options":{"indexed":true,"stored":true}}]'
 AGE_TERM = bytes.fromhex("00000000" "75" "0000000000000024")
 STORED_AGE = bytes.fromhex("81" "00000000" "01" "2400000000000000")
+
+# Where the repository has the page, and what compares it.
+PAGE = ("..", "..", "docs", "ENGINES.md")
+COMPARE = ("..", "sqlite", "tests", "page.py")
 
 # Lines, and whether they have a document, by docs/FORMATS.md and RFC 8259.
 LINES: List[Tuple[bytes, bool]] = [
@@ -461,6 +466,17 @@ class Docs(InAFolder):
     def test_the_typed_program(self) -> None:
         done = run("from tests.typed_dask import main; main()")
         self.assertEqual(done.returncode, 0, done.stderr)
+
+    def test_the_walk(self) -> None:
+        program, printed = (os.path.join(HERE, name) for name in ("dask_walk.py", "dask_walk.out"))
+        environment = {**os.environ, "PYTHONPATH": PACKAGE}
+        done = subprocess.run(
+            [sys.executable, program], cwd=self.folder, env=environment, capture_output=True, check=False
+        )
+        self.assertEqual(done.stdout.decode(), pathlib.Path(printed).read_text("utf-8"), done.stderr.decode())
+        page, compare = (os.path.join(PACKAGE, *path) for path in (PAGE, COMPARE))
+        if os.path.exists(page):
+            subprocess.run([sys.executable, compare, page, "In Dask", "python", program, printed], check=True)
 
     def test_examples(self) -> None:
         people = self.file("people.jsonl", b'{"age":36}\n{"age":"x"}\n{"age":36}\n')

@@ -14,7 +14,7 @@ piece by piece, and the counts are added up as a tree.
 
 This module needs the package `dask` with its bags (Debian: python3-dask); `import kormaglen` doesn't.
 What crosses processes is bytes, numbers, texts and tuples of them. The schema's JSON goes with each
-piece, and is read anew for it, which takes some hundredths of a millisecond.
+piece, and is read anew for it: that takes a quarter of a millisecond, and a piece of 16 MiB a second.
 
 What is wrong with arguments is raised when a collection is made: a path without a file, a schema that
 is refused, a field that isn't there. What is wrong with a file comes when it is read.

@@ -228,7 +228,7 @@ def read_json_lines(
 
     A piece has about `blocksize` bytes, as a number or a text as "16 MiB", and is moved to line feeds: a
     longer line makes a longer piece, and pieces without a line. With None a file is one piece. A worker
-    needs about five times as much memory for each piece that it works on. A file that is compressed, by
+    needs about four times as much memory for each piece that it works on. A file that is compressed, by
     the end of its name, can't be cut: it is read with None.
 
     Raises at once FileNotFoundError where there is no file, IsADirectoryError for a folder, TypeError
