@@ -4,7 +4,7 @@
 #include <inttypes.h>
 #include <stdio.h>
 
-enum { VERSION = 1, DOCUMENT = 2, FIELD = 3, VALUE = 0, KIND = 1, COLUMNS = 2, RECORD = 24 };
+enum { VERSION = 1, DOCUMENT = 2, FIELD = 3, VALUE = 0, KIND = 1, COLUMNS = 2, RECORD = 24, ROOM = 1024 };
 
 typedef struct field_values {
     opened_schema *schema;
@@ -72,34 +72,48 @@ static void give_value(call *it, value of) {
     }
 }
 
-/* Appends the records of the field's values. A second document is seen if it has a value of the field. */
-static bool append_values(call *it, field_values *of, buffer *to) {
-    note_size(of->schema, of->blob.len);
-    if (of->blob.len == 0) {
-        /* (that is no document, but it is a block, of none) */
-        return read_document(it, of->version, of->blob, &of->schema->document);
-    }
-    if (!reserve(it, to, 2 * of->blob.len + 2 * RECORD) || !append(it, to, write_values, of)) {
+static bool value_arguments(call *it, field_values *of) {
+    of->schema = it->schema;
+    if (!version_argument(it, VERSION, 1, &of->version) || !blob_argument(it, DOCUMENT, &of->blob) || !path_argument(it, FIELD, &of->field)) {
         return false;
     }
-    for (size_t at = 0; at < to->len; at += record_len(to->start + at)) {
-        if (number_at(to->start + at) > 0) {
+    note_size(it->schema, of->blob.len);
+    /* (no bytes are no document, but they are a block, of none) */
+    return of->blob.len > 0 || read_document(it, of->version, of->blob, &it->schema->document);
+}
+
+/* A second document is seen if it has a value of the field. */
+static bool expect_one_document(call *it, const uint8_t *records, size_t len) {
+    for (size_t at = 0; at < len; at += record_len(records + at)) {
+        if (number_at(records + at) > 0) {
             return fail_argument(it, DOCUMENT, "it is more than one document");
         }
     }
     return true;
 }
 
-static bool value_arguments(call *it, field_values *of) {
-    of->schema = it->schema;
-    return version_argument(it, VERSION, 1, &of->version) && blob_argument(it, DOCUMENT, &of->blob) && path_argument(it, FIELD, &of->field);
+/* Gives the first of the values, or NULL where there is none. */
+static void give_first(call *it, const uint8_t *records, size_t len) {
+    if (expect_one_document(it, records, len) && len > 0) {
+        give_value(it, value_at(records));
+    }
 }
 
 void give_first_value(call *it) {
     field_values of;
+    if (!schema_argument(it) || !value_arguments(it, &of)) {
+        return;
+    }
+    /* (most values need no memory but this) */
+    uint8_t room[ROOM];
+    kormaglen_answer answer = write_values(&of, room, sizeof room);
     buffer values = {0};
-    if (schema_argument(it) && value_arguments(it, &of) && append_values(it, &of, &values) && values.len > 0) {
-        give_value(it, value_at(values.start));
+    if (answer.status == KORMAGLEN_OK) {
+        give_first(it, room, (size_t)answer.bytes);
+    } else if (answer.status != KORMAGLEN_TOO_SMALL) {
+        refuse(it, answer);
+    } else if (reserve(it, &values, (size_t)answer.bytes) && append(it, &values, write_values, &of)) {
+        give_first(it, values.start, values.len);
     }
     sqlite3_free(values.start);
 }
@@ -107,7 +121,7 @@ void give_first_value(call *it) {
 static bool fill(call *it, cursor *to) {
     field_values of;
     return cursor_schema(it, to) && value_arguments(it, &of) && read_document(it, of.version, of.blob, &it->schema->document)
-        && append_values(it, &of, &to->records);
+        && append(it, &to->records, write_values, &of);
 }
 
 /* The words for kinds, by their numbers: those of types in the schema's JSON, and `null` and `json`. */
