@@ -47,6 +47,7 @@ from kormaglen._document import Document
 from kormaglen._fields import Field, Found
 from kormaglen._import import ImportCounts, Imported, LineAnswer, LineAnswers, LineRefusals
 from kormaglen._library import library_version
+from kormaglen._records import FacetCount, FieldValue, count_facets
 from kormaglen._refusals import (
     Closed,
     DocumentFault,
@@ -76,8 +77,10 @@ __all__ = [
     "Document",
     "DocumentFault",
     "DocumentRefused",
+    "FacetCount",
     "Field",
     "FieldRefused",
+    "FieldValue",
     "Found",
     "ImportCounts",
     "Imported",
@@ -97,6 +100,7 @@ __all__ = [
     "Status",
     "Term",
     "VersionRefused",
+    "count_facets",
     "end_of_prefix",
     "export_block",
     "facet_of_text",

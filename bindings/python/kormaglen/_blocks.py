@@ -10,6 +10,7 @@ from kormaglen._arguments import Lent, filled, number, text
 from kormaglen._fields import Found
 from kormaglen._import import Imported
 from kormaglen._library import CALLS
+from kormaglen._records import facet_text
 from kormaglen._schema import Schema
 from kormaglen._streams import Term
 from kormaglen._types import Block, Buffer, Json, Lines
@@ -169,8 +170,4 @@ def text_of_facet(encoded: Buffer) -> str:
     >>> text_of_facet(b"staff\\x00research")
     '/staff/research'
     """
-    with Lent(encoded, "encoded") as given:
-        return filled(
-            2 * given.size + 1,
-            lambda at, size: CALLS.kormaglen_text_of_facet(given.at, given.size, at, size),
-        ).decode()
+    return facet_text(encoded)

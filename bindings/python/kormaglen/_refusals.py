@@ -49,6 +49,7 @@ class Status(_Numbers):
     BAD_LINE = 11
     FOREIGN_FIELD = 12
     BAD_QUERY = 13
+    BAD_PAIRS = 14
     CLOSED = 15
     BAD_ARGUMENT = 16
 
@@ -84,7 +85,8 @@ class SchemaFault(_Numbers):
 
 
 class DocumentFault(_Numbers):
-    """Why bytes hold no document: `kormaglen_document_detail` of the header.
+    """Why bytes hold no document, or, from 15 on, one that has no terms by the schema:
+    `kormaglen_document_detail` of the header.
 
     >>> DocumentFault(1).name
     'UNEXPECTED_END'
@@ -104,6 +106,25 @@ class DocumentFault(_Numbers):
     KEY_NO_TEXT = 12
     NO_ROOM = 13
     TOO_LONG = 14
+    FOREIGN_FIELD = 15
+    WRONG_TYPE = 16
+    NUL_IN_KEY = 17
+    NO_TERM = 18
+
+
+class ValueKind(_Numbers):
+    """Of which kind a stored value is: `kormaglen_value_kind` of the header."""
+
+    NULL = 0
+    TEXT = 1
+    U64 = 2
+    I64 = 3
+    BOOL = 4
+    DATE = 5
+    FACET = 6
+    BYTES = 7
+    IP_ADDR = 8
+    JSON = 9
 
 
 class LineStatus(_Numbers):
@@ -198,7 +219,8 @@ class SchemaRefused(Refused):
 
 
 class DocumentRefused(Refused):
-    """Bytes hold no document. `place` is where in the block the document begins, in bytes from 0.
+    """Bytes hold no document, or one that has no terms by the schema. `place` is where in the block the
+    document begins, in bytes from 0.
 
     >>> try:
     ...     migrate_block(2, b"\\x80\\x81", 3)
@@ -314,7 +336,7 @@ def line_text(status: int) -> str:
 
 
 def document_refused(detail: int, place: int) -> DocumentRefused:
-    """That no document begins at a place of a block."""
+    """That no document begins at a place of a block, or one that has no terms."""
     words = detail_text(Status.BAD_DOCUMENT, detail)
     return DocumentRefused(f"the document at byte {place}: {words}", DocumentFault(detail), place)
 
@@ -363,6 +385,11 @@ def query_refused(detail: int, place: int, field: Optional[str] = None) -> Query
     error.field = field
     error.field_number = None if reason == QueryFault.NO_RANGE else place
     return error
+
+
+def pair_refused(pair: int) -> Refused:
+    """That the facet of a pair isn't UTF-8."""
+    return Refused(f"pair {pair}: the facet is not UTF-8", Status.BAD_PAIRS, pair)
 
 
 def field_refused(name: str) -> FieldRefused:

@@ -5,13 +5,14 @@ from __future__ import annotations
 from typing import Any, Callable, Iterator, List, Mapping, Optional, Tuple
 
 import kormaglen._streams as _streams
-from kormaglen._arguments import Lent, View, filled, number
+from kormaglen._arguments import Lent, View, filled, number, text
 from kormaglen._document import Document
 from kormaglen._fields import HeldSchema
 from kormaglen._handles import opened
 from kormaglen._import import ImportCounts, Imported, imported, joined
 from kormaglen._library import CALLS, LINE_ANSWER_SIZE
 from kormaglen._queries import answered, ranges_in, terms_in
+from kormaglen._records import FieldValue, values_at, values_in
 from kormaglen._refusals import LineRefused
 from kormaglen._types import Block, BlockFile, Buffer, Lines, LinesFile, TextOrBuffer
 
@@ -163,6 +164,52 @@ class Schema(HeldSchema):
         return _streams.documents(
             block, chunk_size, lambda at, size: Document._read_at(self, at, size, stored)
         )
+
+    def values_of_block(self, name: str, block: Buffer, version: int = 2) -> List[FieldValue]:
+        """The values of the field that has this name in the documents of a block, in their order, each
+        with the number of its document from 0. They come as a document's values do, by the kind that is
+        stored, whatever type the field has. Values of other fields are tested, and passed over. The name
+        is the whole name of a field, and no path.
+
+        Raises FieldRefused where no field has the name, DocumentRefused where bytes hold no document,
+        VersionRefused for another version, Closed where the schema is closed, TypeError where an
+        argument is of another type, OverflowError where the version doesn't fit 32 bits, ValueError for
+        a lone surrogate and for JSON that is nested more deeply than Python reads, BufferError where the
+        bytes don't lie one behind the other, MemoryError where memory is refused.
+
+        >>> schema = Schema(SCHEMA)
+        >>> block = schema.import_lines('{"age":36}\\n{}\\n{"age":7}\\n').block
+        >>> [(document, age) for document, age in schema.values_of_block("age", block)]
+        [(0, 36), (2, 7)]
+        """
+        given, stored = text(name, "name"), number(version, "version")
+        with Lent(block, "block") as lent:
+            records = values_at(self, given, name, stored, lent.at, lent.size)
+        return list(values_in(records))
+
+    def terms_of_block(self, block: Buffer, version: int = 2) -> List[_streams.Term]:
+        """The terms of all fields that are indexed in the documents of a block, also those of the values
+        in JSON objects: the terms of each document, in their order, each with the number of its document
+        from 0. They are as those of `terms_of_block`.
+
+        Raises DocumentRefused where bytes hold no document, and where one has a value without a term by
+        this schema, VersionRefused for another version, Closed where the schema is closed, TypeError
+        where an argument is of another type, OverflowError where the version doesn't fit 32 bits,
+        BufferError where the bytes don't lie one behind the other, MemoryError where memory is refused.
+
+        >>> Schema(SCHEMA).terms_of_block(bytes.fromhex("8100000000012400000000000000"))
+        [Term(document=0, term=b'\\x00\\x00\\x00\\x00u\\x00\\x00\\x00\\x00\\x00\\x00\\x00$')]
+        """
+        stored = number(version, "version")
+        handle = opened(self, Schema)
+        with Lent(block, "block") as lent, handle.lock:
+            records = filled(
+                4 * lent.size,
+                lambda at, size: CALLS.kormaglen_schema_terms_of_block(
+                    handle.ref, stored, lent.at, lent.size, at, size
+                ),
+            )
+        return [_streams.Term(document, term) for document, term in _streams.records_of(records)]
 
     def terms_of_text(self, path: str, text: str) -> List[bytes]:
         """The terms that a text of a query has at what the path names, in their order. In a field that

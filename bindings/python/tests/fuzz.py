@@ -166,6 +166,8 @@ class Fuzzer:
             "line": lambda: values.buffer(values.of(LINES)),
             "json": lambda: values.buffer(values.of([SCHEMA, b"[]"])),
             "encoded": values.buffer,
+            "parent": lambda: values.buffer(values.of([b"", b"a"])),
+            "pairs": values.pairs,
             "prefix": values.buffer,
             "values": values.mapping,
             "path": values.path,
@@ -255,6 +257,8 @@ def check_numbers(name: str, given: List[Any], result: Any) -> None:
         "Schema.export_block": [1],
         "Schema.export_chunks": [1],
         "Schema.documents": [1],
+        "Schema.values_of_block": [2],
+        "Schema.terms_of_block": [1],
         "Document.write": [0],
         "Document.read": [2],
     }

@@ -285,6 +285,17 @@ class Values:
         plain = ["*", "36", "7", "[1 TO 36}", "{36 TO *]", "[2 TO 1]", "/a/b", "[/a TO /b]"]
         return self.text() if self.chance(0.3) else self.rng.choice(plain)
 
+    def pairs(self) -> Any:
+        """Pairs of a number and a facet, mostly."""
+        facets = [b"a", b"a\0b", b"a\0c\0d", b"b", b""]
+        pairs: List[Any] = [
+            (self.number(), self.buffer(self.of(facets))) if self.chance(0.3) else (7, self.rng.choice(facets))
+            for _ in range(self.rng.randrange(4))
+        ]
+        if self.chance(0.05):
+            pairs.append(self.rng.choice([(1,), 7, "ab", None, (1, b"a", 2)]))
+        return self.rng.choice([pairs, tuple(pairs), iter(pairs)])
+
     def number(self) -> Any:
         """A number of any size, or what is none."""
         if self.chance(0.7):

@@ -47,6 +47,8 @@ class WrongHandles(unittest.TestCase):
         for call in (
             "K.Schema.find_field(document, 'age')",
             "K.Schema.terms_of_text(document, 'age', '1')",
+            "K.Schema.values_of_block(document, 'age', b'')",
+            "K.Schema.terms_of_block(document, b'')",
             "K.Schema.ranges_of_text(document, 'age', '*')",
             "K.Schema.import_lines(document, b'{}')",
             "K.Schema.export_block(document, b'')",
@@ -84,6 +86,8 @@ class CutNumbers(unittest.TestCase):
             lambda n: K.Schema(SCHEMA).parse("{}").write(n),
             lambda n: K.Schema(SCHEMA).documents(AGE_36, n),
             lambda n: K.Schema(SCHEMA).export_block(AGE_36, n),
+            lambda n: K.Schema(SCHEMA).values_of_block("age", AGE_36, n),
+            lambda n: K.Schema(SCHEMA).terms_of_block(AGE_36, n),
         ]
         for call in calls:
             self.refuses(OverflowError, call, *self.NUMBERS)
@@ -216,6 +220,7 @@ print(schema.parse(Lying(b'{"age":36}')).write().hex(), K.migrate_block(2, Lying
             K.facet_of_text,
             K.Schema(SCHEMA).parse,
             K.Schema(SCHEMA).find_field,
+            lambda t: K.Schema(SCHEMA).values_of_block(t, b""),
             lambda t: K.Schema(SCHEMA).terms_of_text(t, "1"),
             lambda t: K.Schema(SCHEMA).ranges_of_text("age", t),
             lambda t: K.term_of_text(0, t),
@@ -281,6 +286,8 @@ class HalfMade(unittest.TestCase):
                 each.to_json,
                 lambda: each.parse("{}"),
                 lambda: each.find_field("a"),
+                lambda: each.values_of_block("a", b""),
+                lambda: each.terms_of_block(b""),
                 lambda: each.terms_of_text("a", "b"),
                 lambda: each.ranges_of_text("a", "*"),
                 each.__enter__,

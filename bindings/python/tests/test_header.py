@@ -10,7 +10,7 @@ import unittest
 from typing import Dict, Type
 
 import kormaglen as K
-from kormaglen import _library
+from kormaglen import _library, _refusals
 from tests.common import PACKAGE
 
 HEADER = os.environ.get("KORMAGLEN_HEADER", os.path.join(PACKAGE, os.pardir, "kormaglen.h"))
@@ -21,6 +21,7 @@ ENUMS: Dict[str, Type[enum.IntEnum]] = {
     "kormaglen_document_detail": K.DocumentFault,
     "kormaglen_line_status": K.LineStatus,
     "kormaglen_query_detail": K.QueryFault,
+    "kormaglen_value_kind": _refusals.ValueKind,
 }
 PREFIXES = {
     "kormaglen_status": "KORMAGLEN_",
@@ -28,6 +29,7 @@ PREFIXES = {
     "kormaglen_document_detail": "KORMAGLEN_DOCUMENT_",
     "kormaglen_line_status": "KORMAGLEN_LINE_",
     "kormaglen_query_detail": "KORMAGLEN_QUERY_",
+    "kormaglen_value_kind": "KORMAGLEN_VALUE_",
 }
 # The package makes a handle for one call instead.
 BY_A_HANDLE = {"import_lines", "find_field"}

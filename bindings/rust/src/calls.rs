@@ -98,6 +98,14 @@ mod c {
             text: *mut u8,
             text_len: usize,
         ) -> Answer;
+        pub(super) fn kormaglen_count_facets(
+            parent: *const u8,
+            parent_len: usize,
+            pairs: *const u8,
+            pairs_len: usize,
+            counts: *mut u8,
+            counts_len: usize,
+        ) -> Answer;
         pub(super) fn kormaglen_terms_of_block(
             field: u32,
             version: u32,
@@ -152,6 +160,24 @@ mod c {
             path: *const u8,
             path_len: usize,
             found: *mut FoundField,
+        ) -> Answer;
+        pub(super) fn kormaglen_schema_values_of_block(
+            schema: *mut Handle,
+            name: *const u8,
+            name_len: usize,
+            version: u32,
+            block: *const u8,
+            block_len: usize,
+            values: *mut u8,
+            values_len: usize,
+        ) -> Answer;
+        pub(super) fn kormaglen_schema_terms_of_block(
+            schema: *mut Handle,
+            version: u32,
+            block: *const u8,
+            block_len: usize,
+            terms: *mut u8,
+            terms_len: usize,
         ) -> Answer;
         pub(super) fn kormaglen_schema_terms_of_text(
             schema: *mut Handle,
@@ -287,6 +313,20 @@ pub(crate) fn text_of_facet(encoded: &[u8], text: &mut [u8]) -> Answer {
     unsafe { c::kormaglen_text_of_facet(encoded.as_ptr(), encoded.len(), room, room_len) }
 }
 
+pub(crate) fn count_facets(parent: &[u8], pairs: &[u8], counts: &mut [u8]) -> Answer {
+    // SAFETY: all three are slices, and the one that is written overlaps no other.
+    unsafe {
+        c::kormaglen_count_facets(
+            parent.as_ptr(),
+            parent.len(),
+            pairs.as_ptr(),
+            pairs.len(),
+            counts.as_mut_ptr(),
+            counts.len(),
+        )
+    }
+}
+
 pub(crate) fn terms_of_block(field: u32, version: u32, block: &[u8], terms: &mut [u8]) -> Answer {
     let (room, room_len) = (terms.as_mut_ptr(), terms.len());
     // SAFETY: both are slices, and they don't overlap.
@@ -369,6 +409,43 @@ impl SchemaHandle {
         let handle = &mut self.0;
         // SAFETY: the slice is read, and `found` is written. The handle is lent to this call alone.
         unsafe { c::kormaglen_schema_find_field(handle, path.as_ptr(), path.len(), found) }
+    }
+
+    pub(crate) fn values_of_block(
+        &mut self,
+        name: &[u8],
+        version: u32,
+        block: &[u8],
+        values: &mut [u8],
+    ) -> Answer {
+        // SAFETY: all three are slices, and the one that is written overlaps no other. The handle is
+        // lent to this call alone.
+        unsafe {
+            c::kormaglen_schema_values_of_block(
+                &mut self.0,
+                name.as_ptr(),
+                name.len(),
+                version,
+                block.as_ptr(),
+                block.len(),
+                values.as_mut_ptr(),
+                values.len(),
+            )
+        }
+    }
+
+    pub(crate) fn terms_of_block(
+        &mut self,
+        version: u32,
+        block: &[u8],
+        terms: &mut [u8],
+    ) -> Answer {
+        let (bytes, len) = (block.as_ptr(), block.len());
+        let (room, room_len) = (terms.as_mut_ptr(), terms.len());
+        // SAFETY: both are slices, and they don't overlap. The handle is lent to this call alone.
+        unsafe {
+            c::kormaglen_schema_terms_of_block(&mut self.0, version, bytes, len, room, room_len)
+        }
     }
 
     pub(crate) fn terms_of_text(&mut self, path: &[u8], text: &[u8], terms: &mut [u8]) -> Answer {

@@ -20,12 +20,15 @@
 //! | print it as lines of JSON | [`Schema::export_block`] |
 //! | write it in another version of the store | [`migrate_block`] |
 //! | read its documents one by one | [`documents()`] |
+//! | list the values of a field | [`Schema::values_of_block`] |
+//! | list the terms of all fields | [`Schema::terms_of_block`] |
 //! | list the terms of a field | [`terms()`], all at once [`terms_of_block`] |
 //! | find the terms of a prefix | [`term_of_text`], [`end_of_prefix`] |
 //! | find those of a query's text | [`Schema::terms_of_text`], [`Schema::ranges_of_text`] |
 //!
 //! A [`Document`] is one document at a time. [`Schema::find_field`] finds the field that a path
-//! names, and [`facet_of_text`] and [`text_of_facet`] encode and print facets.
+//! names, and [`facet_of_text`] and [`text_of_facet`] encode and print facets, by which
+//! [`count_facets`] counts documents.
 //!
 //! # Refusals
 //!
@@ -53,20 +56,23 @@ mod facets;
 mod queries;
 mod reader;
 mod reasons;
+mod records;
 mod refusal;
 mod schema;
 mod terms;
+mod values;
 
 pub use blocks::{export_block, import_lines, migrate_block, Imported, Version};
 pub use document::Document;
 pub use documents::{documents, Documents};
-pub use facets::{facet_of_text, text_of_facet};
+pub use facets::{count_facets, facet_of_text, text_of_facet, FacetCount};
 pub use queries::TermRange;
 pub use reader::{ImportError, ImportedBlocks};
 pub use reasons::{ArgumentReason, DocumentReason, LineReason, QueryReason, SchemaReason};
 pub use refusal::{LineRefusal, QueryRefusal, Refusal};
 pub use schema::{find_field, Field, Schema};
 pub use terms::{end_of_prefix, term_of_text, terms, terms_of_block, Term, Terms};
+pub use values::{FieldValue, Value};
 
 /// The version of the library that is linked. That of a library that was built without its proof
 /// says so.

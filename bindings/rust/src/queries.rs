@@ -1,6 +1,6 @@
 //! The terms and the ranges of terms that texts of queries have.
 
-use crate::buffer::{reserve, size};
+use crate::records::{first_bytes, first_number};
 use crate::refusal::Refusal;
 
 /// The byte strings from one on, up to another one, in the order of terms.
@@ -44,34 +44,16 @@ impl TermRange {
     }
 }
 
-/// Takes so many bytes of a list of the library's.
-fn first_bytes(list: &mut &[u8], len: usize) -> Option<Result<Vec<u8>, Refusal>> {
-    let taken = list.get(..len)?;
-    *list = &list[len..];
-    let mut bytes = Vec::new();
-    Some(reserve(&mut bytes, len).map(|()| {
-        bytes.extend_from_slice(taken);
-        bytes
-    }))
-}
-
-/// Takes a number of eight bytes, the lowest first.
-fn first_number(list: &mut &[u8]) -> Option<u64> {
-    let number = u64::from_le_bytes(list.get(..8)?.try_into().ok()?);
-    *list = &list[8..];
-    Some(number)
-}
-
 /// Takes the first term of a list, which has for each its length and the term.
-fn first_term(list: &mut &[u8]) -> Option<Result<Vec<u8>, Refusal>> {
-    let len = size(first_number(list)?).ok()?;
+pub(crate) fn first_term(list: &mut &[u8]) -> Option<Result<Vec<u8>, Refusal>> {
+    let len = first_number(list)?;
     first_bytes(list, len)
 }
 
 /// Takes the first range of a list, which has for each the lengths of its start and its end, and
 /// then both. The length of an end that isn't there is 2^64 - 1.
-fn first_range(list: &mut &[u8]) -> Option<Result<TermRange, Refusal>> {
-    let (start_len, end_len) = (size(first_number(list)?).ok()?, first_number(list)?);
+pub(crate) fn first_range(list: &mut &[u8]) -> Option<Result<TermRange, Refusal>> {
+    let (start_len, end_len) = (first_number(list)?, first_number(list)?);
     let start = match first_bytes(list, start_len)? {
         Ok(start) => start,
         Err(refusal) => return Some(Err(refusal)),
@@ -79,26 +61,6 @@ fn first_range(list: &mut &[u8]) -> Option<Result<TermRange, Refusal>> {
     if end_len == u64::MAX {
         return Some(Ok(TermRange { start, end: None }));
     }
-    let end = first_bytes(list, size(end_len).ok()?)?;
+    let end = first_bytes(list, end_len)?;
     Some(end.map(|end| TermRange { start, end: Some(end) }))
-}
-
-/// The terms of a list of the library's.
-pub(crate) fn terms_in(mut list: &[u8]) -> Result<Vec<Vec<u8>>, Refusal> {
-    let mut terms = Vec::new();
-    while let Some(term) = first_term(&mut list) {
-        reserve(&mut terms, 1)?;
-        terms.push(term?);
-    }
-    Ok(terms)
-}
-
-/// The ranges of a list of the library's.
-pub(crate) fn ranges_in(mut list: &[u8]) -> Result<Vec<TermRange>, Refusal> {
-    let mut ranges = Vec::new();
-    while let Some(range) = first_range(&mut list) {
-        reserve(&mut ranges, 1)?;
-        ranges.push(range?);
-    }
-    Ok(ranges)
 }

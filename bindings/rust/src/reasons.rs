@@ -171,6 +171,15 @@ reasons! {
     NoRoom = 13,
     /// More than 2^64 - 1 bytes were read.
     TooLong = 14,
+    /// It can be read, but has no terms: a field is none of the schema's.
+    ForeignField = 15,
+    /// It can be read, but has no terms: a value isn't of its field's type.
+    WrongType = 16,
+    /// It can be read, but has no terms: a key in a value of a field of JSON objects has U+0000.
+    NulInKey = 17,
+    /// It can be read, but has no terms: a facet, bytes, an address or a pre-tokenized text stands in
+    /// a value of a field of JSON objects.
+    NoTerm = 18,
 }
 
 reasons! {

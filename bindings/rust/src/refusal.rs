@@ -16,6 +16,7 @@ const NO_FIELD: u32 = 7;
 const WRONG_VERSION: u32 = 9;
 const NO_END: u32 = 10;
 const FOREIGN_FIELD: u32 = 12;
+const BAD_PAIR: u32 = 14;
 const CLOSED: u32 = 15;
 
 /// Why a call was refused. It prints as the library's words, with the entry, the byte or the field.
@@ -75,6 +76,11 @@ pub enum Refusal {
     },
     /// A text of a query has no terms, or no ranges of them.
     BadQuery(QueryRefusal),
+    /// The facet of a pair isn't UTF-8.
+    BadPair {
+        /// The number of the pair, from 0.
+        pair: u64,
+    },
     /// The document's value holds nothing.
     Closed,
     /// A pointer of the call is refused. What this crate hands over is never refused so.
@@ -116,6 +122,7 @@ impl Refusal {
             Refusal::BadLine(_) => BAD_LINE,
             Refusal::ForeignField { .. } => FOREIGN_FIELD,
             Refusal::BadQuery(_) => BAD_QUERY,
+            Refusal::BadPair { .. } => BAD_PAIR,
             Refusal::Closed => CLOSED,
             Refusal::BadArgument { .. } => BAD_ARGUMENT,
             Refusal::Unknown { status, .. } => *status,
@@ -145,6 +152,7 @@ impl fmt::Display for Refusal {
             Refusal::BadLine(line) => write!(f, ": {line}"),
             Refusal::ForeignField { field } => write!(f, ": field {field}"),
             Refusal::BadQuery(query) => write!(f, ": {query}"),
+            Refusal::BadPair { pair } => write!(f, ": pair {pair}"),
             Refusal::BadArgument { reason, pointer } => write!(f, ": pointer {pointer}: {reason}"),
             Refusal::Unknown { status, detail, place } => {
                 write!(f, ": status {status}, detail {detail}, place {place}")
@@ -276,6 +284,7 @@ impl Answer {
             (BAD_LINE, Ok(field)) => Refusal::BadLine(LineRefusal::of_numbers(detail, field)),
             (FOREIGN_FIELD, Ok(field)) => Refusal::ForeignField { field },
             (BAD_QUERY, Ok(field)) => Refusal::BadQuery(QueryRefusal::of_numbers(detail, field)),
+            (BAD_PAIR, _) => Refusal::BadPair { pair: place },
             (CLOSED, _) => Refusal::Closed,
             (BAD_ARGUMENT, _) => {
                 Refusal::BadArgument { reason: ArgumentReason::of_number(detail), pointer: place }

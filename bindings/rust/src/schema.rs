@@ -3,9 +3,12 @@
 use crate::blocks::{exported, imported, Imported, Version};
 use crate::buffer::{filled, filled_text, size};
 use crate::calls::{self, Answer, FoundField, SchemaHandle};
-use crate::queries::{ranges_in, terms_in, TermRange};
+use crate::queries::{first_range, first_term, TermRange};
 use crate::reader::ImportedBlocks;
+use crate::records::records_in;
 use crate::refusal::Refusal;
+use crate::terms::{self, Term};
+use crate::values::{first_value, FieldValue};
 use std::fmt;
 use std::io::Read;
 
@@ -155,6 +158,70 @@ impl Schema {
         exported(block, |lines| self.handle.export_block(version.number(), block, lines))
     }
 
+    /// The values of the field that has this name in the documents of a block, in their order. Values
+    /// of other fields are tested, and passed over. The name is the whole name of a field, and no path.
+    ///
+    /// ```
+    /// use kormaglen::{Schema, Value, Version};
+    ///
+    /// let mut schema = Schema::open(
+    ///     br#"[{"name":"age","type":"u64","options":{"indexed":true,"stored":true}}]"#,
+    /// )?;
+    /// let block = schema.import_lines(b"{\"age\":36}\n{}\n{\"age\":7}\n")?.block;
+    /// let ages = schema.values_of_block("age", Version::V2, &block)?;
+    /// assert_eq!((ages[0].document, &ages[0].value), (0, &Value::U64(36)));
+    /// assert_eq!((ages[1].document, &ages[1].value), (2, &Value::U64(7)));
+    /// # Ok::<(), kormaglen::Refusal>(())
+    /// ```
+    ///
+    /// # Errors
+    ///
+    /// `NoField` where no field has the name, `BadDocument` of the first document that can't be read,
+    /// `Memory`, `TooLarge`.
+    pub fn values_of_block(
+        &mut self,
+        name: &str,
+        version: Version,
+        block: &[u8],
+    ) -> Result<Vec<FieldValue>, Refusal> {
+        let (name, version) = (name.as_bytes(), version.number());
+        let values = filled(block.len().saturating_mul(2), |values| {
+            self.handle.values_of_block(name, version, block, values)
+        })?;
+        records_in(&values, first_value)
+    }
+
+    /// As [`terms_of_block`](crate::terms_of_block()), of all fields that are indexed by this schema,
+    /// and also of the values in JSON objects: the terms of each document, in their order.
+    ///
+    /// ```
+    /// use kormaglen::{DocumentReason, Refusal, Schema, Version};
+    ///
+    /// let mut schema = Schema::open(
+    ///     br#"[{"name":"age","type":"u64","options":{"indexed":true,"stored":true}}]"#,
+    /// )?;
+    /// let block = schema.import_lines(b"{}\n{\"age\":258}\n")?.block;
+    /// let terms = schema.terms_of_block(Version::V2, &block)?;
+    /// assert_eq!(terms[0].document, 1);
+    /// assert_eq!(terms[0].bytes, schema.terms_of_text("age", "258")?[0]);
+    /// // A text in field 0.
+    /// let refusal = schema.terms_of_block(Version::V2, b"\x81\0\0\0\0\0\x81a").unwrap_err();
+    /// let reason = DocumentReason::WrongType;
+    /// assert_eq!(refusal, Refusal::BadDocument { reason, start: 0 });
+    /// # Ok::<(), Refusal>(())
+    /// ```
+    ///
+    /// # Errors
+    ///
+    /// `BadDocument` of the first document that can't be read or has a value without a term by the
+    /// schema, `Memory`, `TooLarge`.
+    pub fn terms_of_block(&mut self, version: Version, block: &[u8]) -> Result<Vec<Term>, Refusal> {
+        let terms = filled(block.len().saturating_mul(2), |terms| {
+            self.handle.terms_of_block(version.number(), block, terms)
+        })?;
+        records_in(&terms, terms::first_term)
+    }
+
     /// As [`find_field`](crate::find_field()), by this schema.
     ///
     /// ```
@@ -199,7 +266,8 @@ impl Schema {
     /// `Memory`, `TooLarge`.
     pub fn terms_of_text(&mut self, path: &str, text: &str) -> Result<Vec<Vec<u8>>, Refusal> {
         let (path, text) = (path.as_bytes(), text.as_bytes());
-        terms_in(&filled(QUERY_ROOM, |terms| self.handle.terms_of_text(path, text, terms))?)
+        let terms = filled(QUERY_ROOM, |terms| self.handle.terms_of_text(path, text, terms))?;
+        records_in(&terms, first_term)
     }
 
     /// The ranges of terms that a text of a query bounds at what the path names, in their order.
@@ -228,7 +296,8 @@ impl Schema {
     /// range or the bounds run backwards.
     pub fn ranges_of_text(&mut self, path: &str, text: &str) -> Result<Vec<TermRange>, Refusal> {
         let (path, text) = (path.as_bytes(), text.as_bytes());
-        ranges_in(&filled(QUERY_ROOM, |ranges| self.handle.ranges_of_text(path, text, ranges))?)
+        let ranges = filled(QUERY_ROOM, |ranges| self.handle.ranges_of_text(path, text, ranges))?;
+        records_in(&ranges, first_range)
     }
 
     pub(crate) fn handle(&mut self) -> &mut SchemaHandle {

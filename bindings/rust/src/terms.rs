@@ -1,10 +1,11 @@
 //! The terms of stored values, and where those of a prefix end.
 
 use crate::blocks::Version;
-use crate::buffer::{append, filled, reserve, size};
+use crate::buffer::{append, filled};
 use crate::calls;
 use crate::document::Document;
 use crate::documents::{documents, Documents};
+use crate::records::{first_bytes, first_number, records_in};
 use crate::refusal::Refusal;
 use std::fmt;
 use std::iter::FusedIterator;
@@ -50,12 +51,7 @@ pub fn terms_of_block(field: u32, version: Version, block: &[u8]) -> Result<Vec<
     let records = filled(block.len().saturating_mul(2), |terms| {
         calls::terms_of_block(field, version.number(), block, terms)
     })?;
-    let (mut rest, mut terms) = (records.as_slice(), Vec::new());
-    while let Some(term) = first_term(&mut rest) {
-        reserve(&mut terms, 1)?;
-        terms.push(term?);
-    }
-    Ok(terms)
+    records_in(&records, first_term)
 }
 
 /// As [`terms_of_block`], but the terms of one document at a time, so that it takes no more memory
@@ -171,18 +167,10 @@ impl fmt::Debug for Terms<'_> {
 }
 
 /// Takes the first term of a list of the library's, which has for each the number of its document
-/// and its length, both in eight bytes, the lowest first, and the term.
-fn first_term(list: &mut &[u8]) -> Option<Result<Term, Refusal>> {
-    let document = u64::from_le_bytes(list.get(..8)?.try_into().ok()?);
-    let len = u64::from_le_bytes(list.get(8..16)?.try_into().ok()?);
-    let end = size(len).ok()?.checked_add(16)?;
-    let term = list.get(16..end)?;
-    *list = &list[end..];
-    let mut bytes = Vec::new();
-    Some(reserve(&mut bytes, term.len()).map(|()| {
-        bytes.extend_from_slice(term);
-        Term { document, bytes }
-    }))
+/// and its length, and the term.
+pub(crate) fn first_term(list: &mut &[u8]) -> Option<Result<Term, Refusal>> {
+    let (document, len) = (first_number(list)?, first_number(list)?);
+    Some(first_bytes(list, len)?.map(|bytes| Term { document, bytes }))
 }
 
 /// The term of a text. The terms of all texts that begin with it begin with this term.

@@ -4,9 +4,11 @@ mod common;
 
 use common::{stored_number, stored_text, SCHEMA};
 use kormaglen::{
-    end_of_prefix, export_block, facet_of_text, find_field, import_lines, migrate_block,
-    term_of_text, terms_of_block, text_of_facet, Document, Refusal, Schema, Version,
+    count_facets, end_of_prefix, export_block, facet_of_text, find_field, import_lines,
+    migrate_block, term_of_text, terms_of_block, text_of_facet, Document, Refusal, Schema, Value,
+    Version,
 };
+use std::net::Ipv6Addr;
 
 #[test]
 fn lines_are_stored() {
@@ -74,6 +76,73 @@ fn the_terms_of_a_prefix_have_ends() {
 const INDEXED: &[u8] = br#"[{"name":"s","type":"text","options":{"indexing":{}}},
 {"name":"u","type":"u64","options":{"indexed":true,"stored":true}},
 {"name":"j","type":"json_object","options":{"stored":true,"fast":false,"indexing":{}}}]"#;
+
+#[test]
+fn a_field_has_values_of_each_kind() {
+    // The value of a field in a document of one pair: the code of its type, and what that has.
+    let rows: [(&[u8], Value); 12] = [
+        (b"\x0b", Value::Null),
+        (b"\0\x81a", Value::Text("a".to_string())),
+        (b"\x01\xff\xff\xff\xff\xff\xff\xff\xff", Value::U64(u64::MAX)),
+        (b"\x02\xfe\xff\xff\xff\xff\xff\xff\xff", Value::I64(-2)),
+        (b"\x09\x01", Value::Bool(true)),
+        (b"\x05\xff\xff\xff\xff\xff\xff\xff\xff", Value::Date(-1)),
+        (b"\x03\x83a\0b", Value::Facet(b"a\0b".to_vec())),
+        (b"\x04\x82\0\xff", Value::Bytes(vec![0, 255])),
+        (b"\x0a\x01\0\0\0\0\0\0\0\0\0\0\0\0\0\0\0", Value::IpAddr(Ipv6Addr::LOCALHOST)),
+        (b"\x07\0\x81x\x80", Value::Json(r#"{"text":"x","tokens":[]}"#.to_string())),
+        (b"\x0c\x82\x0b\0\x81y", Value::Json(r#"[null,"y"]"#.to_string())),
+        (b"\x0d\x82\0\x81k\x0b", Value::Json(r#"{"k":null}"#.to_string())),
+    ];
+    let mut schema = Schema::open(SCHEMA).unwrap();
+    for (value, wanted) in rows {
+        // A document without a pair, and one with another field before.
+        let head = b"\x80\x82\x01\0\0\0\x0b\0\0\0\0";
+        let values =
+            schema.values_of_block("s", Version::V2, &[&head[..], value].concat()).unwrap();
+        assert_eq!((values.len(), values[0].document), (1, 1), "{wanted:?}");
+        assert_eq!(values[0].value, wanted);
+    }
+    assert_eq!(schema.values_of_block("s", Version::V2, b""), Ok(vec![]));
+    // This needs more room than the first buffer has.
+    let many = stored_text("").repeat(5000);
+    assert_eq!(schema.values_of_block("s", Version::V2, &many).unwrap().len(), 5000);
+}
+
+#[test]
+fn documents_have_terms_by_a_schema() {
+    let mut schema = Schema::open(INDEXED).unwrap();
+    let lines = b"{\"u\":258,\"j\":{\"a\":[7,\"b\"]}}\n";
+    let block = [stored_number(258), schema.import_lines(lines).unwrap().block].concat();
+    let terms = schema.terms_of_block(Version::V2, &block).unwrap();
+    // As keys are stored in the order of their bytes, `j` comes before `u`.
+    let wanted = [
+        (0, &b"\0\0\0\x01u\0\0\0\0\0\0\x01\x02"[..]),
+        (1, b"\0\0\0\x02ja\0i\x80\0\0\0\0\0\0\x07"),
+        (1, b"\0\0\0\x02ja\0sb"),
+        (1, b"\0\0\0\x01u\0\0\0\0\0\0\x01\x02"),
+    ];
+    assert_eq!(terms.len(), wanted.len());
+    for (term, (document, bytes)) in terms.iter().zip(wanted) {
+        assert_eq!((term.document, &term.bytes[..]), (document, bytes));
+    }
+    assert_eq!(schema.terms_of_block(Version::V2, b""), Ok(vec![]));
+}
+
+#[test]
+fn documents_are_counted_by_facets() {
+    let pairs: [(u64, &[u8]); 6] =
+        [(1, b"a\0b"), (2, b"a\0b\0c"), (1, b"a\0d"), (1, b"a\0b\0x"), (3, b"a"), (4, b"e\0f")];
+    let counted = |parent: &[u8]| {
+        let counts = count_facets(parent, pairs).unwrap();
+        let entries = counts.into_iter().map(|count| (count.child, count.documents));
+        entries.collect::<Vec<_>>()
+    };
+    assert_eq!(counted(b"a"), [(b"a\0b".to_vec(), 2), (b"a\0d".to_vec(), 1)]);
+    assert_eq!(counted(b""), [(b"a".to_vec(), 3), (b"e".to_vec(), 1)]);
+    assert_eq!(counted(b"g"), []);
+    assert_eq!(count_facets(b"", [(0, ""); 0]), Ok(vec![]));
+}
 
 #[test]
 fn texts_of_queries_have_terms() {

@@ -4,8 +4,9 @@ mod common;
 
 use common::SCHEMA;
 use kormaglen::{
-    documents, end_of_prefix, export_block, facet_of_text, find_field, import_lines, migrate_block,
-    term_of_text, terms, terms_of_block, text_of_facet, Document, Schema, Version,
+    count_facets, documents, end_of_prefix, export_block, facet_of_text, find_field, import_lines,
+    migrate_block, term_of_text, terms, terms_of_block, text_of_facet, Document, DocumentReason,
+    Refusal, Schema, Version,
 };
 
 const ROUNDS: u64 = 3000;
@@ -42,6 +43,10 @@ impl Random {
     }
 }
 
+fn is_no_room(refusal: &Refusal) -> bool {
+    matches!(refusal, Refusal::BadDocument { reason: DocumentReason::NoRoom, .. })
+}
+
 #[test]
 fn blocks_of_random_bytes_are_read_or_refused() {
     let mut random = Random(1);
@@ -58,6 +63,17 @@ fn blocks_of_random_bytes_are_read_or_refused() {
             assert_eq!(export_block(SCHEMA, version, &block), exported);
             let listed: Result<Vec<_>, _> = terms(0, version, &block).collect();
             assert_eq!(terms_of_block(0, version, &block), listed);
+            let values = schema.values_of_block("s", version, &block);
+            // Values of other fields need no room.
+            let refused = listed.as_ref().err().filter(|refusal| !is_no_room(refusal));
+            if refused.is_some() || listed.is_ok() {
+                assert_eq!(values.as_ref().err(), refused);
+            }
+            if let (Ok(values), Ok(terms)) = (values, &listed) {
+                // A value has one term at most: null, arrays and objects have none.
+                assert!(values.len() >= terms.len());
+            }
+            let _ = schema.terms_of_block(version, &block);
             let count = documents(version, &block).count();
             match migrate_block(version, &block, Version::V3) {
                 Ok(migrated) => {
@@ -124,5 +140,10 @@ fn random_texts_have_terms_and_facets_or_are_refused() {
             assert_eq!(facet_of_text(&named).unwrap(), encoded);
         }
         assert_eq!(text_of_facet(&bytes).is_ok(), std::str::from_utf8(&bytes).is_ok());
+        let counted = count_facets(b"", [(7, &bytes)]);
+        assert_eq!(counted.is_ok(), std::str::from_utf8(&bytes).is_ok());
+        for count in counted.iter().flatten() {
+            assert!(count.documents == 1 && bytes.starts_with(&count.child));
+        }
     }
 }

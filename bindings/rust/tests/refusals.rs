@@ -4,9 +4,9 @@ mod common;
 
 use common::SCHEMA;
 use kormaglen::{
-    end_of_prefix, export_block, facet_of_text, find_field, import_lines, migrate_block,
-    terms_of_block, text_of_facet, Document, DocumentReason, LineReason, QueryReason, Refusal,
-    Schema, SchemaReason, Version,
+    count_facets, end_of_prefix, export_block, facet_of_text, find_field, import_lines,
+    migrate_block, terms_of_block, text_of_facet, Document, DocumentReason, LineReason,
+    QueryReason, Refusal, Schema, SchemaReason, Version,
 };
 use std::error::Error;
 use std::fmt::Display;
@@ -162,8 +162,51 @@ fn a_document_is_refused_with_the_reason() {
         assert_eq!(export_block(SCHEMA, version, &block), Err(behind));
         assert_eq!(migrate_block(version, &block, Version::V2), Err(behind));
         assert_eq!(terms_of_block(0, version, &block), Err(behind));
+        let mut schema = Schema::open(SCHEMA).unwrap();
+        assert_eq!(schema.values_of_block("u", version, &block), Err(behind));
+        assert_eq!(schema.terms_of_block(version, &block), Err(behind));
         assert!(behind.to_string().contains(": at byte 1: "));
     }
+}
+
+#[test]
+fn a_document_without_terms_is_refused_with_the_reason() {
+    let mut schema = Schema::open(
+        br#"[{"name":"u","type":"u64","options":{"indexed":true,"stored":true}},
+{"name":"j","type":"json_object","options":{"stored":true,"fast":false,"indexing":{}}}]"#,
+    )
+    .unwrap();
+    // The field, and the code and the bytes of its value.
+    let rows: [(&[u8], DocumentReason, u32); 4] = [
+        (b"\x02\0\0\0\0\x81a", DocumentReason::ForeignField, 15),
+        (b"\0\0\0\0\0\x81a", DocumentReason::WrongType, 16),
+        (b"\x01\0\0\0\x0d\x82\0\x81\0\0\x81v", DocumentReason::NulInKey, 17),
+        (b"\x01\0\0\0\x04\x81v", DocumentReason::NoTerm, 18),
+    ];
+    for (pair, reason, number) in rows {
+        let block = [b"\x80\x81", pair].concat();
+        let refusal = schema.terms_of_block(Version::V2, &block).unwrap_err();
+        assert_eq!(refusal, Refusal::BadDocument { reason, start: 1 });
+        assert_eq!(reason.number(), number);
+        expect_status(refusal, 8);
+        assert!(refusal.to_string().contains(": at byte 1: "));
+        // It can be read.
+        assert!(schema.values_of_block("u", Version::V2, &block).is_ok());
+    }
+    assert_eq!(schema.values_of_block("none", Version::V2, b""), Err(Refusal::NoField));
+    assert_eq!(schema.values_of_block("j.a", Version::V2, b""), Err(Refusal::NoField));
+}
+
+#[test]
+fn a_pair_is_refused_with_its_number() {
+    let pairs: [(u64, &[u8]); 4] = [(7, b""), (1, b"a\0b"), (7, b"\xff"), (1, b"\xff")];
+    for (first, pair) in [(0, 2), (1, 1), (2, 0), (3, 0)] {
+        let refusal = count_facets(b"", pairs[first..].to_vec()).unwrap_err();
+        assert_eq!(refusal, Refusal::BadPair { pair });
+        expect_status(refusal, 14);
+        assert!(refusal.to_string().ends_with(&format!(": pair {pair}")));
+    }
+    assert_eq!(count_facets(b"\xff", pairs), Err(Refusal::NotUtf8));
 }
 
 #[test]

@@ -5,4 +5,8 @@ pub mod LineDocuments
 pub mod Documents
 pub mod Importing
 pub mod Records
+pub mod FacetPairs
 pub mod Queries
+pub mod Stops
+pub mod SchemaTerms
+pub mod FieldValues

@@ -4,7 +4,8 @@ use Rattle.std.specs.Int.{to_le_bytes, w64}
 use Rattle.std.specs.List.{flat_map}
 use Rattle.std.specs.Prelude.{OnOk}
 use Rattle.std.specs.Result.{is_ok}
-use Rattle.tv_blocks.specs.Terms.{TermsSoFar, document_records, record_of, records_from, term_record}
+use Rattle.tv_blocks.specs.Records.{record_of}
+use Rattle.tv_blocks.specs.Terms.{TermsSoFar, document_records, records_from, term_record}
 use Rattle.tv_store.proofs.BlockMigration.{each-snoc, joined_more}
 use Rattle.tv_format.specs.Encoding.{EncodesDocument}
 use Rattle.tv_format.specs.Tree.{Tree, Document}

@@ -10,7 +10,7 @@ ghost use Rattle.tv_facets.specs.FacetCounting.{entry_of};
 
 use crate::block_error::BlockError;
 use crate::buffer::put_whole;
-use crate::records::append_record;
+use crate::numbered::append_record;
 use std::alloc::{AllocError, Global};
 use tv_facets::{DocumentFacet, FacetCount, count_child_documents};
 

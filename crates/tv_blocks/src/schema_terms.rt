@@ -9,7 +9,7 @@ ghost use Rattle.tv_reader.specs.Version.{version_of};
 
 use crate::block_error::{BlockError, unread};
 use crate::buffer::put_whole;
-use crate::records::append_record;
+use crate::numbered::append_record;
 use crate::terms_refusal::terms_error;
 use std::alloc::{AllocError, Global};
 use tv_base::SliceSource;
