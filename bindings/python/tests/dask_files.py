@@ -35,7 +35,8 @@ def row(number: int) -> Row:
     is_stored = number % 997 != 0
     shown = str(age) if is_stored else '"old"'
     quoted = ",".join(f'"{kind}"' for kind in kinds)
-    return Row(f'{{"name":"{name}","age":{shown},"kind":[{quoted}]}}', is_stored, name, age, kinds)
+    line = f'{{"name":"{name}","age":{shown},"kind":[{quoted}],"more":{{"size":{number % 7}}}}}'
+    return Row(line, is_stored, name, age, kinds)
 
 
 def write_rows(path: str, count: int) -> List[Row]:

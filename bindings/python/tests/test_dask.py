@@ -342,6 +342,23 @@ class Counting(InAFolder):
             self.assertEqual(found, [(0, bob), (0, ada), (0, bob), (2, bob)])
             self.assertIsInstance(found[0], K.Term)
 
+    def test_terms_of_all_fields(self) -> None:
+        # (in objects the path, a zero byte, the code and the value: that of i64 is counted from -2^63)
+        seven = b"\0\0\0\3jsize\0i" + (2**63 + 7).to_bytes(8, "big")
+        red = b"\0\0\0\3jred\0o" + (1).to_bytes(8, "big")
+        age, shop = b"\0\0\0\1u" + (5).to_bytes(8, "big"), b"\0\0\0\2hshop"
+        lines = [b'{"more":{"size":[7,7],"red":true}}', b'{"age":5,"kind":"/shop"}', b'{"more":{"size":7}}', b"[]"]
+        for blocksize in (1, 40, None):
+            blocks = self.blocks(lines, blocksize)
+            self.assertEqual(D.terms(blocks, "more").compute(), [(red, 1), (seven, 2)])
+            self.assertEqual(D.terms(blocks).compute(), [(age, 1), (shop, 1), (red, 1), (seven, 2)])
+            found = D.term_documents(blocks).compute()
+            self.assertEqual(found, [(0, red), (0, seven), (0, seven), (1, age), (1, shop), (2, seven)])
+        nul = self.blocks([b'{"more":{"a\\u0000b":1}}'], None)
+        with self.assertRaisesRegex(K.DocumentRefused, "U\\+0000"):
+            D.terms(nul).compute()
+        self.assertEqual(D.terms(nul, "name").compute(), [])
+
     def test_facets(self) -> None:
         for blocksize in (1, 40, 100, None):
             blocks = self.blocks(self.FACETS, blocksize)
@@ -362,7 +379,7 @@ class Counting(InAFolder):
         for count in (D.terms, D.term_documents, D.facet_counts):
             with self.assertRaises(K.FieldRefused):
                 count(blocks, "nothing")
-            for field in (None, 5, b"name"):
+            for field in (5, b"name", ["name"]):
                 with self.assertRaises(TypeError):
                     count(blocks, field)
             for other in (None, b"\x80", [b"\x80"], blocks.blocks):

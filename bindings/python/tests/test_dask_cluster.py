@@ -11,7 +11,7 @@ import signal
 import tempfile
 import time
 import unittest
-from typing import Any, Dict, List
+from typing import Any, Dict, List, Tuple
 
 import kormaglen as K
 from tests.dask_files import SCHEMA, Row, write_rows
@@ -44,6 +44,7 @@ class WithRows(unittest.TestCase):
     path: str
     rows: List[Row]
     whole: K.Imported
+    all_terms: List[Tuple[bytes, int]]
 
     @classmethod
     def setUpClass(cls) -> None:
@@ -53,6 +54,8 @@ class WithRows(unittest.TestCase):
         cls.path = os.path.join(folder.name, "lines.jsonl")
         cls.rows = write_rows(cls.path, COUNT)
         cls.whole = K.import_lines(SCHEMA, pathlib.Path(cls.path).read_bytes())
+        found = set(K.Schema(SCHEMA).terms_of_block(cls.whole.block))
+        cls.all_terms = sorted(collections.Counter(each.term for each in found).items())
 
     def blocks(self, blocksize: Any = BLOCKSIZE) -> Any:
         return D.read_json_lines(self.path, SCHEMA, blocksize)
@@ -76,6 +79,7 @@ class WithRows(unittest.TestCase):
         found = D.term_documents(blocks, "name").compute()
         self.assertEqual(found, K.terms_of_block(0, 2, self.whole.block))
         self.assertEqual([term.document for term in found], list(range(len(stored))))
+        self.assertEqual(D.terms(blocks).compute(), self.all_terms)
         for parent in ("/", "/shop", "/shop/light"):
             counts = collections.Counter(child for row in stored for child in children(row, parent))
             self.assertEqual(D.facet_counts(blocks, "kind", parent).compute(), sorted(counts.items()))

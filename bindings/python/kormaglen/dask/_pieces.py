@@ -6,13 +6,14 @@ from __future__ import annotations
 import contextlib
 import os
 import uuid
-from typing import Any, Dict, Iterable, Iterator, List, NamedTuple, Optional, Sequence, Tuple
+from typing import Any, Dict, List, NamedTuple, Optional, Sequence, Tuple
 
 from fsspec.core import OpenFile
 from fsspec.utils import read_block
 
 from kormaglen._blocks import facet_of_text, terms_of_block, text_of_facet
 from kormaglen._import import LineAnswers, _Record
+from kormaglen._records import count_facets
 from kormaglen._schema import Schema
 
 # The size of a file, and when it was changed, as a text; None is what a file system doesn't say.
@@ -126,30 +127,34 @@ def write_piece(part: Part, path: str) -> str:
     return path
 
 
-def terms_at(part: Part, field: int) -> List[Tuple[int, bytes]]:
-    """The terms of a field in a piece, each with the number of its document there."""
-    return [(document, term) for document, term in terms_of_block(field, 2, part[0])]
+def terms_at(part: Part, schema: bytes, field: Optional[int], of_objects: bool) -> List[Tuple[int, bytes]]:
+    """The terms of a field in a piece, each with the number of its document there. Where the field is one
+    of JSON objects, and where it is None, which is all fields, they are those that the schema has."""
+    if field is not None and not of_objects:
+        return [(document, term) for document, term in terms_of_block(field, 2, part[0])]
+    # (a term begins with the number of its field)
+    start = b"" if field is None else field.to_bytes(4, "big")
+    with Schema(schema) as by:
+        found = by.terms_of_block(part[0])
+    return [(document, term) for document, term in found if term.startswith(start)]
 
 
-def located_terms(part: Part, field: int) -> Tuple[int, List[Tuple[int, bytes]]]:
+def located_terms(
+    part: Part, schema: bytes, field: Optional[int], of_objects: bool
+) -> Tuple[int, List[Tuple[int, bytes]]]:
     """How many documents a piece has, and the terms of a field there."""
-    return lines_of(part)[1], terms_at(part, field)
+    return lines_of(part)[1], terms_at(part, schema, field, of_objects)
 
 
-def counted_terms(part: Part, field: int) -> Counts:
+def counted_terms(part: Part, schema: bytes, field: Optional[int], of_objects: bool) -> Counts:
     """How many documents of a piece have each term of a field."""
-    return sorted(_counted(terms_at(part, field)).items())
-
-
-def _counted(pairs: Iterable[Tuple[int, bytes]]) -> Dict[bytes, int]:
-    """How many documents have each of the keys. The pairs are in the order of documents."""
     counts: Dict[bytes, int] = {}
     last: Dict[bytes, int] = {}
-    for document, key in pairs:
-        if last.get(key) != document:
-            last[key] = document
-            counts[key] = counts.get(key, 0) + 1
-    return counts
+    for document, term in terms_at(part, schema, field, of_objects):
+        if last.get(term) != document:
+            last[term] = document
+            counts[term] = counts.get(term, 0) + 1
+    return sorted(counts.items())
 
 
 # A term of a facet has the field's number, the code of the type, and the encoded facet.
@@ -158,17 +163,8 @@ _BEFORE_FACET = 5
 
 def counted_facets(part: Part, field: int, parent: bytes) -> Counts:
     """How many documents of a piece have a facet at or below each child of the parent."""
-    facets = ((document, term[_BEFORE_FACET:]) for document, term in terms_at(part, field))
-    return sorted(_counted(_children(facets, parent)).items())
-
-
-def _children(facets: Iterable[Tuple[int, bytes]], parent: bytes) -> Iterator[Tuple[int, bytes]]:
-    """For each facet below the parent the child of the parent at or above it."""
-    start = parent + b"\0" if parent else b""
-    for document, facet in facets:
-        if facet.startswith(start) and facet != parent:
-            end = facet.find(b"\0", len(start))
-            yield document, facet if end < 0 else facet[:end]
+    pairs = ((document, term[_BEFORE_FACET:]) for document, term in terms_of_block(field, 2, part[0]))
+    return [(child, documents) for child, documents in count_facets(parent, pairs)]
 
 
 def added(several: Sequence[Counts]) -> Counts:
