@@ -1,6 +1,6 @@
 """Compares the extension's answers with the shared rows of the repository: rows.py EXTENSION CRATES. The rows of the program `schemadoc` say what is
-stored of a line and what is printed of that, of which the values are read one by one, too; those of `document_cases` say which terms and ranges texts of queries have; those of `cases`, how facets
-are encoded. All rows stand in the folders of these crates, in `stdin` and `stdout`."""
+stored of a line and what is printed of that, and its values are read one by one, too; those of `document_cases` say which terms and ranges texts of
+queries have; those of `cases`, how facets are encoded. All rows stand in the folders of these crates, in `stdin` and `stdout`."""
 
 import base64
 import json
