@@ -121,20 +121,22 @@ def values_of_line(line: str, name: str) -> list[object]:
 
 
 def compare_values(db: sqlite3.Connection, schema: str, lines: list[str]) -> None:
-    """Each value of each field, and the first one alone."""
-    names, count = [field["name"] for field in json.loads(schema)], 0
-    for id_, line in enumerate(lines, 1):
-        given = {"schema": schema, "id": id_}
-        for name in names:
-            want = values_of_line(line, name)
-            rows = db.execute(
-                f"SELECT kind, value FROM document, kormaglen_values(:schema, 2, stored, '{name}') WHERE id = :id", given
-            ).fetchall()
-            (first,) = db.execute(f"SELECT kormaglen_value(:schema, 2, stored, '{name}') FROM document WHERE id = :id", given).fetchone()
-            got = [plain(*row) for row in rows]
-            if got != want or (plain(rows[0][0], first) if rows else first) != (want[0] if want else None):
+    """The values of each field, and the first one alone."""
+    all_values = "SELECT document.id, kind, value FROM document, kormaglen_values(:schema, 2, stored, :name) ORDER BY document.id"
+    first_values = "SELECT id, kormaglen_value(:schema, 2, stored, :name) FROM document ORDER BY id"
+    count = 0
+    for name in [field["name"] for field in json.loads(schema)]:
+        given = {"schema": schema, "name": name}
+        kinds: dict[int, str] = {}
+        values: dict[int, list[object]] = {}
+        for id_, kind, value in db.execute(all_values, given):
+            kinds.setdefault(id_, kind)
+            values.setdefault(id_, []).append(plain(kind, value))
+        for line, (id_, first) in zip(lines, db.execute(first_values, given)):
+            want, got = values_of_line(line, name), values.get(id_, [])
+            if got != want or [plain(kinds[id_], first) if want else first] != (want[:1] or [None]):
                 sys.exit(f"{line}\n  has in {name} the values\n  {got}, of which the first is {first}")
-            count += len(got)
+            count += len(want)
     print(f"{count} values, as in the lines")
 
 

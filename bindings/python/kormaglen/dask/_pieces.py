@@ -62,13 +62,14 @@ def state_of(system: Any, path: str) -> State:
 def import_piece(place: FilePart, schema: bytes) -> Part:
     """Reads the lines of a piece of a file, and imports them. A line belongs to the piece in which the
     line feed before it lies."""
-    if state_of(place.system, place.path) != place.state:
-        raise FileChanged(f"{place.path}: the file changed after its pieces were cut")
     with OpenFile(place.system, place.path, compression=place.compression) as file:
         if place.length is None:
             lines = file.read()
         else:
             lines = read_block(file, place.start, place.length, b"\n")
+    # (after it was read, so that a change meanwhile is seen, too)
+    if state_of(place.system, place.path) != place.state:
+        raise FileChanged(f"{place.path}: the file changed after its pieces were cut")
     with Schema(schema) as by:
         imported = by.import_lines(lines)
     # (a status is a plain number here, so that a part is pickled without the name of a class)
