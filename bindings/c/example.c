@@ -1,5 +1,6 @@
 /* Imports lines of JSON into a block of stored documents, reads them back, sorts the terms of a field and finds those of a range, finds a
- * field and a facet, finds documents by texts of queries, and handles one document alone. */
+ * field and a facet, finds documents by texts of queries, lists the values of a field and
+ * the terms of all, counts documents by their facets, and handles one document alone. */
 #include "kormaglen.h"
 
 #include <stdio.h>
@@ -170,6 +171,55 @@ static void print_query(kormaglen_schema *schema, const char *path, const char *
     printf("%s %s: %d term, %llu bytes\n", path, text, count, (unsigned long long)listed.bytes);
 }
 
+/* Prints the texts that a field has, and which documents have them. */
+static void print_values(kormaglen_schema *schema, const uint8_t *block, size_t block_len, const char *name) {
+    uint8_t values[256];
+    kormaglen_answer listed =
+        kormaglen_schema_values_of_block(schema, bytes_of(name), strlen(name), 2, block, block_len, values, sizeof values);
+    expect_ok("values", listed);
+    for (uint64_t at = 0; at < listed.bytes; at += 24 + number_at(values + at + 16)) {
+        if (number_at(values + at + 8) == KORMAGLEN_VALUE_TEXT) {
+            printf("document %llu: %s %.*s\n", (unsigned long long)number_at(values + at), name, (int)number_at(values + at + 16),
+                   (const char *)values + at + 24);
+        }
+    }
+}
+
+/* Prints how many terms the documents have in all fields that are indexed. */
+static void print_all_terms(kormaglen_schema *schema, const uint8_t *block, size_t block_len) {
+    uint8_t terms[256];
+    kormaglen_answer listed = kormaglen_schema_terms_of_block(schema, 2, block, block_len, terms, sizeof terms);
+    expect_ok("terms", listed);
+    int count = 0;
+    for (uint64_t at = 0; at < listed.bytes; at += 16 + number_at(terms + at + 8)) {
+        count += 1;
+    }
+    printf("terms by the schema: %d\n", count);
+}
+
+/* Prints the children of the root, and how many documents have a facet at or below each in a field of facets. */
+static void print_counts(kormaglen_schema *schema, const uint8_t *block, size_t block_len, const char *name) {
+    uint8_t values[256], pairs[256], counts[256], text[64];
+    kormaglen_answer listed =
+        kormaglen_schema_values_of_block(schema, bytes_of(name), strlen(name), 2, block, block_len, values, sizeof values);
+    expect_ok("values", listed);
+    size_t pairs_len = 0;
+    for (uint64_t at = 0; at < listed.bytes; at += 24 + number_at(values + at + 16)) {
+        /* (a pair has the number, the length and the facet, and so a value's record without the kind) */
+        size_t rest = 8 + (size_t)number_at(values + at + 16);
+        memcpy(pairs + pairs_len, values + at, 8);
+        memcpy(pairs + pairs_len + 8, values + at + 16, rest);
+        pairs_len += 8 + rest;
+    }
+    kormaglen_answer counted = kormaglen_count_facets(NULL, 0, pairs, pairs_len, counts, sizeof counts);
+    expect_ok("count", counted);
+    for (uint64_t at = 0; at < counted.bytes; at += 16 + number_at(counts + at + 8)) {
+        kormaglen_answer named = kormaglen_text_of_facet(counts + at + 16, (size_t)number_at(counts + at + 8), text, sizeof text);
+        expect_ok("text", named);
+        printf("%.*s: %llu\n", (int)named.bytes, (const char *)text, (unsigned long long)number_at(counts + at));
+    }
+}
+
 /* One document at a time: of a line, written in version 3, and read back. */
 static void handle_one(kormaglen_schema *schema) {
     kormaglen_document document = {0};
@@ -218,6 +268,9 @@ int main(void) {
     print_between(&schema, block, stored, "age", "[7 TO 36}");
     print_query(&schema, "age", "36");
     print_query(&schema, "more.tags", "new");
+    print_values(&schema, block, stored, "name");
+    print_all_terms(&schema, block, stored);
+    print_counts(&schema, block, stored, "group");
     handle_one(&schema);
     print_facet();
     kormaglen_schema_close(&schema);

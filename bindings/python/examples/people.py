@@ -1,6 +1,6 @@
 """Imports lines of JSON into a block of stored documents, reads them back, sorts the terms of a field and
-finds those of a range, finds a field and a facet, finds documents by texts of queries, and handles one
-document alone."""
+finds those of a range, finds a field and a facet, finds documents by texts of queries, lists the values of
+a field and the terms of all, counts documents by their facets, and handles one document alone."""
 
 import kormaglen
 
@@ -40,6 +40,21 @@ def print_query(schema: kormaglen.Schema, path: str, text: str) -> None:
         print(f"{path} {text}: {len(terms)} term, {sum(8 + len(term) for term in terms)} bytes")
 
 
+def print_values(schema: kormaglen.Schema, block: bytes, name: str) -> None:
+    """Prints the values that a field has, and which documents have them."""
+    for document, value in schema.values_of_block(name, block):
+        print(f"document {document}: {name} {value}")
+
+
+def print_counts(schema: kormaglen.Schema, block: bytes, name: str) -> None:
+    """Prints the children of the root, and how many documents have a facet at or below each in a field
+    of facets."""
+    facets = schema.values_of_block(name, block)
+    pairs = [(document, kormaglen.facet_of_text(text)) for document, text in facets]
+    for child, documents in kormaglen.count_facets(b"", pairs):
+        print(f"{kormaglen.text_of_facet(child)}: {documents}")
+
+
 def print_one(schema: kormaglen.Schema) -> None:
     """One document at a time: of a mapping, written in version 3, and read back."""
     document = schema.document({"name": "Dora", "age": 41})
@@ -69,6 +84,9 @@ def main() -> None:
         print_between(schema, imported.block, "age", "[7 TO 36}")
         print_query(schema, "age", "36")
         print_query(schema, "more.tags", "new")
+        print_values(schema, imported.block, "name")
+        print(f"terms by the schema: {len(schema.terms_of_block(imported.block))}")
+        print_counts(schema, imported.block, "group")
         print_one(schema)
     encoded = kormaglen.facet_of_text("/staff/research")
     print(f"{kormaglen.text_of_facet(encoded)} takes {len(encoded)} bytes")

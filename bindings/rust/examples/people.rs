@@ -1,10 +1,11 @@
 //! Imports lines of JSON into a block of stored documents, reads them back, sorts the terms of a
 //! field and finds those of a range, finds a field and a facet, finds documents by texts of queries,
-//! and handles one document alone.
+//! lists the values of a field and the terms of all, counts documents by their facets, and handles
+//! one document alone.
 
 use kormaglen::{
-    end_of_prefix, facet_of_text, migrate_block, term_of_text, terms, text_of_facet, Document,
-    Refusal, Schema, Version,
+    count_facets, end_of_prefix, facet_of_text, migrate_block, term_of_text, terms, text_of_facet,
+    Document, Refusal, Schema, Value, Version,
 };
 
 const SCHEMA: &[u8] = br#"[{"name":"name","type":"text","options":{"stored":true}},
@@ -39,6 +40,10 @@ fn main() -> Result<(), Refusal> {
     print_between(&mut schema, &imported.block, "age", "[7 TO 36}")?;
     print_query(&mut schema, "age", "36")?;
     print_query(&mut schema, "more.tags", "new")?;
+    print_values(&mut schema, &imported.block, "name")?;
+    let terms = schema.terms_of_block(Version::V2, &imported.block)?;
+    println!("terms by the schema: {}", terms.len());
+    print_counts(&mut schema, &imported.block, "group")?;
     print_one(&mut schema)?;
     let encoded = facet_of_text("/staff/research")?;
     println!("{} takes {} bytes", text_of_facet(&encoded)?, encoded.len());
@@ -83,6 +88,31 @@ fn print_query(schema: &mut Schema, path: &str, text: &str) -> Result<(), Refusa
         // It prints the field and the reason.
         Err(Refusal::BadQuery(refusal)) => println!("{refusal}"),
         Err(other) => return Err(other),
+    }
+    Ok(())
+}
+
+/// Prints the texts that a field has, and which documents have them.
+fn print_values(schema: &mut Schema, block: &[u8], name: &str) -> Result<(), Refusal> {
+    for found in schema.values_of_block(name, Version::V2, block)? {
+        if let Value::Text(text) = found.value {
+            println!("document {}: {name} {text}", found.document);
+        }
+    }
+    Ok(())
+}
+
+/// Prints the children of the root, and how many documents have a facet at or below each in a field
+/// of facets.
+fn print_counts(schema: &mut Schema, block: &[u8], name: &str) -> Result<(), Refusal> {
+    let mut pairs = Vec::new();
+    for found in schema.values_of_block(name, Version::V2, block)? {
+        if let Value::Facet(facet) = found.value {
+            pairs.push((found.document, facet));
+        }
+    }
+    for count in count_facets(b"", pairs)? {
+        println!("{}: {}", text_of_facet(&count.child)?, count.documents);
     }
     Ok(())
 }
