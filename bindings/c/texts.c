@@ -19,7 +19,7 @@ const char *kormaglen_status_text(uint32_t status) {
     case KORMAGLEN_INVALID_JSON: return "the schema is not JSON";
     case KORMAGLEN_BAD_SCHEMA: return "the JSON describes no schema";
     case KORMAGLEN_NO_FIELD: return "the path names no field";
-    case KORMAGLEN_BAD_DOCUMENT: return "a document can't be read, or has no terms";
+    case KORMAGLEN_BAD_DOCUMENT: return "a document is refused";
     case KORMAGLEN_WRONG_VERSION: return "there is no such version of the store";
     case KORMAGLEN_NO_END: return "no byte string is above all that begin with the prefix";
     case KORMAGLEN_BAD_LINE: return "a line has no document";

@@ -14,7 +14,7 @@ use Rattle.tv_facets.specs.declared.facet_counts.FacetCount.{FacetCount}
 
 -- ---- one record
 
--- bytes that are the first of others, or stand behind these
+-- bytes that are the first of others, or stand after these
 pub small_first : (n : ℕ) (l : List ℕ) → ((i : ℕ) → get_or l i 0 < 256) → (i : ℕ) → get_or (take n l) i 0 < 256
 small_first zero l small i = omega arith
 small_first (suc n) [] small i = omega arith
@@ -26,7 +26,7 @@ small_behind zero l small i = small i
 small_behind (suc n) [] small i = omega arith
 small_behind (suc n) (x ∷ l) small i = small_behind n l (λ j. small (suc j)) i
 
--- what stands in a record, and behind it
+-- what stands in a record, and after it
 pub record_read : (bytes head behind size more facet rest : List ℕ) (document len : ℕ) → ((i : ℕ) → get_or bytes i 0 < 256) → 8 ≤ length bytes → 8 ≤ length behind
     → head ≡ take 8 bytes → behind ≡ drop 8 bytes → size ≡ take 8 behind → more ≡ drop 8 behind → document ≡ from_le_bytes w64 head → len ≡ from_le_bytes w64 size
     → len ≤ length more → facet ≡ take len more → rest ≡ drop len more → length facet ≡ len
@@ -45,7 +45,7 @@ record_read bytes head behind size more facet rest document len small some_bytes
     ∙ ap (λ (l : List ℕ). to_le_bytes w64 document ++ l) (append_assoc (to_le_bytes w64 (length facet)) facet rest ∙ ap (λ (l : List ℕ). to_le_bytes w64 (length facet) ++ l) last ∙ ap (λ (l : List ℕ). l ++ more) second ∙ later)
     ∙ ap (λ (l : List ℕ). l ++ behind) first ∙ whole)
 
--- a record that stands at the front: its parts
+-- the parts of a record with which the bytes begin
 pub record RecordParts (bytes : List ℕ) (facet rest : List ℕ) : Type 0 where
   pub behind : drop 8 bytes ≡ to_le_bytes w64 (length facet) ++ (facet ++ rest)
   pub size : take 8 (drop 8 bytes) ≡ to_le_bytes w64 (length facet)

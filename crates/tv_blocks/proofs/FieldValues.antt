@@ -1,7 +1,14 @@
 -- The records of the values of a field.
-use Rattle.std.proofs.Common.{◌≡◌, ℕ, List, ◌++◌, Result, Ok, Err, ap, ◌∙◌}
+use Rattle.std.proofs.Common.{◌≡◌, ◌≢◌, ℕ, suc, ◌+◌, ◌-◌, ◌<◌, Bool, true, false, ◌||◌, cond, List, [], ◌∷◌, ◌++◌, length, map, Result, Ok, Err, refl, sym, subst, ap, ◌∙◌, arith, append_assoc, append-nil, length-append}
+use Rattle.std.specs.List.{filter, flat_map}
 use Rattle.std.specs.Prelude.{OnOk, nat_eq}
-use Rattle.tv_blocks.specs.FieldValues.{content_record, leaf_content, value_record}
+use Rattle.tv_base.specs.Parts.{Begins}
+use Rattle.tv_blocks.proofs.Stops.{IsUnreadAt, RefusesBy, fewer_left}
+use Rattle.tv_blocks.specs.FieldValues.{IsValueList, IsValuesBlockRefusal, RefusesValues, ValuesSoFar, content_record, document_values, leaf_content, value_record, values_from}
+use Rattle.tv_blocks.specs.declared.block_error.BlockError.{BlockError}
+use Rattle.tv_blocks.specs.declared.block_error.BlockError.TheVariants as blocks
+use Rattle.tv_blocks.specs.declared.block_error.DocumentRefusal.{DocumentRefusal}
+use Rattle.tv_blocks.specs.declared.block_error.DocumentRefusal.TheVariants as documents
 use Rattle.tv_blocks.specs.declared.field_values.ValueKind.{ValueKind}
 use Rattle.tv_doc.specs.FieldValues.{values_of}
 use Rattle.tv_format.specs.Encoding.{EncodesDocument}
@@ -48,9 +55,6 @@ chosen_values f d = ap (map (λ pair. pair.1)) (kept f d)
 
 -- ---- documents of a block
 
-pub no_values_yet : (v : Version) (field : ℕ) (block content : List ℕ) → content ≡ [] → ValuesSoFar v field block block content 0
-no_values_yet v field block content none = record { before = []; joined = refl; documents = []; counted = refl; encoded = refl; listed = none }
-
 values-snoc : (first field : ℕ) (documents : List Document) (d : Document) → values_from first field (documents ++ d ∷ []) ≡ values_from first field documents ++ document_values (first + length documents) field d
 values-snoc first field [] d =
     let at : first ≡ first + 0 = omega arith in
@@ -76,13 +80,8 @@ more_values {v} {block} {rest} {now} {content} {more} {number} field pairs m b a
           ∙ ap (λ (n : ℕ). values_from 0 field.id m.documents ++ document_values n field.id d) at ∙ sym (values-snoc 0 field.id m.documents d);
     }
 
-pub fewer_values : {v : Version} {rest now : List ℕ} (field : Field) (pairs : Document) → Begins (λ b. EncodesChosenPairs v (field ∷ []) b pairs) rest now → length now < length rest
-fewer_values {v} {rest} {now} field pairs b = fewer_left v b.prefix rest now b.encoded.0 b.joined b.encoded.1
-
-pub all_values : {v : Version} {field : ℕ} {block rest content : List ℕ} {number : ℕ} → ValuesSoFar v field block rest content number → rest ≡ [] → IsValueList v field block content
-all_values {v} {field} {block} {rest} {content} {number} m none =
-    let whole : m.before ≡ block = sym (m.joined ∙ ap (λ (l : List ℕ). m.before ++ l) none ∙ append-nil m.before) in
-    subst (λ (l : List ℕ). IsValueList v field l content) whole (m.documents, m.encoded, m.listed)
+pub fewer_values : (v : Version) {rest now : List ℕ} (field : Field) (pairs : Document) → Begins (λ b. EncodesChosenPairs v (field ∷ []) b pairs) rest now → length now < length rest
+fewer_values v {rest} {now} field pairs b = fewer_left v b.prefix rest now b.encoded.0 b.joined b.encoded.1
 
 -- ---- where they stop
 

@@ -1,7 +1,7 @@
 -- The terms of documents by a schema, document by document.
 use Rattle.std.proofs.Common.{◌≡◌, ◌≢◌, ℕ, suc, ◌+◌, ◌-◌, List, [], ◌∷◌, ◌++◌, length, map, Ok, Err, refl, sym, subst, ap, ◌∙◌, arith, append_assoc, append-nil, length-append}
 use Rattle.std.proofs.lemmas.List.{length-map, map-append}
-use Rattle.tv_blocks.specs.Refusals.{RefusesDocument, StopsBehind}
+use Rattle.tv_blocks.specs.Refusals.{RefusesDocument, StopsAt}
 use Rattle.tv_blocks.specs.SchemaTerms.{AppendsTerms, AreSchemaTerms, BeginsWithoutTerms, HasNoTerms, HaveTerms, IsTermsBlockRefusal, IsWithoutTerms, SchemaTermsSoFar, numbered_terms, terms_from}
 use Rattle.tv_blocks.specs.TermsRefusals.{terms_error}
 use Rattle.tv_blocks.specs.declared.block_error.BlockError.{BlockError}
@@ -53,14 +53,15 @@ terms-snoc first (ts ∷ others) last =
 
 -- as many documents as lists of terms
 as_many : (schema : List Entry) (documents : List Document) (terms : List (List (List ℕ))) → map (document_terms schema) documents ≡ map Ok terms → length documents ≡ length terms
-as_many schema documents terms made = sym (length-map (document_terms schema) documents) ∙ ap length made ∙ length-map Ok terms
+as_many schema documents terms made = sym (length-map documents (document_terms schema)) ∙ ap length made ∙ length-map terms Ok
 
 pub more_terms : {schema : List Entry} {v : Version} {block rest now content more : List ℕ} {number : ℕ} (d : Document) → SchemaTermsSoFar schema v block rest content number
     → BeginsWithDocument v rest now d → AppendsTerms schema number d content more → SchemaTermsSoFar schema v block now more (number + 1)
 more_terms {schema} {v} {block} {rest} {now} {content} {more} {number} d m b added =
     let documents = m.are.documents in
     let terms = m.are.terms in
-    let at : number ≡ 0 + length terms = m.counted ∙ as_many schema documents terms m.are.made in
+    let many = as_many schema documents terms m.are.made in
+    let at : number ≡ 0 + length terms = omega (arith, m.counted, many) in
     record {
       before = m.before ++ b.prefix;
       joined = joined_more block m.before rest b.prefix now m.joined b.joined;
@@ -96,7 +97,7 @@ unread_terms {schema} {v} {block} {rest} {content} start e m at unread = absurd 
 
 module _ {schema : List Entry} {v : Version} {block rest now content : List ℕ} {number : ℕ} (start : ℕ) (d : Document) (m : SchemaTermsSoFar schema v block rest content number) (at : start ≡ length block - length rest)
     (b : BeginsWithDocument v rest now d) where
-  stops_at : (refusal : TermsRefusal) → HasNoTerms schema start d (blocks.NoTerms start refusal) → StopsBehind (HaveTerms schema v) (BeginsWithoutTerms schema v start refusal) block start
+  stops_at : (refusal : TermsRefusal) → HasNoTerms schema start d (blocks.NoTerms start refusal) → StopsAt (HaveTerms schema v) (BeginsWithoutTerms schema v start refusal) block start
   stops_at refusal none =
       record { before = m.before; behind = rest; joined = m.joined; measured = at ∙ rest_at block m.before rest m.joined; good = (content, m.are); some = begins_with_some v b.prefix rest now d b.joined b.encoded; refused = (now, d, b, none) }
 

@@ -1,5 +1,7 @@
 -- Where reading stops before the end of a block.
-use Rattle.std.proofs.Common.{◌≡◌, ◌≢◌, ℕ, ◌<◌, List, [], ◌∷◌, ◌++◌, length, refl, sym, subst, ap, ◌∙◌, arith, length-append}
+use Rattle.std.proofs.Common.{◌≡◌, ◌≢◌, ℕ, ◌==◌, ◌<◌, Bool, true, false, List, [], ◌∷◌, ◌++◌, length, refl, sym, subst, ap, ◌∙◌, arith, length-append}
+use Rattle.tv_base.specs.Number.{Groups}
+use Rattle.tv_base.specs.Number.Groups.{last, more}
 use Rattle.tv_blocks.specs.Refusals.{RefusesDocument, document_refusal}
 use Rattle.tv_blocks.specs.declared.block_error.BlockError.{BlockError}
 use Rattle.tv_blocks.specs.declared.block_error.BlockError.TheVariants as blocks
@@ -17,7 +19,6 @@ use Rattle.tv_reader.specs.declared.error.DeserializeError.{DeserializeError}
 use Rattle.tv_reader.specs.declared.error.DeserializeError.TheVariants as errors
 use Rattle.tv_reader.specs.declared.value_type.ValueType.{ValueType}
 use Rattle.tv_store.specs.Documents.{IsReadingError, NoDocument, SaysNothing}
-use Rattle.tv_store.proofs.Blocks.{no_document}
 
 -- ---- a document that can't be read
 
@@ -38,14 +39,25 @@ unread_at NoRoom v bytes start (errors.CorruptedValue c) some refused full may =
 unread_at NoRoom v bytes start errors.HeapFull some refused full may = (refl, some, full refl)
 unread_at NoRoom v bytes start (errors.TypeMismatch other actual) some refused full may =
     let is : IsRefusal (errors.TypeMismatch other actual) (no_text_key (value_type_code actual)) = subst (λ (t : ValueType). IsRefusal (errors.TypeMismatch t actual) (no_text_key (value_type_code actual))) (sym may) is_no_text in
-    (refl, some, value_type_code actual, refused (no_text_key (value_type_code actual)) is)
+    (refl, some, (value_type_code actual, refused (no_text_key (value_type_code actual)) is))
 unread_at NoRoom v bytes start e some refused full may = tt
 
 -- ---- a document that stands there
 
+-- what is left, where it was tested that something is
+pub is_left : (rest lent : List ℕ) (b : Bool) → lent ≡ rest → b ≡ (length lent == 0) → b ≡ false → rest ≢ []
+is_left rest lent b same told not = λ none. let yes : b ≡ true = told ∙ ap (λ (l : List ℕ). length l == 0) (same ∙ none) in cc
+
 none_first : (a b : List ℕ) → [] ≡ a ++ b → a ≡ []
 none_first [] b is = refl
 none_first (x ∷ a) b is = absurd cc
+
+no_groups : (bytes : List ℕ) (n : ℕ) → bytes ≡ [] → Groups bytes n → ⊥
+no_groups _ _ none (last small) = cc
+no_groups _ _ none (more small groups) = cc
+
+no_document : (v : Version) (bytes : List ℕ) (d : Document) → bytes ≡ [] → EncodesDocument Legacy v bytes d → ⊥
+no_document v bytes d none encoded = no_groups encoded.prefix _ (none_first encoded.prefix encoded.rest (sym none ∙ encoded.joined)) encoded.first.groups
 
 -- it takes some bytes
 pub begins_with_some : (v : Version) (prefix whole rest : List ℕ) (d : Document) → whole ≡ prefix ++ rest → EncodesDocument Legacy v prefix d → whole ≢ []

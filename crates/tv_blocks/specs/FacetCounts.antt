@@ -3,7 +3,7 @@ use Rattle.std.specs.Prelude.{◌≡◌, ◌≢◌, ℕ, ◌<◌, ◌^◌, List,
 use Rattle.std.specs.Global.{Vec}
 use Rattle.std.specs.List.{AllByRecursion, flat_map}
 use Rattle.tv_blocks.specs.Records.{record_of}
-use Rattle.tv_blocks.specs.Refusals.{StopsBehind}
+use Rattle.tv_blocks.specs.Refusals.{StopsAt}
 use Rattle.tv_blocks.specs.declared.block_error.BlockError.{BlockError}
 use Rattle.tv_blocks.specs.declared.block_error.BlockError.TheVariants as errors
 use Rattle.tv_facets.specs.DocumentCounting.{AreDocumentCounts, facet_of}
@@ -34,9 +34,9 @@ abbrev pub AreFacetCounts : List ℕ → List ℕ → List ℕ → Type 0
 AreFacetCounts parent bytes content =
     IsUtf8 parent × (pairs : List (List ℕ × ℕ)) × ArePairs bytes pairs × (counts : List (List ℕ × ℕ)) × AreDocumentCounts parent pairs counts × (content ≡ flat_map facet_record counts)
 
--- some bytes are the records of pairs, and those behind them begin with none
+-- some bytes are the records of pairs, and those after them begin with none
 abbrev pub StopsPairs : List ℕ → ℕ → Type 0
-StopsPairs bytes start = StopsBehind (λ before. (pairs : List (List ℕ × ℕ)) × ArePairs before pairs) BeginsWithNoPair bytes start
+StopsPairs bytes start = StopsAt (λ before. (pairs : List (List ℕ × ℕ)) × ArePairs before pairs) BeginsWithNoPair bytes start
 
 -- the parent is no UTF-8; or it is, and the bytes are no records of pairs
 abbrev pub IsCountsRefusal : List ℕ → List ℕ → BlockError → Type 0

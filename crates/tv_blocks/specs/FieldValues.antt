@@ -4,7 +4,7 @@ use Rattle.std.specs.Int.{cast_unsigned, to_be_bytes, to_le_bytes, w64, w128}
 use Rattle.std.specs.List.{flat_map}
 use Rattle.serde_json.specs.Written.{compact_text}
 use Rattle.tv_blocks.specs.Records.{record_of}
-use Rattle.tv_blocks.specs.Refusals.{RefusesDocument, StopsBehind}
+use Rattle.tv_blocks.specs.Refusals.{RefusesDocument, StopsAt}
 use Rattle.tv_blocks.specs.declared.block_error.BlockError.{BlockError}
 use Rattle.tv_blocks.specs.declared.block_error.BlockError.TheVariants as errors
 use Rattle.tv_blocks.specs.declared.block_error.DocumentRefusal.{DocumentRefusal}
@@ -85,15 +85,15 @@ AreNamedValues schema name v block content = IsUtf8 name × (field : ℕ) × (fi
 
 -- the bytes begin with no document, or the field's values need too much room in the one with which they begin
 abbrev pub RefusesValues : Version → ℕ → DocumentRefusal → List ℕ → Type 0
-RefusesValues v field documents.HeapFull bytes = HasNoRoomChosen v (field_of field ∷ []) bytes
-RefusesValues v field refusal bytes = RefusesDocument v bytes refusal
+RefusesValues v field documents.HeapFull whole = HasNoRoomChosen v (field_of field ∷ []) whole
+RefusesValues v field refusal whole = RefusesDocument v whole refusal
 
 abbrev pub EncodeDocuments : Version → List ℕ → Type 0
-EncodeDocuments v bytes = (documents : List Document) × EncodesBlock v bytes documents
+EncodeDocuments v whole = (documents : List Document) × EncodesBlock v whole documents
 
 -- the document that begins there is the first that is refused
 abbrev pub IsValueListRefusal : Version → ℕ → List ℕ → BlockError → Type 0
-IsValueListRefusal v field block (errors.BadDocument start refusal) = StopsBehind (EncodeDocuments v) (RefusesValues v field refusal) block start
+IsValueListRefusal v field block (errors.BadDocument start refusal) = StopsAt (EncodeDocuments v) (RefusesValues v field refusal) block start
 IsValueListRefusal v field block e = ⊥
 
 -- the name is no UTF-8, or no field's; or it is, and a document is refused

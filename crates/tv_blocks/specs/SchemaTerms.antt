@@ -2,7 +2,7 @@
 use Rattle.std.specs.Prelude.{◌≡◌, ℕ, suc, List, [], ◌∷◌, ◌++◌, length, map, Ok, Err, OnOk}
 use Rattle.std.specs.List.{flat_map}
 use Rattle.tv_blocks.specs.Records.{record_of}
-use Rattle.tv_blocks.specs.Refusals.{RefusesDocument, StopsBehind}
+use Rattle.tv_blocks.specs.Refusals.{RefusesDocument, StopsAt}
 use Rattle.tv_blocks.specs.TermsRefusals.{terms_error}
 use Rattle.tv_blocks.specs.declared.block_error.BlockError.{BlockError}
 use Rattle.tv_blocks.specs.declared.block_error.BlockError.TheVariants as errors
@@ -49,8 +49,8 @@ HaveTerms schema v bytes = (content : List ℕ) × AreSchemaTerms schema v bytes
 
 -- The document that begins there is the first that can't be read or has no terms.
 abbrev pub IsSchemaTermsRefusal : List Entry → Version → List ℕ → BlockError → Type 0
-IsSchemaTermsRefusal schema v block (errors.BadDocument start refusal) = StopsBehind (HaveTerms schema v) (λ bytes. RefusesDocument v bytes refusal) block start
-IsSchemaTermsRefusal schema v block (errors.NoTerms start refusal) = StopsBehind (HaveTerms schema v) (BeginsWithoutTerms schema v start refusal) block start
+IsSchemaTermsRefusal schema v block (errors.BadDocument start refusal) = StopsAt (HaveTerms schema v) (λ bytes. RefusesDocument v bytes refusal) block start
+IsSchemaTermsRefusal schema v block (errors.NoTerms start refusal) = StopsAt (HaveTerms schema v) (BeginsWithoutTerms schema v start refusal) block start
 IsSchemaTermsRefusal schema v block e = ⊥
 
 -- ---- for private clauses

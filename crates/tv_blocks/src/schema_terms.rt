@@ -87,7 +87,7 @@ fn append_block(
 }
 
 /// Writes the terms that the documents of a block have by the schema, see `tv_indexing::term_values`, in their order, and returns how many bytes
-/// these take. Each stands behind the number of its document, from 0, and its own length, both in eight bytes, the lowest first.
+/// these take. Each stands after the number of its document, from 0, and its own length, both in eight bytes, the lowest first.
 ///
 /// Errors: `BadDocument` for the first document that can't be read, or `NoTerms` for one before it whose values have no terms; `TooSmall`,
 /// `Memory`. The buffer then stays as it is.

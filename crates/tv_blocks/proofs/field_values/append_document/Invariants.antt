@@ -9,5 +9,5 @@ abbrev pub invariant-loop-value : goal.invariant-loop-value
 invariant-loop-value l = record {
   can_next : (goal.iterator-loop-value).can_next l.value-iterator;
   is_finite : (goal.iterator-loop-value).is_finite l.value-iterator;
-  so_far : l.values.items ++ flat_map (value_record l.number) (values_left l.value-iterator) ≡ l.initial.values.items ++ document_values l.number l.field.id (document_of l.document);
+  so_far : l.values.items ++ flat_map (value_record l.number) (values_left l.value-iterator) ≡ l.initial.values.items ++ document_values l.number l.fn.field.id (document_of l.document);
 }

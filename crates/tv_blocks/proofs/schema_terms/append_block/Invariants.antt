@@ -3,13 +3,13 @@ use Rattle.tv_blocks.specs.SchemaTerms.{SchemaTermsSoFar}
 use Rattle.tv_reader.specs.Version.{version_of}
 use Rattle.tv_blocks.proofs.schema_terms.append_block.Given as goal
 
-abbrev pub invariant-loop-terms : goal.invariant-loop-terms
-invariant-loop-terms l = record {
+abbrev pub invariant-loop-reader : goal.invariant-loop-reader
+invariant-loop-reader l = record {
   live : l.reader.failed ≡ false;
   version : l.reader.version ≡ l.fn.version;
   few : l.number + length l.source.rest.now ≤ length l.block;
   so_far : SchemaTermsSoFar l.schema (version_of l.fn.version) l.block l.source.rest.now l.content.items l.number;
 }
 
-abbrev pub decreases-loop-terms : goal.decreases-loop-terms
-decreases-loop-terms l = length l.source.rest.now
+abbrev pub decreases-loop-reader : goal.decreases-loop-reader
+decreases-loop-reader l = length l.source.rest.now
