@@ -493,7 +493,7 @@ class Docs(InAFolder):
         self.assertEqual(done.stdout.decode(), pathlib.Path(printed).read_text("utf-8"), done.stderr.decode())
         page, compare = (os.path.join(PACKAGE, *path) for path in (PAGE, COMPARE))
         if os.path.exists(page):
-            subprocess.run([sys.executable, compare, page, "In Dask", "python", program, printed], check=True)
+            subprocess.run([sys.executable, compare, page, program, printed, "python", "output"], check=True)
 
     def test_examples(self) -> None:
         people = self.file("people.jsonl", b'{"age":36}\n{"age":"x"}\n{"age":36}\n')

@@ -1,17 +1,9 @@
-"""Compares a section of a page with what runs: page.py PAGE SECTION MARK PROGRAM OUT. The section is all that stands below the heading SECTION, up
-to the next heading of its level. Its blocks that are marked MARK, as `sql`, one after the other with an empty line between two, have to be the file
-PROGRAM, and its blocks of output, marked `console`, the file OUT, which is what PROGRAM prints."""
+"""Compares the page with what runs: page.py PAGE SQL OUT [MARK MARK]. The page's blocks of SQL, one after the other, have to be the file SQL, and its
+blocks of output the file OUT, which is what the other one prints. The blocks are those marked `sql` and `console`, or as the last two words say."""
 
 import pathlib
 import re
 import sys
-
-
-def section_of(page: str, name: str) -> str:
-    found = re.search(rf"^(#+) {re.escape(name)}$", page, re.M)
-    if found is None:
-        sys.exit(f"the page has no section {name}")
-    return re.split(rf"^#{{1,{len(found[1])}}} ", page[found.end() :], maxsplit=1, flags=re.M)[0]
 
 
 def blocks(page: str, mark: str) -> list[str]:
@@ -19,14 +11,14 @@ def blocks(page: str, mark: str) -> list[str]:
 
 
 def main() -> None:
-    page_file, name, mark, program, out = sys.argv[1:]
-    section = section_of(pathlib.Path(page_file).read_text(encoding="utf-8"), name)
-    written, printed = blocks(section, mark), blocks(section, "console")
-    if "\n".join(written) != pathlib.Path(program).read_text(encoding="utf-8"):
-        sys.exit(f"the blocks of {mark} in {name} are not {program}")
-    if "".join(printed) != pathlib.Path(out).read_text(encoding="utf-8"):
-        sys.exit(f"the output in {name} is not {out}")
-    print(f"{name}: {len(written)} blocks of {mark} and {len(printed)} of output, as they run")
+    page, sql, out = (pathlib.Path(word).read_text(encoding="utf-8") for word in sys.argv[1:4])
+    sql_mark, out_mark = sys.argv[4:] or ["sql", "console"]
+    statements, printed = blocks(page, sql_mark), blocks(page, out_mark)
+    if "\n".join(statements) != sql:
+        sys.exit(f"the page's SQL is not {sys.argv[2]}")
+    if "".join(printed) != out:
+        sys.exit(f"the page's output is not {sys.argv[3]}")
+    print(f"the page has {len(statements)} blocks of SQL and {len(printed)} of output, as they run")
 
 
 if __name__ == "__main__":
