@@ -40,7 +40,7 @@ def row(number: int) -> Row:
 
 
 def write_rows(path: str, count: int) -> List[Row]:
-    """Writes so many lines, and returns what they hold."""
+    """Writes the first `count` lines, and returns what they hold."""
     rows = [row(number) for number in range(1, count + 1)]
     with open(path, "w", encoding="utf-8") as file:
         file.writelines(each.line + "\n" for each in rows)

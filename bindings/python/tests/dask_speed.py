@@ -26,7 +26,7 @@ from tests.dask_files import SCHEMA, row
 
 
 def write_lines(path: str, megabytes: int) -> None:
-    """Writes so many megabytes of lines."""
+    """Writes lines of that size, and not much more."""
     lines = "".join(row(number).line + "\n" for number in range(1, 997 * 90)).encode()
     with open(path, "wb") as file:
         for _ in range(-(-megabytes * 10**6 // len(lines))):
@@ -34,7 +34,7 @@ def write_lines(path: str, megabytes: int) -> None:
 
 
 def by_dask(path: str, folder: str, workers: int) -> float:
-    """The seconds that a cluster of so many processes takes, which has begun before."""
+    """The seconds that a cluster of `workers` processes takes. Its start isn't counted."""
     with distributed.LocalCluster(
         n_workers=workers,
         threads_per_worker=1,

@@ -141,7 +141,7 @@ class Reading(InAFolder):
         first, second, third = D.read_json_lines(path, AGE_SCHEMA, 11).compute()
         self.assertEqual((first.path, first.first, first.block), (path, 1, STORED_AGE))
         self.assertEqual([line.status for line in first.lines], [0, 3])
-        # (the third line begins behind the line feed at byte 23, which lies in the third piece)
+        # (the third line begins after the line feed at byte 23, which lies in the third piece)
         self.assertEqual((second.first, second.block, list(second.lines)), (3, b"", []))
         stored = K.LineAnswer(K.LineStatus.STORED, 1, None)
         self.assertEqual((third.first, third.block, list(third.lines)), (3, EMPTY, [stored]))

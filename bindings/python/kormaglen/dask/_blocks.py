@@ -235,7 +235,7 @@ def read_json_lines(
     where an argument is of another type, OverflowError where `blocksize` is below 1, ValueError where it
     is no size or a compressed file is to be cut; and the errors of `Schema`. When the collection is
     computed: `FileChanged` where a file changed meanwhile, MemoryError where memory is refused, and what
-    reading the file raises. A line that is refused is no error: `refused` tells them.
+    reading the file raises. A line that is refused is no error: `refused` has it.
 
     >>> read_json_lines(PATH, SCHEMA, blocksize="1 MiB").npartitions
     1

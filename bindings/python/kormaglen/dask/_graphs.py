@@ -1,5 +1,5 @@
 """Graphs of Dask's: layers of calls, one for each piece. What is used of Dask stands here, since it has
-no types of its own."""
+no types."""
 
 from __future__ import annotations
 
@@ -73,8 +73,8 @@ def each(function: Callable[..., Any], of: Layer, *arguments: Any) -> Layer:
 
 
 def reduced(function: Callable[..., Any], of: Layer, split_every: int) -> Layer:
-    """One call, of a tree of them: the function makes one of a list of so many results, and of what
-    these give."""
+    """One call, at the root of a tree: the function makes one result of a list of `split_every` results,
+    and again of a list of those."""
     several = within(split_every, "split_every", 2, _MOST_AT_ONCE)
     while of.size > 1:
         keys = of.keys

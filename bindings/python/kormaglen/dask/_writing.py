@@ -15,7 +15,7 @@ from kormaglen.dask._files import path_text
 def write_blocks(
     blocks: StoredBlocks, path: Union[str, "os.PathLike[str]"], compute: bool = True
 ) -> List[Any]:
-    """Writes the block of each piece into a file of its own. Returns the paths of the files in the order
+    """Writes the block of each piece into a separate file. Returns the paths of the files in the order
     of the pieces: one after the other they are one block. With `compute=False` it returns a `Delayed` of
     each path, and a file is written when that is computed.
 
