@@ -100,7 +100,7 @@ def first_of(values: Tuple[Any, ...]) -> Any:
 
 
 def moved(records: Sequence[_Record], before: int) -> List[_Record]:
-    """The refused lines by their numbers in the whole file, `before` being how many lines stand before the piece."""
+    """The refused lines by their numbers in the whole file, where `before` lines stand before the piece."""
     return [(line + before, status, number, field, text) for line, status, number, field, text in records]
 
 
