@@ -57,11 +57,24 @@ bool blob_argument(call *it, int number, bytes *blob) {
     return true;
 }
 
-bool version_argument(call *it, int number, uint32_t least, uint32_t *version) {
+bool number_argument(call *it, int number, sqlite3_int64 *given) {
     if (!expect_type(it, number, SQLITE_INTEGER)) {
         return false;
     }
-    sqlite3_int64 given = sqlite3_value_int64(it->arguments[number]);
+    *given = sqlite3_value_int64(it->arguments[number]);
+    return true;
+}
+
+bool path_argument(call *it, int number, bytes *path) {
+    it->path = it->arguments[number];
+    return text_argument(it, number, path);
+}
+
+bool version_argument(call *it, int number, uint32_t least, uint32_t *version) {
+    sqlite3_int64 given;
+    if (!number_argument(it, number, &given)) {
+        return false;
+    }
     if (given < least || given > 3) {
         return fail_argument(it, number, least == 1 ? "a version is 1, 2 or 3" : "what is written has version 2 or 3");
     }

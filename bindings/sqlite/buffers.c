@@ -17,6 +17,17 @@ bool reserve(call *it, buffer *to, size_t more) {
     return true;
 }
 
+bool reserve_often(call *it, buffer *to, size_t more) {
+    enum { LEAST = 256 };
+    size_t room = to->size - to->len;
+    if (more <= room) {
+        return true;
+    }
+    size_t wanted = more > LEAST + to->size ? more : LEAST + to->size;
+    /* (near the limit just what is needed) */
+    return reserve(it, to, to->len + wanted <= it->limit ? wanted : more);
+}
+
 bool append(call *it, buffer *to, writing write, void *state) {
     /* (an empty buffer points nowhere) */
     if (!reserve(it, to, 1)) {

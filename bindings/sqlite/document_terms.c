@@ -1,81 +1,78 @@
 /* kormaglen_terms(schema, version, document): the terms of a document's values. */
 #include "extension.h"
 
-#include <string.h>
+enum { FIELD, TYPE, TERM, COLUMNS };
 
-enum { FIELD, TERM, COLUMNS };
-
-/* The terms of one field. */
-typedef struct field_terms {
-    uint32_t field, version;
+typedef struct document_terms {
+    opened_schema *schema;
+    uint32_t version;
     bytes blob;
-} field_terms;
+} document_terms;
 
-static kormaglen_answer write_field_terms(void *state, uint8_t *start, size_t len) {
-    const field_terms *of = state;
-    return kormaglen_terms_of_block(of->field, of->version, of->blob.start, of->blob.len, start, len);
+static kormaglen_answer write_terms(void *state, uint8_t *start, size_t len) {
+    const document_terms *of = state;
+    return kormaglen_schema_terms_of_block(&of->schema->schema, of->version, of->blob.start, of->blob.len, start, len);
 }
 
 /* A record is the number of the document, the length of the term, and the term. */
+static bytes recorded_term(const uint8_t *record) {
+    return (bytes){record + 16, (size_t)number_at(record + 8)};
+}
+
 static size_t record_len(const uint8_t *record) {
-    return 16 + (size_t)number_at(record + 8);
-}
-
-/* Appends a field's records. There is one document, and so the field's number stands in place of that of the document. */
-static bool append_field(call *it, buffer *to, field_terms *of) {
-    size_t at = to->len;
-    if (!append(it, to, write_field_terms, of)) {
-        return false;
-    }
-    for (; at < to->len; at += record_len(to->start + at)) {
-        put_number(to->start + at, of->field);
-    }
-    return true;
-}
-
-/* Whether a field's terms are asked for, as with `field = 'price'`. */
-static bool is_wanted(const cursor *to, size_t field) {
-    sqlite3_value *wanted = to->arguments[ARGUMENTS], *name = to->schema->names[field];
-    if (wanted == NULL || sqlite3_value_type(wanted) != SQLITE_TEXT) {
-        return true;
-    }
-    const unsigned char *text = sqlite3_value_text(wanted), *of = sqlite3_value_text(name);
-    int len = sqlite3_value_bytes(wanted);
-    return text == NULL || of == NULL || (len == sqlite3_value_bytes(name) && memcmp(text, of, (size_t)len) == 0);
+    return 16 + recorded_term(record).len;
 }
 
 static bool fill(call *it, cursor *to) {
-    field_terms of = {0};
-    if (!version_argument(it, 1, 1, &of.version) || !blob_argument(it, 2, &of.blob)) {
+    document_terms of = {0};
+    if (!cursor_schema(it, to) || !version_argument(it, 1, 1, &of.version) || !blob_argument(it, 2, &of.blob)) {
         return false;
     }
+    of.schema = it->schema;
     note_size(it->schema, of.blob.len);
-    if (!read_document(it, of.version, of.blob, &it->schema->document) || !read_names(it)) {
-        return false;
-    }
-    for (size_t field = 0; field < it->schema->fields; field++) {
-        of.field = (uint32_t)field;
-        if (is_wanted(to, field) && !append_field(it, &to->records, &of)) {
-            return false;
-        }
-    }
-    return true;
+    return read_document(it, of.version, of.blob, &it->schema->document) && read_names(it) && append(it, &to->records, write_terms, &of);
 }
 
-static void give_column(sqlite3_context *context, const cursor *at, int column) {
-    const uint8_t *record = at->records.start + at->at;
-    if (column == FIELD) {
-        sqlite3_result_value(context, at->schema->names[number_at(record)]);
-    } else {
-        sqlite3_result_blob64(context, record + 16, number_at(record + 8), SQLITE_TRANSIENT);
+/* The word that the schema's JSON has for the type of a term's value. */
+static const char *word_of(bytes term) {
+    switch (type_of(term)) {
+    case 's': return "text";
+    case 'u': return "u64";
+    case 'i': return "i64";
+    case 'o': return "bool";
+    case 'd': return "date";
+    case 'h': return "facet";
+    case 'b': return "bytes";
+    case 'p': return "ip_addr";
+    default: return NULL;
+    }
+}
+
+/* The name of a term's field, with whose number it begins, the highest byte first. */
+static void give_name(call *it, const opened_schema *schema, bytes term) {
+    size_t field = 0;
+    for (size_t i = 0; i < 4 && i < term.len; i++) {
+        field = field << 8 | term.start[i];
+    }
+    if (field < schema->fields) {
+        sqlite3_result_value(it->context, schema->names[field]);
+    }
+}
+
+static void give_column(call *it, const cursor *at, int column) {
+    bytes term = recorded_term(at->records.start + at->at);
+    switch (column) {
+    case FIELD: give_name(it, at->schema, term); break;
+    case TYPE: sqlite3_result_text(it->context, word_of(term), -1, SQLITE_STATIC); break;
+    default: sqlite3_result_blob64(it->context, term.start, term.len, SQLITE_TRANSIENT);
     }
 }
 
 const table DOCUMENT_TERMS = {
     .signature = {"kormaglen_terms", {"schema", "version", "document"}},
-    .declaration = "CREATE TABLE it(field TEXT, term BLOB, kormaglen_schema HIDDEN, kormaglen_version HIDDEN, kormaglen_document HIDDEN)",
+    .declaration = "CREATE TABLE it(field TEXT, type TEXT, term BLOB, kormaglen_schema HIDDEN, kormaglen_version HIDDEN, "
+                   "kormaglen_document HIDDEN)",
     .columns = COLUMNS,
-    .narrowing = FIELD,
     .rows = 16,
     .fill = fill,
     .record_len = record_len,

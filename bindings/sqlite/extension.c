@@ -11,20 +11,22 @@ static void give_version(call *it) {
 }
 
 static const function FUNCTIONS[] = {
-    {{"kormaglen_version", {NULL}}, give_version},
-    {{"kormaglen_store", {"schema", "line"}}, store_line},
-    {{"kormaglen_json", {"schema", "version", "document"}}, print_document},
-    {{"kormaglen_migrate", {"from", "document", "to"}}, migrate_document},
-    {{"kormaglen_check", {"version", "document"}}, check_document},
-    {{"kormaglen_facet", {"text"}}, encode_facet},
-    {{"kormaglen_facet_text", {"facet"}}, print_facet},
-    {{"kormaglen_field", {"schema", "path"}}, give_field},
-    {{"kormaglen_term", {"schema", "path", "text"}}, give_term},
-    {{"kormaglen_range_start", {"schema", "path", "text"}}, give_range_start},
-    {{"kormaglen_range_end", {"schema", "path", "text"}}, give_range_end},
+    {{"kormaglen_version", {NULL}}, give_version, NULL},
+    {{"kormaglen_store", {"schema", "line"}}, store_line, NULL},
+    {{"kormaglen_json", {"schema", "version", "document"}}, print_document, NULL},
+    {{"kormaglen_value", {"schema", "version", "document", "field"}}, give_first_value, NULL},
+    {{"kormaglen_migrate", {"from", "document", "to"}}, migrate_document, NULL},
+    {{"kormaglen_check", {"version", "document"}}, check_document, NULL},
+    {{"kormaglen_facet", {"text"}}, encode_facet, NULL},
+    {{"kormaglen_facet_text", {"facet"}}, print_facet, NULL},
+    {{"kormaglen_facet_pairs", {"document", "facet"}}, add_pair, give_pairs},
+    {{"kormaglen_field", {"schema", "path"}}, give_field, NULL},
+    {{"kormaglen_term", {"schema", "path", "text"}}, give_term, NULL},
+    {{"kormaglen_range_start", {"schema", "path", "text"}}, give_range_start, NULL},
+    {{"kormaglen_range_end", {"schema", "path", "text"}}, give_range_end, NULL},
 };
 
-static const table *const TABLES[] = {&DOCUMENT_TERMS, &QUERY_TERMS, &QUERY_RANGES};
+static const table *const TABLES[] = {&DOCUMENT_TERMS, &DOCUMENT_VALUES, &FACET_COUNTS, &QUERY_TERMS, &QUERY_RANGES};
 
 /* What SQLite hands to a function. */
 typedef struct function_data {
@@ -38,21 +40,15 @@ static void end_function(void *data) {
     sqlite3_free(it);
 }
 
-static void report(sqlite3_context *context, fault why) {
-    switch (why.code) {
-    case SQLITE_OK: break;
-    case SQLITE_NOMEM: sqlite3_result_error_nomem(context); break;
-    case SQLITE_TOOBIG: sqlite3_result_error_toobig(context); break;
-    default:
-        if (why.message != NULL) {
-            sqlite3_result_error(context, why.message, -1);
-        }
-        sqlite3_result_error_code(context, why.code);
-    }
-    sqlite3_free(why.message);
+static call new_call(sqlite3_context *context, sqlite3_value **arguments) {
+    const function_data *data = sqlite3_user_data(context);
+    sqlite3 *db = sqlite3_context_db_handle(context);
+    call it = {.signature = &data->function->signature, .db = db, .context = context, .arguments = arguments, .cache = data->cache};
+    it.limit = (size_t)sqlite3_limit(db, SQLITE_LIMIT_LENGTH, -1);
+    return it;
 }
 
-/* Runs a function, unless an argument is NULL: then so is the result. */
+/* Runs a function, unless an argument is NULL: then so is the result, and an aggregate leaves the row out. */
 static void run(sqlite3_context *context, int count, sqlite3_value **arguments) {
     const function_data *data = sqlite3_user_data(context);
     for (int i = 0; i < count; i++) {
@@ -60,10 +56,15 @@ static void run(sqlite3_context *context, int count, sqlite3_value **arguments) 
             return;
         }
     }
-    sqlite3 *db = sqlite3_context_db_handle(context);
-    call it = {.signature = &data->function->signature, .db = db, .context = context, .arguments = arguments, .cache = data->cache};
-    it.limit = (size_t)sqlite3_limit(db, SQLITE_LIMIT_LENGTH, -1);
+    call it = new_call(context, arguments);
     data->function->run(&it);
+    report(context, it.fault);
+}
+
+static void finish(sqlite3_context *context) {
+    const function_data *data = sqlite3_user_data(context);
+    call it = new_call(context, NULL);
+    data->function->finish(&it);
     report(context, it.fault);
 }
 
@@ -75,8 +76,10 @@ static int create_function(sqlite3 *db, const function *it, cache *with) {
     }
     *data = (function_data){it, with};
     with->users += 1;
+    bool adds = it->finish != NULL;
     /* (SQLite ends the data also where it refuses the function) */
-    return sqlite3_create_function_v2(db, it->signature.name, count_arguments(&it->signature), flags, data, run, NULL, NULL, end_function);
+    return sqlite3_create_function_v2(db, it->signature.name, count_arguments(&it->signature), flags, data, adds ? NULL : run,
+                                      adds ? run : NULL, adds ? finish : NULL, end_function);
 }
 
 /* The extension isn't there, and says why. */

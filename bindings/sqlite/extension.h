@@ -10,7 +10,7 @@
 
 SQLITE_EXTENSION_INIT3
 
-enum { ARGUMENTS = 3 }; /* at most */
+enum { ARGUMENTS = 4 }; /* at most */
 
 /* The bytes of a text or a blob. */
 typedef struct bytes {
@@ -40,13 +40,16 @@ typedef struct call {
     sqlite3_value **arguments;
     cache *cache;
     opened_schema *schema; /* NULL until an argument gave one */
+    sqlite3_value *path;   /* the argument that names a field, for messages; NULL until it was read */
     size_t limit;          /* how many bytes the call may write at most */
     fault fault;
 } call;
 
+/* An aggregate is run for each row that has no NULL, and finished in the end. */
 typedef struct function {
     signature signature;
     void (*run)(call *it);
+    void (*finish)(call *it); /* NULL where it is no aggregate */
 } function;
 
 typedef struct table table;
@@ -59,6 +62,8 @@ bool fail_with(call *it, char *message);
 bool fail_argument(call *it, int number, const char *reason);
 /* With the library's words, and the name of the field that they are about. */
 bool refuse(call *it, kormaglen_answer answer);
+/* Hands the fault of a call to SQLite, where there is one. */
+void report(sqlite3_context *context, fault why);
 
 /* ---- arguments.c: each reads an argument, counted from 0, and returns whether it could */
 
@@ -66,6 +71,9 @@ int count_arguments(const signature *of);
 bool text_argument(call *it, int number, bytes *text);
 bool blob_argument(call *it, int number, bytes *blob);
 bool version_argument(call *it, int number, uint32_t least, uint32_t *version);
+bool number_argument(call *it, int number, sqlite3_int64 *given);
+/* A text that names a field, or a path to one. */
+bool path_argument(call *it, int number, bytes *path);
 
 /* ---- schemas.c */
 
@@ -112,6 +120,8 @@ typedef struct buffer {
 typedef kormaglen_answer (*writing)(void *state, uint8_t *start, size_t len);
 
 bool reserve(call *it, buffer *to, size_t more);
+/* As reserve, for a buffer that grows by many small parts. */
+bool reserve_often(call *it, buffer *to, size_t more);
 /* Appends what the library's call writes: into the room there is, or else into just as much as it asks for. */
 bool append(call *it, buffer *to, writing write, void *state);
 /* Ends the call with what the library's call writes, as a text or a blob. `guess` is how long that is, if all goes well. */
@@ -136,6 +146,28 @@ void check_document(call *it);
 
 void encode_facet(call *it);
 void print_facet(call *it);
+/* Ends the call with the text of an encoded facet. */
+void give_facet(call *it, bytes encoded);
+/* Appends what the library writes: the encoded facet of a text, or the text of an encoded one. */
+bool append_encoded(call *it, bytes text, buffer *to);
+bool append_printed(call *it, bytes encoded, buffer *to);
+
+/* ---- facet_counts.c */
+
+void add_pair(call *it);
+void give_pairs(call *it);
+
+/* ---- value_texts.c */
+
+enum { DATE_TEXT = 40, ADDRESS_TEXT = 48 };
+
+/* Print a date and an address as the library's JSON has them, and end the text with a zero byte. */
+void print_date(int64_t nanoseconds, char text[DATE_TEXT]);
+void print_address(const uint8_t address[16], char text[ADDRESS_TEXT]);
+
+/* ---- values.c */
+
+void give_first_value(call *it);
 
 /* ---- queries.c */
 
@@ -144,6 +176,9 @@ typedef struct query {
     opened_schema *schema;
     bytes path, text;
 } query;
+
+/* The code of a term's type, which stands after the field's number, and of a value in JSON objects after the zero byte that ends its path. */
+uint8_t type_of(bytes term);
 
 /* Reads arguments 1 and 2, of a call that has a schema. */
 bool query_arguments(call *it, query *of);
@@ -168,7 +203,7 @@ void give_range_end(call *it);
 /* A cursor over a table of records. */
 typedef struct cursor {
     sqlite3_vtab_cursor base;
-    sqlite3_value *arguments[ARGUMENTS + 1]; /* behind them what the narrowing column is compared with, or NULL */
+    sqlite3_value *arguments[ARGUMENTS];
     opened_schema *schema;
     buffer records;
     size_t at;
@@ -180,17 +215,18 @@ struct table {
     signature signature;
     const char *declaration;
     int columns;
-    int narrowing; /* a column: rows in which it is something else than the value behind the arguments may be left out; -1 is none */
-    double rows;   /* how many there are, by and large */
+    double rows; /* how many there are, by and large */
     bool (*fill)(call *it, cursor *to);
     size_t (*record_len)(const uint8_t *record);
-    void (*give_column)(sqlite3_context *context, const cursor *at, int column);
+    void (*give_column)(call *it, const cursor *at, int column);
 };
 
 int create_table(sqlite3 *db, const table *it, cache *with);
+/* Has the cursor hold the schema that argument 0 is, which the call then has. */
+bool cursor_schema(call *it, cursor *to);
 
-/* ---- the tables themselves, in document_terms.c and query_tables.c */
+/* ---- the tables themselves, in document_terms.c, facet_counts.c, query_tables.c and values.c */
 
-extern const table DOCUMENT_TERMS, QUERY_TERMS, QUERY_RANGES;
+extern const table DOCUMENT_TERMS, DOCUMENT_VALUES, FACET_COUNTS, QUERY_TERMS, QUERY_RANGES;
 
 #endif

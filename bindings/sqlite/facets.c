@@ -11,6 +11,18 @@ static kormaglen_answer write_text(void *state, uint8_t *start, size_t len) {
     return kormaglen_text_of_facet(encoded->start, encoded->len, start, len);
 }
 
+bool append_encoded(call *it, bytes text, buffer *to) {
+    return append(it, to, write_encoded, &text);
+}
+
+bool append_printed(call *it, bytes encoded, buffer *to) {
+    return append(it, to, write_text, &encoded);
+}
+
+void give_facet(call *it, bytes encoded) {
+    give_text(it, write_text, &encoded, encoded.len + 16);
+}
+
 void encode_facet(call *it) {
     bytes text;
     if (text_argument(it, 0, &text)) {
@@ -21,6 +33,6 @@ void encode_facet(call *it) {
 void print_facet(call *it) {
     bytes encoded;
     if (blob_argument(it, 0, &encoded)) {
-        give_text(it, write_text, &encoded, encoded.len + 16);
+        give_facet(it, encoded);
     }
 }

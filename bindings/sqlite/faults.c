@@ -32,8 +32,10 @@ static char *place_of(call *it, kormaglen_answer answer) {
         return sqlite3_mprintf(": entry %llu", (unsigned long long)answer.place);
     }
     if (answer.status == KORMAGLEN_NO_FIELD) {
-        /* (wherever there is a path, it is argument 1) */
-        return sqlite3_mprintf(": \"%s\"", sqlite3_value_text(it->arguments[1]));
+        return sqlite3_mprintf(": \"%s\"", sqlite3_value_text(it->path));
+    }
+    if (answer.status == KORMAGLEN_BAD_PAIRS) {
+        return sqlite3_mprintf(": at byte %llu", (unsigned long long)answer.place);
     }
     if (!names_field(answer)) {
         return sqlite3_mprintf("");
@@ -63,4 +65,18 @@ bool refuse(call *it, kormaglen_answer answer) {
     char *message = sqlite3_mprintf("%s: %s%s%s%s", it->signature->name, status, place, detail[0] != 0 ? ": " : "", detail);
     sqlite3_free(place);
     return fail_with(it, message);
+}
+
+void report(sqlite3_context *context, fault why) {
+    switch (why.code) {
+    case SQLITE_OK: break;
+    case SQLITE_NOMEM: sqlite3_result_error_nomem(context); break;
+    case SQLITE_TOOBIG: sqlite3_result_error_toobig(context); break;
+    default:
+        if (why.message != NULL) {
+            sqlite3_result_error(context, why.message, -1);
+        }
+        sqlite3_result_error_code(context, why.code);
+    }
+    sqlite3_free(why.message);
 }

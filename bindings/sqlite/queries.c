@@ -5,7 +5,7 @@
 
 bool query_arguments(call *it, query *of) {
     of->schema = it->schema;
-    return text_argument(it, 1, &of->path) && text_argument(it, 2, &of->text);
+    return path_argument(it, 1, &of->path) && text_argument(it, 2, &of->text);
 }
 
 static kormaglen_answer write_terms(void *state, uint8_t *start, size_t len) {
@@ -52,8 +52,7 @@ bool append_terms(call *it, query *of, buffer *to) {
     return append(it, to, write_terms, of);
 }
 
-/* The code of a term's type: behind the field's number, and of a value in JSON objects behind the zero byte that ends its path. */
-static uint8_t type_of(bytes term) {
+uint8_t type_of(bytes term) {
     const uint8_t *code = term.len > 4 ? term.start + 4 : NULL;
     if (code != NULL && *code == 'j') {
         const uint8_t *zero = memchr(code, 0, term.len - 4);
@@ -123,7 +122,7 @@ static bool is_one(call *it, const buffer *records, size_t (*record_len)(const u
 void give_field(call *it) {
     bytes path;
     kormaglen_found_field found;
-    if (!schema_argument(it) || !text_argument(it, 1, &path)) {
+    if (!schema_argument(it) || !path_argument(it, 1, &path)) {
         return;
     }
     kormaglen_answer answer = kormaglen_schema_find_field(&it->schema->schema, path.start, path.len, &found);

@@ -3,25 +3,25 @@
 
 static bool fill_terms(call *it, cursor *to) {
     query of;
-    return query_arguments(it, &of) && append_terms(it, &of, &to->records);
+    return cursor_schema(it, to) && query_arguments(it, &of) && append_terms(it, &of, &to->records);
 }
 
-static void give_term_column(sqlite3_context *context, const cursor *at, int column) {
+static void give_term_column(call *it, const cursor *at, int column) {
     (void)column;
     bytes term = term_of(at->records.start + at->at);
-    sqlite3_result_blob64(context, term.start, term.len, SQLITE_TRANSIENT);
+    sqlite3_result_blob64(it->context, term.start, term.len, SQLITE_TRANSIENT);
 }
 
 static bool fill_ranges(call *it, cursor *to) {
     query of;
-    return query_arguments(it, &of) && append_ranges(it, &of, &to->records);
+    return cursor_schema(it, to) && query_arguments(it, &of) && append_ranges(it, &of, &to->records);
 }
 
-static void give_range_column(sqlite3_context *context, const cursor *at, int column) {
+static void give_range_column(call *it, const cursor *at, int column) {
     const uint8_t *record = at->records.start + at->at;
     bytes bound = column == 0 ? start_of(record) : end_of(record);
     if (bound.start != NULL) {
-        sqlite3_result_blob64(context, bound.start, bound.len, SQLITE_TRANSIENT);
+        sqlite3_result_blob64(it->context, bound.start, bound.len, SQLITE_TRANSIENT);
     }
 }
 
@@ -29,7 +29,6 @@ const table QUERY_TERMS = {
     .signature = {"kormaglen_query_terms", {"schema", "path", "text"}},
     .declaration = "CREATE TABLE it(term BLOB, kormaglen_schema HIDDEN, kormaglen_path HIDDEN, kormaglen_text HIDDEN)",
     .columns = 1,
-    .narrowing = -1,
     .rows = 2,
     .fill = fill_terms,
     .record_len = term_record_len,
@@ -40,7 +39,6 @@ const table QUERY_RANGES = {
     .signature = {"kormaglen_query_ranges", {"schema", "path", "text"}},
     .declaration = "CREATE TABLE it(start BLOB, \"end\" BLOB, kormaglen_schema HIDDEN, kormaglen_path HIDDEN, kormaglen_text HIDDEN)",
     .columns = 2,
-    .narrowing = -1,
     .rows = 2,
     .fill = fill_ranges,
     .record_len = range_record_len,

@@ -1,5 +1,5 @@
 /* What the table-valued functions have in common: a table is filled with records as soon as its arguments are known, and a cursor goes over
- * them. The first argument is a schema. */
+ * them. */
 #include "extension.h"
 
 #include <string.h>
@@ -62,15 +62,6 @@ static int constraint_of(const sqlite3_index_info *plan, int column) {
     return found;
 }
 
-/* Asks for the value behind the arguments, where there is one that is compared byte by byte. SQLite also tests it itself. */
-static void narrow_plan(const table *it, sqlite3_index_info *plan, int count) {
-    int constraint = it->narrowing < 0 ? MISSING : constraint_of(plan, it->narrowing);
-    if (constraint >= 0 && sqlite3_stricmp(sqlite3_vtab_collation(plan, constraint), "BINARY") == 0) {
-        plan->aConstraintUsage[constraint].argvIndex = count + 1;
-        plan->estimatedCost /= 2;
-    }
-}
-
 /* The plan's number is 0, or that of the first argument that is missing, from 1. Where conditions are joined by OR, SQLite also asks for
  * plans of a part of them, without the arguments: so these aren't refused here, but cost more than any other. */
 static int plan_table(sqlite3_vtab *planned, sqlite3_index_info *plan) {
@@ -91,7 +82,6 @@ static int plan_table(sqlite3_vtab *planned, sqlite3_index_info *plan) {
     }
     plan->estimatedCost = 10 * it->rows;
     plan->estimatedRows = (sqlite3_int64)it->rows;
-    narrow_plan(it, plan, count);
     return SQLITE_OK;
 }
 
@@ -108,7 +98,7 @@ static int open_cursor(sqlite3_vtab *it, sqlite3_vtab_cursor **opened) {
 
 /* Empties a cursor, which keeps the memory of its records. */
 static void clear_cursor(cursor *it) {
-    for (int i = 0; i <= ARGUMENTS; i++) {
+    for (int i = 0; i < ARGUMENTS; i++) {
         sqlite3_value_free(it->arguments[i]);
         it->arguments[i] = NULL;
     }
@@ -127,15 +117,14 @@ static int close_cursor(sqlite3_vtab_cursor *base) {
     return SQLITE_OK;
 }
 
-/* Fills the cursor by the arguments that it has. */
-static bool fill_cursor(call *it, cursor *to, const table *of) {
+bool cursor_schema(call *it, cursor *to) {
     bytes json;
     if (!text_argument(it, 0, &json)) {
         return false;
     }
     to->schema = take_schema(it, json);
     it->schema = to->schema;
-    return to->schema != NULL && of->fill(it, to);
+    return to->schema != NULL;
 }
 
 /* Ends a call that gave no rows: the message goes to the table, where SQLite looks for it. */
@@ -165,7 +154,7 @@ static int start_cursor(sqlite3_vtab_cursor *base, int missing, const char *word
         }
         has_null = has_null || sqlite3_value_type(arguments[i]) == SQLITE_NULL;
     }
-    return has_null || fill_cursor(&filling, it, of->data->table) ? SQLITE_OK : report_fault(it, filling.fault);
+    return has_null || of->data->table->fill(&filling, it) ? SQLITE_OK : report_fault(it, filling.fault);
 }
 
 static int advance_cursor(sqlite3_vtab_cursor *base) {
@@ -181,13 +170,17 @@ static int is_at_end(sqlite3_vtab_cursor *base) {
 }
 
 static int give_column(sqlite3_vtab_cursor *base, sqlite3_context *context, int column) {
-    const cursor *it = (cursor *)(void *)base;
-    const table *of = table_of(it)->data->table;
-    if (column < of->columns) {
-        of->give_column(context, it, column);
-    } else {
-        sqlite3_result_value(context, it->arguments[column - of->columns]);
+    cursor *it = (cursor *)(void *)base;
+    const connected_table *of = table_of(it);
+    const table *table = of->data->table;
+    if (column >= table->columns) {
+        sqlite3_result_value(context, it->arguments[column - table->columns]);
+        return SQLITE_OK;
     }
+    call giving = {.signature = &table->signature, .db = of->db, .context = context, .arguments = it->arguments, .cache = of->data->cache};
+    giving.limit = (size_t)sqlite3_limit(of->db, SQLITE_LIMIT_LENGTH, -1);
+    table->give_column(&giving, it, column);
+    report(context, giving.fault);
     return SQLITE_OK;
 }
 

@@ -108,6 +108,7 @@ class Wheels(unittest.TestCase):
                 archive.extractall(os.path.join(folder, "installed"))
             self.assertIn("kormaglen/libkormaglen.so", names)
             self.assertIn("kormaglen/py.typed", names)
+            self.assertIn("kormaglen/dask/__init__.py", names)
             self.assertFalse([name for name in names if "test" in name])
             done = imports(PYTHONPATH=os.path.join(folder, "installed"))
             self.assertEqual((done.returncode, done.stdout.strip()), (0, K.library_version()), done.stderr)

@@ -1,12 +1,14 @@
 """Compares the extension with the C library's import of a whole file, and queries over an index of terms with scans:
 compare.py EXTENSION LINES BLOCK QUERIES. LINES is what make_lines.py prints, BLOCK what c/import_file.c makes of its documents.
 
-Each document is stored alone, and all of them have to be the block. Each is read back and has to have the values of its line. Then the terms go
-to a table without rowids, and random ranges, prefixes, facets and paths into JSON objects have to find as many documents there as are found by a
-scan of what SQLite's JSON functions read from the documents."""
+Each document is stored alone, and all of them have to be the block. Each is read back and has to have the values of its line, as JSON and one by
+one; so have random dates and addresses. Facets are counted as in the lines. Then the terms go to a table without rowids, and random ranges, prefixes,
+facets and paths into JSON objects have to find as many documents there as are found by a scan of what SQLite's JSON functions read from the
+documents."""
 
 import json
 import random
+import re
 import sqlite3
 import sys
 import time
@@ -23,12 +25,9 @@ TERMS = """
 INSERT OR IGNORE INTO term SELECT of.term, document.id FROM document, kormaglen_terms(:schema, 2, document.stored) AS of
 """
 
-# Terms in JSON objects. A text that is a number has the terms of both, and the document has the one whose type is the value's.
-TERMS_OF_OBJECTS = """
-INSERT OR IGNORE INTO term SELECT of.term, leaf.id FROM leaf, kormaglen_query_terms(:schema, leaf.path, CAST(leaf.atom AS TEXT)) AS of
-WHERE leaf.path LIKE 'more.%' AND
-    CAST(substr(of.term, 6 + instr(substr(of.term, 6), x'00'), 1) AS TEXT) IN (SELECT value FROM json_each(CASE leaf.type
-        WHEN 'integer' THEN '["i","u"]' WHEN 'text' THEN '["s"]' ELSE '["o"]' END))
+COUNTS = """
+SELECT facet, documents FROM kormaglen_facet_counts(:parent,
+    (SELECT kormaglen_facet_pairs(document.id, value) FROM document, kormaglen_values(:schema, 2, stored, 'kind')))
 """
 
 BY_RANGES = """
@@ -111,10 +110,83 @@ def store_all(db: sqlite3.Connection, schema: str, lines: list[str], block: byte
     print(f"{len(lines)} documents, {len(block)} bytes: as imported at once, and read back; stored in {took:.1f} s")
 
 
+def plain(kind: str, value: object) -> object:
+    """A value of kormaglen_values as JSON has it."""
+    return {"bool": bool, "json": json.loads}.get(kind, lambda it: it)(value)
+
+
+def values_of_line(line: str, name: str) -> list[object]:
+    values = json.loads(line).get(name, [])
+    return values if isinstance(values, list) else [values]
+
+
+def compare_values(db: sqlite3.Connection, schema: str, lines: list[str]) -> None:
+    """The values of each field, and the first one alone."""
+    all_values = "SELECT document.id, kind, value FROM document, kormaglen_values(:schema, 2, stored, :name) ORDER BY document.id"
+    first_values = "SELECT id, kormaglen_value(:schema, 2, stored, :name) FROM document ORDER BY id"
+    count = 0
+    for name in [field["name"] for field in json.loads(schema)]:
+        given = {"schema": schema, "name": name}
+        kinds: dict[int, str] = {}
+        values: dict[int, list[object]] = {}
+        for id_, kind, value in db.execute(all_values, given):
+            kinds.setdefault(id_, kind)
+            values.setdefault(id_, []).append(plain(kind, value))
+        for line, (id_, first) in zip(lines, db.execute(first_values, given)):
+            want, got = values_of_line(line, name), values.get(id_, [])
+            if got != want or [plain(kinds[id_], first) if want else first] != (want[:1] or [None]):
+                sys.exit(f"{line}\n  has in {name} the values\n  {got}, of which the first is {first}")
+            count += len(want)
+    print(f"{count} values, as in the lines")
+
+
+TEXTS_SCHEMA = """[{"name":"date","type":"date","options":{"indexed":false,"fieldnorms":false,"stored":true}},
+{"name":"host","type":"ip_addr","options":{"indexed":false,"fieldnorms":false,"fast":false,"stored":true}}]"""
+
+
+def random_document(random_: random.Random) -> tuple[str, bytes]:
+    """A document that has a date or an address alone, often one with zeros. (docs/FORMATS.md has the codes.)"""
+    if random_.random() < 0.5:
+        nanoseconds = random_.randrange(-(2**63), 2**63) // 10 ** random_.randrange(10) * 10 ** random_.randrange(10)
+        return "date", b"\x81\0\0\0\0\5" + (nanoseconds % 2**64).to_bytes(8, "little")
+    groups = [random_.choice([0, 0, 1, random_.randrange(2**16)]) for _ in range(8)]
+    if random_.random() < 0.3:
+        groups[:6] = [0, 0, 0, 0, 0, random_.choice([0, 0xFFFF])]
+    number = sum(group << (16 * at) for at, group in enumerate(reversed(groups)))
+    return "host", b"\x81\1\0\0\0\x0a" + number.to_bytes(16, random_.choice(["little", "big"]))
+
+
+def compare_texts(db: sqlite3.Connection, count: int) -> None:
+    """Dates and addresses are printed as the library prints them in JSON."""
+    random_ = random.Random(8)
+    for _ in range(count):
+        name, stored = random_document(random_)
+        got, text = db.execute("SELECT kormaglen_value(?1, 2, ?2, ?3), kormaglen_json(?1, 2, ?2)", (TEXTS_SCHEMA, stored, name)).fetchone()
+        if [got] != json.loads(text)[name]:
+            sys.exit(f"{stored.hex()} is\n  {got} in place of\n  {text}")
+    print(f"{count} random dates and addresses, as the JSON has them")
+
+
+def compare_counts(db: sqlite3.Connection, schema: str, lines: list[str]) -> None:
+    """Facets by documents, as counted in the lines."""
+    for parent in ("/", "/shop", "/shop/light", "/garden", "/a\\/b", "/nowhere"):
+        start = parent.rstrip("/") + "/"
+        want: dict[str, int] = {}
+        for line in lines:
+            below = [kind[len(start) :] for kind in values_of_line(line, "kind") if kind.startswith(start) and kind != start]
+            # (a step ends at a slash that has no backslash before it)
+            for child in {start + re.split(r"(?<!\\)/", rest)[0] for rest in below}:
+                want[child] = want.get(child, 0) + 1
+        got = db.execute(COUNTS, {"parent": parent, "schema": schema}).fetchall()
+        if dict(got) != want or len(got) != len(want):
+            sys.exit(f"below {parent}: {got}\n  in place of {want}")
+    print("counts of facets, as in the lines")
+
+
 def index_all(db: sqlite3.Connection, schema: str) -> None:
     db.execute("CREATE TABLE term(term BLOB, id INTEGER, PRIMARY KEY (term, id)) WITHOUT ROWID")
     start = time.monotonic()
-    for step in (LEAVES, TERMS, TERMS_OF_OBJECTS):
+    for step in (LEAVES, TERMS):
         db.execute(step, {"schema": schema})
     db.execute("CREATE INDEX by_path ON leaf(path)")
     (terms,) = db.execute("SELECT count(*) FROM term").fetchone()
@@ -153,6 +225,9 @@ def main() -> None:
         block = file.read()
     db = connect(extension)
     store_all(db, schema, lines, block)
+    compare_values(db, schema, lines)
+    compare_texts(db, len(lines))
+    compare_counts(db, schema, lines)
     index_all(db, schema)
     compare_queries(db, schema, int(count))
 

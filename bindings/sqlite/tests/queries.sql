@@ -4,8 +4,8 @@
 .nullvalue NULL
 SELECT 'fields of paths';
 SELECT kormaglen_field(:s, 'name'), kormaglen_field(:s, 'price'), kormaglen_field(:s, 'more'), kormaglen_field(:s, 'more.a.b'), kormaglen_field(:s, NULL);
-SELECT 'the terms of a document: those of JSON objects are not among them';
-SELECT field, hex(term) FROM kormaglen_terms(:s, 2, kormaglen_store(:s, '{"name":["Lamp","lamp"],"price":20,"kind":"/shop/light","added":"1970-01-01T00:00:01.5Z","more":{"a":1},"note":"x"}'));
+SELECT 'the terms of a document, in its order: those of JSON objects too, and none of a field that is not indexed';
+SELECT field, type, hex(term) FROM kormaglen_terms(:s, 2, kormaglen_store(:s, '{"name":["Lamp","lamp"],"price":20,"kind":"/shop/light","added":"1970-01-01T00:00:01.5Z","more":{"a":[1,"x",true]},"note":"x"}'));
 SELECT 'those of some fields';
 CREATE TABLE lamp AS SELECT kormaglen_store(:s, '{"name":["Lamp","lamp"],"price":20,"kind":"/shop/light"}') AS stored;
 SELECT hex(term) FROM lamp, kormaglen_terms(:s, 2, stored) WHERE field = 'name';

@@ -1,7 +1,8 @@
 """Compares the extension's answers with the shared rows of the repository: rows.py EXTENSION CRATES. The rows of the program `schemadoc` say what is
-stored of a line and what is printed of that; those of `document_cases` say which terms and ranges texts of queries have; those of `cases`, how facets
-are encoded. All rows stand in the folders of these crates, in `stdin` and `stdout`."""
+stored of a line and what is printed of that, and its values are read one by one, too; those of `document_cases` say which terms and ranges texts of
+queries have; those of `cases`, how facets are encoded. All rows stand in the folders of these crates, in `stdin` and `stdout`."""
 
+import base64
 import json
 import re
 import sqlite3
@@ -60,6 +61,25 @@ def expect(what: str, got: str, want: str) -> None:
     sys.exit(f"{what}\n  {got}\n  in place of\n  {want}")
 
 
+def in_json(kind: str, value: object) -> object:
+    """A value of kormaglen_values as JSON has it."""
+    if kind == "bytes":
+        return base64.b64encode(value).decode()
+    if kind == "u64":
+        return int(value)
+    return {"bool": bool, "json": json.loads}.get(kind, lambda it: it)(value)
+
+
+def compare_values(db: sqlite3.Connection, schema: str, blob: bytes, text: str) -> None:
+    """The values of each field one by one, in each version."""
+    newer = db.execute("SELECT kormaglen_migrate(2, ?, 3)", (blob,)).fetchone()[0]
+    for name, want in json.loads(text).items():
+        for version, stored in ((2, blob), (3, newer)):
+            rows = db.execute("SELECT kind, value FROM kormaglen_values(?, ?, ?, ?)", (schema, version, stored, name)).fetchall()
+            if [in_json(*row) for row in rows] != want:
+                sys.exit(f"{text}\n  has in {name} the values\n  {rows}")
+
+
 def compare_documents(db: sqlite3.Connection, crate: str) -> int:
     with open(crate + "/stdin", "rb") as given, open(crate + "/stdout", "rb") as wanted:
         schema, *lines = given.read().decode().split("\n")
@@ -77,6 +97,7 @@ def compare_documents(db: sqlite3.Connection, crate: str) -> int:
         expect(line, ask(db, "SELECT kormaglen_store(?, ?)", schema, line), stored)
         expect(line, ask(db, "SELECT kormaglen_json(?, 2, ?)", schema, blob), text)
         expect(line, ask(db, "SELECT kormaglen_check(2, ?)", blob), "None")
+        compare_values(db, schema, blob, text)
         expect(line, ask(db, "SELECT kormaglen_migrate(3, kormaglen_migrate(2, ?, 3), 2)", blob), stored)
         for end in range(len(blob)):
             got = ask(db, "SELECT kormaglen_check(2, ?)", blob[:end])

@@ -80,6 +80,11 @@ static size_t print(handles *by, const lines *of, size_t i) {
     return expect(kormaglen_document_to_json(&by->document, &by->schema, by->bytes, sizeof by->bytes));
 }
 
+static size_t read_price(handles *by, const lines *of, size_t i) {
+    return expect(kormaglen_schema_values_of_block(&by->schema, (const uint8_t *)"price", 5, 2, of->stored[i], of->stored_len[i], by->bytes,
+                                                   sizeof by->bytes));
+}
+
 static void keep_stored(handles *by, lines *of) {
     for (size_t i = 0; i < of->count; i++) {
         of->stored_len[i] = store(by, of, i);
@@ -158,10 +163,14 @@ static measured STATEMENTS[] = {
     {"kormaglen_json", "SELECT sum(length(kormaglen_json(?1, 2, stored))) FROM one", 1e18},
     {"kormaglen_check", "SELECT count(kormaglen_check(2, stored)) FROM one", 1e18},
     {"kormaglen_migrate", "SELECT sum(length(kormaglen_migrate(2, stored, 3))) FROM one", 1e18},
+    {"kormaglen_value", "SELECT count(kormaglen_value(?1, 2, stored, 'price')) FROM one", 1e18},
+    {"  of a text", "SELECT sum(length(kormaglen_value(?1, 2, stored, 'name'))) FROM one", 1e18},
+    {"  of a date", "SELECT sum(length(kormaglen_value(?1, 2, stored, 'added'))) FROM one", 1e18},
+    {"kormaglen_values", "SELECT count(value) FROM one, kormaglen_values(?1, 2, stored, 'price')", 1e18},
     {"kormaglen_terms", "SELECT sum(length(term)) FROM one, kormaglen_terms(?1, 2, stored)", 1e18},
-    {"  of one field", "SELECT sum(length(term)) FROM one, kormaglen_terms(?1, 2, stored) WHERE field = 'price'", 1e18},
+    {"kormaglen_facet_pairs", "SELECT length(kormaglen_facet_pairs(rowid, '/shop/light')) FROM one", 1e18},
 };
-enum { COUNT = sizeof STATEMENTS / sizeof *STATEMENTS, LINE = 0, DOCUMENT = 1, STORE = 2, JSON = 4 };
+enum { COUNT = sizeof STATEMENTS / sizeof *STATEMENTS, LINE = 0, DOCUMENT = 1, STORE = 2, JSON = 4, VALUE = 7 };
 
 int main(int count, char **words) {
     static lines of;
@@ -173,22 +182,25 @@ int main(int count, char **words) {
     expect(kormaglen_schema_open((const uint8_t *)of.schema, strlen(of.schema), &by.schema));
     keep_stored(&by, &of);
     sqlite3 *db = fill_database(&of);
-    double stored = 1e18, printed = 1e18;
+    double stored = 1e18, printed = 1e18, price = 1e18;
     for (long round = atol(words[2]); round > 0; round--) {
         note(&stored, by_calls(&by, &of, store));
         note(&printed, by_calls(&by, &of, print));
+        note(&price, by_calls(&by, &of, read_price));
         for (size_t i = 0; i < COUNT; i++) {
             note(&STATEMENTS[i].best, by_statement(db, STATEMENTS[i].sql, of.schema));
         }
     }
     const double each = (double)of.count;
     printf("nanoseconds for each of %zu documents\n", of.count);
-    printf("%-24s %8.0f\n%-24s %8.0f\n", "C: parse and write", stored / each, "C: read and print", printed / each);
+    printf("%-24s %8.0f\n%-24s %8.0f\n%-24s %8.0f\n", "C: parse and write", stored / each, "C: read and print", printed / each, "C: values",
+           price / each);
     for (size_t i = 0; i < COUNT; i++) {
         printf("%-24s %8.0f\n", STATEMENTS[i].name, STATEMENTS[i].best / each);
     }
-    printf("times the calls: kormaglen_store %.2f, kormaglen_json %.2f\n", (STATEMENTS[STORE].best - STATEMENTS[LINE].best) / stored,
-           (STATEMENTS[JSON].best - STATEMENTS[DOCUMENT].best) / printed);
+    printf("times the calls: kormaglen_store %.2f, kormaglen_json %.2f, kormaglen_value %.2f\n",
+           (STATEMENTS[STORE].best - STATEMENTS[LINE].best) / stored, (STATEMENTS[JSON].best - STATEMENTS[DOCUMENT].best) / printed,
+           (STATEMENTS[VALUE].best - STATEMENTS[DOCUMENT].best) / price);
     sqlite3_close(db);
     return 0;
 }

@@ -40,6 +40,13 @@ static const char *const STATEMENTS[] = {
     "SELECT hex(start), hex(\"end\") FROM kormaglen_query_ranges(?1, 'more.size', '1*')",
     "WITH RECURSIVE n(i) AS (VALUES(1) UNION ALL SELECT i + 1 FROM n WHERE i < 40) SELECT count(*), max(hex(t.term)) FROM n, "
     "kormaglen_terms(?1, 2, kormaglen_store((SELECT ?1 WHERE i > 0), '{\"price\":' || i || ',\"name\":[\"a\",\"b\"]}')) AS t",
+    "SELECT kormaglen_value(?1, 2, kormaglen_store(?1, ?2), 'price'), kormaglen_value(?1, 2, kormaglen_store((SELECT ?1), ?2), 'kind'), "
+    "kormaglen_value(?1, 2, kormaglen_store(?1, ?2), 'more')",
+    "SELECT value, kind, kormaglen_field FROM kormaglen_values(?1, 2, kormaglen_store(?1, ?2), 'name')",
+    "SELECT value, kind FROM kormaglen_values(?1, 2, kormaglen_store(?1, ?2), 'kind')",
+    "WITH RECURSIVE n(i) AS (VALUES(1) UNION ALL SELECT i + 1 FROM n WHERE i < 40) SELECT facet, documents FROM "
+    "kormaglen_facet_counts('/a', (SELECT kormaglen_facet_pairs(i % 7, '/a/' || (i % 3) || '/' || i) FROM n))",
+    "SELECT hex(kormaglen_facet_pairs(1, x'61')), hex(kormaglen_facet_pairs(NULL, '/a')) FROM json_each('[1,2,3]')",
     "SELECT kormaglen_store(?1, '{\"price\":\"' || ?2 || '\"}')",
     "SELECT kormaglen_term(?1, 'price', 'x')",
     "SELECT kormaglen_term(?1, 'more.size', '1')",
@@ -50,8 +57,16 @@ static const char *const STATEMENTS[] = {
     "SELECT kormaglen_field(?1, 'nothing')",
     "SELECT term FROM kormaglen_terms(?1, 2, x'81')",
     "SELECT start FROM kormaglen_query_ranges(?1, 'price', '[2 TO 1]')",
+    "SELECT kormaglen_value(?1, 2, x'80', 'nothing')",
+    "SELECT kormaglen_value(?1, 2, x'8101000000', 'price')",
+    "SELECT kormaglen_value(?1, 2, x'80810100000001" "0700000000000000', 'price')",
+    "SELECT value FROM kormaglen_values(?1, 2, x'8080', 'price')",
+    "SELECT term FROM kormaglen_terms(?1, 2, x'8109000000010100000000000000')",
+    "SELECT kormaglen_facet_pairs(value, substr('/a', 1 + value / 3)) FROM json_each('[1,2,3]') WHERE ?1 <> ''",
+    "SELECT facet FROM kormaglen_facet_counts('/', x'00') WHERE ?1 <> ''",
+    "SELECT facet FROM kormaglen_facet_counts(substr(?1, 1, 1), x'')",
 };
-enum { COUNT = sizeof STATEMENTS / sizeof *STATEMENTS, FIRST_REFUSED = 12 };
+enum { COUNT = sizeof STATEMENTS / sizeof *STATEMENTS, FIRST_REFUSED = 17 };
 
 typedef struct outcome {
     int code;
@@ -178,6 +193,7 @@ static void close_early(void) {
         "SELECT kormaglen_store(?1, ?2) FROM json_each('[1,2,3]')",
         "SELECT kormaglen_store((SELECT ?1), ?2) FROM json_each('[1,2,3]')",
         "SELECT field, term FROM kormaglen_terms(?1, 2, kormaglen_store(?1, ?2))",
+        "SELECT value FROM kormaglen_values(?1, 2, kormaglen_store(?1, ?2), 'name')",
     };
     enum { STATEMENTS_OPEN = sizeof SQL / sizeof *SQL };
     sqlite3_stmt *statements[STATEMENTS_OPEN];
@@ -404,10 +420,18 @@ static const char *const RANDOM_STATEMENTS[] = {
     "SELECT * FROM kormaglen_terms(?1, ?5, ?3)",
     "SELECT * FROM kormaglen_query_terms(?1, ?6, ?4)",
     "SELECT * FROM kormaglen_query_ranges(?1, ?6, ?4)",
+    "SELECT kormaglen_value(?1, ?5, ?3, ?6)",
+    "SELECT * FROM kormaglen_values(?1, ?5, ?3, ?6)",
+    "SELECT kormaglen_facet_pairs(?5, ?4)",
+    "SELECT * FROM kormaglen_facet_counts(?3, (SELECT kormaglen_facet_pairs(?5, ?3)))",
+    "SELECT * FROM kormaglen_facet_counts(?4, ?7)",
 };
 enum { RANDOM_COUNT = sizeof RANDOM_STATEMENTS / sizeof *RANDOM_STATEMENTS, LARGEST = 1024 };
 
 static const char *const PATHS[] = {"name", "price", "kind", "more.size", "more.a\\.b", "more", "nothing"};
+/* The pairs of documents 1 and 2 with `/shop/a`. */
+static const char PAIRS[] = "\1\0\0\0\0\0\0\0\6\0\0\0\0\0\0\0shop\0a\2\0\0\0\0\0\0\0\6\0\0\0\0\0\0\0shop\0a";
+
 static const char *const TEXTS[] = {"20", "[1 TO 2}", "[* TO a]", "lam*", "/shop/*", "/shop", "*", "2020-01-01T00:00:00Z", "true"};
 
 /* Binds a changed copy, as a text or a blob. Sometimes the other one, and sometimes NULL. */
@@ -441,6 +465,7 @@ static bool run_random(sqlite3 *db, sqlite3_stmt *statement, const uint8_t *docu
         sqlite3_bind_int(statement, 5, below(20) == 0 ? (int)below(9) : 2);
     }
     bind_changed(statement, 6, path, strlen(path), true);
+    bind_changed(statement, 7, PAIRS, sizeof PAIRS - 1, false);
     run_rows(db, statement, &done);
     sqlite3_reset(statement);
     if (done.code != SQLITE_OK && (done.code != SQLITE_ERROR || strstr(done.text, "kormaglen_") != done.text)) {

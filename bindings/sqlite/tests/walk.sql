@@ -16,7 +16,9 @@ SELECT id, length(stored), kormaglen_json(:schema, 2, stored) FROM product;
 
 INSERT INTO product(stored) VALUES (kormaglen_store(:schema, '{"name":"Stool","price":"cheap"}'));
 
-SELECT id, json_extract(kormaglen_json(:schema, 2, stored), '$.name[0]') AS name FROM product WHERE id > 2;
+SELECT id, kormaglen_value(:schema, 2, stored, 'name'), kormaglen_value(:schema, 2, stored, 'price') AS price
+FROM product ORDER BY price LIMIT 2;
+SELECT id, value, kind FROM product, kormaglen_values(:schema, 2, stored, 'name') WHERE id < 3;
 
 CREATE TABLE term(term BLOB, id INTEGER, PRIMARY KEY (term, id)) WITHOUT ROWID;
 CREATE TRIGGER product_added AFTER INSERT ON product BEGIN
@@ -24,7 +26,7 @@ CREATE TRIGGER product_added AFTER INSERT ON product BEGIN
 END;
 INSERT OR IGNORE INTO term SELECT term, id FROM product, kormaglen_terms(:schema, 2, stored);
 INSERT INTO product(stored) VALUES (kormaglen_store(:schema, '{"name":"Lamp shade","price":19}'));
-SELECT field, hex(term) FROM product, kormaglen_terms(:schema, 2, stored) WHERE id = 1;
+SELECT field, type, hex(term) FROM product, kormaglen_terms(:schema, 2, stored) WHERE id = 3;
 
 SELECT id FROM term
 WHERE term >= kormaglen_range_start(:schema, 'price', '[12 TO 20}') AND term < kormaglen_range_end(:schema, 'price', '[12 TO 20}');
@@ -38,7 +40,11 @@ SELECT DISTINCT id FROM kormaglen_query_ranges(:schema, 'name', 'La*') AS r JOIN
 SELECT id FROM term
 WHERE term >= kormaglen_term(:schema, 'kind', '/shop/light') AND term < kormaglen_range_end(:schema, 'kind', '/shop/light/*');
 
+SELECT facet, documents FROM kormaglen_facet_counts('/shop',
+  (SELECT kormaglen_facet_pairs(id, value) FROM product, kormaglen_values(:schema, 2, stored, 'kind')));
+
 SELECT hex(term) FROM kormaglen_query_terms(:schema, 'more.size', '90');
+SELECT DISTINCT id FROM kormaglen_query_terms(:schema, 'more.size', '90') AS q JOIN term USING (term);
 
 UPDATE product SET stored = substr(stored, 1, length(stored) - 1) WHERE id = 2;
 SELECT id, kormaglen_check(2, stored) AS fault FROM product WHERE fault IS NOT NULL;
