@@ -1,5 +1,5 @@
 -- Pairs of a document and a facet, out of their records.
-use Rattle.std.proofs.Common.{◌≡◌, ◌≢◌, ℕ, zero, suc, ◌+◌, ◌-◌, ◌^◌, ◌<◌, ◌≤◌, Bool, true, false, Result, Ok, Err, if◌then◌else◌, List, [], ◌∷◌, ◌++◌, length, take, drop, get_or, map, refl, sym, subst, ap, ◌∙◌, arith, append_assoc, append-nil, length-append}
+use Rattle.std.proofs.Common.{◌≡◌, ℕ, zero, suc, ◌+◌, ◌-◌, ◌^◌, ◌<◌, ◌≤◌, Bool, true, false, Result, Ok, Err, if◌then◌else◌, List, [], ◌∷◌, ◌++◌, length, take, drop, get_or, map, sym, subst, ap, ◌∙◌, arith, append_assoc, length-append}
 use Rattle.std.proofs.lemmas.List.{flat_map_more, length-take-le, map_more, take-append-drop}
 use Rattle.std.proofs.lemmas.Nat.{le_bytes_8, from_le_bytes-to_le_bytes_8}
 use Rattle.std.proofs.Math.Seq.{drop-append_seam, take-append_seam}
@@ -7,7 +7,7 @@ use Rattle.std.specs.Int.{from_le_bytes, to_le_bytes, w64}
 use Rattle.std.specs.List.{AllByRecursion, flat_map}
 use Rattle.std.specs.Prelude.{IsUtf8, MatchResult}
 use Rattle.std.specs.Result.{is_err, is_ok}
-use Rattle.tv_blocks.specs.FacetCounts.{ArePairs, BeginsWithNoPair, IsPair, PairsSoFar, StopsPairs, facet_record}
+use Rattle.tv_blocks.specs.FacetCounts.{ArePairs, BeginsWithNoPair, IsPair, PairsSoFar, facet_record}
 use Rattle.tv_blocks.specs.Records.{record_of}
 use Rattle.tv_facets.specs.FacetCounting.{entry_of}
 use Rattle.tv_facets.specs.declared.facet_counts.FacetCount.{FacetCount}
@@ -67,9 +67,6 @@ parts_of bytes facet rest document is =
 
 -- ---- where no record stands
 
-pub too_short : (bytes : List ℕ) → length bytes < 16 → BeginsWithNoPair bytes
-too_short bytes short = λ pair rest is_pair is. let parts = parts_of bytes pair.0 rest pair.1 is in omega (arith, parts.long, short)
-
 -- the length that is told, which is that of the facet
 told : (bytes facet rest : List ℕ) (document len : ℕ) (size : List ℕ) → bytes ≡ record_of document facet ++ rest → length bytes < 2 ^ 64 → size ≡ take 8 (drop 8 bytes) → len ≡ from_le_bytes w64 size → len ≡ length facet
 told bytes facet rest document len size is few is_size is_len =
@@ -112,32 +109,12 @@ all-snoc : {A : Type 0} (P : A → Type 0) (xs : List A) (x : A) → AllByRecurs
 all-snoc P [] x h p = (p, tt)
 all-snoc P (y ∷ ys) x h p = (h.0, all-snoc P ys x h.1 p)
 
-pub no_pairs : (bytes : List ℕ) → PairsSoFar bytes bytes []
-no_pairs bytes = record { before = []; joined = refl; are = (tt, refl) }
-
 pub one_more_pair : {bytes rest : List ℕ} {pairs more : List (List ℕ × ℕ)} (pair : List ℕ × ℕ) (now : List ℕ) → PairsSoFar bytes rest pairs → IsPair pair → rest ≡ facet_record pair ++ now → more ≡ pairs ++ pair ∷ [] → PairsSoFar bytes now more
 one_more_pair {bytes} {rest} {pairs} {more} pair now m good is added = record {
   before = m.before ++ facet_record pair;
   joined = m.joined ∙ ap (λ (l : List ℕ). m.before ++ l) is ∙ sym (append_assoc m.before (facet_record pair) now);
   are = subst (ArePairs (m.before ++ facet_record pair)) (sym added)
       (all-snoc IsPair pairs pair m.are.0 good, ap (λ (l : List ℕ). l ++ facet_record pair) m.are.1 ∙ flat_map_more facet_record [] pairs pair);
-}
-
-pub shorter : (rest now : List ℕ) (pair : List ℕ × ℕ) → rest ≡ facet_record pair ++ now → length now < length rest
-shorter rest now pair is = let parts = parts_of rest pair.0 now pair.1 is in omega (arith, parts.long)
-
-pub all_pairs : {bytes rest : List ℕ} {pairs : List (List ℕ × ℕ)} → PairsSoFar bytes rest pairs → rest ≡ [] → ArePairs bytes pairs
-all_pairs {bytes} {rest} {pairs} m none = (m.are.0, m.joined ∙ ap (λ (l : List ℕ). m.before ++ l) none ∙ append-nil m.before ∙ m.are.1)
-
-pub stops : {bytes rest : List ℕ} {pairs : List (List ℕ × ℕ)} (start : ℕ) → PairsSoFar bytes rest pairs → rest ≢ [] → start ≡ length bytes - length rest → BeginsWithNoPair rest → StopsPairs bytes start
-stops {bytes} {rest} {pairs} start m some at none = record {
-  before = m.before;
-  behind = rest;
-  joined = m.joined;
-  measured = let sum = ap length m.joined ∙ length-append m.before rest in omega (arith, sum, at);
-  good = (pairs, m.are);
-  some = some;
-  refused = none;
 }
 
 -- ---- the records of counts

@@ -1,10 +1,10 @@
 -- The records of the values of a field.
-use Rattle.std.proofs.Common.{◌≡◌, ◌≢◌, ℕ, suc, ◌+◌, ◌-◌, ◌<◌, Bool, true, false, ◌||◌, cond, List, [], ◌∷◌, ◌++◌, length, map, Result, Ok, Err, refl, sym, subst, ap, ◌∙◌, arith, append_assoc, append-nil, length-append}
+use Rattle.std.proofs.Common.{◌≡◌, ℕ, suc, ◌+◌, ◌-◌, ◌<◌, Bool, true, false, ◌||◌, cond, List, [], ◌∷◌, ◌++◌, length, map, Result, Ok, Err, refl, sym, ap, ◌∙◌, arith, append_assoc, append-nil, length-append}
 use Rattle.std.specs.List.{filter, flat_map}
 use Rattle.std.specs.Prelude.{OnOk, nat_eq}
 use Rattle.tv_base.specs.Parts.{Begins}
 use Rattle.tv_blocks.proofs.Stops.{IsUnreadAt, RefusesBy, fewer_left}
-use Rattle.tv_blocks.specs.FieldValues.{IsValueList, IsValuesBlockRefusal, RefusesValues, ValuesSoFar, content_record, document_values, leaf_content, value_record, values_from}
+use Rattle.tv_blocks.specs.FieldValues.{IsValuesBlockRefusal, RefusesValues, ValuesSoFar, content_record, document_values, leaf_content, value_record, values_from}
 use Rattle.tv_blocks.specs.declared.block_error.BlockError.{BlockError}
 use Rattle.tv_blocks.specs.declared.block_error.BlockError.TheVariants as blocks
 use Rattle.tv_blocks.specs.declared.block_error.DocumentRefusal.{DocumentRefusal}

@@ -59,11 +59,7 @@ no_groups _ _ none (more small groups) = cc
 no_document : (v : Version) (bytes : List ℕ) (d : Document) → bytes ≡ [] → EncodesDocument Legacy v bytes d → ⊥
 no_document v bytes d none encoded = no_groups encoded.prefix _ (none_first encoded.prefix encoded.rest (sym none ∙ encoded.joined)) encoded.first.groups
 
--- it takes some bytes
-pub begins_with_some : (v : Version) (prefix whole rest : List ℕ) (d : Document) → whole ≡ prefix ++ rest → EncodesDocument Legacy v prefix d → whole ≢ []
-begins_with_some v prefix whole rest d joined encoded = λ none. no_document v prefix d (none_first prefix rest (sym none ∙ joined)) encoded
-
--- so fewer are left
+-- it takes some bytes, so fewer are left
 pub fewer_left : (v : Version) (prefix whole rest : List ℕ) (d : Document) → whole ≡ prefix ++ rest → EncodesDocument Legacy v prefix d → length rest < length whole
 fewer_left v [] whole rest d joined encoded = absurd (no_document v [] d refl encoded)
 fewer_left v (b ∷ prefix) whole rest d joined encoded = let sum = ap length joined ∙ length-append (b ∷ prefix) rest in omega (arith, sum)

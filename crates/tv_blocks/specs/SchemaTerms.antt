@@ -1,5 +1,5 @@
 -- The terms that documents have by a schema, with the numbers of the documents.
-use Rattle.std.specs.Prelude.{◌≡◌, ℕ, suc, List, [], ◌∷◌, ◌++◌, length, map, Ok, Err, OnOk}
+use Rattle.std.specs.Prelude.{◌≡◌, ℕ, suc, List, [], ◌∷◌, ◌++◌, length, map, Ok, Err}
 use Rattle.std.specs.List.{flat_map}
 use Rattle.tv_blocks.specs.Records.{record_of}
 use Rattle.tv_blocks.specs.Refusals.{RefusesDocument, StopsAt}

@@ -9,7 +9,7 @@ use Rattle.tv_store.specs.Reading.{reading}
 use Rattle.tv_store.proofs.Promises.{refusal_is_true}
 use Rattle.tv_store.proofs.Resuming.{reads_live}
 use Rattle.tv_store.proofs.BlockMigration.{no_more_left}
-use Rattle.tv_blocks.proofs.SchemaTerms.{all_terms, more_terms, no_terms_yet, unread_terms, without_terms}
+use Rattle.tv_blocks.proofs.SchemaTerms.{more_terms, no_terms_yet, unread_terms}
 use Rattle.tv_blocks.proofs.Stops.{unread_at}
 use Rattle.tv_blocks.proofs.schema_terms.append_block.Goals as goal
 
