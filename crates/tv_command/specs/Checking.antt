@@ -1,6 +1,5 @@
 -- Whether bytes are a block of documents, and nothing else.
 use Rattle.std.specs.Prelude.{◌≡◌, ◌≢◌, ℕ, List, [], ◌++◌, length}
-use Rattle.std.specs.Io.Iter.{u64_saturate}
 use Rattle.tv_command.specs.declared.check.BlockError.{BlockError}
 use Rattle.tv_format.specs.InputError.{corrupted, no_text_key}
 use Rattle.tv_format.specs.Tree.{Document}
@@ -14,7 +13,7 @@ use Rattle.tv_store.specs.Documents.{HasNoRoom, NoDocument}
 
 -- the bytes encode documents, one after the other, and this is their number
 abbrev pub IsBlock : Version → List ℕ → ℕ → Type 0
-IsBlock v block number = (documents : List Document) × EncodesBlock v block documents × (number ≡ u64_saturate (length documents))
+IsBlock v block number = (documents : List Document) × EncodesBlock v block documents × (number ≡ length documents)
 
 -- the error is true of these bytes: they begin with no document, or with one that has no room, unless a read failed or memory was refused
 abbrev pub IsRefused : Version → List ℕ → DeserializeError → Type 0

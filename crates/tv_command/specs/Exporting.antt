@@ -1,6 +1,5 @@
 -- A block of documents, printed as lines of JSON.
 use Rattle.std.specs.Prelude.{◌≡◌, ◌⊎◌, ◌<◌, ◌-◌, ◌^◌, ℕ, List, [], ◌++◌, length}
-use Rattle.std.specs.Io.Iter.{u64_saturate}
 use Rattle.tv_base.specs.Sink.{AppendsPrefix}
 use Rattle.tv_blocks.specs.Blocks.{AppendsLine, ArePrintedLines}
 use Rattle.tv_command.specs.Checking.{IsRefused}
@@ -21,15 +20,16 @@ pub record Exported (schema : List Entry) (v : Version) (block old new : List �
 
 -- The whole block was printed, of this many documents.
 abbrev pub ExportsAll : List Entry → Version → List ℕ → List ℕ → List ℕ → ℕ → Type 0
-ExportsAll schema v block old new number = (documents : List Document) × Exported schema v block old new documents × (number ≡ u64_saturate (length documents))
+ExportsAll schema v block old new number = (documents : List Document) × Exported schema v block old new documents × (number ≡ length documents)
 
 -- nothing is appended, or a beginning of the document's line
 abbrev pub AppendsBegun : List Entry → Document → List ℕ → List ℕ → Type 0
 AppendsBegun schema d old new = (new ≡ old) ⊎ ((line : List ℕ) × AppendsLine schema d [] line × AppendsPrefix old new line)
 
--- what was appended of the document with which these bytes begin, and why no more: nothing where it can't be read
+-- what was appended of the document with which these bytes begin, and why no more: nothing where it can't be read, or isn't
 abbrev pub LeavesNext : List Entry → Version → List ℕ → List ℕ → List ℕ → ExportError → Type 0
 LeavesNext schema v bytes old new (errors.Read e) = (new ≡ old) × (length bytes < 2 ^ 64 - 1 → IsRefused v bytes e)
+LeavesNext schema v bytes old new errors.TooMany = new ≡ old
 LeavesNext schema v bytes old new e = (d : Document) × (rest : List ℕ) × BeginsWithDocument v bytes rest d × AppendsBegun schema d old new
 
 -- The documents before were printed, and the one with which the rest of the block begins was not, or not whole.

