@@ -6,7 +6,7 @@ use crate::inputs::{schema_given, source, text, version};
 use clap::ArgMatches;
 use std::alloc::Global;
 use std::io::{Eprint, Print};
-use tantivy_schema::common::{ByteSource, BinarySerializable};
+use tantivy_schema::common::{BinarySerializable, ByteSource};
 use tantivy_schema::schema::document::DeserializeError;
 use tantivy_schema::schema::{Document, Schema};
 use tantivy_schema::store::{BlockReader, DocStoreVersion};
@@ -108,7 +108,10 @@ pub(crate) fn check<R: System>(rt: &R, given: &ArgMatches<'_>) -> Result<Ending,
     let mut source = source(rt, name)?;
     match check_block(rt.alloc(), version(given, "version"), &mut source) {
         Ok(documents) => {
-            print_line(rt, format!(in rt.alloc(); "{name}: all right, {documents} documents")?.as_str())?;
+            print_line(
+                rt,
+                format!(in rt.alloc(); "{name}: all right, {documents} documents")?.as_str(),
+            )?;
             Ok(Ending::Done)
         }
         Err(refused) if is_of_bytes(&refused.error) => {

@@ -44,7 +44,12 @@ fn sink_of<'r, R: System>(
 pub(crate) fn create<'r, R: System>(rt: &'r R, name: &'r str) -> Result<Output<'r, R>, Failure> {
     if name == "-" {
         let sink = sink_of(rt, Either::Right(io::writer(rt)))?;
-        return Ok(Output { rt, name, part: None, sink });
+        return Ok(Output {
+            rt,
+            name,
+            part: None,
+            sink,
+        });
     }
     let part = format!(in rt.alloc(); "{name}.part")?;
     let file = match fs::File::create_new(rt, part.as_str()) {
@@ -52,7 +57,12 @@ pub(crate) fn create<'r, R: System>(rt: &'r R, name: &'r str) -> Result<Output<'
         Err(error) => return Err(failed(rt.alloc(), part.as_str(), error)),
     };
     let sink = sink_of(rt, Either::Left(file))?;
-    Ok(Output { rt, name, part: Some(part), sink })
+    Ok(Output {
+        rt,
+        name,
+        part: Some(part),
+        sink,
+    })
 }
 
 /// Gives up an output. A file that was begun is gone.

@@ -40,7 +40,10 @@ fn rules(given: &ArgMatches<'_>) -> ImportRules {
 }
 
 // Begins an output, if its name is given.
-fn optional<'r, R: System>(rt: &'r R, name: Option<&'r str>) -> Result<Option<Output<'r, R>>, Failure> {
+fn optional<'r, R: System>(
+    rt: &'r R,
+    name: Option<&'r str>,
+) -> Result<Option<Output<'r, R>>, Failure> {
     match name {
         Some(name) => Ok(Some(create(rt, name)?)),
         None => Ok(None),
@@ -196,7 +199,9 @@ pub(crate) fn import<R: System>(rt: &R, given: &ArgMatches<'_>) -> Result<Ending
         refused,
     } = end(import, ended)?;
     if !given.get_flag("quiet") {
-        let _ = eprintln!(rt; "{stored} documents stored in {bytes} bytes, {refused} lines refused");
+        let _ = eprintln!(rt;
+            "{stored} documents stored in {bytes} bytes, {refused} lines refused"
+        );
     }
     Ok(if refused > 0 {
         Ending::Refused

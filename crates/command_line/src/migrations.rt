@@ -7,7 +7,9 @@ use clap::ArgMatches;
 use std::alloc::Global;
 use tantivy_schema::common::{ByteSink, ByteSource, Cause, LimitedSource};
 use tantivy_schema::schema::document::{DeserializeError, SerializeError};
-use tantivy_schema::store::{DocStoreVersion, MigrateError, WriteVersion, migrate as migrate_document};
+use tantivy_schema::store::{
+    DocStoreVersion, MigrateError, WriteVersion, migrate as migrate_document,
+};
 
 // Carries the next document over, and says whether there was one.
 fn migrate_next<S: ByteSource, K: ByteSink>(

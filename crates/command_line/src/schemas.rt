@@ -20,7 +20,10 @@ fn show<R: System>(rt: &R, schema: &Schema) -> Result<(), Failure> {
     for (field, entry) in schema.fields() {
         let [stored, indexed, fast] = options(entry);
         let (number, kind) = (field.field_id(), entry.field_type().value_type());
-        let line = format!(in rt.alloc(); "{number:>5}  {:<24} {kind:?} {stored} {indexed} {fast}", entry.name())?;
+        let line = format!(in rt.alloc();
+            "{number:>5}  {:<24} {kind:?} {stored} {indexed} {fast}",
+            entry.name()
+        )?;
         print_line(rt, line.as_str().trim_end())?;
     }
     Ok(())

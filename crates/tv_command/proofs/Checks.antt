@@ -57,3 +57,8 @@ is_refused v bytes (errors.TypeMismatch other actual) refused full may =
 is_refused v bytes (errors.Io kind) refused full may = tt
 is_refused v bytes errors.Memory refused full may = tt
 is_refused v bytes _ refused full may = absurd may
+
+-- nothing is left after nothing
+pub none_after : (prefix rest : List ℕ) → [] ≡ prefix ++ rest → rest ≡ []
+none_after [] rest is = sym is
+none_after (b ∷ bs) rest is = absurd (cc)

@@ -3,7 +3,8 @@ use Rattle.std.proofs.Common.{◌≡◌, ℕ, ◌+◌, List, [], ◌∷◌, ◌+
 use Rattle.std.proofs.lemmas.List.{length-append}
 use Rattle.tv_blocks.specs.Blocks.{AppendsLine, ArePrintedLines}
 use Rattle.tv_blocks.specs.Blocks.ArePrintedLines.{no_lines, next_line}
-use Rattle.tv_command.specs.Exporting.{BreaksOff, Exported, ExportsAll, LeavesNext}
+use Rattle.tv_command.specs.Exporting.{AppendsBegun, BreaksOff, Exported, ExportsAll, IsOfWriting, LeavesNext}
+use Rattle.tv_command.specs.declared.export.ExportError.TheVariants as errors
 use Rattle.tv_command.specs.declared.export.ExportError.{ExportError}
 use Rattle.tv_field.specs.Entry.{Entry}
 use Rattle.tv_format.specs.Encoding.{EncodesDocument}
@@ -57,13 +58,23 @@ module _ {entries : List Entry} {v : Version} {block rest old now : List ℕ} {n
 
   pub printed_all : rest ≡ [] → ExportsAll entries v block old now number
   printed_all none =
-      let x = m.exported in
-      (m.documents, record {
-        encoded = subst (λ (l : List ℕ). EncodesBlock v l m.documents) (sym (m.joined ∙ ap (λ (l : List ℕ). m.before ++ l) none ∙ append-nil m.before)) x.encoded;
-        lines = x.lines;
-        printed = x.printed;
-        held = x.held;
-      }, m.counted)
+      let x = m.exported in (
+        m.documents,
+        record {
+          encoded = subst (λ (l : List ℕ). EncodesBlock v l m.documents) (sym (m.joined ∙ ap (λ (l : List ℕ). m.before ++ l) none ∙ append-nil m.before)) x.encoded;
+          lines = x.lines;
+          printed = x.printed;
+          held = x.held;
+        },
+        m.counted,
+      )
 
   pub printed_stops : {after : List ℕ} (e : ExportError) → LeavesNext entries v rest now after e → BreaksOff entries v block old after e
   printed_stops e next = record { before = m.before; behind = rest; joined = m.joined; documents = m.documents; middle = now; exported = m.exported; next = next }
+
+-- what a write leaves of the next document
+pub leaves_line : (entries : List Entry) (v : Version) (bytes rest old new : List ℕ) (d : Document) (e : ExportError) → IsOfWriting e → BeginsWithDocument v bytes rest d → AppendsBegun entries d old new → LeavesNext entries v bytes old new e
+leaves_line entries v bytes rest old new d (errors.Write kind) is begins leaves = (d, rest, begins, leaves)
+leaves_line entries v bytes rest old new d errors.Memory is begins leaves = (d, rest, begins, leaves)
+leaves_line entries v bytes rest old new d (errors.Read e) is begins leaves = absurd is
+leaves_line entries v bytes rest old new d errors.TooMany is begins leaves = absurd is

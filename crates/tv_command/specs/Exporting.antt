@@ -41,3 +41,11 @@ pub record BreaksOff (schema : List Entry) (v : Version) (block old new : List �
   pub middle : List ℕ
   pub exported : Exported schema v before old middle documents
   pub next : LeavesNext schema v behind middle new error
+
+-- ---- for private clauses
+
+-- a write failed, or memory was refused
+abbrev pub IsOfWriting : ExportError → Type 0
+IsOfWriting (errors.Write kind) = Unit {0}
+IsOfWriting errors.Memory = Unit {0}
+IsOfWriting _ = ⊥

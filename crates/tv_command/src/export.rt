@@ -3,7 +3,7 @@
 ghost use Rattle.std.specs.Prelude.{◌≡◌, ◌++◌, [], IfErr, IfOk, OnErr, OnOk};
 ghost use Rattle.tv_base.specs.Sink.{AppendsPrefix};
 ghost use Rattle.tv_blocks.specs.Blocks.{AppendsLine};
-ghost use Rattle.tv_command.specs.Exporting.{AppendsBegun, BreaksOff, ExportsAll};
+ghost use Rattle.tv_command.specs.Exporting.{AppendsBegun, BreaksOff, ExportsAll, IsOfWriting};
 ghost use Rattle.tv_doc.specs.Document.{document_of};
 ghost use Rattle.tv_reader.specs.Version.{version_of};
 
@@ -34,7 +34,9 @@ pub enum ExportError {
 }
 
 impl From<AllocError> for ExportError {
-    ghost from_gives = { λ _ error. error ≡ ExportError.Memory };
+    ghost use Rattle.tv_command.specs.declared.export.ExportError.TheVariants.{Memory};
+
+    ghost from_gives = { λ _ error. error ≡ Memory };
 
     fn from(_error: AllocError) -> ExportError {
         ExportError::Memory
@@ -71,6 +73,7 @@ fn write_line<K: ByteSink>(
     ensures err { K.is_known sink.old
         → OnErr result
         (AppendsBegun schema.now (document_of document.now) (K.held sink.old) (K.held sink.new)) }
+    ensures errors { IfErr result IsOfWriting }
     ensures is_known { K.is_known sink.old → K.is_known sink.new }
 {
     put_line(alloc, schema, document, text)?;
@@ -108,7 +111,11 @@ pub fn export_block<S: ByteSource, K: ByteSink>(
     let mut text = Vec::new(alloc);
     for documents in 0..u64::MAX {
         match reader.advance(source) {
-            Ok(true) => write_line(alloc, schema, reader.document(), &mut text, sink)?,
+            Ok(true) => {
+                if let Err(error) = write_line(alloc, schema, reader.document(), &mut text, sink) {
+                    return Err(error);
+                }
+            }
             Ok(false) => return Ok(documents),
             Err(error) => return Err(ExportError::Read(error)),
         }

@@ -1,6 +1,6 @@
 //! Lines of JSON to stored documents.
 
-ghost use Rattle.std.specs.Prelude.{◌≡◌, ◌++◌, IfOk, IfSome, OnErr, OnOk, length};
+ghost use Rattle.std.specs.Prelude.{◌≡◌, ◌∷◌, ◌++◌, [], ℕ, List, IfOk, IfSome, OnErr, OnOk, length};
 ghost use Rattle.tv_base.specs.Sink.{AppendsPrefix};
 ghost use Rattle.tv_command.specs.Importing.{HasTaken, Imports, IsParsed, LeavesBegun, ParsesBy};
 ghost use Rattle.tv_doc.specs.Belongs.{Belongs};
@@ -8,6 +8,7 @@ ghost use Rattle.tv_doc.specs.Document.{document_of};
 ghost use Rattle.tv_doc.specs.InPlace.{in_place};
 ghost use Rattle.tv_format.specs.Short.{short_document};
 ghost use Rattle.tv_format.specs.WriteVersion.{written_version};
+ghost use Rattle.tv_lines.specs.Lines.{IsUnbroken};
 ghost use Rattle.tv_store.specs.Stored.{stored};
 
 use std::alloc::{AllocError, Global};
@@ -55,7 +56,9 @@ pub enum ImportError {
 }
 
 impl From<AllocError> for ImportError {
-    ghost from_gives = { λ _ error. error ≡ ImportError.Memory };
+    ghost use Rattle.tv_command.specs.declared.import.ImportError.TheVariants.{Memory};
+
+    ghost from_gives = { λ _ error. error ≡ Memory };
 
     fn from(_error: AllocError) -> ImportError {
         ImportError::Memory
@@ -71,6 +74,18 @@ pub struct ImportRules {
     pub strict: bool,
 }
 
+// Takes the line feed off the end, if one stands there.
+fn strip_feed(line: &mut Vec<u8>)
+    ensures ended { (before : List ℕ) → line.old.items ≡ before ++ 10 ∷ []
+        → line.new.items ≡ before }
+    ensures other { IsUnbroken line.old.items → line.new.items ≡ line.old.items }
+{
+    let len = line.len();
+    if len > 0 && line[len - 1] == b'\n' {
+        line.truncate(len - 1);
+    }
+}
+
 // Takes the next line, without its line feed, in place of what `line` holds. Says whether there was one.
 fn take_line<R: BufRead>(reader: &mut R, line: &mut Vec<u8>) -> Result<bool, ImportError>
     ensures { IfSome (R.remaining reader.old)
@@ -78,14 +93,12 @@ fn take_line<R: BufRead>(reader: &mut R, line: &mut Vec<u8>) -> Result<bool, Imp
 {
     line.clear();
     match reader.read_until(b'\n', line) {
-        Ok(0) => return Ok(false),
-        Ok(_) => {}
-        Err(error) => return Err(ImportError::Read(error.kind())),
+        Ok(count) => {
+            strip_feed(line);
+            Ok(count > 0)
+        }
+        Err(error) => Err(ImportError::Read(error.kind())),
     }
-    if line.last() == Some(&b'\n') {
-        line.truncate(line.len() - 1);
-    }
-    Ok(true)
 }
 
 // Puts the document of a text in place of one that is there.
@@ -219,7 +232,14 @@ impl LineImporter {
             return Ok(None);
         }
         let (line, strict) = (self.line.as_slice(), self.rules.strict);
-        match parse_line(self.alloc, schema, line, strict, &mut self.document, &mut self.buffers)? {
+        match parse_line(
+            self.alloc,
+            schema,
+            line,
+            strict,
+            &mut self.document,
+            &mut self.buffers,
+        )? {
             Some(error) => Ok(Some(LineOutcome::Refused(error))),
             None => {
                 put_stored(schema, self.rules.version, &self.document, &mut self.stored)?;

@@ -9,9 +9,9 @@ invariant-loop-documents g l =
     let sink = g.K.ByteSink in
     record {
       live : l.reader.failed ≡ false;
-      version : l.reader.version ≡ l.version;
+      version : l.reader.version ≡ l.fn.version;
       source_is_known : source.is_known l.initial.source → source.is_known l.source;
       sink_is_known : sink.is_known l.initial.sink → sink.is_known l.sink;
       so_far : source.is_known l.initial.source → sink.is_known l.initial.sink
-          → PrintedSoFar l.schema (version_of l.version) (source.left l.initial.source) (source.left l.source) (sink.held l.initial.sink) (sink.held l.sink) l.documents;
+          → PrintedSoFar l.schema (version_of l.fn.version) (source.left l.initial.source) (source.left l.source) (sink.held l.initial.sink) (sink.held l.sink) l.documents;
     }
