@@ -16,9 +16,9 @@ use tv_command::export::{ExportError, export_block};
 // What broke an export off.
 fn broken<R: System>(rt: &R, given: &ArgMatches<'_>, error: ExportError) -> Failure {
     match error {
-        ExportError::Read(error) => failed(rt.alloc(), text(given, "BLOCK"), error),
         ExportError::Write(kind) => write_failed(rt.alloc(), text(given, "output"), kind),
         ExportError::Memory => Failure::Memory,
+        other => failed(rt.alloc(), text(given, "BLOCK"), other),
     }
 }
 

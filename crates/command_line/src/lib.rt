@@ -12,4 +12,4 @@ mod migrations;
 mod schemas;
 mod terms;
 
-pub use ending::run;
+pub use ending::{System, run};
