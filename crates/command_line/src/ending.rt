@@ -9,9 +9,9 @@ use std::fs::Files;
 use std::io::{self, Eprint, Input, Print};
 
 /// What a command needs of the system.
-pub trait System: Files + AllocGlobal + Input + Print + Eprint {}
+pub trait System: Files + AllocGlobal + Input + Print + Eprint + Copy {}
 
-impl<R: Files + AllocGlobal + Input + Print + Eprint> System for R {}
+impl<R: Files + AllocGlobal + Input + Print + Eprint + Copy> System for R {}
 
 /// How a command that didn't break off ended.
 #[derive(Clone, Copy, Debug, PartialEq, Eq)]

@@ -5,35 +5,49 @@ use either::Either;
 use std::alloc::Global;
 use std::fs;
 use std::fs::Files;
-use std::io::{self, BufWriter, Print, Printer, Write};
+use std::io::{self, BufWriter, Print, Write};
 use tantivy_schema::common::WriteSink;
 
+/// The standard output, as a writer.
+#[derive(Drop)]
+pub(crate) struct StandardOutput<R: Print>(R);
+
+impl<R: Print> Write for StandardOutput<R> {
+    fn write(&mut self, buf: &[u8]) -> io::Result<usize> {
+        self.0.write_some(buf)
+    }
+
+    fn flush(&mut self) -> io::Result<()> {
+        Ok(())
+    }
+}
+
 /// A file, or the standard output.
-pub(crate) type Target<'r, R> = Either<<R as Files>::File, Printer<'r, R>>;
+pub(crate) type Target<R> = Either<<R as Files>::File, StandardOutput<R>>;
 
 // This many bytes are written at once.
 const PIECE: usize = 65536;
 
 /// An output that is written: a new file beside the one that is named, or the standard output. It can't be dropped, so each way out ends it by `finish`.
-pub(crate) struct Output<'r, R: System> {
+pub(crate) struct Output<'r, 'n, R: System> {
     rt: &'r R,
-    name: &'r str,
+    name: &'n str,
     part: Option<String>,
-    sink: WriteSink<BufWriter<Target<'r, R>>>,
+    sink: WriteSink<BufWriter<Target<R>>>,
 }
 
-impl<'r, R: System> Output<'r, R> {
+impl<'r, 'n, R: System> Output<'r, 'n, R> {
     /// Where results are appended.
-    pub(crate) fn sink(&mut self) -> &mut WriteSink<BufWriter<Target<'r, R>>> {
+    pub(crate) fn sink(&mut self) -> &mut WriteSink<BufWriter<Target<R>>> {
         &mut self.sink
     }
 }
 
 // A sink over this target.
-fn sink_of<'r, R: System>(
-    rt: &'r R,
-    target: Target<'r, R>,
-) -> Result<WriteSink<BufWriter<Target<'r, R>>>, Failure> {
+fn sink_of<R: System>(
+    rt: &R,
+    target: Target<R>,
+) -> Result<WriteSink<BufWriter<Target<R>>>, Failure> {
     match BufWriter::with_capacity(rt.alloc(), PIECE, target) {
         Ok(writer) => Ok(WriteSink::new(writer)),
         Err(_) => Err(Failure::Memory),
@@ -41,9 +55,12 @@ fn sink_of<'r, R: System>(
 }
 
 /// Begins an output. A file of this name stays as it is until the output is finished; one that has `.part` after the name may not be there.
-pub(crate) fn create<'r, R: System>(rt: &'r R, name: &'r str) -> Result<Output<'r, R>, Failure> {
+pub(crate) fn create<'r, 'n, R: System>(
+    rt: &'r R,
+    name: &'n str,
+) -> Result<Output<'r, 'n, R>, Failure> {
     if name == "-" {
-        let sink = sink_of(rt, Either::Right(io::writer(rt)))?;
+        let sink = sink_of(rt, Either::Right(StandardOutput(*rt)))?;
         return Ok(Output {
             rt,
             name,
@@ -66,7 +83,7 @@ pub(crate) fn create<'r, R: System>(rt: &'r R, name: &'r str) -> Result<Output<'
 }
 
 /// Gives up an output. A file that was begun is gone.
-pub(crate) fn discard<R: System>(output: Output<'_, R>) {
+pub(crate) fn discard<R: System>(output: Output<'_, '_, R>) {
     let Output {
         rt,
         name: _,
@@ -80,7 +97,7 @@ pub(crate) fn discard<R: System>(output: Output<'_, R>) {
 }
 
 // Writes what is buffered, and gives the file its name.
-fn complete<R: System>(output: Output<'_, R>) -> Result<(), Failure> {
+fn complete<R: System>(output: Output<'_, '_, R>) -> Result<(), Failure> {
     let Output {
         rt,
         name,
@@ -101,7 +118,7 @@ fn complete<R: System>(output: Output<'_, R>) -> Result<(), Failure> {
 
 /// Ends an output: where all went well, what is buffered is written and the file has its name, and else the file is gone.
 pub(crate) fn finish<R: System, T: Drop>(
-    output: Output<'_, R>,
+    output: Output<'_, '_, R>,
     ended: Result<T, Failure>,
 ) -> Result<T, Failure> {
     match ended {

@@ -20,11 +20,11 @@ struct Counts {
 }
 
 // Where an import writes, and what it has done. It has to be ended, as its outputs have.
-struct Importing<'r, R: System> {
+struct Importing<'r, 'n, R: System> {
     rt: &'r R,
-    block: Output<'r, R>,
-    offsets: Option<Output<'r, R>>,
-    errors: Option<Output<'r, R>>,
+    block: Output<'r, 'n, R>,
+    offsets: Option<Output<'r, 'n, R>>,
+    errors: Option<Output<'r, 'n, R>>,
     counts: Counts,
 }
 
@@ -40,10 +40,10 @@ fn rules(given: &ArgMatches<'_>) -> ImportRules {
 }
 
 // Begins an output, if its name is given.
-fn optional<'r, R: System>(
+fn optional<'r, 'n, R: System>(
     rt: &'r R,
-    name: Option<&'r str>,
-) -> Result<Option<Output<'r, R>>, Failure> {
+    name: Option<&'n str>,
+) -> Result<Option<Output<'r, 'n, R>>, Failure> {
     match name {
         Some(name) => Ok(Some(create(rt, name)?)),
         None => Ok(None),
@@ -51,7 +51,7 @@ fn optional<'r, R: System>(
 }
 
 // Notes where the document begins that was stored in this number of bytes.
-fn note_stored<R: System>(import: &mut Importing<'_, R>, size: u64) -> Result<(), Failure> {
+fn note_stored<R: System>(import: &mut Importing<'_, '_, R>, size: u64) -> Result<(), Failure> {
     if let Some(offsets) = &mut import.offsets {
         if let Err(error) = write_u64(offsets.sink(), import.counts.bytes) {
             return Err(write_failed(import.rt.alloc(), "offsets", error.0));
@@ -64,7 +64,7 @@ fn note_stored<R: System>(import: &mut Importing<'_, R>, size: u64) -> Result<()
 
 // Reports a line that is refused.
 fn report<R: System>(
-    import: &mut Importing<'_, R>,
+    import: &mut Importing<'_, '_, R>,
     name: &str,
     line: u64,
     error: &LineError,
@@ -93,7 +93,7 @@ fn broken<R: System>(rt: &R, given: &ArgMatches<'_>, name: &str, error: ImportEr
 
 // Imports the lines of a file.
 fn import_file<R: System>(
-    import: &mut Importing<'_, R>,
+    import: &mut Importing<'_, '_, R>,
     given: &ArgMatches<'_>,
     schema: &Schema,
     importer: &mut LineImporter,
@@ -114,7 +114,7 @@ fn import_file<R: System>(
 
 // Imports the lines of each file that is named, or of the standard input.
 fn import_files<R: System>(
-    import: &mut Importing<'_, R>,
+    import: &mut Importing<'_, '_, R>,
     given: &ArgMatches<'_>,
     schema: &Schema,
 ) -> Result<(), Failure> {
@@ -129,7 +129,10 @@ fn import_files<R: System>(
 }
 
 // Begins the outputs. Those that were begun are ended where another one fails.
-fn begin<'r, R: System>(rt: &'r R, given: &ArgMatches<'r>) -> Result<Importing<'r, R>, Failure> {
+fn begin<'r, 'n, R: System>(
+    rt: &'r R,
+    given: &ArgMatches<'n>,
+) -> Result<Importing<'r, 'n, R>, Failure> {
     let block = create(rt, text(given, "output"))?;
     let offsets = match optional(rt, given.get_str("offsets")) {
         Ok(offsets) => offsets,
@@ -156,7 +159,7 @@ fn begin<'r, R: System>(rt: &'r R, given: &ArgMatches<'r>) -> Result<Importing<'
 }
 
 // Gives up an output, if it was begun.
-fn discard_optional<R: System>(output: Option<Output<'_, R>>) {
+fn discard_optional<R: System>(output: Option<Output<'_, '_, R>>) {
     if let Some(output) = output {
         discard(output);
     }
@@ -164,7 +167,7 @@ fn discard_optional<R: System>(output: Option<Output<'_, R>>) {
 
 // Ends an output, if it was begun.
 fn finish_optional<R: System, T: Drop>(
-    output: Option<Output<'_, R>>,
+    output: Option<Output<'_, '_, R>>,
     ended: Result<T, Failure>,
 ) -> Result<T, Failure> {
     match output {
@@ -174,7 +177,10 @@ fn finish_optional<R: System, T: Drop>(
 }
 
 // Ends the outputs.
-fn end<R: System>(import: Importing<'_, R>, ended: Result<(), Failure>) -> Result<Counts, Failure> {
+fn end<R: System>(
+    import: Importing<'_, '_, R>,
+    ended: Result<(), Failure>,
+) -> Result<Counts, Failure> {
     let Importing {
         rt: _,
         block,
