@@ -1,0 +1,120 @@
+//! How the command ends.
+
+use crate::arguments::command;
+use crate::{blocks, facets, imports, migrations, schemas, terms};
+use clap::ArgMatches;
+use std::alloc::{AllocError, AllocFailed, Global};
+use std::fmt::Display;
+use std::fs::Files;
+use std::io::{self, Eprint, Input, Print};
+
+/// What a command needs of the system.
+pub trait System: Files + AllocGlobal + Input + Print + Eprint + Copy {}
+
+impl<R: Files + AllocGlobal + Input + Print + Eprint + Copy> System for R {}
+
+/// How a command that didn't break off ended.
+#[derive(Clone, Copy, Debug, PartialEq, Eq)]
+pub(crate) enum Ending {
+    /// All was done.
+    Done,
+    /// Something was refused, and has been reported.
+    Refused,
+}
+
+/// Why a command broke off.
+#[derive(Debug, Drop)]
+pub(crate) enum Failure {
+    /// What reads the standard output has closed it.
+    Closed,
+    /// What went wrong, with the name of the file.
+    Said(String),
+    /// Memory was refused.
+    Memory,
+}
+
+impl From<AllocError> for Failure {
+    fn from(_error: AllocError) -> Failure {
+        Failure::Memory
+    }
+}
+
+impl<T: Drop> From<AllocFailed<T>> for Failure {
+    fn from(_error: AllocFailed<T>) -> Failure {
+        Failure::Memory
+    }
+}
+
+/// What went wrong with a file, in words.
+pub(crate) fn failed<T: Display + Drop>(alloc: Global, name: &str, what: T) -> Failure {
+    match format!(in alloc; "{name}: {what}") {
+        Ok(text) => Failure::Said(text),
+        Err(_) => Failure::Memory,
+    }
+}
+
+/// A write that failed. A standard output that was closed ends the command without a word.
+pub(crate) fn write_failed(alloc: Global, name: &str, kind: io::ErrorKind) -> Failure {
+    if name == "-" && kind == io::ErrorKind::BrokenPipe {
+        return Failure::Closed;
+    }
+    failed(alloc, name, kind)
+}
+
+// Calls the command of this name.
+fn call<R: System>(rt: &R, name: &str, given: &ArgMatches<'_>) -> Result<Ending, Failure> {
+    match name {
+        "import" => imports::import(rt, given),
+        "export" => blocks::export(rt, given),
+        "get" => blocks::get(rt, given),
+        "check" => blocks::check(rt, given),
+        "stat" => blocks::stat(rt, given),
+        "migrate" => migrations::migrate(rt, given),
+        "terms" => terms::terms(rt, given),
+        "facets" => facets::facets(rt, given),
+        _ => schemas::schema(rt, given),
+    }
+}
+
+// The exit status, and what broke the command off on the standard error.
+fn status<R: System>(rt: &R, ended: Result<Ending, Failure>) -> io::Result<u8> {
+    Ok(match ended {
+        Ok(Ending::Done) | Err(Failure::Closed) => 0,
+        Ok(Ending::Refused) => 1,
+        Err(Failure::Said(text)) => {
+            eprintln!(rt; "kormaglen: {text}")?;
+            3
+        }
+        Err(Failure::Memory) => {
+            eprintln!(rt; "kormaglen: memory was refused")?;
+            3
+        }
+    })
+}
+
+// Reads the words and calls the command that they name.
+fn answer<R: System>(rt: &R, words: &[String]) -> io::Result<u8> {
+    let Ok(command) = command(rt.alloc()) else {
+        return status(rt, Err(Failure::Memory));
+    };
+    let matches = match command.try_get_matches_from(words) {
+        Ok(matches) => matches,
+        Err(error) => {
+            error.print(rt)?;
+            return Ok(if error.use_stderr() { 2 } else { 0 });
+        }
+    };
+    match matches.subcommand() {
+        Some((name, given)) => status(rt, call(rt, name, given)),
+        None => Ok(2),
+    }
+}
+
+/// Does what the words of a command line say, and gives the exit status: 0 where all was done, 1 where something was refused, 2 for a wrong use, and 3 where
+/// the command broke off, with the reason on the standard error.
+pub fn run<R: System>(rt: &R, words: &[String]) -> u8 {
+    match answer(rt, words) {
+        Ok(status) => status,
+        Err(_) => 3,
+    }
+}

@@ -1,0 +1,15 @@
+//! The command `kormaglen`: its words, its files, and what it prints. The work is that of `tv_command`.
+#![tactic(auto)]
+
+mod arguments;
+mod blocks;
+mod ending;
+mod facets;
+mod files;
+mod imports;
+mod inputs;
+mod migrations;
+mod schemas;
+mod terms;
+
+pub use ending::{System, run};

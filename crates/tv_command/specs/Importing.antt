@@ -1,0 +1,69 @@
+-- What becomes of the next line of an input: its document is stored, or there is a reason why it makes none.
+use Rattle.std.specs.Prelude.{◌≡◌, ◌≢◌, ◌⊎◌, ℕ, Bool, true, false, List, [], ◌++◌, Option, Some, None, Result, Ok, Err, IsUtf8, length}
+use Rattle.tv_base.specs.Sink.{AppendsPrefix}
+use Rattle.tv_command.specs.declared.import.ImportRules.{ImportRules}
+use Rattle.tv_command.specs.declared.import.LineError.{LineError}
+use Rattle.tv_command.specs.declared.import.LineError.TheVariants.{NotUtf8, Refused}
+use Rattle.tv_command.specs.declared.import.LineOutcome.{LineOutcome}
+use Rattle.tv_command.specs.declared.import.LineOutcome.TheVariants as outcome
+use Rattle.tv_doc.specs.Belongs.{Belongs}
+use Rattle.tv_doc.specs.Document.{document_of}
+use Rattle.tv_doc.specs.JsonObject.{Parses}
+use Rattle.tv_doc.specs.StrictJson.{ParsesStrictly}
+use Rattle.tv_doc.specs.declared.doc_parsing_error.DocParsingError.TheVariants.{Memory}
+use Rattle.tv_doc.specs.declared.document.CompactDoc.{CompactDoc}
+use Rattle.tv_doc.specs.declared.strict_parsing_error.StrictParsingError.{StrictParsingError}
+use Rattle.tv_doc.specs.declared.strict_parsing_error.StrictParsingError.TheVariants.{Parsing}
+use Rattle.tv_field.specs.Entry.{Entry}
+use Rattle.tv_format.specs.Short.{short_document}
+use Rattle.tv_format.specs.WriteVersion.{written_version}
+use Rattle.tv_lines.specs.Lines.{FirstLine}
+use Rattle.tv_store.specs.Stored.{stored}
+
+-- the document of a text, or why there is none, strictly or not
+abbrev pub ParsesBy : List Entry → Bool → List ℕ → Result CompactDoc StrictParsingError → Type 0
+ParsesBy schema true text r = ParsesStrictly schema text r
+ParsesBy schema false text (Ok made) = Parses schema text (Ok made)
+ParsesBy schema false text (Err (Parsing e)) = Parses schema text (Err e)
+ParsesBy schema false text (Err e) = ⊥
+
+-- why a line makes no document
+abbrev pub IsLineError : List Entry → Bool → List ℕ → LineError → Type 0
+IsLineError schema strict line NotUtf8 = ¬ IsUtf8 line
+IsLineError schema strict line (Refused e) = IsUtf8 line × ParsesBy schema strict line (Err e) × (e ≢ Parsing Memory)
+
+-- the line makes a document, and this is the stored encoding of it
+abbrev pub IsStoredLine : List Entry → ImportRules → List ℕ → List ℕ → Type 0
+IsStoredLine schema rules line text =
+    (made : CompactDoc) × IsUtf8 line × ParsesBy schema rules.strict line (Ok made) × (text ≡ short_document (written_version rules.version) (stored schema (document_of made)))
+
+-- what becomes of a line, and what is appended: as many bytes as are said
+abbrev pub IsOutcome : List Entry → ImportRules → List ℕ → List ℕ → LineOutcome → Type 0
+IsOutcome schema rules line text (outcome.Stored size) = IsStoredLine schema rules line text × (size ≡ length text)
+IsOutcome schema rules line text (outcome.Refused e) = IsLineError schema rules.strict line e × (text ≡ [])
+
+-- what becomes of the next line, if there is one, with what follows it and what is appended
+abbrev pub ImportsNext : List Entry → ImportRules → List ℕ → List ℕ → List ℕ → Option LineOutcome → Type 0
+ImportsNext schema rules input rest text None = (input ≡ []) × (rest ≡ []) × (text ≡ [])
+ImportsNext schema rules input rest text (Some said) = (input ≢ []) × (line : List ℕ) × FirstLine input line rest × IsOutcome schema rules line text said
+
+-- The next line of an input was taken, and this became of it: the reader has what follows it, and the sink what is appended for it.
+abbrev pub Imports : List Entry → ImportRules → List ℕ → Option (List ℕ) → List ℕ → List ℕ → Option LineOutcome → Type 0
+Imports schema rules input left old new said = (rest : List ℕ) × (text : List ℕ) × (left ≡ Some rest) × ImportsNext schema rules input rest text said × (new ≡ old ++ text)
+
+-- The sink holds what it held, or also a beginning of the document of the next line.
+abbrev pub LeavesBegun : List Entry → ImportRules → List ℕ → List ℕ → List ℕ → Type 0
+LeavesBegun schema rules input old new =
+    (new ≡ old) ⊎ ((rest : List ℕ) × (text : List ℕ) × ImportsNext schema rules input rest text (Some (outcome.Stored (length text))) × AppendsPrefix old new text)
+
+-- ---- for private clauses
+
+-- whether there was a line, and then which, and what follows it
+abbrev pub HasTaken : List ℕ → List ℕ → Option (List ℕ) → Bool → Type 0
+HasTaken input line left true = (rest : List ℕ) × (left ≡ Some rest) × (input ≢ []) × FirstLine input line rest
+HasTaken input line left false = (input ≡ []) × (left ≡ Some [])
+
+-- the document is the line's, or there is a reason why the line makes none
+abbrev pub IsParsed : List Entry → Bool → List ℕ → CompactDoc → Option LineError → Type 0
+IsParsed schema strict line made None = IsUtf8 line × ParsesBy schema strict line (Ok made) × Belongs schema (document_of made)
+IsParsed schema strict line made (Some e) = IsLineError schema strict line e

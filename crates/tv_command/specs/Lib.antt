@@ -1,0 +1,3 @@
+pub mod Importing
+pub mod Exporting
+pub mod Checking

@@ -1,0 +1,124 @@
+//! Blocks of stored documents to lines of JSON.
+
+ghost use Rattle.std.specs.Prelude.{◌≡◌, ◌++◌, [], IfErr, IfOk, OnErr, OnOk};
+ghost use Rattle.tv_base.specs.Sink.{AppendsPrefix};
+ghost use Rattle.tv_blocks.specs.Blocks.{AppendsLine};
+ghost use Rattle.tv_command.specs.Exporting.{AppendsBegun, BreaksOff, ExportsAll, IsOfWriting};
+ghost use Rattle.tv_doc.specs.Document.{document_of};
+ghost use Rattle.tv_reader.specs.Version.{version_of};
+
+use std::alloc::{AllocError, Global};
+use std::io;
+use tantivy_schema::common::{ByteSink, ByteSource};
+use tantivy_schema::schema::document::DeserializeError;
+use tantivy_schema::schema::{Document, Schema, TantivyDocument};
+use tantivy_schema::store::{BlockReader, DocStoreVersion};
+use thiserror::Error;
+use tv_base::write::write_all;
+
+/// Why an export breaks off.
+#[derive(Debug, PartialEq, Drop, Error)]
+pub enum ExportError {
+    /// The next document can't be read.
+    #[error("{0}")]
+    Read(DeserializeError),
+    /// A write failed, with this kind.
+    #[error("writing failed: {0}")]
+    Write(io::ErrorKind),
+    /// Memory was refused for the document's text.
+    #[error("memory was refused")]
+    Memory,
+    /// 2^64 - 1 documents were printed, and no more are counted.
+    #[error("there are more documents than are counted")]
+    TooMany,
+}
+
+impl From<AllocError> for ExportError {
+    ghost use Rattle.tv_command.specs.declared.export.ExportError.TheVariants.{Memory};
+
+    ghost from_gives = { λ _ error. error ≡ Memory };
+
+    fn from(_error: AllocError) -> ExportError {
+        ExportError::Memory
+    }
+}
+
+// Puts the document's text of JSON and a line feed in place of what `text` holds.
+fn put_line(
+    alloc: Global,
+    schema: &Schema,
+    document: &TantivyDocument,
+    text: &mut Vec<u8>,
+) -> Result<(), AllocError>
+    ensures { OnOk result (AppendsLine schema.now (document_of document.now) [] text.new.items) }
+{
+    text.clear();
+    let json = document.to_json(alloc, schema)?;
+    text.extend_from_slice(json.as_bytes())?;
+    text.push(b'\n')?;
+    Ok(())
+}
+
+// Appends the document's line to the sink. `text` is for the line.
+fn write_line<K: ByteSink>(
+    alloc: Global,
+    schema: &Schema,
+    document: &TantivyDocument,
+    text: &mut Vec<u8>,
+    sink: &mut K,
+) -> Result<(), ExportError>
+    ensures ok { K.is_known sink.old
+        → OnOk result
+        (AppendsLine schema.now (document_of document.now) (K.held sink.old) (K.held sink.new)) }
+    ensures err { K.is_known sink.old
+        → OnErr result
+        (AppendsBegun schema.now (document_of document.now) (K.held sink.old) (K.held sink.new)) }
+    ensures errors { IfErr result IsOfWriting }
+    ensures is_known { K.is_known sink.old → K.is_known sink.new }
+{
+    put_line(alloc, schema, document, text)?;
+    match write_all(sink, text.as_slice()) {
+        Ok(()) => Ok(()),
+        Err(failed) => Err(ExportError::Write(failed.0)),
+    }
+}
+
+/// Appends the documents of a block that a source has left, one after the other in this version, to a sink as lines of JSON by the names of the schema's
+/// fields, as `Document::to_json` prints them, and returns how many there are. (Not in tantivy.)
+///
+/// Errors: `Read` for the first document that can't be read, with the error of `read_document`; `Write` where a write failed; `Memory`; `TooMany` after 2^64 - 1 documents. The sink then holds the
+/// lines of the documents before that one, and after `Write` and `Memory` also a beginning of the line of that one.
+pub fn export_block<S: ByteSource, K: ByteSink>(
+    alloc: Global,
+    schema: &Schema,
+    version: DocStoreVersion,
+    source: &mut S,
+    sink: &mut K,
+) -> Result<u64, ExportError>
+    ensures ok { S.is_known source.old → K.is_known sink.old
+        → IfOk result
+        (ExportsAll schema.now (version_of version) (S.left source.old) (K.held sink.old)
+        (K.held sink.new)) }
+    ensures err { S.is_known source.old → K.is_known sink.old
+        → IfErr result
+        (BreaksOff schema.now (version_of version) (S.left source.old) (K.held sink.old)
+        (K.held sink.new)) }
+    ensures all { S.is_known source.old → OnOk result (S.left source.new ≡ []) }
+    ensures source_is_known { S.is_known source.old → S.is_known source.new }
+    ensures sink_is_known { K.is_known sink.old → K.is_known sink.new }
+{
+    let mut reader = BlockReader::new(alloc, version);
+    let mut text = Vec::new(alloc);
+    for documents in 0..u64::MAX {
+        match reader.advance(source) {
+            Ok(true) => {
+                if let Err(error) = write_line(alloc, schema, reader.document(), &mut text, sink) {
+                    return Err(error);
+                }
+            }
+            Ok(false) => return Ok(documents),
+            Err(error) => return Err(ExportError::Read(error)),
+        }
+    }
+    Err(ExportError::TooMany)
+}

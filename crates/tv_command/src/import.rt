@@ -1,0 +1,251 @@
+//! Lines of JSON to stored documents.
+
+ghost use Rattle.std.specs.Prelude.{◌≡◌, ◌∷◌, ◌++◌, [], ℕ, List, IfOk, IfSome, OnErr, OnOk, length};
+ghost use Rattle.tv_base.specs.Sink.{AppendsPrefix};
+ghost use Rattle.tv_command.specs.Importing.{HasTaken, Imports, IsParsed, LeavesBegun, ParsesBy};
+ghost use Rattle.tv_doc.specs.Belongs.{Belongs};
+ghost use Rattle.tv_doc.specs.Document.{document_of};
+ghost use Rattle.tv_doc.specs.InPlace.{in_place};
+ghost use Rattle.tv_format.specs.Short.{short_document};
+ghost use Rattle.tv_format.specs.WriteVersion.{written_version};
+ghost use Rattle.tv_lines.specs.Lines.{IsUnbroken};
+ghost use Rattle.tv_store.specs.Stored.{stored};
+
+use std::alloc::{AllocError, Global};
+use std::io;
+use std::io::BufRead;
+use tantivy_schema::common::{ByteSink, VecSink};
+use tantivy_schema::schema::document::{BinaryDocumentSerializer, ParseBuffers};
+use tantivy_schema::schema::{DocParsingError, Schema, StrictParsingError, TantivyDocument};
+use tantivy_schema::store::WriteVersion;
+use thiserror::Error;
+use tv_base::write::write_all;
+
+/// Why a line makes no document.
+#[derive(Debug, PartialEq, Drop, Error)]
+pub enum LineError {
+    /// The line is not UTF-8.
+    #[error("it is not UTF-8")]
+    NotUtf8,
+    /// The line is no JSON object, or a key or a value of it is refused.
+    #[error("{0}")]
+    Refused(StrictParsingError),
+}
+
+/// What becomes of a line.
+#[derive(Debug, PartialEq, Drop)]
+pub enum LineOutcome {
+    /// Its document is stored, in this number of bytes.
+    Stored(u64),
+    /// It makes no document, and nothing is stored.
+    Refused(LineError),
+}
+
+/// Why an import breaks off.
+#[derive(Clone, Copy, Debug, PartialEq, Eq, Drop, Error)]
+pub enum ImportError {
+    /// A read failed, with this kind.
+    #[error("reading failed: {0}")]
+    Read(io::ErrorKind),
+    /// A write failed, with this kind.
+    #[error("writing failed: {0}")]
+    Write(io::ErrorKind),
+    /// Memory was refused.
+    #[error("memory was refused")]
+    Memory,
+}
+
+impl From<AllocError> for ImportError {
+    ghost use Rattle.tv_command.specs.declared.import.ImportError.TheVariants.{Memory};
+
+    ghost from_gives = { λ _ error. error ≡ Memory };
+
+    fn from(_error: AllocError) -> ImportError {
+        ImportError::Memory
+    }
+}
+
+/// How lines are read and documents are stored.
+#[derive(Clone, Copy, Debug, PartialEq, Eq)]
+pub struct ImportRules {
+    /// The version of the store that documents are written in.
+    pub version: WriteVersion,
+    /// Whether each key of a line's object has to name a field, and none may stand twice. Else a key that no field has is skipped.
+    pub strict: bool,
+}
+
+// Takes the line feed off the end, if one stands there.
+fn strip_feed(line: &mut Vec<u8>)
+    ensures ended { (before : List ℕ) → line.old.items ≡ before ++ 10 ∷ []
+        → line.new.items ≡ before }
+    ensures other { IsUnbroken line.old.items → line.new.items ≡ line.old.items }
+{
+    let len = line.len();
+    if len > 0 && line[len - 1] == b'\n' {
+        line.truncate(len - 1);
+    }
+}
+
+// Takes the next line, without its line feed, in place of what `line` holds. Says whether there was one.
+fn take_line<R: BufRead>(reader: &mut R, line: &mut Vec<u8>) -> Result<bool, ImportError>
+    ensures { IfSome (R.remaining reader.old)
+        (λ input. IfOk result (λ more. HasTaken input line.new.items (R.remaining reader.new) more)) }
+{
+    line.clear();
+    match reader.read_until(b'\n', line) {
+        Ok(count) => {
+            strip_feed(line);
+            Ok(count > 0)
+        }
+        Err(error) => Err(ImportError::Read(error.kind())),
+    }
+}
+
+// Puts the document of a text in place of one that is there.
+fn parse_text(
+    alloc: Global,
+    schema: &Schema,
+    text: &str,
+    strict: bool,
+    document: &mut TantivyDocument,
+    buffers: &mut ParseBuffers,
+) -> Result<(), StrictParsingError>
+    ensures parses { ParsesBy schema.now strict text.now (in_place result document.new) }
+    ensures belongs { OnOk result (Belongs schema.now (document_of document.new)) }
+{
+    if strict {
+        return document.parse_json_strict_into(alloc, schema, text, buffers);
+    }
+    match document.parse_json_into(alloc, schema, text, buffers) {
+        Ok(()) => Ok(()),
+        Err(error) => Err(StrictParsingError::Parsing(error)),
+    }
+}
+
+// Puts the document of a line in place of one that is there, or says why there is none. The only error is that memory was refused.
+fn parse_line(
+    alloc: Global,
+    schema: &Schema,
+    line: &[u8],
+    strict: bool,
+    document: &mut TantivyDocument,
+    buffers: &mut ParseBuffers,
+) -> Result<Option<LineError>, AllocError>
+    ensures { IfOk result (IsParsed schema.now strict line.now document.new) }
+{
+    let Ok(text) = str::from_utf8(line) else {
+        return Ok(Some(LineError::NotUtf8));
+    };
+    match parse_text(alloc, schema, text, strict, document, buffers) {
+        Ok(()) => Ok(None),
+        Err(StrictParsingError::Parsing(DocParsingError::Memory)) => Err(AllocError),
+        Err(error) => Ok(Some(LineError::Refused(error))),
+    }
+}
+
+// Puts the document's stored pairs in place of what `bytes` holds. The only error is that memory was refused.
+fn put_stored(
+    schema: &Schema,
+    version: WriteVersion,
+    document: &TantivyDocument,
+    bytes: &mut VecSink,
+) -> Result<(), AllocError>
+    requires { Belongs schema.now (document_of document.now) }
+    ensures { OnOk result
+        (bytes.new.bytes.items
+        ≡ short_document (written_version version) (stored schema.now (document_of document.now))) }
+{
+    bytes.clear();
+    match BinaryDocumentSerializer::with_version(bytes, schema, version).serialize_doc(document) {
+        Ok(()) => Ok(()),
+        Err(_) => Err(AllocError),
+    }
+}
+
+// Appends bytes to a sink.
+fn append<K: ByteSink>(sink: &mut K, bytes: &[u8]) -> Result<u64, ImportError>
+    ensures size { IfOk result (λ n. n ≡ length bytes.now) }
+    ensures ok { K.is_known sink.old → OnOk result (K.held sink.new ≡ K.held sink.old ++ bytes.now) }
+    ensures err { K.is_known sink.old
+        → OnErr result (AppendsPrefix (K.held sink.old) (K.held sink.new) bytes.now) }
+    ensures is_known { K.is_known sink.old → K.is_known sink.new }
+{
+    match write_all(sink, bytes) {
+        Ok(()) => Ok(bytes.len() as u64),
+        Err(failed) => Err(ImportError::Write(failed.0)),
+    }
+}
+
+/// Reads lines of JSON one by one, and stores the document of each. The memory of a line and of its document serves the next. (Not in tantivy.)
+///
+/// A line ends at a line feed, and the last may lack it.
+#[derive(Drop)]
+pub struct LineImporter {
+    alloc: Global,
+    rules: ImportRules,
+    line: Vec<u8>,
+    document: TantivyDocument,
+    buffers: ParseBuffers,
+    stored: VecSink,
+}
+
+impl LineImporter {
+    /// An importer by these rules. It takes no memory.
+    pub fn new(alloc: Global, rules: ImportRules) -> LineImporter
+        ensures { result.rules ≡ rules }
+    {
+        LineImporter {
+            alloc,
+            rules,
+            line: Vec::new(alloc),
+            document: TantivyDocument::new(alloc),
+            buffers: ParseBuffers::new(alloc),
+            stored: VecSink::new(alloc),
+        }
+    }
+
+    /// Reads the next line, appends the stored pairs of its document to the sink, and says what became of the line; `None` where the reader has
+    /// nothing left. A line that makes no document is refused with the reason, as `parse_json_into` and `parse_json_strict_into` return it, and
+    /// nothing is appended.
+    ///
+    /// Errors: `Read` where a read failed, `Write` where a write did, and `Memory`. The sink then holds what it held before, and a beginning of
+    /// what was to be appended; some of the reader's bytes are lost.
+    pub fn advance<R: BufRead, K: ByteSink>(
+        &mut self,
+        schema: &Schema,
+        reader: &mut R,
+        sink: &mut K,
+    ) -> Result<Option<LineOutcome>, ImportError>
+        ensures ok { IfSome (R.remaining reader.old)
+            (λ input. K.is_known sink.old
+            → IfOk result
+            (Imports schema.now self.old.rules input (R.remaining reader.new) (K.held sink.old)
+            (K.held sink.new))) }
+        ensures err { IfSome (R.remaining reader.old)
+            (λ input. K.is_known sink.old
+            → OnErr result
+            (LeavesBegun schema.now self.old.rules input (K.held sink.old) (K.held sink.new))) }
+        ensures rules { self.new.rules ≡ self.old.rules }
+        ensures is_known { K.is_known sink.old → K.is_known sink.new }
+    {
+        if !take_line(reader, &mut self.line)? {
+            return Ok(None);
+        }
+        let (line, strict) = (self.line.as_slice(), self.rules.strict);
+        match parse_line(
+            self.alloc,
+            schema,
+            line,
+            strict,
+            &mut self.document,
+            &mut self.buffers,
+        )? {
+            Some(error) => Ok(Some(LineOutcome::Refused(error))),
+            None => {
+                put_stored(schema, self.rules.version, &self.document, &mut self.stored)?;
+                let size = append(sink, self.stored.as_slice())?;
+                Ok(Some(LineOutcome::Stored(size)))
+            }
+        }
+    }
+}
