@@ -8,7 +8,7 @@
 
 enum { BILLION = 1000000000, ADDRESS_LEN = 16, SEGMENTS = 8 };
 
-/* By RFC 3339, in UTC, with the fewest digits of a fraction that tell it. */
+/* By RFC 3339, in UTC, with no more digits of a fraction than it has. */
 char *print_date(int64_t nanoseconds) {
     int64_t fraction = nanoseconds % BILLION;
     int64_t second = nanoseconds / BILLION;

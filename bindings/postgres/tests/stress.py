@@ -1,10 +1,10 @@
 """The extension where things go wrong: stress.py PART NUMBER.
 
-    refused NUMBER    so many calls that are refused; the memory of the server's process stays as it is
-    broken NUMBER     statements, until so many were broken off, by a time limit or by another session
-    limited NUMBER    statements with a limit on the process's memory, in so many steps of 256 KiB above what it has
-    large NUMBER      values of so many megabytes, and a result that is longer than values may be
-    random NUMBER     so many calls with random arguments
+    refused NUMBER    this number of calls that are refused; the memory of the server's process stays as it is
+    broken NUMBER     statements, until this number were broken off, by a time limit or by another session
+    limited NUMBER    statements with a limit on the process's memory, in this number of steps of 256 KiB above what it has
+    large NUMBER      values of this number of megabytes, and results that are longer than values may be
+    random NUMBER     this number of calls with random arguments
 
 A statement gives what it gives by itself, or ends with an error that fits, and the session goes on. Ends with 1 where that is not so."""
 
@@ -99,7 +99,7 @@ def expect_few_schemas(session: Session) -> None:
 
 
 def expect_flat(grown: int, most: int) -> None:
-    """Memory grows by at most so many KiB, but for valgrind's own, which finds leaks itself."""
+    """Memory grows by at most `most` KiB, but for valgrind's own, which finds leaks itself."""
     if grown > most and "valgrind" not in os.environ.get("WRAPPER", ""):
         die("memory grew")
 
