@@ -2,18 +2,22 @@
 #![tactic(auto)]
 
 use command_line::run;
-use std::env;
 use std::process::ExitCode;
+use std::{env, io};
+
+// The words of the command line, under the command's own name.
+fn words(rt: &(impl env::Env + AllocGlobal)) -> io::Result<Vec<String>> {
+    let mut words = Vec::new(rt.alloc());
+    words.push(String::from_str(rt.alloc(), "kormaglen")?)?;
+    for word in env::args(rt)?.skip(1) {
+        words.push(word)?;
+    }
+    Ok(words)
+}
 
 fn main(rt: HostRuntime) -> ExitCode {
-    let mut words: Vec<String> = Vec::new(rt.alloc());
-    let Ok(given) = env::args(&rt) else {
-        return ExitCode::from(2);
-    };
-    for word in given {
-        if words.push(word).is_err() {
-            return ExitCode::from(3);
-        }
+    match words(&rt) {
+        Ok(words) => ExitCode::from(run(&rt, words.as_slice())),
+        Err(_) => ExitCode::from(3),
     }
-    ExitCode::from(run(&rt, words.as_slice()))
 }
