@@ -1,4 +1,4 @@
--- Documents of a block, one behind the other.
+-- Documents of a block, one after the other.
 use Rattle.std.proofs.Common.{◌≡◌, ◌≢◌, ℕ, List, [], ◌∷◌, ◌++◌, length, refl, sym, subst, append_assoc}
 use Rattle.tv_blocks.specs.Blocks.{AppendsLine, ArePrintedLines, IsRefusedBlock, PrintedSoFar}
 use Rattle.tv_blocks.specs.Blocks.ArePrintedLines.{no_lines, next_line}

@@ -1,4 +1,4 @@
--- What a path has left behind the name of a field is a suffix of it.
+-- What a path has left after the name of a field is a suffix of it.
 use Rattle.std.proofs.Common.{◌≡◌, ℕ, zero, suc, ◌+◌, ◌-◌, ◌<◌, ◌≤◌, Bool, true, false, List, [], length, take, drop, Option, Some, None, if◌then◌else◌, refl, sym, ap, ◌∙◌, arith}
 use Rattle.std.proofs.lemmas.List.{length-drop}
 use Rattle.std.proofs.Math.Seq.{drop-length}
@@ -8,7 +8,7 @@ use Rattle.tv_field.specs.Entry.{Entry}
 use Rattle.tv_schema.specs.Path.{is_splitting_dot, field_of_prefix, parted_at, last_given, find}
 use Rattle.tv_schema.specs.Schema.{field_named}
 
--- the text stands behind this many bytes of the path
+-- the text stands after this many bytes of the path
 pub record IsSuffix (path text : List ℕ) : Type 0 where
   pub place : ℕ
   pub within : place ≤ length path

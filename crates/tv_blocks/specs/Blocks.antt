@@ -1,4 +1,4 @@
--- Blocks of documents that stand one behind the other, printed as lines of JSON.
+-- Blocks of documents that stand one after the other, printed as lines of JSON.
 use Rattle.std.specs.Prelude.{◌≡◌, ℕ, List, [], ◌∷◌, ◌++◌}
 use Rattle.tv_blocks.specs.Refusals.{IsBlockRefusal}
 use Rattle.tv_blocks.specs.declared.block_error.BlockError.{BlockError}
@@ -10,7 +10,7 @@ use Rattle.tv_format.specs.Version.{Version}
 use Rattle.tv_lines.specs.Answers.{ReadsSchema}
 use Rattle.tv_store.specs.BlockMigration.{EncodesBlock}
 
--- the text of JSON of each document, by the names of the fields, and a line feed behind each
+-- the text of JSON of each document, by the names of the fields, and a line feed after each
 pub data ArePrintedLines (schema : List Entry) : List Document → List ℕ → Type 0 where
   no_lines : ArePrintedLines schema [] []
   next_line : {document : Document} {documents : List Document} {json rest : List ℕ} → IsJsonText (field_names schema) document json

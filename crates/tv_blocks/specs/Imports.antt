@@ -46,7 +46,7 @@ Imports schema input block answers = (entries : List Entry) × ReadsSchema schem
 
 -- ---- what is written
 
--- These stand at the beginnings of the buffers, and what is behind them is as it was.
+-- These stand at the beginnings of the buffers, and what is after them is as it was.
 pub record PutBoth (block : List ℕ) (answers : List LineAnswer) (old_bytes new_bytes : List ℕ) (old_answers new_answers : List LineAnswer) (count : Imported) : Type 0 where
   pub bytes : count.bytes ≡ length block
   pub lines : count.lines ≡ length answers
@@ -63,7 +63,7 @@ pub record LackBoth (block : List ℕ) (answers : List LineAnswer) (old_bytes ne
   pub same_bytes : new_bytes ≡ old_bytes
   pub same_answers : new_answers ≡ old_answers
 
--- A block and answers of which P holds are written, or their sizes are told; or nothing is written for a reason of which R holds, or for want
+-- A block and answers of which P holds are written, or their sizes are reported; or nothing is written for a reason of which R holds, or for want
 -- of memory.
 abbrev pub FillsBoth : (List ℕ → List LineAnswer → Type 0) → (BlockError → Type 0) → List ℕ → List ℕ → List LineAnswer → List LineAnswer → Result Imported BlockError → Type 0
 FillsBoth P R old_bytes new_bytes old_answers new_answers (Ok count) =

@@ -63,7 +63,7 @@ RefusesDocument v bytes (documents.Corrupted cause) = NoDocument v bytes (corrup
 RefusesDocument v bytes documents.KeyIsNoText = (code : ℕ) × NoDocument v bytes (no_text_key code)
 RefusesDocument v bytes documents.HeapFull = HasNoRoom v bytes
 
--- This many bytes encode documents, and the document that begins behind them is refused. Something stands there.
+-- This many bytes encode documents, and the document that begins after them is refused. Something stands there.
 pub record Breaks (v : Version) (block : List ℕ) (start : ℕ) (refusal : DocumentRefusal) : Type 0 where
   pub before : List ℕ
   pub behind : List ℕ
@@ -78,7 +78,7 @@ abbrev pub IsBlockRefusal : Version → List ℕ → BlockError → Type 0
 IsBlockRefusal v block (errors.BadDocument start refusal) = Breaks v block start refusal
 IsBlockRefusal v block e = ⊥
 
--- what is said where reading a document behind this many bytes returns an error
+-- what is said where reading a document after this many bytes returns an error
 abbrev pub document_refusal : ℕ → DeserializeError → BlockError
 document_refusal start (reads.CorruptedValue cause) = errors.BadDocument start (documents.Corrupted cause)
 document_refusal start (reads.TypeMismatch expected actual) = errors.BadDocument start documents.KeyIsNoText

@@ -58,7 +58,7 @@ fn append_documents(
     }
 }
 
-/// Writes the documents of a block, which stand one behind the other, as lines of JSON by the names of the schema's fields, see `to_json`, and
+/// Writes the documents of a block, which stand one after the other, as lines of JSON by the names of the schema's fields, see `to_json`, and
 /// returns how many bytes these take.
 ///
 /// Errors: `BadDocument` for the first document that can't be read, `TooSmall`, `Memory`. The buffer then stays as it is.

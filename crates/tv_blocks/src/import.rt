@@ -159,7 +159,7 @@ fn put_both(
     })
 }
 
-/// Stores the documents of lines of JSON by a schema, one behind the other in version 2, and answers each line. A line ends at a line feed,
+/// Stores the documents of lines of JSON by a schema, one after the other in version 2, and answers each line. A line ends at a line feed,
 /// and the last may lack it. A line that is refused stores nothing, and the next line follows. The buffers serve each line, and any later
 /// call. See `CompactDoc::parse_json_into` and `BinaryDocumentSerializer`.
 ///

@@ -43,7 +43,7 @@ fn migrated_bytes(
     }
 }
 
-/// Writes the documents of a block, which stand one behind the other in one version of the store, in the shortest encoding of the other, see
+/// Writes the documents of a block, which stand one after the other in one version of the store, in the shortest encoding of the other, see
 /// `tv_store::migrate_block`, and returns how many bytes these take.
 ///
 /// Errors: `BadDocument` for the first document that can't be read, `TooSmall`, `Memory`. The buffer then stays as it is.

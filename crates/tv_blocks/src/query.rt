@@ -117,7 +117,7 @@ fn append_ranges(content: &mut Vec<u8>, ranges: &[TermRange]) -> Result<(), Allo
 }
 
 /// Writes the terms that a text of a query has at what the path names by a schema, see `tv_indexing::terms_of_text`, in their order, and returns
-/// how many bytes these take. Each stands behind its own length in eight bytes, the lowest first.
+/// how many bytes these take. Each stands after its own length in eight bytes, the lowest first.
 ///
 /// Errors: `NotUtf8` where the path or the text isn't UTF-8, else `NoField` where the path names no field, `BadQuery` with `NotIndexed`, `PathEnds`,
 /// `NulInPath` or `BadText`, `TooSmall`, `Memory`. The buffer then stays as it is.

@@ -89,7 +89,7 @@ fn append_block(
     }
 }
 
-/// Writes the terms of a field's values in the documents of a block, in their order, and returns how many bytes these take. Each stands behind
+/// Writes the terms of a field's values in the documents of a block, in their order, and returns how many bytes these take. Each stands after
 /// the number of its document, from 0, and its own length, both in eight bytes, the lowest first. A date is cut to the second, as it is indexed,
 /// and a text is whole. Null, arrays and objects have no term.
 ///
