@@ -130,7 +130,7 @@ impl Round {
 }
 
 impl Call {
-    pub const ALL: [Call; 34] = [
+    pub const ALL: [Call; 37] = [
         Call::ReadJson,
         Call::ParseJson,
         Call::ParseJsonInto,
