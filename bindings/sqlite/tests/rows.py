@@ -80,7 +80,8 @@ def compare_values(db: sqlite3.Connection, schema: str, blob: bytes, text: str) 
                 sys.exit(f"{text}\n  has in {name} the values\n  {rows}")
 
 
-def compare_documents(db: sqlite3.Connection, crate: str) -> int:
+def compare_documents(db: sqlite3.Connection, crate: str, with_values: bool = True) -> int:
+    """Each document as it is stored and printed, and the values of its fields as SQLite has them where these are wanted."""
     with open(crate + "/stdin", "rb") as given, open(crate + "/stdout", "rb") as wanted:
         schema, *lines = given.read().decode().split("\n")
         answers = wanted.read().decode().split("\n")
@@ -97,7 +98,8 @@ def compare_documents(db: sqlite3.Connection, crate: str) -> int:
         expect(line, ask(db, "SELECT kormaglen_store(?, ?)", schema, line), stored)
         expect(line, ask(db, "SELECT kormaglen_json(?, 2, ?)", schema, blob), text)
         expect(line, ask(db, "SELECT kormaglen_check(2, ?)", blob), "None")
-        compare_values(db, schema, blob, text)
+        if with_values:
+            compare_values(db, schema, blob, text)
         expect(line, ask(db, "SELECT kormaglen_migrate(3, kormaglen_migrate(2, ?, 3), 2)", blob), stored)
         for end in range(len(blob)):
             got = ask(db, "SELECT kormaglen_check(2, ?)", blob[:end])
