@@ -54,13 +54,33 @@ fn sink_of<R: System>(
     }
 }
 
-/// Begins an output. A file of this name stays as it is until the output is finished; one that has `.part` after the name may not be there.
+// Whether something stands there that is no file, as a device or a pipe.
+fn is_special<R: System>(rt: &R, name: &str) -> bool {
+    match fs::metadata(rt, name) {
+        Ok(found) => !found.is_file(),
+        Err(_) => false,
+    }
+}
+
+// The standard output, or what is no file: both are written as they stand.
+fn standing<R: System>(rt: &R, name: &str) -> Result<Target<R>, Failure> {
+    if name == "-" {
+        return Ok(Either::Right(StandardOutput(*rt)));
+    }
+    match fs::OpenOptions::new().write(true).open(rt, name) {
+        Ok(file) => Ok(Either::Left(file)),
+        Err(error) => Err(failed(rt.alloc(), name, error)),
+    }
+}
+
+/// Begins an output. A file of this name stays as it is until the output is finished; one that has `.part` after the name may not be there. A device or a pipe
+/// is written as it stands.
 pub(crate) fn create<'r, 'n, R: System>(
     rt: &'r R,
     name: &'n str,
 ) -> Result<Output<'r, 'n, R>, Failure> {
-    if name == "-" {
-        let sink = sink_of(rt, Either::Right(StandardOutput(*rt)))?;
+    if name == "-" || is_special(rt, name) {
+        let sink = sink_of(rt, standing(rt, name)?)?;
         return Ok(Output {
             rt,
             name,
@@ -73,13 +93,18 @@ pub(crate) fn create<'r, 'n, R: System>(
         Ok(file) => file,
         Err(error) => return Err(failed(rt.alloc(), part.as_str(), error)),
     };
-    let sink = sink_of(rt, Either::Left(file))?;
-    Ok(Output {
-        rt,
-        name,
-        part: Some(part),
-        sink,
-    })
+    match sink_of(rt, Either::Left(file)) {
+        Ok(sink) => Ok(Output {
+            rt,
+            name,
+            part: Some(part),
+            sink,
+        }),
+        Err(failure) => {
+            let _ = fs::remove_file(rt, part.as_str());
+            Err(failure)
+        }
+    }
 }
 
 /// Gives up an output. A file that was begun is gone.
