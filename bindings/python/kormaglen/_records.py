@@ -112,7 +112,7 @@ def count_facets(parent: Buffer, pairs: Iterable[Tuple[int, Buffer]]) -> List[Fa
     Raises Refused where the parent isn't UTF-8, and where a facet isn't: `reason` is then `BAD_PAIRS`, and
     `place` the number of the pair, from 0. Raises TypeError where an argument is of another type,
     OverflowError where the number of a document is out of its range, BufferError where bytes don't lie
-    one behind the other, MemoryError where memory is refused, and what the iterable raises.
+    one after the other, MemoryError where memory is refused, and what the iterable raises.
 
     >>> pairs = [(0, "/shop/shoes"), (1, "/shop/hats/red"), (1, "/shop/hats/blue")]
     >>> counts = count_facets(b"shop", [(document, facet_of_text(text)) for document, text in pairs])
