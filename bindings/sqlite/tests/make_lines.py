@@ -1,4 +1,4 @@
-"""Prints a schema's JSON on the first line, and so many documents of products, each on a line: make_lines.py COUNT. They are always the same."""
+"""Prints a schema's JSON on the first line, and COUNT documents of products, each on a line: make_lines.py COUNT. They are always the same."""
 
 import json
 import random

@@ -1,10 +1,10 @@
 /* The extension where things go wrong, as a part of this program: stress PART NUMBER.
  *
- *   refused NUMBER       so many calls that are refused; resident memory stays as it is
- *   interrupted NUMBER   statements, until so many were interrupted
- *   limited NUMBER       statements with a limit on SQLite's memory, in so many steps of 100 bytes above what is in use
+ *   refused NUMBER       NUMBER calls that are refused; resident memory stays as it is
+ *   interrupted NUMBER   statements, until NUMBER were interrupted
+ *   limited NUMBER       statements with a limit on SQLite's memory, in NUMBER steps of 100 bytes above what is in use
  *   starved NUMBER       statements where each 1st, 2nd, .. request for memory is refused, SQLite's or the library's, up to this number
- *   random NUMBER        so many random documents, schemas, lines and queries
+ *   random NUMBER        NUMBER random documents, schemas, lines and queries
  *
  * A statement gives what it gives by itself, or ends with an error that fits. Ends with 1 where one does not. */
 #include "kormaglen.h"
@@ -281,7 +281,7 @@ typedef struct interruption {
     long left;
 } interruption;
 
-/* Interrupts a statement behind so many of its steps, in one way or the other. */
+/* Interrupts a statement after this number of its steps, in one way or the other. */
 static int interrupt(void *data) {
     interruption *it = data;
     it->left -= 1;

@@ -188,7 +188,7 @@ fn facets<'a>(alloc: Global) -> Result<Command<'a>, AllocError> {
                 alloc,
                 "top",
                 "NUMBER",
-                "Only so many, those with the most documents first",
+                "Only this number of children, those with the most documents first",
             )
             .value_parser(clap::value_parser!(u64)))?,
     )

@@ -83,11 +83,12 @@ fn write_line<K: ByteSink>(
     }
 }
 
-/// Appends the documents of a block that a source has left, one after the other in this version, to a sink as lines of JSON by the names of the schema's
-/// fields, as `Document::to_json` prints them, and returns how many there are. (Not in tantivy.)
+/// Appends the documents of a block that a source has left, one after the other in this version, to a sink as lines of JSON by the names of
+/// the schema's fields, as `Document::to_json` prints them, and returns how many there are. (Not in tantivy.)
 ///
-/// Errors: `Read` for the first document that can't be read, with the error of `read_document`; `Write` where a write failed; `Memory`; `TooMany` after 2^64 - 1 documents. The sink then holds the
-/// lines of the documents before that one, and after `Write` and `Memory` also a beginning of the line of that one.
+/// Errors: `Read` for the first document that can't be read, with the error of `read_document`; `Write` where a write failed; `Memory`; `TooMany`
+/// after 2^64 - 1 documents. The sink then holds the lines of the documents before that one, and after `Write` and `Memory` also a beginning of
+/// the line of that one.
 pub fn export_block<S: ByteSource, K: ByteSink>(
     alloc: Global,
     schema: &Schema,
