@@ -5,6 +5,7 @@ pub mod counter;
 pub mod dictionary;
 pub mod documents;
 pub mod failing;
+pub mod files;
 pub mod importer;
 pub mod offsets;
 pub mod query;
