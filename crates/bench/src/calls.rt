@@ -51,6 +51,8 @@ pub enum Call {
     ReadTyped,
     /// From bytes that come in pieces of 64 KiB to documents, by the decoder's steps.
     DecodePieces,
+    /// From bytes that come one at a time to documents.
+    ReadSingleBytes,
     /// From a reader of std to documents.
     ReadSource,
     /// From a reader of std to documents, through a buffer.
@@ -130,7 +132,7 @@ impl Round {
 }
 
 impl Call {
-    pub const ALL: [Call; 37] = [
+    pub const ALL: [Call; 38] = [
         Call::ReadJson,
         Call::ParseJson,
         Call::ParseJsonInto,
@@ -144,6 +146,7 @@ impl Call {
         Call::Migrate,
         Call::ReadTyped,
         Call::DecodePieces,
+        Call::ReadSingleBytes,
         Call::ReadSource,
         Call::ReadBuffered,
         Call::ReadBlock,
@@ -186,6 +189,7 @@ impl Call {
             Call::Migrate => "migrate",
             Call::ReadTyped => "read_typed",
             Call::DecodePieces => "decode_pieces",
+            Call::ReadSingleBytes => "read_single_bytes",
             Call::ReadSource => "read_source",
             Call::ReadBuffered => "read_buffered",
             Call::ReadBlock => "read_block",
@@ -232,6 +236,7 @@ impl Call {
         match self {
             Call::ReadTyped => layer::read_typed_each(alloc, workload),
             Call::DecodePieces => layer::decode_each(alloc, inputs, documents),
+            Call::ReadSingleBytes => layer::read_single_bytes_each(alloc, inputs, documents),
             Call::ReadSource => layer::read_source_each(alloc, inputs, documents),
             Call::ReadBuffered => layer::read_buffered_each(alloc, inputs, documents),
             Call::ReadBlock => layer::read_block_each(alloc, inputs, documents),

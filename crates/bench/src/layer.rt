@@ -79,6 +79,12 @@ pub fn decoded<S: ByteSource>(
     Ok(decoder.into_doc())
 }
 
+/// From bytes that come one at a time to documents.
+pub fn read_single_bytes_each(alloc: Global, inputs: &Inputs, documents: usize) -> Result<Round> {
+    let mut source = PacketSource::new(inputs.block.as_slice(), 1);
+    read_each(alloc, &mut source, documents)
+}
+
 /// From a reader of std to documents.
 pub fn read_source_each(alloc: Global, inputs: &Inputs, documents: usize) -> Result<Round> {
     let mut source = ReadSource::new(inputs.block.as_slice());

@@ -4,6 +4,7 @@ use crate::growth::sample::Sample;
 use crate::growth::{many, nested};
 use crate::workload::{schema_of, stored_bytes};
 use anyhow::{Result, anyhow};
+use embedding::PacketSource;
 use serde_json::Value;
 use std::alloc::Global;
 use tantivy_schema::common::{SliceSource, VecSink, split_json_path};
@@ -17,6 +18,8 @@ pub enum Call {
     Parse,
     /// From stored bytes to a document.
     Read,
+    /// The same from bytes that come one at a time.
+    ReadSingleBytes,
     /// From a document to stored bytes.
     Serialize,
     /// From stored bytes of version 2 to those of version 3.
@@ -81,6 +84,7 @@ impl Call {
         match self {
             Call::Parse => "parse",
             Call::Read => "read",
+            Call::ReadSingleBytes => "read single bytes",
             Call::Serialize => "serialize",
             Call::Migrate => "migrate",
             Call::Print => "print",
@@ -132,6 +136,7 @@ impl Call {
         match self {
             Call::Parse => parse(alloc, sample),
             Call::Read => read(alloc, sample),
+            Call::ReadSingleBytes => read_single_bytes(alloc, sample),
             Call::Serialize => serialize(alloc, sample),
             Call::Migrate => migrated(alloc, sample),
             Call::Print => print(alloc, sample),
@@ -160,6 +165,12 @@ impl Call {
 
 fn read(alloc: Global, sample: &Sample) -> Result<usize> {
     let mut source = SliceSource::new(sample.stored.as_slice());
+    let read = read_document(alloc, &mut source, DocStoreVersion::V2)?;
+    Ok(read.node_data().len())
+}
+
+fn read_single_bytes(alloc: Global, sample: &Sample) -> Result<usize> {
+    let mut source = PacketSource::new(sample.stored.as_slice(), 1);
     let read = read_document(alloc, &mut source, DocStoreVersion::V2)?;
     Ok(read.node_data().len())
 }

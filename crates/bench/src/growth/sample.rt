@@ -163,12 +163,13 @@ fn push_json(json: &mut String, shape: Shape, count: u32) -> Result<()> {
     let (start, end) = match shape {
         Shape::Values => ("{\"numbers\":[", "]}"),
         Shape::Items => ("{\"tree\":{\"items\":[", "]}}"),
+        Shape::Text => ("{\"tree\":{\"text\":\"", "\"}}"),
         Shape::Fields => ("{", "}"),
         _ => ("{\"tree\":{", "}}"),
     };
     json.push_str(start)?;
     for number in 0..count {
-        if number > 0 {
+        if number > 0 && !matches!(shape, Shape::Text) {
             json.push_str(",")?;
         }
         push_part(json, shape, count, number)?;
@@ -180,6 +181,7 @@ fn push_json(json: &mut String, shape: Shape, count: u32) -> Result<()> {
 // One of the many.
 fn push_part(json: &mut String, shape: Shape, count: u32, number: u32) -> Result<()> {
     match shape {
+        Shape::Text => json.push_str("x")?,
         Shape::Fields => write!(json, "\"field{number}\":\"text\"")?,
         Shape::Rising => write!(json, "\"{number:08}\":{number}")?,
         Shape::Falling => write!(json, "\"{:08}\":{number}", count.saturating_sub(number))?,

@@ -19,6 +19,8 @@ pub enum Shape {
     Mixed,
     /// Arrays within arrays.
     Levels,
+    /// Characters of a text.
+    Text,
     /// Fields with a value each.
     Fields,
     /// Steps of a path.
@@ -35,7 +37,7 @@ pub enum Shape {
 
 impl Shape {
     // The shapes, each after the name under which it is asked for.
-    const NAMED: [(&'static str, Shape); 13] = [
+    const NAMED: [(&'static str, Shape); 14] = [
         ("values", Shape::Values),
         ("items", Shape::Items),
         ("rising", Shape::Rising),
@@ -43,6 +45,7 @@ impl Shape {
         ("equal", Shape::Equal),
         ("mixed", Shape::Mixed),
         ("levels", Shape::Levels),
+        ("text", Shape::Text),
         ("fields", Shape::Fields),
         ("steps", Shape::Steps),
         ("lines", Shape::Lines),
@@ -103,6 +106,7 @@ impl Shape {
                 Call::Serialize,
                 Call::Print,
             ],
+            Shape::Text => &[Call::Read, Call::ReadSingleBytes],
             Shape::Steps => &[Call::FindPath, Call::SplitPath],
             Shape::Lines => &[Call::Run],
             Shape::Documents => &[Call::ReadBlock],
