@@ -8,3 +8,4 @@ pub mod RangeSteps
 pub mod JsonRangeSteps
 pub mod TermTexts
 pub mod ByteNumbers
+pub mod ReadBack

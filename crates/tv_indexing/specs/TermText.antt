@@ -1,16 +1,21 @@
 -- The text of a term's value.
 --
--- The word of the public contract:
+-- The words of the public contracts:
 -- `text_of_value`: a text as it is; a number in decimal; a truth value as `true` or `false`; a date, a facet, bytes and an address as the library's
--- JSON has them; and of a value in a JSON object the text of that value. A text and a facet that aren't UTF-8 have none.
-use Rattle.std.specs.Prelude.{◌==◌, ℕ, List, [], Bool, true, false, Option, Some, None, if◌then◌else◌}
+-- JSON has them; and of a value in a JSON object the text of that value. A text and a facet that aren't UTF-8 have none,
+-- nor has a value in a JSON object that is one in a JSON object again: no constructor makes its term.
+-- `IsOfField`: which values of a field are said to be read back of their texts.
+use Rattle.std.specs.Prelude.{◌==◌, ◌<◌, ◌^◌, ℕ, FitsSigned, List, [], Bool, true, false, Option, Some, None, if◌then◌else◌}
 use Rattle.std.specs.Fmt.{decimal, signed_decimal}
+use Rattle.std.specs.Int.{w64}
 use Rattle.std.specs.Option.{option_and_then, option_map}
 use Rattle.base64.specs.Engines.{standard}
-use Rattle.base64.specs.GeneralPurpose.{encode_of}
+use Rattle.base64.specs.GeneralPurpose.{IsBytes, encode_of}
 use Rattle.tv_base.specs.Facet.{printed}
 use Rattle.tv_date.specs.Printed.{moment_text}
 use Rattle.tv_field.specs.JsonTable.{truth_text}
+use Rattle.tv_field.specs.declared.field_type.FieldType.{FieldType}
+use Rattle.tv_field.specs.declared.field_type.FieldType.TheVariants as types
 use Rattle.tv_format.specs.Tree.{Leaf, null, text, unsigned, signed, boolean, date, facet, bytes, ip_address, tokenized}
 use Rattle.tv_json.specs.JsonOf.{address_text}
 use Rattle.tv_options.specs.declared.types.TypeTag.{TypeTag}
@@ -51,6 +56,19 @@ inner value = value
 
 abbrev pub text_of_value : TermValue → Option (List ℕ)
 text_of_value value = option_map leaf_text (value_leaf (inner value))
+
+-- ---- texts that are read back
+
+-- a value of a field's type, which has a term; addresses aside
+abbrev pub IsOfField : FieldType → Leaf → Type 0
+IsOfField (types.Str options) (text t) = Unit {0}
+IsOfField (types.U64 options) (unsigned n) = n < 2 ^ 64
+IsOfField (types.I64 options) (signed z) = FitsSigned w64 z
+IsOfField (types.Bool options) (boolean b) = Unit {0}
+IsOfField (types.Date options) (date z) = FitsSigned w64 z
+IsOfField (types.Facet options) (facet encoded) = Unit {0}
+IsOfField (types.Bytes options) (bytes bs) = IsBytes bs
+IsOfField type l = ⊥
 
 -- ---- for private clauses: the same from the bytes of a value
 

@@ -1,10 +1,12 @@
 //! The texts of the values of terms.
 
-ghost use Rattle.std.specs.Prelude.{◌≡◌, ◌++◌, drop, ℕ, IfOk, IfSome, IsSome, Some, OnOk, option_map, string_bytes};
+ghost use Rattle.std.specs.Prelude.{◌≡◌, ◌++◌, drop, ℕ, IfOk, IfSome, IsSome, Some, OnOk};
+ghost use Rattle.std.specs.Prelude.{option_map, string_bytes};
 ghost use Rattle.std.specs.Net.Addr.{ipv6_bits};
 ghost use Rattle.std.specs.Net.Text.{ip_text};
 ghost use Rattle.std.specs.Option.{option_and_then, option_copied};
-ghost use Rattle.tv_indexing.specs.TermText.{coded_leaf, inner, leaf_text, text_of_value, truth_at, value_leaf};
+ghost use Rattle.tv_indexing.specs.TermText.{coded_leaf, inner, leaf_text, text_of_value};
+ghost use Rattle.tv_indexing.specs.TermText.{truth_at, value_leaf};
 ghost use Rattle.tv_json.specs.JsonOf.{address_text};
 ghost use Rattle.tv_term.specs.Key.{Fits, IsTerm, TermValue, coded_value};
 ghost use Rattle.tv_term.specs.Printed.{text_if_utf8};
@@ -150,6 +152,18 @@ fn push_text(text: &mut String, leaf: ReferenceValueLeaf<'_>) -> Result<(), Allo
 /// the text of that value. (Not in tantivy.)
 ///
 /// `None` where the bytes are no term, or are one of a text or a facet that isn't UTF-8. Errors: memory was refused.
+///
+/// ```
+/// pub fn texts_of_terms(alloc: Global, terms: &TermList) -> Result<Vec<String>> {
+///     let mut texts = Vec::new(alloc);
+///     for term in terms.iter() {
+///         if let Some(text) = text_of_term(alloc, term)? {
+///             texts.push(text)?;
+///         }
+///     }
+///     Ok(texts)
+/// }
+/// ```
 pub fn text_of_term(alloc: Global, term: &[u8]) -> Result<Option<String>, AllocError>
     ensures text { IfOk result (λ text. (field : ℕ) (value : TermValue)
         → IsTerm term.now field value → option_map string_bytes text ≡ text_of_value value) }
