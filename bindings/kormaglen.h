@@ -52,7 +52,8 @@ enum kormaglen_status {
     KORMAGLEN_BAD_QUERY = 13,    /* a text of a query has no terms, or no ranges; detail says why, place is the field, or 0 for NO_RANGE */
     KORMAGLEN_BAD_PAIRS = 14,    /* pairs of a document and a facet are refused; place is where the first such pair begins */
     KORMAGLEN_CLOSED = 15,       /* a handle holds nothing */
-    KORMAGLEN_BAD_ARGUMENT = 16  /* a pointer can't be used; detail says why, place is its number among the call's pointers, from 1 */
+    KORMAGLEN_BAD_ARGUMENT = 16, /* a pointer can't be used; detail says why, place is its number among the call's pointers, from 1 */
+    KORMAGLEN_NOT_A_TERM = 17    /* bytes are no term, or one of a text or a facet that is not UTF-8 */
 };
 
 /* With KORMAGLEN_BAD_SCHEMA: kormaglen_answer.detail. From 6 on it is the key of the entry whose value is missing or is not what it has to
@@ -261,6 +262,13 @@ kormaglen_answer kormaglen_term_of_text(
     uint32_t field,
     const uint8_t *text, size_t text_len,
     uint8_t *term, size_t term_len);
+
+/* Writes the text of a term's value, in UTF-8: a text as it is, a number in decimal, true or false, a date, a facet, bytes and an address as
+ * the library's JSON has them; of a term of a value in a JSON object the text of that value. kormaglen_schema_terms_of_text reads such a text.
+ * Refusals: TOO_SMALL, NO_MEMORY, NOT_A_TERM. */
+kormaglen_answer kormaglen_text_of_term(
+    const uint8_t *term, size_t term_len,
+    uint8_t *text, size_t text_len);
 
 /* Writes the least byte string above all that begin with a prefix: the terms that begin with it are those from the prefix on and below
  * what is written.

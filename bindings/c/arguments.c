@@ -48,6 +48,8 @@ static void test_null(void) {
     expect_refused("pairs", kormaglen_count_facets(NULL, 0, NULL, 1, buffer, 64), KORMAGLEN_ARGUMENT_NULL, 2);
     expect_refused("counts", kormaglen_count_facets(NULL, 0, NULL, 0, NULL, 1), KORMAGLEN_ARGUMENT_NULL, 3);
     expect_refused("term", kormaglen_term_of_text(0, NULL, 1, buffer, 64), KORMAGLEN_ARGUMENT_NULL, 1);
+    expect_refused("term", kormaglen_text_of_term(NULL, 1, buffer, 64), KORMAGLEN_ARGUMENT_NULL, 1);
+    expect_refused("text", kormaglen_text_of_term(buffer, 5, NULL, 1), KORMAGLEN_ARGUMENT_NULL, 2);
     expect_refused("prefix", kormaglen_end_of_prefix(NULL, 1, buffer, 64), KORMAGLEN_ARGUMENT_NULL, 1);
     expect_refused("schema", kormaglen_schema_open(bytes_of(SCHEMA), strlen(SCHEMA), NULL), KORMAGLEN_ARGUMENT_NULL, 2);
     expect_refused("schema", kormaglen_schema_to_json(NULL, buffer, 64), KORMAGLEN_ARGUMENT_NULL, 1);
@@ -97,6 +99,7 @@ static void test_empty(void) {
     expect("no pair", kormaglen_count_facets(NULL, 0, NULL, 0, NULL, 0).status == KORMAGLEN_OK);
     kormaglen_answer term = kormaglen_term_of_text(0, NULL, 0, NULL, 0);
     expect("the term of an empty text has field and type", term.status == KORMAGLEN_TOO_SMALL && term.bytes == 5);
+    expect("no term", kormaglen_text_of_term(NULL, 0, NULL, 0).status == KORMAGLEN_NOT_A_TERM);
     expect("no end", kormaglen_end_of_prefix(NULL, 0, NULL, 0).status == KORMAGLEN_NO_END);
     expect("no JSON", kormaglen_schema_open(NULL, 0, &schema).status == KORMAGLEN_INVALID_JSON);
     expect("no bytes", kormaglen_document_read(2, NULL, 0, &document).status == KORMAGLEN_BAD_DOCUMENT);
@@ -173,6 +176,50 @@ static void test_records(void) {
     expect("no UTF-8", kormaglen_count_facets(pairs + 32, 1, NULL, 0, NULL, 0).status == KORMAGLEN_NOT_UTF8);
 }
 
+/* The text of the term of each type, by the bytes of a term as tantivy has them. */
+static void test_term_texts(void) {
+    static const struct {
+        const char *term;
+        size_t len;
+        const char *text;
+    } of[] = {
+        {"\0\0\0\1sAda", 8, "Ada"},
+        {"\0\0\0\0s", 5, ""},
+        {"\0\0\0\0u\0\0\0\0\0\0\0\x24", 13, "36"},
+        {"\0\0\0\0i\x7F\xFF\xFF\xFF\xFF\xFF\xFF\xFF", 13, "-1"},
+        {"\0\0\0\0o\0\0\0\0\0\0\0\1", 13, "true"},
+        {"\0\0\0\0d\x80\0\0\0\0\0\0\0", 13, "1970-01-01T00:00:00Z"},
+        {"\0\0\0\0hshop\0a/b", 13, "/shop/a\\/b"},
+        {"\0\0\0\0b\0\1", 7, "AAE="},
+        {"\0\0\0\0p\0\0\0\0\0\0\0\0\0\0\xFF\xFF\x7F\0\0\1", 21, "127.0.0.1"},
+        {"\0\0\0\0ja\1b\0i\x80\0\0\0\0\0\0\7", 18, "7"},
+    };
+    uint8_t text[64];
+    for (size_t i = 0; i < sizeof of / sizeof *of; i++) {
+        kormaglen_answer answer = kormaglen_text_of_term(bytes_of(of[i].term), of[i].len, text, sizeof text);
+        expect(of[i].text, answer.status == KORMAGLEN_OK && answer.bytes == strlen(of[i].text) && memcmp(text, of[i].text, strlen(of[i].text)) == 0);
+    }
+    static const struct {
+        const char *bytes;
+        size_t len;
+    } none[] = {
+        {"\0\0\0\0", 4},                        /* no type */
+        {"\0\0\0\0x", 5},                       /* no type's letter */
+        {"\0\0\0\0u\0\0\0\0\0\0\0", 12},      /* seven bytes */
+        {"\0\0\0\0o\0\0\0\0\0\0\0\2", 13},     /* neither false nor true */
+        {"\0\0\0\0s\xFF", 6},                   /* no UTF-8 */
+        {"\0\0\0\0ja", 6},                      /* no zero byte ends the path */
+        {"\0\0\0\0ja\0", 7},                    /* a path alone */
+        {"\0\0\0\0ja\0jb\0sc", 11},             /* a value in JSON is no object */
+    };
+    for (size_t i = 0; i < sizeof none / sizeof *none; i++) {
+        kormaglen_answer answer = kormaglen_text_of_term(bytes_of(none[i].bytes), none[i].len, text, sizeof text);
+        expect("no term", answer.status == KORMAGLEN_NOT_A_TERM && answer.detail == 0 && answer.place == 0 && answer.bytes == 0);
+    }
+    kormaglen_answer size = kormaglen_text_of_term(bytes_of(of[0].term), of[0].len, text, 2);
+    expect("the size", size.status == KORMAGLEN_TOO_SMALL && size.bytes == 3);
+}
+
 static void test_numbers(void) {
     static const uint32_t none[] = {0, 4, 5, 0x7FFFFFFF, 0x80000000, 0xFFFFFFFF};
     for (size_t i = 0; i < sizeof none / sizeof *none; i++) {
@@ -212,12 +259,12 @@ static void test_closed(void) {
 static void test_texts(void) {
     expect("version", strncmp(kormaglen_version(), KORMAGLEN_VERSION, strlen(KORMAGLEN_VERSION)) == 0);
     for (uint32_t status = 0; status < 20; status++) {
-        int is_known = status <= KORMAGLEN_BAD_ARGUMENT;
+        int is_known = status <= KORMAGLEN_NOT_A_TERM;
         expect("status", is_known != (strcmp(kormaglen_status_text(status), "unknown status") == 0));
         expect("line", (status <= KORMAGLEN_LINE_NO_ROOM) != (strcmp(kormaglen_line_status_text(status), "unknown status of a line") == 0));
     }
     static const uint32_t last[] = {0, 0, 0, 0, 0, 0, KORMAGLEN_SCHEMA_EXPAND_DOTS, 0, KORMAGLEN_DOCUMENT_NO_TERM, 0, 0, KORMAGLEN_LINE_NO_ROOM,
-        0, KORMAGLEN_QUERY_FLOAT, 0, 0, KORMAGLEN_ARGUMENT_OVERLAP};
+        0, KORMAGLEN_QUERY_FLOAT, 0, 0, KORMAGLEN_ARGUMENT_OVERLAP, 0};
     for (uint32_t status = 0; status < sizeof last / sizeof *last; status++) {
         for (uint32_t detail = 0; detail < 30; detail++) {
             int is_gap = status == KORMAGLEN_BAD_QUERY && detail > KORMAGLEN_QUERY_BACKWARDS && detail < KORMAGLEN_QUERY_OVERFLOW;
@@ -232,6 +279,7 @@ int main(void) {
     test_empty();
     test_overlap();
     test_size();
+    test_term_texts();
     test_numbers();
     test_records();
     test_closed();

@@ -162,6 +162,11 @@ kormaglen_answer kormaglen_term_of_text(
     return raw_term_of_text(field, input(text), text_len, output(term), term_len);
 }
 
+kormaglen_answer kormaglen_text_of_term(const uint8_t *term, size_t term_len, uint8_t *text, size_t text_len) {
+    REFUSE_UNLESS_GOOD(reads(term, term_len), writes(text, text_len));
+    return raw_text_of_term(input(term), term_len, output(text), text_len);
+}
+
 kormaglen_answer kormaglen_end_of_prefix(const uint8_t *prefix, size_t prefix_len, uint8_t *end, size_t end_len) {
     REFUSE_UNLESS_GOOD(reads(prefix, prefix_len), writes(end, end_len));
     return raw_end_of_prefix(input(prefix), prefix_len, output(end), end_len);

@@ -92,7 +92,10 @@ static void print_range(const uint8_t *block, size_t block_len, const char *pref
     for (size_t i = 0; i < count; i++) {
         if (compare_bytes(found[i].bytes, found[i].len, start, from.bytes) >= 0 &&
             compare_bytes(found[i].bytes, found[i].len, end, to.bytes) < 0) {
-            printf("document %llu: %.*s\n", (unsigned long long)found[i].document, (int)found[i].len - 5, (const char *)found[i].bytes + 5);
+            uint8_t text[64];
+            kormaglen_answer printed = kormaglen_text_of_term(found[i].bytes, (size_t)found[i].len, text, sizeof text);
+            expect_ok("text of a term", printed);
+            printf("document %llu: %.*s\n", (unsigned long long)found[i].document, (int)printed.bytes, (const char *)text);
         }
     }
     free(terms);

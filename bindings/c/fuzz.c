@@ -45,7 +45,7 @@ static const char *const LINES[] = {
 };
 
 static uint64_t state = 0x9E3779B97F4A7C15u;
-enum { CALLS = 24 };
+enum { CALLS = 25 };
 
 static uint64_t calls[CALLS];
 static uint64_t accepted[CALLS];
@@ -278,6 +278,34 @@ static void term_once(int call) {
     free(out);
 }
 
+/* Terms of each type, and one of a value in a JSON object. */
+static const struct {
+    const char *bytes;
+    size_t len;
+} TERMS[] = {
+    {"\0\0\0\0stext", 9},
+    {"\0\0\0\1u\0\0\0\0\0\0\0\7", 13},
+    {"\0\0\0\2i\x7F\xFF\xFF\xFF\xFF\xFF\xFF\xFF", 13},
+    {"\0\0\0\3h" "a\0b", 8},
+    {"\0\0\0\4d\x80\0\0\0\0\0\0\0", 13},
+    {"\0\0\0\5p\0\0\0\0\0\0\0\0\0\0\0\0\0\0\0\1", 21},
+    {"\0\0\0\6b\0\1", 7},
+    {"\0\0\0\7o\0\0\0\0\0\0\0\1", 13},
+    {"\0\0\0\7ja\1b\0sx", 11},
+};
+
+static void term_text_once(void) {
+    uint8_t bytes[LARGEST];
+    size_t which = below(sizeof TERMS / sizeof *TERMS), len = TERMS[which].len;
+    memcpy(bytes, TERMS[which].bytes, len);
+    len = below(4) == 0 ? random_bytes(bytes) : changed(bytes, len);
+    size_t room = below(32);
+    uint8_t *b = copy_of(bytes, len), *out = fresh(room);
+    check(24, kormaglen_text_of_term(b, len, out, room), out, room);
+    free(b);
+    free(out);
+}
+
 static void expect_closed(int closed, kormaglen_answer answer) {
     if ((answer.status == KORMAGLEN_CLOSED) != closed) {
         fail("a closed handle was used, or an open one refused");
@@ -292,10 +320,14 @@ static uint64_t number_at(const uint8_t *bytes) {
     return number;
 }
 
-/* Each term stands behind its length, and the last ends where the answer says. */
+/* Each term stands behind its length and has a text, and the last ends where the answer says. */
 static void check_terms(const uint8_t *terms, uint64_t len) {
     uint64_t at = 0;
+    uint8_t text[2 * LARGEST];
     while (len - at >= 8 && number_at(terms + at) <= len - at - 8) {
+        if (kormaglen_text_of_term(terms + at + 8, (size_t)number_at(terms + at), text, sizeof text).status != KORMAGLEN_OK) {
+            fail("a term of a text has no text");
+        }
         at += 8 + number_at(terms + at);
     }
     if (at != len) {
@@ -746,6 +778,7 @@ int main(int count, char **words) {
             terms_once();
             term_once(7);
             term_once(8);
+            term_text_once();
             handle_once();
             query_once();
             block_once();
@@ -758,7 +791,7 @@ int main(int count, char **words) {
                                          "terms_of_block", "term_of_text", "end_of_prefix", "schema_open", "schema_import_lines",
                                          "schema_export_block", "schema_find_field", "document_read", "document_parse",
                                          "document_to_json", "document_write", "schema_to_json", "arguments", "terms_of_text",
-                                         "ranges_of_text", "values_of_block", "schema_terms", "count_facets"};
+                                         "ranges_of_text", "values_of_block", "schema_terms", "count_facets", "text_of_term"};
     for (int i = 0; i < CALLS; i++) {
         printf("%-19s %10llu calls, %10llu accepted\n", NAMES[i], (unsigned long long)calls[i], (unsigned long long)accepted[i]);
     }

@@ -22,6 +22,7 @@ kormaglen_answer raw_count_facets(
 kormaglen_answer raw_terms_of_block(
     uint32_t field, uint32_t version, const uint8_t *block, size_t block_len, uint8_t *terms, size_t terms_len);
 kormaglen_answer raw_term_of_text(uint32_t field, const uint8_t *text, size_t text_len, uint8_t *term, size_t term_len);
+kormaglen_answer raw_text_of_term(const uint8_t *term, size_t term_len, uint8_t *text, size_t text_len);
 kormaglen_answer raw_end_of_prefix(const uint8_t *prefix, size_t prefix_len, uint8_t *end, size_t end_len);
 
 kormaglen_answer raw_schema_open(const uint8_t *json, size_t json_len, kormaglen_schema *schema);

@@ -28,6 +28,7 @@ const char *kormaglen_status_text(uint32_t status) {
     case KORMAGLEN_BAD_PAIRS: return "a pair of a document and a facet is cut short, or its facet is not UTF-8";
     case KORMAGLEN_CLOSED: return "a handle is closed";
     case KORMAGLEN_BAD_ARGUMENT: return "an argument can't be used";
+    case KORMAGLEN_NOT_A_TERM: return "the bytes are no term";
     default: return "unknown status";
     }
 }

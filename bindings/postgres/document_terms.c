@@ -46,7 +46,9 @@ Datum sql_terms(PG_FUNCTION_ARGS) {
         const bytes term = term_of(terms.start + at);
         text *name = name_of(&it, term);
         bytea *copy = make_blob(&it, term);
-        add_row(&it, (Datum[]){PointerGetDatum(name), PointerGetDatum(copy)}, (bool[]){name == NULL, false});
+        text *value = term_value(&it, DOCUMENT, term);
+        add_row(&it, (Datum[]){PointerGetDatum(name), PointerGetDatum(copy), PointerGetDatum(value)},
+                (bool[]){name == NULL, false, value == NULL});
     }
     return (Datum)0;
 }

@@ -81,6 +81,8 @@ text *make_text(const call *it, bytes utf8);
 bytea *make_blob(const call *it, bytes blob);
 /* The same of a text that the library wrote. */
 text *in_server_encoding(const call *it, struct varlena *utf8);
+/* The same, but NULL where it has the zero character, or one that the encoding has not. */
+text *text_or_null(struct varlena *utf8);
 /* The same for messages: NULL where the encoding lacks a character. */
 char *message_text(bytes utf8);
 
@@ -112,10 +114,12 @@ void put_number(uint8_t *start, uint64_t number);
 void begin_rows(const call *it);
 void add_row(const call *it, Datum *values, bool *nulls);
 
-/* ---- value_texts.c: the text of a value, as the library's JSON has it */
+/* ---- term_texts.c and value_texts.c: the text of a value, as the library's JSON has it */
 
-char *print_date(int64_t nanoseconds);
-char *print_address(const uint8_t *address);
+/* Of a term's value; NULL where PostgreSQL has no such text. */
+text *term_value(const call *it, int argument, bytes term);
+text *print_date(const call *it, int argument, int64_t nanoseconds);
+text *print_address(const call *it, int argument, const uint8_t *address);
 char *print_base64(const call *it, bytes blob);
 
 /* ---- facets.c */

@@ -36,7 +36,8 @@ static int code_of(kormaglen_answer answer) {
     case KORMAGLEN_BAD_SCHEMA: return ERRCODE_INVALID_PARAMETER_VALUE;
     case KORMAGLEN_NO_FIELD: return ERRCODE_UNDEFINED_OBJECT;
     case KORMAGLEN_BAD_DOCUMENT: return is_corrupt(answer) ? ERRCODE_DATA_CORRUPTED : ERRCODE_DATATYPE_MISMATCH;
-    case KORMAGLEN_BAD_PAIRS: return ERRCODE_INVALID_BINARY_REPRESENTATION;
+    case KORMAGLEN_BAD_PAIRS:
+    case KORMAGLEN_NOT_A_TERM: return ERRCODE_INVALID_BINARY_REPRESENTATION;
     case KORMAGLEN_BAD_LINE: return line_code(answer.detail);
     case KORMAGLEN_BAD_QUERY: return query_code(answer.detail);
     case KORMAGLEN_NO_END: return ERRCODE_NO_DATA_FOUND;

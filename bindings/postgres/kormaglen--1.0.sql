@@ -58,9 +58,9 @@ COMMENT ON FUNCTION kormaglen_values IS 'all values of a field, each with its ki
 
 -- Terms, of documents and of texts of queries.
 
-CREATE FUNCTION kormaglen_terms(schema text, version integer, document bytea, OUT field text, OUT term bytea) RETURNS SETOF record
-    AS 'MODULE_PATHNAME', 'sql_terms' LANGUAGE C IMMUTABLE STRICT PARALLEL SAFE COST 200 ROWS 16;
-COMMENT ON FUNCTION kormaglen_terms IS 'the terms of a stored document, each with the name of its field';
+CREATE FUNCTION kormaglen_terms(schema text, version integer, document bytea, OUT field text, OUT term bytea, OUT value text)
+    RETURNS SETOF record AS 'MODULE_PATHNAME', 'sql_terms' LANGUAGE C IMMUTABLE STRICT PARALLEL SAFE COST 200 ROWS 16;
+COMMENT ON FUNCTION kormaglen_terms IS 'the terms of a stored document, each with the name of its field and its value as a text';
 
 CREATE FUNCTION kormaglen_field(schema text, path text) RETURNS bigint
     AS 'MODULE_PATHNAME', 'sql_field' LANGUAGE C IMMUTABLE STRICT PARALLEL SAFE COST 10;
@@ -69,6 +69,10 @@ COMMENT ON FUNCTION kormaglen_field IS 'the number of the field that a path name
 CREATE FUNCTION kormaglen_term(schema text, path text, "text" text) RETURNS bytea
     AS 'MODULE_PATHNAME', 'sql_term' LANGUAGE C IMMUTABLE STRICT PARALLEL SAFE COST 25;
 COMMENT ON FUNCTION kormaglen_term IS 'the one term that a text has at a path';
+
+CREATE FUNCTION kormaglen_term_text(term bytea) RETURNS text
+    AS 'MODULE_PATHNAME', 'sql_term_text' LANGUAGE C IMMUTABLE STRICT PARALLEL SAFE COST 2;
+COMMENT ON FUNCTION kormaglen_term_text IS 'the value of a term, as a text';
 
 CREATE FUNCTION kormaglen_range_start(schema text, path text, "text" text) RETURNS bytea
     AS 'MODULE_PATHNAME', 'sql_range_start' LANGUAGE C IMMUTABLE STRICT PARALLEL SAFE COST 25;

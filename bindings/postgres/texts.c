@@ -31,6 +31,15 @@ text *in_server_encoding(const call *it, struct varlena *utf8) {
     return make_text(it, written);
 }
 
+text *text_or_null(struct varlena *utf8) {
+    const bytes written = {(const uint8_t *)VARDATA(utf8), VARSIZE(utf8) - VARHDRSZ};
+    if (GetDatabaseEncoding() == PG_UTF8 && memchr(written.start, 0, written.len) == NULL) {
+        return utf8;
+    }
+    const char *converted = message_text(written);
+    return converted != NULL ? cstring_to_text(converted) : NULL;
+}
+
 bytea *make_blob(const call *it, bytes blob) {
     if (blob.len > MaxAllocSize - VARHDRSZ) {
         refuse_size(it, blob.len);

@@ -68,10 +68,10 @@ static text *text_of(const call *it, value of) {
     case KORMAGLEN_VALUE_U64: return cstring_to_text_with_len(digits, pg_ulltoa_n(number_at(of.bytes.start), digits));
     case KORMAGLEN_VALUE_I64: return cstring_to_text_with_len(digits, pg_lltoa(integer_of(of), digits));
     case KORMAGLEN_VALUE_BOOL: return cstring_to_text(of.bytes.start[0] != 0 ? "true" : "false");
-    case KORMAGLEN_VALUE_DATE: return cstring_to_text(print_date(integer_of(of)));
+    case KORMAGLEN_VALUE_DATE: return print_date(it, DOCUMENT, integer_of(of));
     case KORMAGLEN_VALUE_FACET: return print_facet(it, DOCUMENT, of.bytes);
     case KORMAGLEN_VALUE_BYTES: return cstring_to_text(print_base64(it, of.bytes));
-    case KORMAGLEN_VALUE_IP_ADDR: return cstring_to_text(print_address(of.bytes.start));
+    case KORMAGLEN_VALUE_IP_ADDR: return print_address(it, DOCUMENT, of.bytes.start);
     default: elog(ERROR, "%s: kind %llu", it->signature->name, (unsigned long long)of.kind);
     }
 }

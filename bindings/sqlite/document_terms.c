@@ -1,7 +1,7 @@
 /* kormaglen_terms(schema, version, document): the terms of a document's values. */
 #include "extension.h"
 
-enum { FIELD, TYPE, TERM, COLUMNS };
+enum { FIELD, TYPE, TERM, VALUE, COLUMNS };
 
 typedef struct document_terms {
     opened_schema *schema;
@@ -64,14 +64,15 @@ static void give_column(call *it, const cursor *at, int column) {
     switch (column) {
     case FIELD: give_name(it, at->schema, term); break;
     case TYPE: sqlite3_result_text(it->context, word_of(term), -1, SQLITE_STATIC); break;
-    default: sqlite3_result_blob64(it->context, term.start, term.len, SQLITE_TRANSIENT);
+    case TERM: sqlite3_result_blob64(it->context, term.start, term.len, SQLITE_TRANSIENT); break;
+    default: give_term_text(it, term);
     }
 }
 
 const table DOCUMENT_TERMS = {
     .signature = {"kormaglen_terms", {"schema", "version", "document"}},
-    .declaration = "CREATE TABLE it(field TEXT, type TEXT, term BLOB, kormaglen_schema HIDDEN, kormaglen_version HIDDEN, "
-                   "kormaglen_document HIDDEN)",
+    .declaration = "CREATE TABLE it(field TEXT, type TEXT, term BLOB, value TEXT, kormaglen_schema HIDDEN, "
+                   "kormaglen_version HIDDEN, kormaglen_document HIDDEN)",
     .columns = COLUMNS,
     .rows = 16,
     .fill = fill,

@@ -22,6 +22,7 @@ static const function FUNCTIONS[] = {
     {{"kormaglen_facet_pairs", {"document", "facet"}}, add_pair, give_pairs},
     {{"kormaglen_field", {"schema", "path"}}, give_field, NULL},
     {{"kormaglen_term", {"schema", "path", "text"}}, give_term, NULL},
+    {{"kormaglen_term_text", {"term"}}, print_term, NULL},
     {{"kormaglen_range_start", {"schema", "path", "text"}}, give_range_start, NULL},
     {{"kormaglen_range_end", {"schema", "path", "text"}}, give_range_end, NULL},
 };

@@ -157,13 +157,12 @@ bool append_printed(call *it, bytes encoded, buffer *to);
 void add_pair(call *it);
 void give_pairs(call *it);
 
-/* ---- value_texts.c */
+/* ---- term_texts.c: each ends the call with a text that the library's JSON has, too */
 
-enum { DATE_TEXT = 40, ADDRESS_TEXT = 48 };
-
-/* Print a date and an address as the library's JSON has them, and end the text with a zero byte. */
-void print_date(int64_t nanoseconds, char text[DATE_TEXT]);
-void print_address(const uint8_t address[16], char text[ADDRESS_TEXT]);
+void print_term(call *it);
+void give_term_text(call *it, bytes term);
+void give_date(call *it, int64_t nanoseconds);
+void give_address(call *it, const uint8_t *address);
 
 /* ---- values.c */
 

@@ -43,18 +43,6 @@ static void give_unsigned(call *it, uint64_t number) {
     }
 }
 
-static void give_date(call *it, int64_t nanoseconds) {
-    char text[DATE_TEXT];
-    print_date(nanoseconds, text);
-    sqlite3_result_text(it->context, text, -1, SQLITE_TRANSIENT);
-}
-
-static void give_address(call *it, const uint8_t *address) {
-    char text[ADDRESS_TEXT];
-    print_address(address, text);
-    sqlite3_result_text(it->context, text, -1, SQLITE_TRANSIENT);
-}
-
 /* Ends the call with a value, as the type that SQLite has for it. */
 static void give_value(call *it, value of) {
     const uint8_t *start = of.bytes.start;

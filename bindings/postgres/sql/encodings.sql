@@ -14,7 +14,7 @@ SELECT json AS s FROM schema \gset
 SELECT encode(convert_to('é', 'LATIN1'), 'hex'), encode(kormaglen_store(:'s', '{"été":"é","more":{"é":"ü"}}'), 'hex');
 SELECT kormaglen_json(:'s', 2, kormaglen_store(:'s', '{"été":"é","more":{"é":"ü"}}'));
 SELECT kormaglen_value(:'s', 2, kormaglen_store(:'s', '{"été":"é"}'), 'été'), kormaglen_facet_text(kormaglen_facet('/é/ü'));
-SELECT field, encode(term, 'hex') FROM kormaglen_terms(:'s', 2, kormaglen_store(:'s', '{"été":"é","more":{"é":"ü"}}'));
+SELECT field, encode(term, 'hex'), value, kormaglen_term_text(term) FROM kormaglen_terms(:'s', 2, kormaglen_store(:'s', '{"été":"é","more":{"é":"ü"}}'));
 SELECT encode(term, 'hex') FROM kormaglen_query_terms(:'s', 'more.é', 'ü');
 SELECT encode(kormaglen_term(:'s', 'été', 'é'), 'hex'), encode(kormaglen_range_end(:'s', 'été', 'é*'), 'hex');
 SELECT kormaglen_facet_counts('/é', 1, kormaglen_facet('/é/ü'));
@@ -26,6 +26,8 @@ SELECT kormaglen_field(:'s', 'é');
 SELECT encode(kormaglen_store(:'s', '{"été":"\u68da"}'), 'hex');
 SELECT kormaglen_json(:'s', 2, kormaglen_store(:'s', '{"été":"\u68da"}'));
 SELECT kormaglen_value(:'s', 2, kormaglen_store(:'s', '{"été":"\u68da"}'), 'été');
+SELECT encode(term, 'hex'), value IS NULL FROM kormaglen_terms(:'s', 2, kormaglen_store(:'s', '{"été":"\u68da"}'));
+SELECT kormaglen_term_text('\x0000000073e6a39a');
 SELECT field FROM kormaglen_terms(:'s', 2, kormaglen_store(:'s', '{"\u68da":1}'));
 -- A database without an encoding, where the bytes have to be UTF-8.
 \connect postgres

@@ -6,7 +6,7 @@ SELECT json AS s FROM schema \gset
 -- fields of paths
 SELECT kormaglen_field(:'s', 'name'), kormaglen_field(:'s', 'price'), kormaglen_field(:'s', 'more'), kormaglen_field(:'s', 'more.a.b'), kormaglen_field(:'s', NULL);
 -- the terms of a document, of indexed fields
-SELECT field, hex(term) FROM kormaglen_terms(:'s', 2, kormaglen_store(:'s', '{"name":["Lamp","lamp"],"price":20,"kind":"/shop/light","added":"1970-01-01T00:00:01.5Z","more":{"a":1},"note":"x"}'));
+SELECT field, hex(term), value FROM kormaglen_terms(:'s', 2, kormaglen_store(:'s', '{"name":["Lamp","lamp"],"price":20,"kind":"/shop/light","added":"1970-01-01T00:00:01.5Z","more":{"a":1},"note":"x"}'));
 -- in JSON objects: a text, a number, a truth value and a date
 SELECT field, hex(term) FROM kormaglen_terms(:'s', 2, kormaglen_store(:'s', '{"more":{"a":["x",1,true],"b":{"c":"y"}}}'));
 -- in the list of what is selected
@@ -17,6 +17,13 @@ SELECT count(*) FROM kormaglen_terms(:'s', 2, NULL);
 SELECT count(*) FROM kormaglen_terms(NULL, 2, '\x80');
 -- terms of texts: a text, a number, a facet, a date
 SELECT hex(kormaglen_term(:'s', 'name', 'Lamp')), hex(kormaglen_term(:'s', 'price', '20')), hex(kormaglen_term(:'s', 'kind', '/shop/light')), hex(kormaglen_term(:'s', 'added', '1970-01-01T00:00:01.5Z'));
+-- texts of terms: of numbers, a truth value, bytes, addresses, of a value in a JSON object; an empty one, and NULL
+SELECT kormaglen_term_text('\x0000000075FFFFFFFFFFFFFFFF'), kormaglen_term_text('\x00000000697FFFFFFFFFFFFFFF'), kormaglen_term_text('\x000000006F0000000000000001'), kormaglen_term_text('\x00000000620001');
+SELECT kormaglen_term_text('\x000000007000000000000000000000FFFF7F000001'), kormaglen_term_text('\x000000007000000000000000000000000000000001'), kormaglen_term_text('\x000000006A61016200737A'), kormaglen_term_text('\x0000000073') = '', kormaglen_term_text(NULL);
+-- a text of a query, and the text of its term
+SELECT path, text, kormaglen_term_text(kormaglen_term(:'s', path, text)) FROM (VALUES ('name', 'Lamp'), ('price', '+020'), ('kind', '/shop/light'), ('added', '1970-01-01T01:00:01.5+01:00'), ('more.a', 'x')) AS given(path, text);
+-- a text with the zero character, which PostgreSQL has not
+SELECT encode(term, 'hex'), value FROM kormaglen_terms(:'s', 2, kormaglen_store(:'s', '{"name":"a\u0000b"}'));
 -- at a path: a text, and a text that is a number too
 SELECT hex(kormaglen_term(:'s', 'more.a', 'x')), hex(kormaglen_term(:'s', 'more.a\.b', 'x'));
 SELECT hex(term) FROM kormaglen_query_terms(:'s', 'more.a', '1');

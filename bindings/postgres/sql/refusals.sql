@@ -29,6 +29,8 @@ SELECT refusals('kormaglen_terms', $$:s, 2, '\x8109000000010100000000000000'$$, 
 -- facets
 SELECT refusals('kormaglen_facet', $$'shop'$$, $$''$$);
 SELECT refusals('kormaglen_facet_text', $$'\xFF'$$);
+-- terms: no type, no type's letter, seven bytes of a number, no UTF-8, a path alone, the zero character
+SELECT refusals('kormaglen_term_text', $$'\x00000000'$$, $$'\x0000000078'$$, $$'\x000000007500000000000000'$$, $$'\x0000000073FF'$$, $$'\x000000006A6100'$$, $$'\x00000000736100'$$);
 -- queries
 SELECT refusals('kormaglen_field', $$:s, 'prize'$$);
 SELECT refusals('kormaglen_term', $$:s, 'prize', '1'$$, $$:s, 'price.a', '1'$$, $$:s, 'price', '-1'$$, $$:s, 'note', 'x'$$, $$:s, 'more', 'x'$$, $$:s, 'more.a', '1'$$);

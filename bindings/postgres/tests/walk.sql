@@ -32,7 +32,7 @@ END $$;
 CREATE TRIGGER indexed AFTER INSERT OR UPDATE OR DELETE ON product FOR EACH ROW EXECUTE FUNCTION index_product();
 INSERT INTO product VALUES (100001, kormaglen_store(:'schema', '{"name":"Lamp shade","price":19,"kind":"/shop/light","more":{"size":90}}'));
 VACUUM ANALYZE product, term;
-SELECT field, term FROM product, kormaglen_terms(:'schema', 2, stored) WHERE id = 100001;
+SELECT field, value, term FROM product, kormaglen_terms(:'schema', 2, stored) WHERE id = 100001;
 
 SELECT count(DISTINCT id) FROM term
 WHERE term >= kormaglen_range_start(:'schema', 'price', '[12 TO 20}') AND term < kormaglen_range_end(:'schema', 'price', '[12 TO 20}');

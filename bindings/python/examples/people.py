@@ -17,7 +17,7 @@ def print_range(block: bytes, prefix: str) -> None:
     end = kormaglen.end_of_prefix(start)
     found = [(term, document) for document, term in kormaglen.terms(0, block) if start <= term < end]
     for term, document in sorted(found):
-        print(f"document {document}: {term[5:].decode()}")
+        print(f"document {document}: {kormaglen.text_of_term(term)}")
 
 
 def print_between(schema: kormaglen.Schema, block: bytes, path: str, text: str) -> None:

@@ -41,6 +41,7 @@ from kormaglen._blocks import (
     terms,
     terms_of_block,
     text_of_facet,
+    text_of_term,
 )
 from kormaglen._builder import STRING, TEXT, Indexing, SchemaBuilder
 from kormaglen._document import Document
@@ -113,4 +114,5 @@ __all__ = [
     "terms",
     "terms_of_block",
     "text_of_facet",
+    "text_of_term",
 ]

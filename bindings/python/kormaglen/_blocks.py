@@ -129,6 +129,23 @@ def term_of_text(field: int, value: str) -> bytes:
         )
 
 
+def text_of_term(term: Buffer) -> str:
+    """The text of a term's value: a text as it is, a number in decimal, `true` or `false`, and a date, a
+    facet, bytes and an address as the library's JSON has them. Of a term of a value in a JSON object it
+    is the text of that value. `Schema.terms_of_text` reads it.
+
+    Raises Refused where the bytes are no term, or are one of a text or a facet that isn't UTF-8, TypeError
+    where it is no buffer, BufferError where the bytes don't lie one behind the other.
+
+    >>> text_of_term(bytes.fromhex("00000001" "75" "0000000000000024"))
+    '36'
+    """
+    with Lent(term, "term") as given:
+        return filled(
+            given.size + 16, lambda at, size: CALLS.kormaglen_text_of_term(given.at, given.size, at, size)
+        ).decode()
+
+
 def end_of_prefix(prefix: Buffer) -> bytes:
     """The least bytes above all that begin with a prefix: the terms that begin with it are those from
     the prefix on and below this.

@@ -64,6 +64,7 @@ _SIGNATURES: Dict[str, Tuple[List[Any], Any]] = {
     "count_facets": (_GIVEN + _GIVEN + _WRITTEN, Answer),
     "terms_of_block": ([_NUMBER, _NUMBER] + _GIVEN + _WRITTEN, Answer),
     "term_of_text": ([_NUMBER] + _GIVEN + _WRITTEN, Answer),
+    "text_of_term": (_GIVEN + _WRITTEN, Answer),
     "end_of_prefix": (_GIVEN + _WRITTEN, Answer),
     "schema_open": (_GIVEN + [_SCHEMA], Answer),
     "schema_close": ([_SCHEMA], None),

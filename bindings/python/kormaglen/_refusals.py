@@ -52,6 +52,7 @@ class Status(_Numbers):
     BAD_PAIRS = 14
     CLOSED = 15
     BAD_ARGUMENT = 16
+    NOT_A_TERM = 17
 
 
 class SchemaFault(_Numbers):

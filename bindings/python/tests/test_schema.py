@@ -348,6 +348,13 @@ class Messages(unittest.TestCase):
         with self.assertRaises(K.Refused) as caught:
             K.text_of_facet(b"\xff")
         self.assertEqual(caught.exception.reason, K.Status.NOT_UTF8)
+        for given in (b"", b"\0\0\0\0x", b"\0\0\0\0u\0", b"\0\0\0\0s\xff", b"\0\0\0\0ja\0"):
+            with self.assertRaises(K.Refused) as caught:
+                K.text_of_term(given)
+            self.assertEqual(
+                (caught.exception.reason, str(caught.exception)),
+                (K.Status.NOT_A_TERM, "the bytes are no term"),
+            )
 
     def test_they_are_pickled(self) -> None:
         for refused in (

@@ -384,6 +384,26 @@ class Facets(unittest.TestCase):
             with self.assertRaises(TypeError):
                 K.text_of_facet(other)
 
+    def test_the_texts_of_terms(self) -> None:
+        for term, text in (
+            (b"\0\0\1\2s\xc3\xa9", "é"),
+            (b"\0\0\0\0s", ""),
+            (b"\0\0\0\0u\xff\xff\xff\xff\xff\xff\xff\xff", "18446744073709551615"),
+            (b"\0\0\0\0i\x7f\xff\xff\xff\xff\xff\xff\xff", "-1"),
+            (b"\0\0\0\0o\0\0\0\0\0\0\0\1", "true"),
+            (b"\0\0\0\0d\x80\0\0\0\0\0\0\0", "1970-01-01T00:00:00Z"),
+            (b"\0\0\0\0ha\0b/c", "/a/b\\/c"),
+            (b"\0\0\0\0b\0\1", "AAE="),
+            (b"\0\0\0\0p" + b"\0" * 10 + b"\xff\xff\x7f\0\0\1", "127.0.0.1"),
+            (b"\0\0\0\0p" + b"\0" * 15 + b"\1", "::1"),
+            (b"\0\0\0\0ja\1b\0i\x80\0\0\0\0\0\0\7", "7"),
+        ):
+            self.assertEqual(K.text_of_term(term), text)
+        self.assertEqual(K.text_of_term(bytearray(b"\0\0\0\0sa")), "a")
+        for other in ("a", None, 5):
+            with self.assertRaises(TypeError):
+                K.text_of_term(other)
+
     def test_terms_and_prefixes(self) -> None:
         self.assertEqual(K.term_of_text(258, "é"), b"\0\0\x01\x02s\xc3\xa9")
         self.assertEqual(K.end_of_prefix(b"a"), b"b")

@@ -71,6 +71,8 @@ def streams(by: K.Schema) -> Dict[str, int]:
     terms: List[bytes] = by.terms_of_text("age", "1")
     ranges: List[Tuple[bytes, Optional[bytes]]] = by.ranges_of_text("age", "[1 TO 2}")
     assert ranges[0][0] <= terms[0]
+    printed: str = K.text_of_term(terms[0])
+    assert printed == "1"
     return {
         "parts": len(list(parts)),
         "lines": counts.lines,

@@ -5,7 +5,7 @@
 
 use kormaglen::{
     count_facets, end_of_prefix, facet_of_text, migrate_block, term_of_text, terms, text_of_facet,
-    Document, Refusal, Schema, Value, Version,
+    text_of_term, Document, Refusal, Schema, Value, Version,
 };
 
 const SCHEMA: &[u8] = br#"[{"name":"name","type":"text","options":{"stored":true}},
@@ -58,8 +58,7 @@ fn print_range(block: &[u8], prefix: &str) -> Result<(), Refusal> {
     found.retain(|term| start <= term.bytes && term.bytes < end);
     found.sort_by(|one, other| one.bytes.cmp(&other.bytes));
     for term in found {
-        // The text stands behind the field's number and the code of texts.
-        println!("document {}: {}", term.document, String::from_utf8_lossy(&term.bytes[5..]));
+        println!("document {}: {}", term.document, text_of_term(&term.bytes)?);
     }
     Ok(())
 }

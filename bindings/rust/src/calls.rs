@@ -121,6 +121,12 @@ mod c {
             term: *mut u8,
             term_len: usize,
         ) -> Answer;
+        pub(super) fn kormaglen_text_of_term(
+            term: *const u8,
+            term_len: usize,
+            text: *mut u8,
+            text_len: usize,
+        ) -> Answer;
         pub(super) fn kormaglen_end_of_prefix(
             prefix: *const u8,
             prefix_len: usize,
@@ -339,6 +345,12 @@ pub(crate) fn term_of_text(field: u32, text: &[u8], term: &mut [u8]) -> Answer {
     let (room, room_len) = (term.as_mut_ptr(), term.len());
     // SAFETY: both are slices, and they don't overlap.
     unsafe { c::kormaglen_term_of_text(field, text.as_ptr(), text.len(), room, room_len) }
+}
+
+pub(crate) fn text_of_term(term: &[u8], text: &mut [u8]) -> Answer {
+    let (room, room_len) = (text.as_mut_ptr(), text.len());
+    // SAFETY: both are slices, and they don't overlap.
+    unsafe { c::kormaglen_text_of_term(term.as_ptr(), term.len(), room, room_len) }
 }
 
 pub(crate) fn end_of_prefix(prefix: &[u8], end: &mut [u8]) -> Answer {

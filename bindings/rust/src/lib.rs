@@ -24,6 +24,7 @@
 //! | list the terms of all fields | [`Schema::terms_of_block`] |
 //! | list the terms of a field | [`terms()`], all at once [`terms_of_block`] |
 //! | find the terms of a prefix | [`term_of_text`], [`end_of_prefix`] |
+//! | print a term | [`text_of_term`] |
 //! | find those of a query's text | [`Schema::terms_of_text`], [`Schema::ranges_of_text`] |
 //!
 //! A [`Document`] is one document at a time. [`Schema::find_field`] finds the field that a path
@@ -71,7 +72,7 @@ pub use reader::{ImportError, ImportedBlocks};
 pub use reasons::{ArgumentReason, DocumentReason, LineReason, QueryReason, SchemaReason};
 pub use refusal::{LineRefusal, QueryRefusal, Refusal};
 pub use schema::{find_field, Field, Schema};
-pub use terms::{end_of_prefix, term_of_text, terms, terms_of_block, Term, Terms};
+pub use terms::{end_of_prefix, term_of_text, terms, terms_of_block, text_of_term, Term, Terms};
 pub use values::{FieldValue, Value};
 
 /// The version of the library that is linked. That of a library that was built without its proof

@@ -18,6 +18,7 @@ const NO_END: u32 = 10;
 const FOREIGN_FIELD: u32 = 12;
 const BAD_PAIR: u32 = 14;
 const CLOSED: u32 = 15;
+const NOT_A_TERM: u32 = 17;
 
 /// Why a call was refused. It prints as the library's words, with the entry, the byte or the field.
 ///
@@ -90,6 +91,8 @@ pub enum Refusal {
         /// The number of the pointer among those of the call, from 1.
         pointer: u64,
     },
+    /// The bytes are no term, or are one of a text or a facet that isn't UTF-8.
+    NotATerm,
     /// An answer that this crate has no name for.
     Unknown {
         /// The number of the answer.
@@ -125,6 +128,7 @@ impl Refusal {
             Refusal::BadPair { .. } => BAD_PAIR,
             Refusal::Closed => CLOSED,
             Refusal::BadArgument { .. } => BAD_ARGUMENT,
+            Refusal::NotATerm => NOT_A_TERM,
             Refusal::Unknown { status, .. } => *status,
         }
     }
@@ -289,6 +293,7 @@ impl Answer {
             (BAD_ARGUMENT, _) => {
                 Refusal::BadArgument { reason: ArgumentReason::of_number(detail), pointer: place }
             }
+            (NOT_A_TERM, _) => Refusal::NotATerm,
             _ => Refusal::Unknown { status, detail, place },
         }
     }

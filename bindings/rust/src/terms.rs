@@ -1,7 +1,7 @@
 //! The terms of stored values, and where those of a prefix end.
 
 use crate::blocks::Version;
-use crate::buffer::{append, filled};
+use crate::buffer::{append, filled, filled_text};
 use crate::calls;
 use crate::document::Document;
 use crate::documents::{documents, Documents};
@@ -185,6 +185,28 @@ pub(crate) fn first_term(list: &mut &[u8]) -> Option<Result<Term, Refusal>> {
 /// `Memory`, `TooLarge`.
 pub fn term_of_text(field: u32, text: &str) -> Result<Vec<u8>, Refusal> {
     filled(text.len() + 5, |term| calls::term_of_text(field, text.as_bytes(), term))
+}
+
+/// The text of a term's value: a text as it is, a number in decimal, `true` or `false`, and a date, a
+/// facet, bytes and an address as the library's JSON has them. Of a term of a value in a JSON object
+/// it is the text of that value. [`Schema::terms_of_text`](crate::Schema::terms_of_text) reads it.
+///
+/// ```
+/// use kormaglen::{text_of_term, Refusal};
+///
+/// assert_eq!(text_of_term(b"\0\0\0\x01u\0\0\0\0\0\0\0\x24")?, "36");
+/// assert_eq!(text_of_term(b"\0\0\0\x02ja\x01b\0sAda")?, "Ada");
+/// assert_eq!(text_of_term(b"\0\0\0\x01u\x24"), Err(Refusal::NotATerm));
+/// # Ok::<(), Refusal>(())
+/// ```
+///
+/// # Errors
+///
+/// `NotATerm` where the bytes are no term, or are one of a text or a facet that isn't UTF-8;
+/// `Memory`, `TooLarge`.
+pub fn text_of_term(term: &[u8]) -> Result<String, Refusal> {
+    // What takes more room than this, as bytes and dates, is asked for again.
+    filled_text(term.len() + 16, |text| calls::text_of_term(term, text))
 }
 
 /// The least byte string above all that begin with a prefix: the terms that begin with it are those

@@ -5,8 +5,8 @@ mod common;
 use common::{stored_number, stored_text, SCHEMA};
 use kormaglen::{
     count_facets, end_of_prefix, export_block, facet_of_text, find_field, import_lines,
-    migrate_block, term_of_text, terms_of_block, text_of_facet, Document, Refusal, Schema, Value,
-    Version,
+    migrate_block, term_of_text, terms_of_block, text_of_facet, text_of_term, Document, Refusal,
+    Schema, Value, Version,
 };
 use std::net::Ipv6Addr;
 
@@ -70,6 +70,33 @@ fn the_terms_of_a_prefix_have_ends() {
     assert_eq!(term_of_text(258, "ab").unwrap(), b"\0\0\x01\x02sab");
     assert_eq!(end_of_prefix(b"\0\0\0\0sab").unwrap(), b"\0\0\0\0sac");
     assert_eq!(end_of_prefix(b"a\xff\xff").unwrap(), b"b");
+}
+
+#[test]
+fn terms_have_texts() {
+    let texts = [
+        (&b"\0\0\0\x01sAda"[..], "Ada"),
+        (b"\0\0\0\0s", ""),
+        (b"\0\0\0\0u\xff\xff\xff\xff\xff\xff\xff\xff", "18446744073709551615"),
+        (b"\0\0\0\0i\x7f\xff\xff\xff\xff\xff\xff\xff", "-1"),
+        (b"\0\0\0\0o\0\0\0\0\0\0\0\0", "false"),
+        // A second and a half after 1970, in nanoseconds from the least number on.
+        (b"\0\0\0\0d\x80\0\0\0\x59\x68\x2f\0", "1970-01-01T00:00:01.5Z"),
+        (b"\0\0\0\0hshop\0a/b", "/shop/a\\/b"),
+        (b"\0\0\0\0b\0\x01", "AAE="),
+        (b"\0\0\0\0p\0\0\0\0\0\0\0\0\0\0\0\0\0\0\0\x01", "::1"),
+        (b"\0\0\0\0ja\x01b\0o\0\0\0\0\0\0\0\x01", "true"),
+    ];
+    for (term, text) in texts {
+        assert_eq!(text_of_term(term).unwrap(), text);
+    }
+    for bytes in [&b""[..], b"\0\0\0\0", b"\0\0\0\0x", b"\0\0\0\0s\xff", b"\0\0\0\0ja\0"] {
+        assert_eq!(text_of_term(bytes), Err(Refusal::NotATerm));
+    }
+    let mut schema = Schema::open(INDEXED).unwrap();
+    for term in schema.terms_of_text("u", "7").unwrap() {
+        assert_eq!(text_of_term(&term).unwrap(), "7");
+    }
 }
 
 /// Fields that are indexed: 0 of texts, 1 of numbers, 2 of JSON objects.

@@ -5,8 +5,8 @@ mod common;
 use common::SCHEMA;
 use kormaglen::{
     count_facets, documents, end_of_prefix, export_block, facet_of_text, find_field, import_lines,
-    migrate_block, term_of_text, terms, terms_of_block, text_of_facet, Document, DocumentReason,
-    Refusal, Schema, Version,
+    migrate_block, term_of_text, terms, terms_of_block, text_of_facet, text_of_term, Document,
+    DocumentReason, Refusal, Schema, Version,
 };
 
 const ROUNDS: u64 = 3000;
@@ -129,6 +129,8 @@ fn random_texts_have_terms_and_facets_or_are_refused() {
         let text = String::from_utf8_lossy(&bytes);
         let term = term_of_text(7, &text).unwrap();
         assert_eq!(term, [b"\0\0\0\x07s", text.as_bytes()].concat());
+        assert_eq!(text_of_term(&term).unwrap(), text);
+        let _ = text_of_term(&bytes);
         if let Ok(end) = end_of_prefix(&bytes) {
             assert!(end > bytes);
         }

@@ -5,8 +5,8 @@ mod common;
 use common::SCHEMA;
 use kormaglen::{
     count_facets, end_of_prefix, export_block, facet_of_text, find_field, import_lines,
-    migrate_block, terms_of_block, text_of_facet, Document, DocumentReason, LineReason,
-    QueryReason, Refusal, Schema, SchemaReason, Version,
+    migrate_block, terms_of_block, text_of_facet, text_of_term, Document, DocumentReason,
+    LineReason, QueryReason, Refusal, Schema, SchemaReason, Version,
 };
 use std::error::Error;
 use std::fmt::Display;
@@ -32,6 +32,7 @@ fn refusals_without_a_place_have_numbers_and_words() {
     expect_status(find_field(SCHEMA, "none").unwrap_err(), 7);
     expect_status(migrate_block(Version::V2, b"", Version::V1).unwrap_err(), 9);
     expect_status(end_of_prefix(b"\xff\xff").unwrap_err(), 10);
+    expect_status(text_of_term(b"").unwrap_err(), 17);
     let mut schema = Schema::open(SCHEMA).unwrap();
     expect_status(Document::new().to_json(&mut schema).unwrap_err(), 15);
     expect_status(Document::new().write(&mut schema, Version::V2).unwrap_err(), 15);

@@ -34,7 +34,8 @@ static const char *const STATEMENTS[] = {
     "SELECT kormaglen_facet_text(kormaglen_facet('/a/b\\/c'))",
     "SELECT kormaglen_field(?1, 'more.size'), hex(kormaglen_term(?1, 'price', '20')), hex(kormaglen_term(?1, 'more.a', 'x'))",
     "SELECT hex(kormaglen_range_start(?1, 'price', '[1 TO 2}')), hex(kormaglen_range_end(?1, 'name', 'la*'))",
-    "SELECT field, hex(term), kormaglen_version FROM kormaglen_terms(?1, 2, kormaglen_store(?1, ?2))",
+    "SELECT field, hex(term), value, kormaglen_version FROM kormaglen_terms(?1, 2, kormaglen_store(?1, ?2))",
+    "SELECT kormaglen_term_text(kormaglen_term(?1, 'price', '20')), kormaglen_term_text(kormaglen_term(?1, 'kind', '/shop'))",
     "SELECT hex(term) FROM kormaglen_query_terms(?1, 'more.size', '12')",
     "SELECT hex(start), hex(\"end\") FROM kormaglen_query_ranges(?1, 'more.size', '[1 TO 2]')",
     "SELECT hex(start), hex(\"end\") FROM kormaglen_query_ranges(?1, 'more.size', '1*')",
@@ -49,6 +50,7 @@ static const char *const STATEMENTS[] = {
     "SELECT hex(kormaglen_facet_pairs(1, x'61')), hex(kormaglen_facet_pairs(NULL, '/a')) FROM json_each('[1,2,3]')",
     "SELECT kormaglen_store(?1, '{\"price\":\"' || ?2 || '\"}')",
     "SELECT kormaglen_term(?1, 'price', 'x')",
+    "SELECT kormaglen_term_text(x'00000000')",
     "SELECT kormaglen_term(?1, 'more.size', '1')",
     "SELECT kormaglen_json(?1, 4, x'')",
     "SELECT kormaglen_json(?1, 2, x'8000')",
@@ -66,7 +68,7 @@ static const char *const STATEMENTS[] = {
     "SELECT facet FROM kormaglen_facet_counts('/', x'00') WHERE ?1 <> ''",
     "SELECT facet FROM kormaglen_facet_counts(substr(?1, 1, 1), x'')",
 };
-enum { COUNT = sizeof STATEMENTS / sizeof *STATEMENTS, FIRST_REFUSED = 17 };
+enum { COUNT = sizeof STATEMENTS / sizeof *STATEMENTS, FIRST_REFUSED = 18 };
 
 typedef struct outcome {
     int code;
@@ -415,6 +417,8 @@ static const char *const RANDOM_STATEMENTS[] = {
     "SELECT kormaglen_facet(?4)",
     "SELECT kormaglen_field(?1, ?4)",
     "SELECT kormaglen_term(?1, ?6, ?4)",
+    "SELECT kormaglen_term_text(kormaglen_term(?1, ?6, ?4)), kormaglen_term_text(?3)",
+    "SELECT kormaglen_term_text(?3)",
     "SELECT kormaglen_range_start(?1, ?6, ?4)",
     "SELECT kormaglen_range_end(?1, ?6, ?4)",
     "SELECT * FROM kormaglen_terms(?1, ?5, ?3)",

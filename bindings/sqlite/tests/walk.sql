@@ -26,7 +26,7 @@ CREATE TRIGGER product_added AFTER INSERT ON product BEGIN
 END;
 INSERT OR IGNORE INTO term SELECT term, id FROM product, kormaglen_terms(:schema, 2, stored);
 INSERT INTO product(stored) VALUES (kormaglen_store(:schema, '{"name":"Lamp shade","price":19}'));
-SELECT field, type, hex(term) FROM product, kormaglen_terms(:schema, 2, stored) WHERE id = 3;
+SELECT field, type, value, hex(term) FROM product, kormaglen_terms(:schema, 2, stored) WHERE id = 3;
 
 SELECT id FROM term
 WHERE term >= kormaglen_range_start(:schema, 'price', '[12 TO 20}') AND term < kormaglen_range_end(:schema, 'price', '[12 TO 20}');

@@ -6,7 +6,9 @@ use case_words::schemas::schema;
 use std::alloc::Global;
 use std::fmt::Write;
 use tv_doc::document::CompactDoc;
-use tv_indexing::{TermList, range_of_text, ranges_of_text, term_values, terms_of_text};
+use tv_indexing::{
+    TermList, range_of_text, ranges_of_text, term_values, terms_of_text, text_of_term,
+};
 use tv_schema::Schema;
 
 /// What a call about terms returns.
@@ -19,6 +21,8 @@ pub fn answer(alloc: Global, call: &[&str]) -> Result<String> {
         ("document", [json]) => of_document(alloc, &schema, json),
         ("sorted", [json]) => sorted(alloc, &schema, json),
         ("text", texts) => of_texts(alloc, &schema, texts),
+        ("printed", [path, text]) => printed(alloc, &schema, path, text),
+        ("bytes", [digits]) => printed_bytes(alloc, digits),
         ("range", [path, text]) => of_range(alloc, &schema, path, text),
         ("ranges", [path, text]) => of_ranges(alloc, &schema, path, text),
         _ => Err(anyhow!("an unknown call about terms")),
@@ -90,6 +94,28 @@ fn of_texts(alloc: Global, schema: &Schema, texts: &[&str]) -> Result<String> {
     }
     answer.push_str(shown(alloc, &terms)?.as_str())?;
     Ok(answer)
+}
+
+// The text that bytes have as a term, or that they have none.
+fn printed_bytes(alloc: Global, digits: &str) -> Result<String> {
+    match text_of_term(alloc, words::bytes(alloc, digits)?.as_slice())? {
+        Some(text) => words::quoted(alloc, text.as_str()),
+        None => words::none(alloc),
+    }
+}
+
+// The text of each term of a text.
+fn printed(alloc: Global, schema: &Schema, path: &str, text: &str) -> Result<String> {
+    let (path, text) = (words::text(alloc, path)?, words::text(alloc, text)?);
+    let mut terms = TermList::new(alloc);
+    terms_of_text(alloc, schema, path.as_str(), text.as_str(), &mut terms)?;
+    let mut texts = Vec::new(alloc);
+    for term in terms.iter() {
+        if let Some(printed) = text_of_term(alloc, term)? {
+            texts.push(words::quoted(alloc, printed.as_str())?)?;
+        }
+    }
+    words::joined(alloc, texts.as_slice())
 }
 
 // The bytes of each term of a list.

@@ -11,7 +11,8 @@ ghost use Rattle.tv_blocks.specs.Fields.{FindsInText, IsPathAnswer};
 ghost use Rattle.tv_blocks.specs.Imports.{ImportsInto};
 ghost use Rattle.tv_blocks.specs.Refusals.{IsBlockRefusal, IsExportRefusal};
 ghost use Rattle.tv_blocks.specs.Refusals.{IsFacetRefusal, IsTextRefusal};
-ghost use Rattle.tv_blocks.specs.Terms.{IsEnd, IsEndRefusal, IsTermList, IsTextTerm};
+ghost use Rattle.tv_blocks.specs.Terms.{IsEnd, IsEndRefusal, IsTermList, IsTermRefusal};
+ghost use Rattle.tv_blocks.specs.Terms.{IsTermText, IsTextTerm};
 ghost use Rattle.kormaglen_c.specs.Answers.{AnswersFill, AnswersFound, AnswersImport};
 ghost use Rattle.kormaglen_c.specs.Answers.{IsWrongVersion, TellsField, write_numbered};
 ghost use Rattle.tv_format.specs.WriteVersion.{written_version};
@@ -196,6 +197,14 @@ pub extern "C" fn raw_term_of_text(
         result }
 {
     written_answer(tv_blocks::term_of_text(alloc, field, text, term))
+}
+
+/// Writes the text of a term's value, see `tv_blocks::text_of_term`.
+#[unsafe(no_mangle)]
+pub extern "C" fn raw_text_of_term(alloc: Global, term: &[u8], text: &mut [u8]) -> Answer
+    ensures { AnswersFill (IsTermText term.now) (IsTermRefusal term.now) text.old text.new result }
+{
+    written_answer(tv_blocks::text_of_term(alloc, term, text))
 }
 
 /// Writes the least byte string above all that begin with a prefix, see `tv_blocks::end_of_prefix`.

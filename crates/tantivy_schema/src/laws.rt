@@ -37,7 +37,7 @@ pub use tv_format::laws::{
     short_values_encode, values_have_one_reading,
 };
 pub use tv_heap::laws::places_read_as_one_tree;
-pub use tv_indexing::laws::terms_of_texts_are_of_no_other_value;
+pub use tv_indexing::laws::{terms_of_texts_are_of_no_other_value, texts_of_values_are_read_back};
 /// The laws of legacy objects, and of values and documents that have them.
 pub use tv_legacy::laws as legacy;
 pub use tv_options::laws::{

@@ -94,6 +94,7 @@ error_answer (errors.ForeignField field) = nothing_written 12 0 field
 error_answer (errors.BadQuery why) = nothing_written 13 (query_number why) (query_field why)
 error_answer (errors.NoTerms start refusal) = nothing_written 8 (terms_number refusal) start
 error_answer (errors.BadPair start) = nothing_written 14 0 start
+error_answer errors.NotTerm = nothing_written 17 0 0
 
 abbrev pub call_answer : Result ℕ BlockError → Answer
 call_answer (Ok bytes) = record { status = 0; detail = 0; place = 0; bytes = bytes; lines = 0 }

@@ -1,4 +1,4 @@
--- The terms of a field's values in a block, and where a prefix of terms ends.
+-- The terms of a field's values in a block, the text of a term, and where a prefix of terms ends.
 use Rattle.std.specs.Prelude.{◌≡◌, ℕ, suc, List, [], ◌∷◌, ◌++◌, length, Option, Some, None, IsUtf8}
 use Rattle.std.specs.Global.{Vec}
 use Rattle.std.specs.List.{flat_map}
@@ -9,8 +9,9 @@ use Rattle.tv_doc.specs.FieldValues.{values_of}
 use Rattle.tv_format.specs.Tree.{Document}
 use Rattle.tv_format.specs.Version.{Version}
 use Rattle.tv_indexing.specs.LeafTerms.{tree_value}
+use Rattle.tv_indexing.specs.TermText.{text_of_value}
 use Rattle.tv_store.specs.BlockMigration.{EncodesBlock}
-use Rattle.tv_term.specs.Key.{TermValue, Text, term}
+use Rattle.tv_term.specs.Key.{TermValue, Text, IsTerm, term}
 use Rattle.tv_term.specs.Range.{EndsPrefix}
 
 -- the record of a document's number and the value's term
@@ -45,6 +46,17 @@ IsEnd prefix content = (end : Vec ℕ) × (end.items ≡ content) × EndsPrefix 
 abbrev pub IsEndRefusal : List ℕ → BlockError → Type 0
 IsEndRefusal prefix errors.NoEnd = EndsPrefix prefix None
 IsEndRefusal prefix e = ⊥
+
+-- ---- the text of a term
+
+-- the bytes are a term, and this is the text of its value
+abbrev pub IsTermText : List ℕ → List ℕ → Type 0
+IsTermText bytes content = (field : ℕ) × (value : TermValue) × IsTerm bytes field value × (text_of_value value ≡ Some content)
+
+-- they are no term of a value that has a text
+abbrev pub IsTermRefusal : List ℕ → BlockError → Type 0
+IsTermRefusal bytes errors.NotTerm = (field : ℕ) (value : TermValue) → IsTerm bytes field value → text_of_value value ≡ None
+IsTermRefusal bytes e = ⊥
 
 -- ---- for private clauses
 

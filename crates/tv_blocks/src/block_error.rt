@@ -111,6 +111,9 @@ pub enum BlockError {
         /// Where among the records it begins.
         start: u64,
     },
+    /// The bytes are no term, or are one of a text or a facet that isn't UTF-8.
+    #[error("the bytes are no term")]
+    NotTerm,
 }
 
 impl From<TermError> for BlockError {

@@ -42,5 +42,5 @@ pub use query_refusal::QueryRefusal;
 pub use schema_terms::schema_terms_of_block;
 pub use schema_text::{print_schema, read_schema};
 pub use status::Answer;
-pub use terms::{end_of_prefix, term_of_text, terms_of_block};
+pub use terms::{end_of_prefix, term_of_text, terms_of_block, text_of_term};
 pub use terms_refusal::TermsRefusal;

@@ -19,7 +19,8 @@ pub struct Answer {
     /// names no facet, 5 where the schema isn't JSON, 6 where the JSON describes no schema, 7 where the path names no field, 8 where a document
     /// of the block is refused, 9 where there is no such version of the store, 10 where a prefix has no end, 11 where there is no document of
     /// a line, 12 where a document has a field that the schema doesn't have, 13 where a text of a query has no terms or no ranges of them, 14
-    /// where the record of a document and a facet is cut short or its facet isn't UTF-8, and 15 where a handle is closed.
+    /// where the record of a document and a facet is cut short or its facet isn't UTF-8, 15 where a handle is closed, and 17
+    /// where bytes are no term.
     pub status: u32,
     /// With status 6 why there is no schema: 1 for a bad name, 2 for a name that comes twice, 3 for too many fields, 4 for an entry that is no
     /// object, or with `place` 0 a whole that is no array, 5 for a field of type `f64`; or the key whose value in the entry is not as it has to
@@ -184,6 +185,7 @@ pub fn error_answer(error: BlockError) -> Answer
             refusal: why,
         } => refusal(8, why.number(), start),
         BlockError::BadPair { start } => refusal(14, 0, start),
+        BlockError::NotTerm => refusal(17, 0, 0),
     }
 }
 

@@ -1,11 +1,12 @@
-//! Terms of stored values, and where those of a prefix end.
+//! Terms of stored values, their texts, and where those of a prefix end.
 
 ghost use Rattle.std.specs.Prelude.{◌≡◌, ◌++◌, [], IfErr, OnOk};
 ghost use Rattle.tv_blocks.specs.Blocks.{IsRefusedBlock};
 ghost use Rattle.tv_blocks.specs.Buffer.{FillsBuffer};
 ghost use Rattle.tv_blocks.specs.Refusals.{IsBlockRefusal, IsTextRefusal};
 ghost use Rattle.tv_blocks.specs.Terms.{document_records, term_record};
-ghost use Rattle.tv_blocks.specs.Terms.{IsEnd, IsEndRefusal, IsTermList, IsTextTerm};
+ghost use Rattle.tv_blocks.specs.Terms.{IsEnd, IsEndRefusal, IsTermList, IsTermRefusal};
+ghost use Rattle.tv_blocks.specs.Terms.{IsTermText, IsTextTerm};
 ghost use Rattle.tv_doc.specs.Document.{document_of};
 ghost use Rattle.tv_indexing.specs.LeafTerms.{tree_value};
 ghost use Rattle.tv_reader.specs.Version.{version_of};
@@ -132,6 +133,19 @@ pub fn term_of_text(
     };
     let made = Term::from_field_text(alloc, Field::from_field_id(field), text)?;
     put_whole(made.serialized_term(), term)
+}
+
+/// Writes the text of a term's value, see `tv_indexing::text_of_term`, and returns its length in bytes.
+///
+/// Errors: `NotTerm` where the bytes are no term, or are one of a text or a facet that isn't UTF-8, `TooSmall`, `Memory`. The buffer then stays
+/// as it is.
+pub fn text_of_term(alloc: Global, term: &[u8], text: &mut [u8]) -> Result<u64, BlockError>
+    ensures { FillsBuffer (IsTermText term.now) (IsTermRefusal term.now) text.old text.new result }
+{
+    match tv_indexing::text_of_term(alloc, term)? {
+        Some(content) => put_whole(content.as_bytes(), text),
+        None => Err(BlockError::NotTerm),
+    }
 }
 
 /// Writes the least byte string above all that begin with a prefix, see `successor`, and returns its length in bytes. So the terms that

@@ -6,3 +6,6 @@ pub mod TextLaws
 pub mod TextSteps
 pub mod RangeSteps
 pub mod JsonRangeSteps
+pub mod TermTexts
+pub mod ByteNumbers
+pub mod ReadBack

@@ -9,3 +9,4 @@ pub mod TextTerms
 pub mod TextRange
 pub mod JsonBounds
 pub mod JsonRanges
+pub mod TermText

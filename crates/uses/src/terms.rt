@@ -7,7 +7,7 @@ use tantivy_schema::DateTime;
 use tantivy_schema::schema::{
     DocumentFacet, Facet, FacetCount, Field, INDEXED, Schema, TEXT, TantivyDocument, Term,
     TermList, TermRange, TermWriter, count_child_documents, count_child_facets, greatest_counts,
-    range_of_text, ranges_of_text, term_values, terms_of_text,
+    range_of_text, ranges_of_text, term_values, terms_of_text, text_of_term,
 };
 
 /// The term of a text at a path into the objects of a JSON field.
@@ -128,6 +128,17 @@ pub fn terms_of_price(alloc: Global, schema: &Schema) -> Result<TermList> {
     let mut terms = TermList::new(alloc);
     terms_of_text(alloc, schema, "price", "12", &mut terms)?;
     Ok(terms)
+}
+
+/// The texts of the values of terms.
+pub fn texts_of_terms(alloc: Global, terms: &TermList) -> Result<Vec<String>> {
+    let mut texts = Vec::new(alloc);
+    for term in terms.iter() {
+        if let Some(text) = text_of_term(alloc, term)? {
+            texts.push(text)?;
+        }
+    }
+    Ok(texts)
 }
 
 /// The range of the terms that a query's text has in the field `price`: from 10 on, and below 20.

@@ -6,7 +6,7 @@ use tv_blocks::status::{error_answer, import_answer, written_answer, wrong_versi
 use tv_blocks::{
     Answer, BlockError, DocumentRefusal, FoundField, Imported, LineAnswer, LineRefusal,
     ValueRefusal, export_block, facet_of_text, find_field, import_lines, migrate_block,
-    text_of_facet,
+    text_of_facet, text_of_term,
 };
 use tv_format::version::WriteVersion;
 use tv_store::DocStoreVersion;
@@ -178,6 +178,24 @@ fn facets_are_encoded_and_printed(rt: HostRuntime) -> Result<(), Fail> {
     assert!(rt; &bytes == b"/a/b\\/c\xa5");
     assert!(rt; facet_of_text(alloc, b"a", &mut bytes) == Err(BlockError::NotFacet));
     assert!(rt; text_of_facet(alloc, b"\xff", &mut bytes) == Err(BlockError::NotUtf8));
+    Ok(())
+}
+
+#[test]
+fn terms_have_texts(rt: HostRuntime) -> Result<(), Fail> {
+    let alloc = rt.alloc();
+    let mut bytes = [KEPT; 8];
+    let number = b"\0\0\0\x01u\0\0\0\0\0\0\x01\x02";
+    assert!(rt; text_of_term(alloc, number, &mut bytes) == Ok(3));
+    assert!(rt; &bytes == b"258\xa5\xa5\xa5\xa5\xa5");
+    assert!(rt; text_of_term(alloc, b"\0\0\0\x04ja\x01b\0sx", &mut bytes) == Ok(1));
+    assert!(rt; &bytes == b"x58\xa5\xa5\xa5\xa5\xa5");
+    let short = BlockError::TooSmall { bytes: 3, lines: 0 };
+    assert!(rt; text_of_term(alloc, number, &mut bytes[..2]) == Err(short));
+    assert!(rt; text_of_term(alloc, b"\0\0\0\0s\xff", &mut bytes) == Err(BlockError::NotTerm));
+    assert!(rt; text_of_term(alloc, b"", &mut bytes) == Err(BlockError::NotTerm));
+    assert!(rt; &bytes == b"x58\xa5\xa5\xa5\xa5\xa5");
+    assert!(rt; error_answer(BlockError::NotTerm).status == 17);
     Ok(())
 }
 
