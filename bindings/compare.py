@@ -65,7 +65,7 @@ def main() -> None:
     if "".join(each.to_json() + "\n" for each in by.documents(whole.block)) != printed:
         sys.exit("the documents one by one aren't those of the block")
     if kormaglen.migrate_block(3, kormaglen.migrate_block(2, whole.block, 3), 2) != whole.block:
-        sys.exit("the block isn't the same behind version 3")
+        sys.exit("the block isn't the same after version 3")
     print(f"{len(lines)} lines, {len(stored)} of them stored, agree")
 
 

@@ -11,7 +11,7 @@
  * length 0 only asks for the size. After every other refusal the buffers are as they were, too. Each call below names its refusals; each may
  * also refuse a pointer as KORMAGLEN_BAD_ARGUMENT, and then buffers and handles are as they were.
  *
- * A block has documents one behind the other, as a block of a document store has them. A schema is its JSON, as tantivy writes it, or a
+ * A block has documents one after the other, as a block of a document store has them. A schema is its JSON, as tantivy writes it, or a
  * handle that holds one, so that its JSON is read once.
  *
  * A handle is the caller's struct, and what it holds is the library's: a schema, or a document. One that is all zeros is closed. Whoever
@@ -190,7 +190,7 @@ const char *kormaglen_status_text(uint32_t status);
 const char *kormaglen_detail_text(uint32_t status, uint32_t detail);
 const char *kormaglen_line_status_text(uint32_t status);
 
-/* Stores the documents of lines of JSON, one behind the other in version 2, and answers each line. A line ends at a line feed, and the last
+/* Stores the documents of lines of JSON, one after the other in version 2, and answers each line. A line ends at a line feed, and the last
  * may lack it. A line that is refused stores nothing, and the next line follows. bytes is the block's size, lines the number of answers.
  * Refusals: TOO_SMALL, NO_MEMORY, INVALID_JSON, BAD_SCHEMA. */
 kormaglen_answer kormaglen_import_lines(
@@ -335,7 +335,7 @@ kormaglen_answer kormaglen_schema_find_field(
     const uint8_t *path, size_t path_len,
     kormaglen_found_field *found);
 
-/* Writes the terms that a text of a query has at what the path names by the handle's schema, in their order: each behind its own length in
+/* Writes the terms that a text of a query has at what the path names by the handle's schema, in their order: each after its own length in
  * eight bytes, the lowest first. In a field that is not of JSON objects it is the one term of the value that the text writes: a number in
  * decimal, true or false, a date by RFC 3339, a facet's path, base64, an address, or the text itself. At a path into JSON objects the text has
  * the term of itself, and also those of the number, the truth value and the date that it writes. The terms are those that documents have

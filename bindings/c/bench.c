@@ -1,5 +1,5 @@
 /* Prints how many nanoseconds a document takes in each call: the first argument is a file with a schema's JSON on its first line and a
- * document's on each other line, the second how often each call is made. The best of these counts. The lines behind these are calls with the
+ * document's on each other line, the second how often each call is made. The best of these counts. The lines after these are calls with the
  * first document alone: an import with the schema's JSON, and with a handle; and by a handle of a document. */
 #include "kormaglen.h"
 

@@ -12,7 +12,7 @@ typedef struct region {
     bool is_written;
 } region;
 
-/* What a NULL pointer with length 0 stands for: the proved calls want a pointer that isn't NULL, and touch nothing behind it. */
+/* What a NULL pointer with length 0 stands for: the proved calls want a pointer that isn't NULL, and touch nothing at it. */
 static uint64_t nothing[1];
 
 static const uint8_t *input(const uint8_t *bytes) {

@@ -66,7 +66,7 @@ static void fail(const char *why) {
     exit(1);
 }
 
-/* An exact copy on the heap, so that a read or a write behind it is seen. */
+/* An exact copy on the heap, so that a read or a write after it is seen. */
 static uint8_t *copy_of(const uint8_t *bytes, size_t len) {
     uint8_t *copy = malloc(len == 0 ? 1 : len);
     if (copy == NULL) {
@@ -132,7 +132,7 @@ static void check(int call, kormaglen_answer answer, const uint8_t *buffer, size
     }
     for (size_t i = from; i < len; i++) {
         if (buffer[i] != KEPT) {
-            fail("a byte changed behind what was written");
+            fail("a byte changed after what was written");
         }
     }
 }
@@ -320,7 +320,7 @@ static uint64_t number_at(const uint8_t *bytes) {
     return number;
 }
 
-/* Each term stands behind its length and has a text, and the last ends where the answer says. */
+/* Each term stands after its length and has a text, and the last ends where the answer says. */
 static void check_terms(const uint8_t *terms, uint64_t len) {
     uint64_t at = 0;
     uint8_t text[2 * LARGEST];
@@ -335,7 +335,7 @@ static void check_terms(const uint8_t *terms, uint64_t len) {
     }
 }
 
-/* Start and end of each range stand behind their lengths, and the last end is where the answer says. */
+/* Start and end of each range stand after their lengths, and the last end is where the answer says. */
 static void check_ranges(const uint8_t *ranges, uint64_t len) {
     uint64_t at = 0;
     while (at < len) {

@@ -1,5 +1,5 @@
 /* Imports a file of JSON lines of any size in bounded memory: import_file SCHEMA LINES BLOCK. Whole lines of some megabytes are imported at a
- * time, and their documents are written to BLOCK. Each refused line is told on standard error, as LINES:3: field 1: a value is of another kind
+ * time, and their documents are written to BLOCK. Each refused line is reported on standard error, as LINES:3: field 1: a value is of another kind
  * than the field's. Ends with 1 where a line was refused, and with 2 where a file or the schema can't be used. */
 #include "kormaglen.h"
 

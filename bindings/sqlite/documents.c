@@ -1,4 +1,4 @@
-/* Stored documents. A blob is always one whole document: more than one, or bytes behind it, are refused. */
+/* Stored documents. A blob is always one whole document: more than one, or bytes after it, are refused. */
 #include "extension.h"
 
 /* What is written of a document that its schema's handle has. */

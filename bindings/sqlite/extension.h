@@ -18,7 +18,7 @@ typedef struct bytes {
     size_t len;
 } bytes;
 
-/* A name in SQL, and the names of the arguments, which messages use; NULL stands behind the last one. */
+/* A name in SQL, and the names of the arguments, which messages use; NULL stands after the last one. */
 typedef struct signature {
     const char *name;
     const char *arguments[ARGUMENTS + 1];
@@ -182,7 +182,7 @@ uint8_t type_of(bytes term);
 /* Reads arguments 1 and 2, of a call that has a schema. */
 bool query_arguments(call *it, query *of);
 
-/* Appends records as the library writes them: of terms, each behind its length, and of ranges, each behind two lengths. */
+/* Appends records as the library writes them: of terms, each after its length, and of ranges, each after two lengths. */
 bool append_terms(call *it, query *of, buffer *to);
 bool append_ranges(call *it, query *of, buffer *to);
 /* How long such a record is, and its parts. The end of a range that has none is NULL. */

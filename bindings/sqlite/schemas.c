@@ -1,11 +1,11 @@
 /* Schemas that were read. A statement keeps the one of a constant argument as auxiliary data. Where the argument is no constant, as with a
- * subquery, SQLite ends the auxiliary data behind each call. So what ends goes to the connection's cache, and the next call takes it from
+ * subquery, SQLite ends the auxiliary data after each call. So what ends goes to the connection's cache, and the next call takes it from
  * there if its JSON is the same. */
 #include "extension.h"
 
 #include <string.h>
 
-/* What worked on more bytes than these isn't kept behind its statement, for the memory that it holds. */
+/* What worked on more bytes than these isn't kept after its statement, for the memory that it holds. */
 enum { LARGEST_KEPT = 1 << 20 };
 
 cache *new_cache(void) {
@@ -43,7 +43,7 @@ void leave_cache(void *left) {
     }
 }
 
-/* The copy of the JSON stands behind the struct. */
+/* The copy of the JSON stands after the struct. */
 static opened_schema *open_schema(call *it, bytes json) {
     opened_schema *opened = sqlite3_malloc64(sizeof *opened + json.len);
     if (opened == NULL) {

@@ -33,10 +33,10 @@ def print_query(schema: kormaglen.Schema, path: str, text: str) -> None:
     try:
         terms = schema.terms_of_text(path, text)
     except kormaglen.QueryRefused as refused:
-        words = str(refused).split(": ", 1)[1]  # (behind the name of the field)
+        words = str(refused).split(": ", 1)[1]  # (after the name of the field)
         print(f"field {refused.field_number}: {words}")
     else:
-        # In a list of the library's each term stands behind its length.
+        # In a list of the library's each term stands after its length.
         print(f"{path} {text}: {len(terms)} term, {sum(8 + len(term) for term in terms)} bytes")
 
 

@@ -1,7 +1,7 @@
 """Schemas, stored documents, terms and facets of tantivy 0.26.2, by calls of a library that is proved.
 This package tests arguments and hands them over; it needs no other package.
 
-A `Schema` holds a schema, a `Document` one document. A block has documents one behind the other, as a
+A `Schema` holds a schema, a `Document` one document. A block has documents one after the other, as a
 block of a document store has them.
 
 >>> schema = SchemaBuilder().text("name", stored=True).u64("age", indexed=True, stored=True).build()
@@ -19,7 +19,7 @@ TypeError, and a number out of its range an OverflowError; neither reaches the l
 is a MemoryError. After an error everything is as it was.
 
 Where an argument is bytes, anything with the buffer protocol is taken: bytes, bytearray, memoryview,
-mmap, array. Its bytes have to lie one behind the other, else that is a BufferError. Bytes, and a
+mmap, array. Its bytes have to be contiguous, else that is a BufferError. Bytes, and a
 memoryview of them, are read where they lie. Of what may change, a copy is read, which is made at the
 call's beginning while no other thread of Python runs; the calls that go by parts copy one part at a
 time. A file that is mapped must not become shorter meanwhile: then the system ends the process.

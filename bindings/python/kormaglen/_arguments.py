@@ -124,7 +124,7 @@ class View:
     resized, but another thread may change them.
 
     Raises TypeError where the value has no bytes, ValueError for a memoryview that was released,
-    BufferError where the bytes don't lie one behind the other.
+    BufferError where the bytes aren't contiguous.
     """
 
     __slots__ = ("_view", "at", "size")

@@ -61,7 +61,7 @@ def migrate_block(source: int, block: Buffer, target: int) -> bytes:
 
     Raises DocumentRefused where bytes hold none, VersionRefused for another version, TypeError where an
     argument is of another type, OverflowError where a version doesn't fit 32 bits, BufferError where
-    the bytes don't lie one behind the other, MemoryError where memory is refused.
+    the bytes aren't contiguous, MemoryError where memory is refused.
 
     >>> migrate_block(2, bytes.fromhex("8100000000012400000000000000"), 3).hex()
     '8100000000012400000000000000'
@@ -135,7 +135,7 @@ def text_of_term(term: Buffer) -> str:
     is the text of that value. `Schema.terms_of_text` reads it.
 
     Raises Refused where the bytes are no term, or are one of a text or a facet that isn't UTF-8, TypeError
-    where it is no buffer, BufferError where the bytes don't lie one behind the other.
+    where it is no buffer, BufferError where the bytes aren't contiguous.
 
     >>> text_of_term(bytes.fromhex("00000001" "75" "0000000000000024"))
     '36'
@@ -151,7 +151,7 @@ def end_of_prefix(prefix: Buffer) -> bytes:
     the prefix on and below this.
 
     Raises Refused where no bytes are above them, as for a prefix of bytes 255 alone, TypeError where it
-    is no buffer, BufferError where the bytes don't lie one behind the other.
+    is no buffer, BufferError where the bytes aren't contiguous.
 
     >>> end_of_prefix(b"ab")
     b'ac'
@@ -182,7 +182,7 @@ def text_of_facet(encoded: Buffer) -> str:
     """The text that names an encoded facet.
 
     Raises Refused where the bytes aren't UTF-8, TypeError where it is no buffer, BufferError where the
-    bytes don't lie one behind the other.
+    bytes aren't contiguous.
 
     >>> text_of_facet(b"staff\\x00research")
     '/staff/research'

@@ -133,7 +133,7 @@ class Document(Held, Mapping[str, List[Any]]):
 
         Raises DocumentRefused where none begins there, VersionRefused for another version, Closed where
         the schema is closed, TypeError where an argument is of another type, OverflowError where the
-        version doesn't fit 32 bits, BufferError where the bytes don't lie one behind the other,
+        version doesn't fit 32 bits, BufferError where the bytes aren't contiguous,
         MemoryError where memory is refused.
 
         >>> document, size = Document.read(Schema(SCHEMA), bytes.fromhex("8100000000012400000000000000ff"))

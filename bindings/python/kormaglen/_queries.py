@@ -42,7 +42,7 @@ def _number(records: bytes, at: int) -> int:
 
 
 def terms_in(records: bytes) -> Iterator[bytes]:
-    """The terms of a list of the library's: each stands behind its length."""
+    """The terms of a list of the library's: each stands after its length."""
     at = 0
     while at < len(records):
         start = at + 8
@@ -51,7 +51,7 @@ def terms_in(records: bytes) -> Iterator[bytes]:
 
 
 def ranges_in(records: bytes) -> Iterator[Tuple[bytes, Optional[bytes]]]:
-    """The ranges of a list of the library's: start and end of each stand behind both their lengths."""
+    """The ranges of a list of the library's: start and end of each stand after both their lengths."""
     at = 0
     while at < len(records):
         first, length = at + 16, _number(records, at + 8)

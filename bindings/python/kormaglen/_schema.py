@@ -62,7 +62,7 @@ class Schema(HeldSchema):
         return Document.read(self, data, version)
 
     def import_lines(self, lines: Lines) -> Imported:
-        """Stores the documents of lines of JSON, one behind the other in version 2, and answers each
+        """Stores the documents of lines of JSON, one after the other in version 2, and answers each
         line. A line ends at a line feed, and the last may lack it. A line that is refused stores
         nothing, and the next line follows.
 
@@ -72,7 +72,7 @@ class Schema(HeldSchema):
         is stored is that of a mixture.
 
         Raises Closed where the schema is closed, TypeError where an argument is of another type,
-        ValueError for a lone surrogate, BufferError where bytes don't lie one behind the other,
+        ValueError for a lone surrogate, BufferError where bytes aren't contiguous,
         MemoryError where memory is refused, and what a file or an iterable raises.
 
         >>> imported = Schema(SCHEMA).import_lines('{"age":36}\\n{"age":"x"}\\n')
@@ -85,7 +85,7 @@ class Schema(HeldSchema):
 
     def import_chunks(self, lines: Lines, chunk_size: int = 1 << 20) -> Iterator[Imported]:
         """`import_lines` in bounded memory: gives a part for about `chunk_size` bytes of lines each, which
-        holds whole lines. The blocks one behind the other are the block of all lines. A line larger
+        holds whole lines. The blocks one after the other are the block of all lines. A line larger
         than `chunk_size` makes a larger part.
 
         Arguments are tested at once. What the lines raise comes when the part is asked for: then the
@@ -127,7 +127,7 @@ class Schema(HeldSchema):
 
         Raises DocumentRefused where bytes hold none, VersionRefused for another version, Closed where
         the schema is closed, TypeError where an argument is of another type, OverflowError where the
-        version doesn't fit 32 bits, BufferError where the bytes don't lie one behind the other,
+        version doesn't fit 32 bits, BufferError where the bytes aren't contiguous,
         MemoryError where memory is refused.
 
         >>> Schema(SCHEMA).export_block(bytes.fromhex("8100000000012400000000000000"))
@@ -175,7 +175,7 @@ class Schema(HeldSchema):
         VersionRefused for another version, Closed where the schema is closed, TypeError where an
         argument is of another type, OverflowError where the version doesn't fit 32 bits, ValueError for
         a lone surrogate and for JSON that is nested more deeply than Python reads, BufferError where the
-        bytes don't lie one behind the other, MemoryError where memory is refused.
+        bytes aren't contiguous, MemoryError where memory is refused.
 
         >>> schema = Schema(SCHEMA)
         >>> block = schema.import_lines('{"age":36}\\n{}\\n{"age":7}\\n').block
@@ -195,7 +195,7 @@ class Schema(HeldSchema):
         Raises DocumentRefused where bytes hold no document, and where one has a value without a term by
         this schema, VersionRefused for another version, Closed where the schema is closed, TypeError
         where an argument is of another type, OverflowError where the version doesn't fit 32 bits,
-        BufferError where the bytes don't lie one behind the other, MemoryError where memory is refused.
+        BufferError where the bytes aren't contiguous, MemoryError where memory is refused.
 
         >>> Schema(SCHEMA).terms_of_block(bytes.fromhex("8100000000012400000000000000"))
         [Term(document=0, term=b'\\x00\\x00\\x00\\x00u\\x00\\x00\\x00\\x00\\x00\\x00\\x00$')]

@@ -140,6 +140,6 @@ class Carry:
         return self.fill(before + max(before, self._size)) > before
 
     def use(self, count: int) -> None:
-        """Leaves `count` bytes behind."""
+        """Passes over `count` bytes."""
         self.at += count
         self.place += count

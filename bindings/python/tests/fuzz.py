@@ -187,7 +187,7 @@ class Fuzzer:
         return by_name[name]()
 
     def arguments(self, call: Callable[..., Any], given: int) -> List[Any]:
-        """Arguments for a call, behind those that are given; now and then one too few or too many."""
+        """Arguments for a call, after those that are given; now and then one too few or too many."""
         try:
             names = [
                 p.name for p in inspect.signature(call).parameters.values() if p.kind is not p.VAR_KEYWORD

@@ -5,7 +5,7 @@
 //! cargo run --release --example import_file -- FILE SCHEMA OUT
 //! ```
 //!
-//! Each line that is refused is told on standard error, as `FILE:3: field 1: a value is of another
+//! Each line that is refused is reported on standard error, as `FILE:3: field 1: a value is of another
 //! kind than the field's`. The program ends with 1 where a line was refused, and with 2 where a
 //! file or the schema can't be used; what was imported before that is in the output then. It takes
 //! the memory of a chunk of lines, and of the longest line.

@@ -80,7 +80,7 @@ fn print_between(schema: &mut Schema, block: &[u8], path: &str, text: &str) -> R
 fn print_query(schema: &mut Schema, path: &str, text: &str) -> Result<(), Refusal> {
     match schema.terms_of_text(path, text) {
         Ok(terms) => {
-            // In a list of the library's each term stands behind its length.
+            // In a list of the library's each term stands after its length.
             let bytes: usize = terms.iter().map(|term| 8 + term.len()).sum();
             println!("{path} {text}: {} term, {bytes} bytes", terms.len());
         }

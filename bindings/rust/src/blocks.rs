@@ -69,13 +69,13 @@ impl TryFrom<u32> for Version {
 #[non_exhaustive]
 #[derive(Clone, Debug, PartialEq, Eq)]
 pub struct Imported {
-    /// The documents, one behind the other, in version 2 of the store.
+    /// The documents, one after the other, in version 2 of the store.
     pub block: Vec<u8>,
     /// For each line how many bytes its document takes in the block, or why it has none.
     pub lines: Vec<Result<u64, LineRefusal>>,
 }
 
-/// Stores the documents of lines of JSON, one behind the other in version 2, and answers each line.
+/// Stores the documents of lines of JSON, one after the other in version 2, and answers each line.
 /// A line ends at a line feed, and the last one may lack it. A line that is refused stores nothing,
 /// and the next line follows.
 ///

@@ -48,16 +48,16 @@ pub(crate) fn append_with_lines(
     call: impl FnMut(&mut [u8], &mut [LineAnswer]) -> Answer,
 ) -> Result<usize, Refusal> {
     let (bytes_before, lines_before) = (bytes.len(), lines.len());
-    let written = write_behind(bytes, lines, room, call);
+    let written = write_after(bytes, lines, room, call);
     let (new_bytes, new_lines) = *written.as_ref().unwrap_or(&(0, 0));
     bytes.truncate(bytes_before + new_bytes);
     lines.truncate(lines_before + new_lines);
     written.map(|_| new_bytes)
 }
 
-/// Makes room behind what the vectors have, and calls with it. Where it is too small, the answer
+/// Makes room after what the vectors have, and calls with it. Where it is too small, the answer
 /// says what is needed, so one more call is enough.
-fn write_behind(
+fn write_after(
     bytes: &mut Vec<u8>,
     lines: &mut Vec<LineAnswer>,
     room: Room,
@@ -76,7 +76,7 @@ fn write_behind(
     Ok((size(answer.bytes)?, size(answer.lines)?))
 }
 
-/// Has the vector have so much room at least behind the items that it had before.
+/// Has the vector have so much room at least after the items that it had before.
 fn make_room<T: Clone + Default>(
     items: &mut Vec<T>,
     before: usize,
@@ -146,7 +146,7 @@ mod tests {
     }
 
     #[test]
-    fn what_is_written_stands_behind_what_was_there() {
+    fn what_is_written_stands_after_what_was_there() {
         let (mut bytes, mut lines) = (b"ab".to_vec(), vec![LineAnswer::default(); 3]);
         let room = Room { bytes: 4, lines: 0 };
         let written = append_with_lines(&mut bytes, &mut lines, room, |bytes, lines| {

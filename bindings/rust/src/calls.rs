@@ -1,9 +1,9 @@
 //! The calls of the library, each with slices and handles. This is the one module with `unsafe`
 //! code.
 //!
-//! What every call below relies on: the pointer of a slice has as many bytes behind it as the slice
+//! What every call below relies on: the pointer of a slice has as many bytes after it as the slice
 //! is long. A slice that is written is lent by `&mut`, so it overlaps no other one of the call. The
-//! library keeps no pointer behind a call.
+//! library keeps no pointer after a call.
 
 use std::ffi::CStr;
 use std::os::raw::{c_char, c_void};

@@ -176,7 +176,7 @@ impl Document {
         filled(FIRST_ROOM, |bytes| self.handle.write(schema.handle(), version.number(), bytes))
     }
 
-    /// As [`Document::write`], behind the documents of a block. It returns how many bytes the
+    /// As [`Document::write`], after the documents of a block. It returns how many bytes the
     /// document takes.
     ///
     /// ```

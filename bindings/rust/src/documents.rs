@@ -6,7 +6,7 @@ use crate::refusal::Refusal;
 use std::fmt;
 use std::iter::FusedIterator;
 
-/// The documents of a block, one behind the other. The block is read as far as documents are asked
+/// The documents of a block, one after the other. The block is read as far as documents are asked
 /// for.
 ///
 /// ```
@@ -105,7 +105,7 @@ impl<'b> Documents<'b> {
             }
             Err(refusal) => {
                 self.is_refused = true;
-                Some(Err(refusal.behind(self.offset)))
+                Some(Err(refusal.after(self.offset)))
             }
         }
     }

@@ -6,7 +6,7 @@ use crate::records::{first_bytes, first_number, records_in};
 use crate::refusal::Refusal;
 
 /// The encoded facet that a text as `/first/second` names: the steps with a zero byte between each
-/// two of them. A backslash or a slash of a step stands behind a backslash in the text.
+/// two of them. A backslash or a slash of a step stands after a backslash in the text.
 ///
 /// ```
 /// use kormaglen::{facet_of_text, Refusal};
@@ -37,7 +37,7 @@ pub fn facet_of_text(text: &str) -> Result<Vec<u8>, Refusal> {
 ///
 /// `NotUtf8`, `Memory`, `TooLarge`.
 pub fn text_of_facet(encoded: &[u8]) -> Result<String, Refusal> {
-    // Each byte becomes two at most, behind the first slash.
+    // Each byte becomes two at most, after the first slash.
     filled_text(encoded.len().saturating_mul(2) + 1, |text| calls::text_of_facet(encoded, text))
 }
 

@@ -12,7 +12,7 @@
 //! # Ok::<(), kormaglen::Refusal>(())
 //! ```
 //!
-//! A block is stored documents, one behind the other. What is done with it:
+//! A block is stored documents, one after the other. What is done with it:
 //!
 //! | task | call |
 //! |---|---|

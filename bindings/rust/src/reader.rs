@@ -92,7 +92,7 @@ pub struct ImportedBlocks<'s, R> {
     state: State,
 }
 
-/// What is to be done behind the bytes that were read.
+/// What is to be done after the bytes that were read.
 enum State {
     Reads,
     Failed(ImportError),

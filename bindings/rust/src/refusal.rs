@@ -134,8 +134,8 @@ impl Refusal {
     }
 
     /// The same refusal of a document that the call had as the first of its block, whereas it
-    /// begins behind this number of bytes.
-    pub(crate) fn behind(self, bytes: usize) -> Refusal {
+    /// begins after this number of bytes.
+    pub(crate) fn after(self, bytes: usize) -> Refusal {
         match self {
             Refusal::BadDocument { reason, start } => {
                 Refusal::BadDocument { reason, start: start.saturating_add(bytes as u64) }
@@ -345,7 +345,7 @@ mod tests {
         assert_eq!(refused(6, 1, place), entry);
         let start = Refusal::BadDocument { reason: DocumentReason::Float, start: place };
         assert_eq!(refused(8, 4, place), start);
-        assert_eq!(start.behind(usize::MAX).behind(1).status(), 8);
+        assert_eq!(start.after(usize::MAX).after(1).status(), 8);
         // A field's number has 32 bits.
         let unknown = Refusal::Unknown { status: 12, detail: 0, place };
         assert_eq!(refused(12, 0, place), unknown);

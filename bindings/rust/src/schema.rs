@@ -355,7 +355,7 @@ pub fn find_field<'p>(schema: &[u8], path: &'p str) -> Result<Field<'p>, Refusal
 fn found(path: &str, call: impl FnOnce(&mut FoundField) -> Answer) -> Result<Field<'_>, Refusal> {
     let mut found = FoundField::default();
     call(&mut found).accepted()?;
-    // The rest begins behind a dot or at the path's end, so it is there.
+    // The rest begins after a dot or at the path's end, so it is there.
     let rest = path.get(size(found.rest)?..).unwrap_or_default();
     Ok(Field { number: found.field, rest })
 }

@@ -132,7 +132,7 @@ impl Terms<'_> {
         let listed = append(&mut self.records, bytes.len().saturating_mul(2), |terms| {
             calls::terms_of_block(self.field, self.version.number(), bytes, terms)
         });
-        Some(listed.map(|_| ()).map_err(|refusal| refusal.behind(start)))
+        Some(listed.map(|_| ()).map_err(|refusal| refusal.after(start)))
     }
 }
 

@@ -13,7 +13,7 @@ fn broken_in_the_middle() -> Vec<u8> {
     [stored_text("a"), stored_number(258), broken, stored_text("b")].concat()
 }
 
-/// The refusal of the third document: it begins behind 8 and 14 bytes.
+/// The refusal of the third document: it begins after 8 and 14 bytes.
 const BROKEN: Refusal = Refusal::BadDocument { reason: DocumentReason::BadBool, start: 22 };
 
 #[test]
@@ -33,7 +33,7 @@ fn documents_come_in_order_with_their_places() {
 }
 
 #[test]
-fn documents_before_a_broken_one_come_and_none_behind_it() {
+fn documents_before_a_broken_one_come_and_none_after_it() {
     let block = broken_in_the_middle();
     let mut found = documents(Version::V2, &block);
     assert!(found.next().unwrap().is_ok());
@@ -109,7 +109,7 @@ fn terms_come_one_by_one_as_all_at_once() {
 }
 
 #[test]
-fn terms_before_a_broken_document_come_and_none_behind_it() {
+fn terms_before_a_broken_document_come_and_none_after_it() {
     let block = broken_in_the_middle();
     let mut found = terms(0, Version::V2, &block);
     let first = found.next().unwrap().unwrap();

@@ -177,7 +177,7 @@ fn texts_of_queries_have_terms() {
     assert_eq!(schema.terms_of_text("s", "Ada L").unwrap(), [b"\0\0\0\0sAda L"]);
     let number = schema.terms_of_text("u", "258").unwrap();
     assert_eq!(number, [b"\0\0\0\x01u\0\0\0\0\0\0\x01\x02"]);
-    // Below JSON objects the keys stand behind the field, and a text that is a number has both
+    // Below JSON objects the keys stand after the field, and a text that is a number has both
     // terms. Of a signed number the highest bit is turned.
     let below = schema.terms_of_text("j.a.b", "7").unwrap();
     let (text, signed) =

@@ -6,7 +6,7 @@ use common::{stored_text, SCHEMA};
 use kormaglen::{ImportError, Imported, Refusal, Schema};
 use std::io::{self, Read};
 
-/// Gives a fixed number of bytes at a time, one interruption before each part, and an error behind them all,
+/// Gives a fixed number of bytes at a time, one interruption before each part, and an error after them all,
 /// if there is one.
 struct Parts<'t> {
     rest: &'t [u8],

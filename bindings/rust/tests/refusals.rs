@@ -157,16 +157,16 @@ fn a_document_is_refused_with_the_reason() {
         assert_eq!(refusal, Refusal::BadDocument { reason, start: 0 }, "{value:?}");
         assert_eq!((reason.number(), refusal.status()), (number, 8));
         expect_words(refusal);
-        // In a block, it begins behind a document without a pair.
+        // In a block, it begins after a document without a pair.
         let block = [b"\x80", &document[..]].concat();
-        let behind = Refusal::BadDocument { reason, start: 1 };
-        assert_eq!(export_block(SCHEMA, version, &block), Err(behind));
-        assert_eq!(migrate_block(version, &block, Version::V2), Err(behind));
-        assert_eq!(terms_of_block(0, version, &block), Err(behind));
+        let later = Refusal::BadDocument { reason, start: 1 };
+        assert_eq!(export_block(SCHEMA, version, &block), Err(later));
+        assert_eq!(migrate_block(version, &block, Version::V2), Err(later));
+        assert_eq!(terms_of_block(0, version, &block), Err(later));
         let mut schema = Schema::open(SCHEMA).unwrap();
-        assert_eq!(schema.values_of_block("u", version, &block), Err(behind));
-        assert_eq!(schema.terms_of_block(version, &block), Err(behind));
-        assert!(behind.to_string().contains(": at byte 1: "));
+        assert_eq!(schema.values_of_block("u", version, &block), Err(later));
+        assert_eq!(schema.terms_of_block(version, &block), Err(later));
+        assert!(later.to_string().contains(": at byte 1: "));
     }
 }
 

@@ -35,7 +35,7 @@ SELECT 'another type, an extension, a float';
 SELECT kormaglen_check(2, x'81000000000E'), kormaglen_check(2, x'810000000007FF'), kormaglen_check(2, x'8100000000060000000000000000');
 SELECT 'a truth value of 2, a text that is not UTF-8, an odd object';
 SELECT kormaglen_check(2, x'81000000000902'), kormaglen_check(2, x'81000000000081FF'), kormaglen_check(2, x'81000000000D81');
-SELECT 'bytes behind the document';
+SELECT 'bytes after the document';
 SELECT kormaglen_check(2, x'8000'), kormaglen_check(3, x'80808080');
 SELECT 'NULL in, NULL out';
 SELECT kormaglen_store(NULL, '{}'), kormaglen_store(:s, NULL), kormaglen_json(:s, NULL, x'80'), kormaglen_json(:s, 2, NULL), kormaglen_migrate(2, NULL, 3), kormaglen_check(2, NULL);

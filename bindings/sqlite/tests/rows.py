@@ -116,7 +116,7 @@ def compare_queries(db: sqlite3.Connection, crate: str, schema: str) -> int:
             continue
         if words[0] == "text" and len(words) == 4:
             sql = "SELECT term FROM kormaglen_query_terms(?, ?, ?)"
-            # (the row has the list behind a refusal; and its terms in another order, which no contract names)
+            # (the row has the list after a refusal; and its terms in another order, which no contract names)
             got = " ".join(sorted(ask(db, sql, schema, *map(json.loads, words[2:])).split(" ")))
             want = " ".join(sorted(answer.removesuffix(", none").split(" ")))
             if answer.startswith("error"):
