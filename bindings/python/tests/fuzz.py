@@ -34,7 +34,7 @@ sys.path.insert(0, os.path.dirname(os.path.dirname(os.path.abspath(__file__))))
 
 import kormaglen as K
 from tests.common import SCHEMA, own_members
-from tests.fuzz_values import BLOCKS, LINES, Racing, Values
+from tests.fuzz_values import BLOCKS, LINES, TERMS, Racing, Values
 
 DOCUMENTED = (ValueError, TypeError, OverflowError, BufferError, MemoryError)
 # What a mapping, a sequence and the files that were handed over raise besides.
@@ -171,6 +171,7 @@ class Fuzzer:
             "parent": lambda: values.buffer(values.of([b"", b"a"])),
             "pairs": values.pairs,
             "prefix": values.buffer,
+            "term": lambda: values.buffer(values.of(TERMS)),
             "values": values.mapping,
             "path": values.path,
             "name": values.text,

@@ -30,6 +30,15 @@ LINES = [
 ]
 BLOCK = K.import_lines(SCHEMA, LINES).block
 BLOCKS = [BLOCK, K.migrate_block(2, BLOCK, 3), b"\x80", b"", b'\x81\x07\0\0\0\x08{"a":1}']
+TERMS = [
+    b"\0\0\0\0sAda",
+    b"\0\0\0\1u\0\0\0\0\0\0\0\x24",
+    b"\0\0\0\2d\x80\0\0\0\0\0\0\0",
+    b"\0\0\0\3hstaff\0research",
+    b"\0\0\0\4b\0\1\2",
+    b"\0\0\0\5p" + b"\0" * 15 + b"\1",
+    b"\0\0\0\6ja\1b\0i\x80\0\0\0\0\0\0\7",
+]
 
 NUMBERS: List[Any] = [
     0,
