@@ -35,15 +35,20 @@ pub as_error : {D : Type 0} (result : Result Bool DeserializeError) (document : 
 as_error result document e is = ap (λ r. as_read r document) is
 
 -- what was read in a place is what the call says of it
+pub of_place_as : {S : Type 0} (is_known : S → Type 0) (left : S → List ℕ) (failures : S → Failures) (old new : S) (count : ℕ) (v : Version) (A : List ℕ → CompactDoc → Type 0) (read : Result (Unit {0}) DeserializeError) (result : Result Bool DeserializeError) (document : CompactDoc)
+    → ((d : CompactDoc) → as_read result d ≡ in_place read d) → FindsIf StoreMayStop is_known left failures old 0 new count read (λ b _. A b document) (NoDocument v)
+    → FindsIf StoreMayStop is_known left failures old 0 new count (as_read result document) A (NoDocument v)
+of_place_as is_known left failures old new count v A read result document same h =
+    subst (λ (r : Result CompactDoc DeserializeError). FindsIf StoreMayStop is_known left failures old 0 new count r A (NoDocument v)) (sym (same document)) (placed read h)
+  where
+    placed : (read : Result (Unit {0}) DeserializeError) → FindsIf StoreMayStop is_known left failures old 0 new count read (λ b _. A b document) (NoDocument v) → FindsIf StoreMayStop is_known left failures old 0 new count (in_place read document) A (NoDocument v)
+    placed (Ok x) h = record { found = h.found; taken = h.taken; stays_known = h.stays_known; counts = h.counts; rises = h.rises; may_stop = h.may_stop }
+    placed (Err e) h = record { found = h.found; taken = h.taken; stays_known = h.stays_known; counts = h.counts; rises = h.rises; may_stop = h.may_stop }
+
 pub of_place : {S : Type 0} (is_known : S → Type 0) (left : S → List ℕ) (failures : S → Failures) (old new : S) (count : ℕ) (v : Version) (read : Result (Unit {0}) DeserializeError) (result : Result Bool DeserializeError) (document : CompactDoc)
     → ((d : CompactDoc) → as_read result d ≡ in_place read d) → FindsIf StoreMayStop is_known left failures old 0 new count read (λ b _. EncodesRead v b document) (NoDocument v)
     → FindsIf StoreMayStop is_known left failures old 0 new count (as_read result document) (EncodesRead v) (NoDocument v)
-of_place is_known left failures old new count v read result document same h =
-    subst (λ (r : Result CompactDoc DeserializeError). FindsIf StoreMayStop is_known left failures old 0 new count r (EncodesRead v) (NoDocument v)) (sym (same document)) (placed read h)
-  where
-    placed : (read : Result (Unit {0}) DeserializeError) → FindsIf StoreMayStop is_known left failures old 0 new count read (λ b _. EncodesRead v b document) (NoDocument v) → FindsIf StoreMayStop is_known left failures old 0 new count (in_place read document) (EncodesRead v) (NoDocument v)
-    placed (Ok x) h = record { found = h.found; taken = h.taken; stays_known = h.stays_known; counts = h.counts; rises = h.rises; may_stop = h.may_stop }
-    placed (Err e) h = record { found = h.found; taken = h.taken; stays_known = h.stays_known; counts = h.counts; rises = h.rises; may_stop = h.may_stop }
+of_place is_known left failures old new count v read result document same h = of_place_as is_known left failures old new count v (EncodesRead v) read result document same h
 
 pub place_error : {D : Type 0} (read : Result (Unit {0}) DeserializeError) (result : Result Bool DeserializeError) (document : D) (e : DeserializeError) → as_read result document ≡ in_place read document → IsErrOf result e → IsErrOf read e
 place_error read result document e same is = error_placed read document e (sym same ∙ as_error result document e is)

@@ -11,6 +11,7 @@ pub mod BlockMigration
 mod InPlace
 mod Blocks
 mod BlocksWithin
+mod ChosenBlocks
 mod Skips
 pub mod Nesting
 pub mod NestedSteps

@@ -76,6 +76,10 @@ PassesValue v source old new result = Reads reading (passed (IsValueEncoding v) 
 abbrev pub ReadsNext : {S : Type 0} (source : Ghosts S) (source_old source_new : S) (old new : BlockReader) (result : Result Bool DeserializeError) → Type 0
 ReadsNext source source_old source_new old new result = Reads (resumed old.failed AlreadyFailed reading) (documents (version_of old.version)) source source_old source_new document_of (as_read result new.document)
 
+-- it read the chosen pairs of the next document
+abbrev pub ReadsNextFields : List Field → {S : Type 0} (source : Ghosts S) (source_old source_new : S) (old new : BlockReader) (result : Result Bool DeserializeError) → Type 0
+ReadsNextFields fields source source_old source_new old new result = Reads (resumed old.failed AlreadyFailed reading) (chosen_pairs (version_of old.version) fields) source source_old source_new document_of (as_read result new.document)
+
 -- it passed over the next document
 abbrev pub PassesNext : {S : Type 0} (source : Ghosts S) (source_old source_new : S) (old : BlockReader) (result : Result Bool DeserializeError) → Type 0
 PassesNext source source_old source_new old result = Reads (resumed old.failed AlreadyFailed reading) (passed (IsDocumentEncoding (version_of old.version)) (NoDocument (version_of old.version))) source source_old source_new (λ x. x) (as_passed result)

@@ -2,6 +2,7 @@
 
 ghost use Rattle.std.specs.Prelude.{◌≡◌, ◌≢◌, ◌<◌, [], length, true, false, Ok, Err, IsErrOf, OnOk, OnErr};
 ghost use Rattle.tv_base.specs.declared.cause.Cause.TheVariants.{UnexpectedEnd};
+ghost use Rattle.tv_base.specs.Stop.{Taken};
 ghost use Rattle.tv_doc.specs.Document.{document_of, heap_of};
 ghost use Rattle.tv_doc.specs.declared.document.CompactDoc.{CompactDoc};
 ghost use Rattle.tv_reader.specs.Version.{version_of};
@@ -10,16 +11,18 @@ ghost use Rattle.tv_reader.specs.declared.error.DeserializeError.TheVariants.{Co
 ghost use Rattle.tv_store.specs.Blocks.{as_read, as_read_within, as_passed, SaysEnd, SaysEndWithin};
 ghost use Rattle.tv_store.specs.Documents.{in_place};
 ghost use Rattle.tv_store.specs.Limits.{AllNestWithinLimit, IsPast, ReadsNextWithin, StopsWithin};
-ghost use Rattle.tv_store.specs.Reading.{PassesNext, ReadsNext};
+ghost use Rattle.tv_store.specs.Reading.{PassesNext, ReadsNext, ReadsNextFields};
 ghost use Rattle.tv_store.specs.declared.limits.LimitedReadError.TheVariants.{Read};
 
 use crate::de::take_in_place;
+use crate::fields::take_fields_in_place;
 use crate::limits::{LimitedReadError, ReadLimit, ReadLimits, read_parts_in_place};
 use std::alloc::Global;
 use tv_base::{ByteSource, Cause};
 use tv_doc::document::CompactDoc;
 use tv_reader::{DeserializeError, DocStoreVersion};
 use tv_reading::items::pass_document;
+use tv_value::field::Field;
 
 // Whether there was a document, by what reading one returned and how many bytes it took: where none was left, a missing end is no error.
 fn next_of(read: Result<(), DeserializeError>, count: u64) -> Result<bool, DeserializeError>
@@ -70,6 +73,7 @@ pub struct BlockReader {
     alloc: Global,
     version: DocStoreVersion,
     document: CompactDoc,
+    taken: u64,
     failed: bool,
 }
 
@@ -80,12 +84,14 @@ impl BlockReader {
     pub fn new(alloc: Global, version: DocStoreVersion) -> BlockReader
         ensures document { document_of result.document ≡ [] }
         ensures version { result.version ≡ version }
+        ensures unread { result.taken ≡ 0 }
         ensures not_failed { result.failed ≡ false }
     {
         BlockReader {
             alloc,
             version,
             document: CompactDoc::new(alloc),
+            taken: 0,
             failed: false,
         }
     }
@@ -113,6 +119,8 @@ impl BlockReader {
             → S.left source.old ≡ [] }
         ensures ended { self.old.failed ≡ false → S.is_known source.old → S.left source.old ≡ []
             → SaysEnd result }
+        ensures counted { self.old.failed ≡ false → S.is_known source.old
+            → Taken (S.left source.old) (S.left source.new) 0 self.new.taken }
         ensures version { self.new.version ≡ self.old.version }
     {
         if self.failed {
@@ -126,6 +134,7 @@ impl BlockReader {
             &mut count,
             self.version,
         );
+        self.taken = count;
         let next = next_of(read, count);
         self.failed = next.is_err();
         next
@@ -186,6 +195,8 @@ impl BlockReader {
             → S.left source.old ≡ [] }
         ensures ended { self.old.failed ≡ false → S.is_known source.old → S.left source.old ≡ []
             → SaysEndWithin limits result }
+        ensures counted { self.old.failed ≡ false → S.is_known source.old
+            → Taken (S.left source.old) (S.left source.new) 0 self.new.taken }
         ensures version { self.new.version ≡ self.old.version }
     {
         if self.failed {
@@ -200,7 +211,59 @@ impl BlockReader {
             self.version,
             limits,
         );
+        self.taken = count;
         let next = next_within(read, count);
+        self.failed = next.is_err();
+        next
+    }
+
+    /// Reads the next document as `read_fields` does, which keeps the values of these fields alone, and says whether there was one: `false` where
+    /// the source had nothing left.
+    ///
+    /// Errors: those of `read_fields`, and `AlreadyFailed` after an error of this call or another. A document that is cut off is `CorruptedValue`,
+    /// also where it is the last. At the end and after an error there is no document, and its memory was given back.
+    pub fn advance_fields<S: ByteSource>(
+        &mut self,
+        source: &mut S,
+        fields: &[Field],
+    ) -> Result<bool, DeserializeError>
+        // after a refusal nothing happens
+        ensures refused { self.old.failed ≡ true
+            → Rests self.old self.new source.old source.new result (Err AlreadyFailed) }
+        ensures not_failed { OnOk result (self.new.failed ≡ false) }
+        ensures failed { OnErr result (self.new.failed ≡ true) }
+
+        // the chosen pairs of a document are read, where the end is read as one that is cut off
+        ensures reads { ReadsNextFields fields.now S.ByteSource source.old source.new self.old
+            self.new result }
+        ensures fewer { S.is_known source.old → result ≡ Ok true
+            → length (S.left source.new) < length (S.left source.old) }
+        ensures none { self.old.failed ≡ false → result ≢ Ok true
+            → document_of self.new.document ≡ [] }
+
+        // the end is reported where nothing is left, and only there
+        ensures end { self.old.failed ≡ false → S.is_known source.old → result ≡ Ok false
+            → S.left source.old ≡ [] }
+        ensures ended { self.old.failed ≡ false → S.is_known source.old → S.left source.old ≡ []
+            → SaysEnd result }
+        ensures counted { self.old.failed ≡ false → S.is_known source.old
+            → Taken (S.left source.old) (S.left source.new) 0 self.new.taken }
+        ensures version { self.new.version ≡ self.old.version }
+    {
+        if self.failed {
+            return Err(DeserializeError::AlreadyFailed);
+        }
+        let mut count = 0;
+        let read = take_fields_in_place(
+            self.alloc,
+            &mut self.document,
+            source,
+            &mut count,
+            self.version,
+            fields,
+        );
+        self.taken = count;
+        let next = next_of(read, count);
         self.failed = next.is_err();
         next
     }
@@ -229,6 +292,8 @@ impl BlockReader {
         ensures ended { self.old.failed ≡ false → S.is_known source.old → S.left source.old ≡ []
             → SaysEnd result }
         ensures document { self.new.document ≡ self.old.document }
+        ensures counted { self.old.failed ≡ false → S.is_known source.old
+            → Taken (S.left source.old) (S.left source.new) 0 self.new.taken }
         ensures version { self.new.version ≡ self.old.version }
     {
         if self.failed {
@@ -236,9 +301,18 @@ impl BlockReader {
         }
         let mut count = 0;
         let passed = pass_document(self.alloc, source, &mut count, self.version);
+        self.taken = count;
         let next = next_of(passed, count);
         self.failed = next.is_err();
         next
+    }
+
+    /// How many bytes the last call took of its source: those of the document that it read or passed over, or those that were taken before an
+    /// error. It is 0 before the first, and at the end. A call that returns `AlreadyFailed` leaves it as it is.
+    pub fn bytes_read(&self) -> u64
+        ensures { result ≡ self.now.taken }
+    {
+        self.taken
     }
 
     /// The document that was read last. It has no pairs before the first, and after an `advance` that came to the end or was refused.

@@ -22,7 +22,7 @@ use tv_value::field::Field;
 
 // Takes the chosen fields in place of a document that is there and in its memory, with the count of the bytes that were taken. After an
 // error the document has no pairs.
-fn take_fields_in_place<S: ByteSource>(
+pub(crate) fn take_fields_in_place<S: ByteSource>(
     alloc: Global,
     document: &mut CompactDoc,
     source: &mut S,
