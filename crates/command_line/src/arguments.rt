@@ -67,6 +67,33 @@ fn output<'a>(alloc: Global) -> Arg<'a> {
     .default_value("-")
 }
 
+// The options that limit what is read of one document.
+fn limited<'a>(alloc: Global, command: Command<'a>) -> Result<Command<'a>, AllocError> {
+    command
+        .arg(option(
+            alloc,
+            "limit-bytes",
+            "NUMBER",
+            "Refuse a document of more bytes",
+        )
+        .value_parser(clap::value_parser!(u64)))?
+        .arg(option(
+            alloc,
+            "limit-depth",
+            "NUMBER",
+            "Refuse a document whose values nest in more lists",
+        )
+        .value_parser(clap::value_parser!(u64)))
+}
+
+fn pretty<'a>(alloc: Global) -> Arg<'a> {
+    flag(
+        alloc,
+        "pretty",
+        "Print each document over several lines, indented",
+    )
+}
+
 fn block<'a>(alloc: Global) -> Arg<'a> {
     argument(
         alloc,
@@ -114,19 +141,30 @@ fn import<'a>(alloc: Global) -> Result<Command<'a>, AllocError> {
 }
 
 fn export<'a>(alloc: Global) -> Result<Command<'a>, AllocError> {
-    Ok(
+    limited(
+        alloc,
         Command::new(alloc, "export")
             .about("Prints the documents of a block as lines of JSON")
-            .after_help("Example: kormaglen export --schema shop.json products.block")
+            .after_help(
+                "Example: kormaglen export --schema shop.json products.block --fields name,price",
+            )
             .arg(schema(alloc))?
             .arg(version(alloc))?
             .arg(block(alloc))?
-            .arg(output(alloc))?,
+            .arg(output(alloc))?
+            .arg(option(
+                alloc,
+                "fields",
+                "NAMES",
+                "Only these fields, with a comma between each two; not with limits",
+            ))?
+            .arg(pretty(alloc))?,
     )
 }
 
 fn get<'a>(alloc: Global) -> Result<Command<'a>, AllocError> {
-    Ok(
+    limited(
+        alloc,
         Command::new(alloc, "get")
             .about("Prints documents by their numbers, counted from 0")
             .after_help("Example: kormaglen get --schema shop.json products.block 0 17")
@@ -146,13 +184,15 @@ fn get<'a>(alloc: Global) -> Result<Command<'a>, AllocError> {
                 alloc,
                 "offsets",
                 "FILE",
-                "Where each document begins, as import writes it",
-            ))?,
+                "Where each document begins, as import writes it: no document before is read",
+            ))?
+            .arg(pretty(alloc))?,
     )
 }
 
 fn terms<'a>(alloc: Global) -> Result<Command<'a>, AllocError> {
-    Ok(
+    limited(
+        alloc,
         Command::new(alloc, "terms")
             .about("Prints the terms of a field, each once, in their order")
             .after_help(
@@ -168,12 +208,19 @@ fn terms<'a>(alloc: Global) -> Result<Command<'a>, AllocError> {
                 "RANGE",
                 "Only the terms of this range, as in a query",
             ))?
+            .arg(option(
+                alloc,
+                "prefix",
+                "TEXT",
+                "Only the terms that begin with the term of this text; not with a range",
+            ))?
             .arg(flag(alloc, "counts", "Print how many documents have each"))?,
     )
 }
 
 fn facets<'a>(alloc: Global) -> Result<Command<'a>, AllocError> {
-    Ok(
+    limited(
+        alloc,
         Command::new(alloc, "facets")
             .about("Counts documents by the children of a facet")
             .after_help(
@@ -216,7 +263,8 @@ fn migrate<'a>(alloc: Global) -> Result<Command<'a>, AllocError> {
 }
 
 fn check<'a>(alloc: Global) -> Result<Command<'a>, AllocError> {
-    Ok(
+    limited(
+        alloc,
         Command::new(alloc, "check")
             .about("Tests that a file is a block of documents, and nothing else")
             .after_help("Example: kormaglen check products.block")
@@ -226,7 +274,8 @@ fn check<'a>(alloc: Global) -> Result<Command<'a>, AllocError> {
 }
 
 fn stat<'a>(alloc: Global) -> Result<Command<'a>, AllocError> {
-    Ok(
+    limited(
+        alloc,
         Command::new(alloc, "stat")
             .about("Counts the documents, bytes and values of a block")
             .after_help("Example: kormaglen stat --schema shop.json products.block")
@@ -240,11 +289,27 @@ fn schemas<'a>(alloc: Global) -> Result<Command<'a>, AllocError> {
     let show = Command::new(alloc, "show")
         .about("Prints the fields of a schema as a table")
         .arg(argument(alloc, "FILE", "The schema's JSON; - is the standard input"))?;
+    let new = Command::new(alloc, "new")
+        .about("Prints the JSON of a schema with these fields")
+        .after_help(
+            "Example: kormaglen schema new name:text:stored age:u64:indexed,stored group:facet",
+        )
+        .arg(
+            Arg::new(alloc, "FIELD")
+                .value_name("NAME:TYPE[:OPTION,..]")
+                .num_args(1..)
+                .required(true)
+                .action(ArgAction::Append)
+                .help(
+                    "Types: text, string, u64, i64, bool, date, facet, bytes, json, ip. Options: indexed, stored, fast; a text, a string and a facet are always indexed",
+                ),
+        )?;
     Ok(
         Command::new(alloc, "schema")
-            .about("Shows schemas")
+            .about("Shows and makes schemas")
             .subcommand_required(true)
-            .subcommand(show)?,
+            .subcommand(show)?
+            .subcommand(new)?,
     )
 }
 

@@ -1,16 +1,19 @@
 //! `export`, `get`, `check` and `stat`.
 
-use crate::ending::{Ending, Failure, System, failed, write_failed};
+use crate::ending::{Ending, Failure, System, failed, write_failed, wrong_use};
 use crate::files::{create, finish};
-use crate::inputs::{schema_given, source, text, version};
+use crate::inputs::{documents, limits, schema_given, source, text, version};
+use crate::pretty::{export_pretty, pretty_text};
+use crate::starts::{open_at, start_of};
 use clap::ArgMatches;
 use std::alloc::Global;
 use std::io::{Eprint, Print};
-use tantivy_schema::common::{BinarySerializable, ByteSource};
+use tantivy_schema::common::ByteSource;
 use tantivy_schema::schema::document::DeserializeError;
-use tantivy_schema::schema::{Document, Schema};
-use tantivy_schema::store::{BlockReader, DocStoreVersion};
+use tantivy_schema::schema::{Document, Schema, TantivyDocument};
+use tantivy_schema::store::LimitedReadError;
 use tv_command::check::check_block;
+use tv_command::documents::{BlockError, DocumentReader, Wanted};
 use tv_command::export::{ExportError, export_block};
 
 // What broke an export off.
@@ -22,13 +25,39 @@ fn broken<R: System>(rt: &R, given: &ArgMatches<'_>, error: ExportError) -> Fail
     }
 }
 
+// What is to be printed of each document.
+fn wanted(alloc: Global, given: &ArgMatches<'_>, schema: &Schema) -> Result<Wanted, Failure> {
+    let limits = limits(given);
+    let Some(names) = given.get_str("fields") else {
+        return Ok(Wanted::All(limits));
+    };
+    if limits.bytes.is_some() || limits.depth.is_some() {
+        return Err(wrong_use(alloc, "--fields", "it can't stand beside a limit"));
+    }
+    let mut fields = Vec::new(alloc);
+    for name in names.split(",") {
+        match schema.get_field(name) {
+            Ok(field) => fields.push(field)?,
+            Err(error) => return Err(wrong_use(alloc, name, error)),
+        }
+    }
+    Ok(Wanted::Fields(fields))
+}
+
 /// Prints the documents of a block as lines of JSON.
 pub(crate) fn export<R: System>(rt: &R, given: &ArgMatches<'_>) -> Result<Ending, Failure> {
+    let alloc = rt.alloc();
     let schema = schema_given(rt, given)?;
+    let wanted = wanted(alloc, given, &schema)?;
     let mut source = source(rt, text(given, "BLOCK"))?;
     let mut output = create(rt, text(given, "output"))?;
     let version = version(given, "version");
-    let ended = match export_block(rt.alloc(), &schema, version, &mut source, output.sink()) {
+    let exported = if given.get_flag("pretty") {
+        export_pretty(alloc, &schema, version, wanted, &mut source, output.sink())
+    } else {
+        export_block(alloc, &schema, version, wanted, &mut source, output.sink())
+    };
+    let ended = match exported {
         Ok(_) => Ok(()),
         Err(error) => Err(broken(rt, given, error)),
     };
@@ -46,12 +75,12 @@ pub(crate) fn print_line<R: System>(rt: &R, line: &str) -> Result<(), Failure> {
 
 // Passes over this many documents, and says whether there were as many.
 fn pass<S: ByteSource>(
-    reader: &mut BlockReader,
+    reader: &mut DocumentReader,
     source: &mut S,
     documents: u64,
-) -> Result<bool, DeserializeError> {
+) -> Result<bool, BlockError> {
     for _ in 0..documents {
-        if !reader.skip(source)? {
+        if !reader.pass(source)? {
             return Ok(false);
         }
     }
@@ -66,18 +95,31 @@ fn document<R: System>(
     number: u64,
 ) -> Result<Option<String>, Failure> {
     let alloc = rt.alloc();
-    let name = text(given, "BLOCK");
-    let mut source = source(rt, name)?;
-    let mut reader = BlockReader::new(alloc, version(given, "version"));
-    let read = match pass(&mut reader, &mut source, number) {
+    let Some(start) = start_of(rt, given, number)? else {
+        return Ok(None);
+    };
+    let (mut source, mut reader) = open_at(rt, given, start)?;
+    let read = match pass(
+        &mut reader,
+        &mut source,
+        number.saturating_sub(start.documents),
+    ) {
         Ok(true) => reader.advance(&mut source),
         other => other,
     };
     match read {
         Ok(true) => Ok(Some(reader.document().to_json(alloc, schema)?)),
         Ok(false) => Ok(None),
-        Err(error) => Err(failed(alloc, name, error)),
+        Err(error) => Err(failed(alloc, text(given, "BLOCK"), error)),
     }
+}
+
+// Prints the text of a document, as it stands or over several lines.
+fn print_document<R: System>(rt: &R, given: &ArgMatches<'_>, json: &str) -> Result<(), Failure> {
+    if given.get_flag("pretty") {
+        return print_line(rt, pretty_text(rt.alloc(), json)?.as_str());
+    }
+    print_line(rt, json)
 }
 
 /// Prints documents by their numbers.
@@ -92,7 +134,7 @@ pub(crate) fn get<R: System>(rt: &R, given: &ArgMatches<'_>) -> Result<Ending, F
             continue;
         };
         match document(rt, given, &schema, number)? {
-            Some(json) => print_line(rt, json.as_str())?,
+            Some(json) => print_document(rt, given, json.as_str())?,
             None => {
                 let _ = eprintln!(rt; "{}: there is no document {number}", text(given, "BLOCK"));
                 ending = Ending::Refused;
@@ -106,7 +148,12 @@ pub(crate) fn get<R: System>(rt: &R, given: &ArgMatches<'_>) -> Result<Ending, F
 pub(crate) fn check<R: System>(rt: &R, given: &ArgMatches<'_>) -> Result<Ending, Failure> {
     let name = text(given, "BLOCK");
     let mut source = source(rt, name)?;
-    match check_block(rt.alloc(), version(given, "version"), &mut source) {
+    match check_block(
+        rt.alloc(),
+        version(given, "version"),
+        limits(given),
+        &mut source,
+    ) {
         Ok(documents) => {
             print_line(
                 rt,
@@ -123,50 +170,93 @@ pub(crate) fn check<R: System>(rt: &R, given: &ArgMatches<'_>) -> Result<Ending,
 }
 
 // Whether bytes were refused, and not a read or memory.
-fn is_of_bytes(error: &DeserializeError) -> bool {
-    !matches!(error, DeserializeError::Io(_) | DeserializeError::Memory)
+fn is_of_bytes(error: &LimitedReadError) -> bool {
+    !matches!(
+        error,
+        LimitedReadError::Read(DeserializeError::Io(_) | DeserializeError::Memory)
+    )
 }
 
 // What is counted of a block.
-#[derive(Clone, Copy, Default)]
+#[derive(Drop)]
 struct Counts {
     documents: u64,
+    bytes: u64,
+    largest: u64,
     values: u64,
     most_values: u64,
+    by_field: Vec<u64>,
 }
 
-// Counts a document of this many values.
-fn count_document(counts: &mut Counts, values: u64) {
+// Counts a document that was read, whose last byte is this one of the block.
+fn count_document(counts: &mut Counts, values: u64, bytes: u64) {
     counts.documents = counts.documents.saturating_add(1);
+    counts.largest = counts.largest.max(bytes.saturating_sub(counts.bytes));
+    counts.bytes = bytes;
     counts.values = counts.values.saturating_add(values);
     counts.most_values = counts.most_values.max(values);
 }
 
+// Counts the values of a document by their fields.
+fn count_values(by_field: &mut Vec<u64>, document: &TantivyDocument) {
+    for (field, _) in document.field_values() {
+        if let Some(count) = by_field.get_mut(field.field_id() as usize) {
+            *count = count.saturating_add(1);
+        }
+    }
+}
+
 // Counts the documents of a block.
-fn counts_of_block<R: System>(rt: &R, given: &ArgMatches<'_>) -> Result<Counts, Failure> {
+fn counts_of_block<R: System>(
+    rt: &R,
+    given: &ArgMatches<'_>,
+    schema: &Schema,
+) -> Result<Counts, Failure> {
+    let alloc = rt.alloc();
     let name = text(given, "BLOCK");
     let mut source = source(rt, name)?;
-    let mut reader = BlockReader::new(rt.alloc(), version(given, "version"));
-    let mut counts = Counts::default();
+    let mut reader = documents(alloc, given);
+    let mut counts = Counts {
+        documents: 0,
+        bytes: 0,
+        largest: 0,
+        values: 0,
+        most_values: 0,
+        by_field: vec![in alloc; 0; schema.num_fields()]?,
+    };
     for _ in 0..u64::MAX {
         match reader.advance(&mut source) {
-            Ok(true) => count_document(&mut counts, reader.document().len() as u64),
+            Ok(true) => {
+                count_document(&mut counts, reader.document().len() as u64, reader.bytes());
+                count_values(&mut counts.by_field, reader.document());
+            }
             Ok(false) => break,
-            Err(error) => return Err(failed(rt.alloc(), name, error)),
+            Err(error) => return Err(failed(alloc, name, error)),
         }
     }
     Ok(counts)
 }
 
-/// Counts the documents and values of a block.
+/// Counts the documents, bytes and values of a block.
 pub(crate) fn stat<R: System>(rt: &R, given: &ArgMatches<'_>) -> Result<Ending, Failure> {
-    let counts = counts_of_block(rt, given)?;
+    let schema = schema_given(rt, given)?;
+    let counts = counts_of_block(rt, given, &schema)?;
     for (what, number) in [
         ("documents", counts.documents),
+        ("bytes", counts.bytes),
+        ("bytes of the largest document", counts.largest),
         ("values", counts.values),
         ("most values of a document", counts.most_values),
     ] {
         print_line(rt, format!(in rt.alloc(); "{number:>12}  {what}")?.as_str())?;
+    }
+    for ((field, entry), values) in schema.fields().zip(counts.by_field.iter()) {
+        let (number, kind) = (field.field_id(), entry.field_type().value_type());
+        let line = format!(in rt.alloc();
+            "{values:>12}  values of field {number}, {} ({kind:?})",
+            entry.name()
+        )?;
+        print_line(rt, line.as_str())?;
     }
     Ok(Ending::Done)
 }

@@ -29,6 +29,8 @@ pub(crate) enum Failure {
     Closed,
     /// What went wrong, with the name of the file.
     Said(String),
+    /// What is wrong with the words.
+    Use(String),
     /// Memory was refused.
     Memory,
 }
@@ -50,6 +52,14 @@ pub(crate) fn failed<T: Display + Drop>(alloc: Global, name: &str, what: T) -> F
     match format!(in alloc; "{name}: {what}") {
         Ok(text) => Failure::Said(text),
         Err(_) => Failure::Memory,
+    }
+}
+
+/// A word that can't stand where it stands, and why.
+pub(crate) fn wrong_use<T: Display + Drop>(alloc: Global, word: &str, what: T) -> Failure {
+    match failed(alloc, word, what) {
+        Failure::Said(text) => Failure::Use(text),
+        other => other,
     }
 }
 
@@ -84,6 +94,10 @@ fn status<R: System>(rt: &R, ended: Result<Ending, Failure>) -> io::Result<u8> {
         Err(Failure::Said(text)) => {
             eprintln!(rt; "kormaglen: {text}")?;
             3
+        }
+        Err(Failure::Use(text)) => {
+            eprintln!(rt; "kormaglen: {text}")?;
+            2
         }
         Err(Failure::Memory) => {
             eprintln!(rt; "kormaglen: memory was refused")?;

@@ -2,14 +2,13 @@
 
 use crate::blocks::print_line;
 use crate::ending::{Ending, Failure, System, failed};
-use crate::inputs::{schema_given, source, text, version};
+use crate::inputs::{documents, schema_given, source, text};
 use clap::ArgMatches;
 use std::alloc::Global;
 use tantivy_schema::schema::document::Document;
 use tantivy_schema::schema::{
     DocumentFacet, Facet, FacetCount, Field, Value, count_child_documents, greatest_counts,
 };
-use tantivy_schema::store::{BlockReader, read_fields_into};
 
 // The facets of a field of the documents of a block, each with its document's number.
 fn facets_of_block<R: System>(
@@ -20,7 +19,7 @@ fn facets_of_block<R: System>(
     let alloc = rt.alloc();
     let name = text(given, "BLOCK");
     let mut source = source(rt, name)?;
-    let mut reader = BlockReader::new(alloc, version(given, "version"));
+    let mut reader = documents(alloc, given);
     let mut facets = Vec::new(alloc);
     for number in 0..u64::MAX {
         match reader.advance(&mut source) {

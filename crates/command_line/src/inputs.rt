@@ -6,10 +6,11 @@ use either::Either;
 use std::alloc::Global;
 use std::fs;
 use std::fs::Files;
-use std::io::{self, BufReader, Input, Read};
+use std::io::{self, BufReader, Input, Read, Seek, SeekFrom};
 use tantivy_schema::common::BufferedSource;
 use tantivy_schema::schema::Schema;
-use tantivy_schema::store::DocStoreVersion;
+use tantivy_schema::store::{DocStoreVersion, ReadLimits};
+use tv_command::documents::{DocumentReader, Wanted};
 
 /// A file, or the standard input.
 pub(crate) type Origin<R> = Either<<R as Files>::File, <R as Input>::Reader>;
@@ -40,6 +41,29 @@ pub(crate) fn lines<R: System>(rt: &R, name: &str) -> Result<BufReader<Origin<R>
 /// A source of the bytes of a file.
 pub(crate) fn source<R: System>(rt: &R, name: &str) -> Result<BufferedSource<Origin<R>>, Failure> {
     let origin = open(rt, name)?;
+    Ok(BufferedSource::with_capacity(rt.alloc(), PIECE, origin)?)
+}
+
+/// A source of the bytes of a file from this byte on. A file that has no byte there is refused.
+pub(crate) fn source_from<R: System>(
+    rt: &R,
+    name: &str,
+    start: u64,
+) -> Result<BufferedSource<Origin<R>>, Failure> {
+    let mut origin = open(rt, name)?;
+    if let Either::Left(file) = &mut origin {
+        let length = file.seek(SeekFrom::End(0)).unwrap_or(0);
+        if start >= length {
+            return Err(failed(
+                rt.alloc(),
+                name,
+                format!(in rt.alloc(); "it has {length} bytes, and none at {start}")?,
+            ));
+        }
+        if let Err(error) = file.seek(SeekFrom::Start(start)) {
+            return Err(failed(rt.alloc(), name, error));
+        }
+    }
     Ok(BufferedSource::with_capacity(rt.alloc(), PIECE, origin)?)
 }
 
@@ -84,4 +108,20 @@ pub(crate) fn version(given: &ArgMatches<'_>, name: &str) -> DocStoreVersion {
         "3" => DocStoreVersion::V3,
         _ => DocStoreVersion::V2,
     }
+}
+
+/// The limits that the words set on one document.
+pub(crate) fn limits(given: &ArgMatches<'_>) -> ReadLimits {
+    ReadLimits {
+        bytes: given.get_one::<u64>("limit-bytes"),
+        heap_bytes: None,
+        depth: given
+            .get_one::<u64>("limit-depth")
+            .map(|depth| u32::try_from(depth).unwrap_or(u32::MAX)),
+    }
+}
+
+/// A reader of the whole documents of the block that the words name, within their limits.
+pub(crate) fn documents(alloc: Global, given: &ArgMatches<'_>) -> DocumentReader {
+    DocumentReader::new(alloc, version(given, "version"), Wanted::All(limits(given)))
 }

@@ -9,7 +9,10 @@ mod files;
 mod imports;
 mod inputs;
 mod migrations;
+mod pretty;
+mod schema_words;
 mod schemas;
+mod starts;
 mod terms;
 
 pub use ending::{System, run};

@@ -1,8 +1,9 @@
-//! `schema show`.
+//! `schema show` and `schema new`.
 
 use crate::blocks::print_line;
-use crate::ending::{Ending, Failure, System};
+use crate::ending::{Ending, Failure, System, wrong_use};
 use crate::inputs::{schema_of, text};
+use crate::schema_words::entry_of;
 use clap::ArgMatches;
 use tantivy_schema::schema::{FieldEntry, Schema};
 
@@ -29,10 +30,25 @@ fn show<R: System>(rt: &R, schema: &Schema) -> Result<(), Failure> {
     Ok(())
 }
 
-/// Shows a schema.
+// Prints the JSON of a schema with the fields that are given.
+fn create<R: System>(rt: &R, words: &[&str]) -> Result<(), Failure> {
+    let alloc = rt.alloc();
+    let mut builder = Schema::builder(alloc);
+    for word in words {
+        if let Err(error) = builder.add_field(entry_of(alloc, word)?) {
+            return Err(wrong_use(alloc, word, error));
+        }
+    }
+    let json = builder.build()?.to_json_value(alloc)?;
+    print_line(rt, json.to_string(alloc)?.as_str())
+}
+
+/// Shows a schema, or makes one.
 pub(crate) fn schema<R: System>(rt: &R, given: &ArgMatches<'_>) -> Result<Ending, Failure> {
-    if let Some((_, given)) = given.subcommand() {
-        show(rt, &schema_of(rt, text(given, "FILE"))?)?;
+    match given.subcommand() {
+        Some(("new", given)) => create(rt, given.get_strs("FIELD").unwrap_or(&[]))?,
+        Some((_, given)) => show(rt, &schema_of(rt, text(given, "FILE"))?)?,
+        None => {}
     }
     Ok(Ending::Done)
 }

@@ -1,13 +1,14 @@
 //! `terms`.
 
 use crate::blocks::print_line;
-use crate::ending::{Ending, Failure, System, failed};
-use crate::inputs::{schema_given, source, text, version};
+use crate::ending::{Ending, Failure, System, failed, wrong_use};
+use crate::inputs::{documents, schema_given, source, text};
 use clap::ArgMatches;
 use std::alloc::Global;
 use std::collections::BTreeMap;
-use tantivy_schema::schema::{Schema, Term, TermList, TermRange, ranges_of_text, term_values};
-use tantivy_schema::store::BlockReader;
+use tantivy_schema::schema::{
+    Schema, Term, TermList, TermRange, Type, ranges_of_text, term_values, terms_of_text,
+};
 
 // How many documents have each term.
 type Counts = BTreeMap<Vec<u8>, u64>;
@@ -39,7 +40,7 @@ fn counts_of_block<R: System>(
     let alloc = rt.alloc();
     let name = text(given, "BLOCK");
     let mut source = source(rt, name)?;
-    let mut reader = BlockReader::new(alloc, version(given, "version"));
+    let mut reader = documents(alloc, given);
     let mut terms = TermList::new(alloc);
     let mut counts = BTreeMap::new(alloc);
     for _ in 0..u64::MAX {
@@ -57,16 +58,53 @@ fn counts_of_block<R: System>(
     Ok(counts)
 }
 
+// Whether the bytes of terms of this type begin alike where their texts do.
+fn has_prefixes(term: &Term) -> bool {
+    match term.typ() {
+        Some(Type::Str | Type::Facet) => true,
+        Some(Type::Json) => matches!(term.value().json_path_type(), Some(Type::Str)),
+        _ => false,
+    }
+}
+
+// The range of the terms that begin with the term of this text.
+fn prefix_range<R: System>(
+    rt: &R,
+    schema: &Schema,
+    path: &str,
+    prefix: &str,
+) -> Result<TermRange, Failure> {
+    let alloc = rt.alloc();
+    let mut terms = TermList::new(alloc);
+    if let Err(error) = terms_of_text(alloc, schema, path, prefix, &mut terms) {
+        return Err(failed(alloc, path, error));
+    }
+    match terms.term(alloc, 0) {
+        Ok(Some(term)) if has_prefixes(&term) => {
+            Ok(TermRange::of_prefix(alloc, term.serialized_term())?)
+        }
+        _ => Err(failed(alloc, path, "its terms have no text that others begin with")),
+    }
+}
+
 // The ranges of a field's terms that are asked for.
 fn ranges<R: System>(
     rt: &R,
     given: &ArgMatches<'_>,
     schema: &Schema,
 ) -> Result<Vec<TermRange>, Failure> {
-    let range = given.get_str("range").unwrap_or("*");
-    match ranges_of_text(rt.alloc(), schema, text(given, "FIELD"), range) {
+    let alloc = rt.alloc();
+    let path = text(given, "FIELD");
+    let range = given.get_str("range");
+    if let Some(prefix) = given.get_str("prefix") {
+        if range.is_some() {
+            return Err(wrong_use(alloc, "--prefix", "it can't stand beside --range"));
+        }
+        return Ok(vec![in alloc; prefix_range(rt, schema, path, prefix)?]?);
+    }
+    match ranges_of_text(alloc, schema, path, range.unwrap_or("*")) {
         Ok(ranges) => Ok(ranges),
-        Err(error) => Err(failed(rt.alloc(), text(given, "FIELD"), error)),
+        Err(error) => Err(failed(alloc, path, error)),
     }
 }
 

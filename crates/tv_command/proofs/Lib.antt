@@ -1,3 +1,4 @@
 mod Checks
+mod NextDocuments
 mod Prints
 mod Lines

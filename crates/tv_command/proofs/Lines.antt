@@ -1,14 +1,17 @@
 -- The first line of an input, as std's readers take it.
-use Rattle.std.proofs.Common.{◌<◌, nat_lt, length, Option, Some, None, IfSome, arith, subst, append-nil, ◌≡◌, ◌≢◌, ◌⊎◌, ◌==◌, ℕ, List, [], ◌∷◌, ◌++◌, true, false, Bool, if◌then◌else◌, refl, sym, ap, ◌∙◌, inl, inr}
-use Rattle.std.proofs.Math.Dec.{eqb}
+use Rattle.std.proofs.Common.{nat_lt, length, Option, Some, None, IfSome, arith, subst, append-nil, ◌≡◌, ◌≢◌, ◌⊎◌, ◌==◌, ℕ, List, [], ◌∷◌, ◌++◌, true, false, Bool, refl, sym, ap, ◌∙◌, inl, inr}
 use borrow.Author.Tests.{eqb-true, eqb-false}
 use Rattle.std.specs.Io.BufRead.{take_through, drop_through}
 use Rattle.std.specs.Io.BufRead.{DropsThrough}
 use Rattle.std.proofs.lemmas.Bool.{lt-ltb}
 use Rattle.std.proofs.lemmas.List.{length-append}
-use Rattle.std.specs.Prelude.{OnErr, Result, Ok, Err}
+use Rattle.std.specs.Prelude.{IsErrAnd, OnErr, Result, Ok, Err}
 use Rattle.tv_base.specs.Sink.{AppendsPrefix}
-use Rattle.tv_command.specs.Importing.{HasTaken, Imports, IsLineError, IsParsed, LeavesBegun}
+use Rattle.tv_base.specs.Source.{Failures}
+use Rattle.tv_base.specs.Stop.{Counts, CountsStop}
+use Rattle.tv_command.specs.Importing.{HasTaken, Imports, IsLineError, IsOfReading, IsParsed, LeavesBegun, import_stop}
+use Rattle.tv_command.specs.declared.import.ImportError.{ImportError}
+use Rattle.tv_command.specs.declared.import.ImportError.TheVariants as errors
 use Rattle.tv_command.specs.declared.import.ImportRules.{ImportRules}
 use Rattle.tv_command.specs.declared.import.LineError.{LineError}
 use Rattle.tv_command.specs.declared.import.LineOutcome.TheVariants as outcome
@@ -17,7 +20,7 @@ use Rattle.tv_doc.specs.declared.document.CompactDoc.{CompactDoc}
 use Rattle.tv_field.specs.Entry.{Entry}
 use Rattle.tv_format.specs.Short.{short_document}
 use Rattle.tv_format.specs.WriteVersion.{written_version}
-use Rattle.tv_lines.specs.Lines.{FirstLine, IsUnbroken}
+use Rattle.tv_lines.specs.Lines.{IsUnbroken}
 use Rattle.tv_lines.specs.Lines.FirstLine.{ended, unended}
 use Rattle.tv_store.specs.Stored.{stored}
 
@@ -120,3 +123,15 @@ pub leaves : {A E : Type 0} (result : Result A E) (schema : List Entry) (rules :
 leaves result schema rules None left line text held new made Known took is written appends = tt
 leaves result schema rules (Some input) left line text held new made Known took is written appends =
     λ known. on_err result (inr (took.0, text, (took.2, line, took.3, ((made, is.0, is.1, written), refl)), appends known))
+
+-- ---- failures
+
+same_failures : (e : ImportError) (f : Failures) → IsOfReading e → CountsStop (import_stop e) f f
+same_failures (errors.Read kind) f is = refl
+same_failures (errors.Write kind) f is = absurd is
+same_failures errors.Memory f is = absurd is
+
+-- a read that failed says nothing of the sink
+pub counts_reading : {A : Type 0} (result : Result A ImportError) (e : ImportError) (f : Failures) → IsOfReading e → IsErrAnd result (λ other. other ≡ e) → Counts import_stop result f f
+counts_reading (Ok x) e f is same = absurd same
+counts_reading (Err other) e f is same = subst (λ (z : ImportError). CountsStop (import_stop z) f f) (sym same) (same_failures e f is)

@@ -1,19 +1,20 @@
 -- What was printed so far.
-use Rattle.std.proofs.Common.{◌≡◌, ℕ, ◌+◌, List, [], ◌∷◌, ◌++◌, length, refl, sym, subst, ap, ◌∙◌, arith, append-nil, append_assoc}
-use Rattle.std.proofs.lemmas.List.{length-append}
+use Rattle.std.proofs.Common.{true, Ok, ◌≡◌, ℕ, ◌+◌, ◌^◌, ◌<◌, List, [], ◌∷◌, ◌++◌, length, map, refl, sym, subst, ap, ◌∙◌, append-nil, append_assoc}
+use Rattle.tv_base.specs.Parts.{Begins}
+use Rattle.tv_base.specs.Source.{Failures}
+use Rattle.tv_base.specs.Stop.{CountsStop}
 use Rattle.tv_blocks.specs.Blocks.{AppendsLine, ArePrintedLines}
 use Rattle.tv_blocks.specs.Blocks.ArePrintedLines.{no_lines, next_line}
-use Rattle.tv_command.specs.Exporting.{AppendsBegun, BreaksOff, Exported, ExportsAll, IsOfWriting, LeavesNext}
+use Rattle.tv_command.proofs.Checks.{ReadSoFar, read_more, read_none, whole_before}
+use Rattle.tv_command.specs.Exporting.{AppendsBegun, BreaksOff, ExportsAll, IsOfWriting, LeavesNext, sink_stop, source_stop}
+use Rattle.tv_command.specs.Reading.{EncodesBlockWithin, EncodesWithin, ReadsOne, kept, limits_of}
+use Rattle.tv_command.specs.declared.documents.Wanted.{Wanted}
 use Rattle.tv_command.specs.declared.export.ExportError.TheVariants as errors
 use Rattle.tv_command.specs.declared.export.ExportError.{ExportError}
 use Rattle.tv_field.specs.Entry.{Entry}
-use Rattle.tv_format.specs.Encoding.{EncodesDocument}
 use Rattle.tv_format.specs.Tree.{Document}
 use Rattle.tv_format.specs.Version.{Version}
-use Rattle.tv_legacy.specs.Legacy.{Legacy}
-use Rattle.tv_store.specs.BlockMigration.{EncodesBlock}
 use Rattle.tv_store.specs.Documents.{BeginsWithDocument}
-use Rattle.tv_store.proofs.BlockMigration.{each-snoc, joined_more}
 
 printed-snoc : (entries : List Entry) (documents : List Document) (content json : List ℕ) (d : Document) → ArePrintedLines entries documents content → ArePrintedLines entries (d ∷ []) json
     → ArePrintedLines entries (documents ++ d ∷ []) (content ++ json)
@@ -22,59 +23,87 @@ printed-snoc entries [] (_ ∷ _) json d p one = elim p [ ]
 printed-snoc entries (e ∷ es) content json d (next_line {json = text} {rest = rest} is more) one =
     subst (ArePrintedLines entries ((e ∷ es) ++ d ∷ [])) (sym (append_assoc text (10 ∷ rest) json)) (next_line is (printed-snoc entries es rest json d more one))
 
--- the documents before the rest, of this number
-pub record PrintedSoFar (entries : List Entry) (v : Version) (block rest old now : List ℕ) (number : ℕ) : Type 0 where
-  pub before : List ℕ
-  pub joined : block ≡ before ++ rest
-  pub documents : List Document
-  pub exported : Exported entries v before old now documents
-  pub counted : number ≡ length documents
-
-pub printed_none : (entries : List Entry) (v : Version) (block old : List ℕ) → PrintedSoFar entries v block block old old 0
-printed_none entries v block old = record {
-  before = [];
-  joined = refl;
-  documents = [];
-  exported = record { encoded = refl; lines = []; printed = no_lines; held = sym (append-nil old) };
-  counted = refl;
-}
-
-module _ {entries : List Entry} {v : Version} {block rest old now : List ℕ} {number : ℕ} (m : PrintedSoFar entries v block rest old now number) where
-  pub printed_more : {left after : List ℕ} {d : Document} → BeginsWithDocument v rest left d → AppendsLine entries d now after → PrintedSoFar entries v block left old after (number + 1)
-  printed_more {left} {after} {d} b line =
-      let x = m.exported in
-      record {
-        before = m.before ++ b.prefix;
-        joined = joined_more block m.before rest b.prefix left m.joined b.joined;
-        documents = m.documents ++ d ∷ [];
-        exported = record {
-          encoded = each-snoc (EncodesDocument Legacy v) m.before b.prefix m.documents d x.encoded b.encoded;
-          lines = x.lines ++ (line.0 ++ 10 ∷ []);
-          printed = printed-snoc entries m.documents x.lines (line.0 ++ 10 ∷ []) d x.printed (next_line line.1 no_lines);
-          held = line.2 ∙ ap (λ (l : List ℕ). l ++ (line.0 ++ 10 ∷ [])) x.held ∙ append_assoc old x.lines (line.0 ++ 10 ∷ []);
-        };
-        counted = omega (arith, m.counted, length-append m.documents (d ∷ []));
-      }
-
-  pub printed_all : rest ≡ [] → ExportsAll entries v block old now number
-  printed_all none =
-      let x = m.exported in (
-        m.documents,
-        record {
-          encoded = subst (λ (l : List ℕ). EncodesBlock v l m.documents) (sym (m.joined ∙ ap (λ (l : List ℕ). m.before ++ l) none ∙ append-nil m.before)) x.encoded;
-          lines = x.lines;
-          printed = x.printed;
-          held = x.held;
-        },
-        m.counted,
-      )
-
-  pub printed_stops : {after : List ℕ} (e : ExportError) → LeavesNext entries v rest now after e → BreaksOff entries v block old after e
-  printed_stops e next = record { before = m.before; behind = rest; joined = m.joined; documents = m.documents; middle = now; exported = m.exported; next = next }
+map-snoc : {A B : Type 0} (f : A → B) (xs : List A) (x : A) → map f (xs ++ x ∷ []) ≡ map f xs ++ f x ∷ []
+map-snoc f [] x = refl
+map-snoc {B = B} f (y ∷ ys) x = ap (λ (l : List B). f y ∷ l) (map-snoc f ys x)
 
 -- what a write leaves of the next document
-pub leaves_line : (entries : List Entry) (v : Version) (bytes rest old new : List ℕ) (d : Document) (e : ExportError) → IsOfWriting e → BeginsWithDocument v bytes rest d → AppendsBegun entries d old new → LeavesNext entries v bytes old new e
-leaves_line entries v bytes rest old new d (errors.Write kind) is begins leaves = (d, rest, begins, leaves)
-leaves_line entries v bytes rest old new d errors.Memory is begins leaves = (d, rest, begins, leaves)
-leaves_line entries v bytes rest old new d (errors.Read e) is begins leaves = absurd is
-leaves_line entries v bytes rest old new d errors.TooMany is begins leaves = absurd is
+pub leaves_line : (entries : List Entry) (v : Version) (wanted : Wanted) (bytes left rest : List ℕ) (number start : ℕ) (old new : List ℕ) (d : Document) (e : ExportError) → IsOfWriting e → BeginsWithDocument v bytes rest d
+    → AppendsBegun entries (kept wanted d) old new → LeavesNext entries v wanted bytes left number start old new e
+leaves_line entries v wanted bytes left rest number start old new d (errors.Write kind) is begins leaves = (d, rest, begins, leaves)
+leaves_line entries v wanted bytes left rest number start old new d errors.Memory is begins leaves = (d, rest, begins, leaves)
+leaves_line entries v wanted bytes left rest number start old new d (errors.Read e) is begins leaves = absurd is
+leaves_line entries v wanted bytes left rest number start old new d errors.TooMany is begins leaves = absurd is
+
+-- the documents before the rest, of this number, and their lines
+pub record PrintedSoFar (entries : List Entry) (v : Version) (wanted : Wanted) (block rest old now : List ℕ) (number start : ℕ) : Type 0 where
+  pub read : ReadSoFar v (limits_of wanted) block rest number start
+  pub lines : List ℕ
+  pub printed : ArePrintedLines entries (map (kept wanted) read.documents) lines
+  pub held : now ≡ old ++ lines
+
+pub printed_none : (entries : List Entry) (v : Version) (wanted : Wanted) (block old : List ℕ) (start : ℕ) → start ≡ 0 → PrintedSoFar entries v wanted block block old old 0 start
+printed_none entries v wanted block old start is = record { read = read_none v (limits_of wanted) block start is; lines = []; printed = no_lines; held = sym (append-nil old) }
+
+module _ {entries : List Entry} {v : Version} {wanted : Wanted} {block rest old now : List ℕ} {number start : ℕ} (m : PrintedSoFar entries v wanted block rest old now number start) where
+  pub printed_more : {left after : List ℕ} {next : ℕ} (d : Document) (h : Begins (λ b. EncodesWithin v (limits_of wanted) b d) rest left) → length left < length rest → (start + length rest < 2 ^ 64 → next + length left ≡ start + length rest)
+      → AppendsLine entries (kept wanted d) now after → PrintedSoFar entries v wanted block left old after (number + 1) next
+  printed_more {left} {after} {next} d h fewer placed line = record {
+    read = read_more m.read d h fewer placed;
+    lines = m.lines ++ (line.0 ++ 10 ∷ []);
+    printed =
+        subst (λ (ds : List Document). ArePrintedLines entries ds (m.lines ++ (line.0 ++ 10 ∷ []))) (sym (map-snoc (kept wanted) m.read.documents d))
+        (printed-snoc entries (map (kept wanted) m.read.documents) m.lines (line.0 ++ 10 ∷ []) (kept wanted d) m.printed (next_line line.1 no_lines));
+    held = line.2 ∙ ap (λ (l : List ℕ). l ++ (line.0 ++ 10 ∷ [])) m.held ∙ append_assoc old m.lines (line.0 ++ 10 ∷ []);
+  }
+
+  -- the next document was read, and its line appended
+  pub printed_next : {left after : List ℕ} {next : ℕ} {same_v : Version} {same_wanted : Wanted} (shown : Document) → same_v ≡ v → same_wanted ≡ wanted → ReadsOne same_v same_wanted (λ d. shown ≡ kept same_wanted d) rest left (Ok true) → length left < length rest
+      → (start + length rest < 2 ^ 64 → next + length left ≡ start + length rest) → AppendsLine entries shown now after → PrintedSoFar entries v wanted block left old after (number + 1) next
+  printed_next {left} {after} {next} {same_v} {same_wanted} shown version same read fewer placed line =
+      let one = subst (λ (w : Wanted). ReadsOne v w (λ d. shown ≡ kept w d) rest left (Ok true)) same (subst (λ (u : Version). ReadsOne u same_wanted (λ d. shown ≡ kept same_wanted d) rest left (Ok true)) version read) in
+      printed_more one.0 one.1 fewer placed (subst (λ (d : Document). AppendsLine entries d now after) one.2 line)
+
+  -- it was read, and its line wasn't appended, or not whole
+  pub printed_begun : {left after : List ℕ} {same_v : Version} {same_wanted : Wanted} (shown : Document) (e : ExportError) → same_v ≡ v → same_wanted ≡ wanted → ReadsOne same_v same_wanted (λ d. shown ≡ kept same_wanted d) rest left (Ok true) → IsOfWriting e
+      → AppendsBegun entries shown now after → LeavesNext entries v wanted rest left (length m.read.documents) (length m.read.before) now after e
+  printed_begun {left} {after} {same_v} {same_wanted} shown e version same read is line =
+      let one = subst (λ (w : Wanted). ReadsOne v w (λ d. shown ≡ kept w d) rest left (Ok true)) same (subst (λ (u : Version). ReadsOne u same_wanted (λ d. shown ≡ kept same_wanted d) rest left (Ok true)) version read) in
+      leaves_line entries v wanted rest left left (length m.read.documents) (length m.read.before) now after one.0 e is (record { prefix = one.1.prefix; joined = one.1.joined; encoded = one.1.encoded.encoded })
+      (subst (λ (d : Document). AppendsBegun entries d now after) one.2 line)
+
+  pub printed_all : rest ≡ [] → ExportsAll entries v wanted block old now number
+  printed_all none = (
+    m.read.documents,
+    record {
+      encoded = subst (λ (l : List ℕ). EncodesBlockWithin v (limits_of wanted) l m.read.documents) (sym (whole_before m.read none)) m.read.encoded;
+      lines = m.lines;
+      printed = m.printed;
+      held = m.held;
+    },
+    m.read.counted,
+  )
+
+  pub printed_stops : {left after : List ℕ} (e : ExportError) → LeavesNext entries v wanted rest left (length m.read.documents) (length m.read.before) now after e → BreaksOff entries v wanted block left old after e
+  printed_stops e next = record {
+    before = m.read.before;
+    behind = rest;
+    joined = m.read.joined;
+    documents = m.read.documents;
+    middle = now;
+    exported = record { encoded = m.read.encoded; lines = m.lines; printed = m.printed; held = m.held };
+    next = next;
+  }
+
+-- ---- failures
+
+-- what was before the step is what was at the beginning
+pub counts_sink : (e : ExportError) {begun old : Failures} (new : Failures) → old ≡ begun → CountsStop (sink_stop e) old new → CountsStop (sink_stop e) begun new
+counts_sink e new same counts = subst (λ (f : Failures). CountsStop (sink_stop e) f new) same counts
+
+-- an error of writing says nothing of the source
+pub not_source : (e : ExportError) {begun now : Failures} → IsOfWriting e → now ≡ begun → CountsStop (source_stop e) begun now
+not_source (errors.Write kind) is same = same
+not_source errors.Memory is same = same
+not_source (errors.Read e) is same = absurd is
+not_source errors.TooMany is same = absurd is

@@ -1,36 +1,29 @@
 -- Whether bytes are a block of documents, and nothing else.
-use Rattle.std.specs.Prelude.{◌≡◌, ◌≢◌, ℕ, List, [], ◌++◌, length}
-use Rattle.tv_command.specs.declared.check.BlockError.{BlockError}
-use Rattle.tv_format.specs.InputError.{corrupted, no_text_key}
+use Rattle.std.specs.Prelude.{◌≡◌, ◌+◌, ◌-◌, ◌^◌, ◌<◌, ℕ, List, ◌++◌, length}
+use Rattle.tv_command.specs.Reading.{EncodesBlockWithin, IsReason}
+use Rattle.tv_command.specs.declared.documents.BlockError.{BlockError}
+use Rattle.tv_command.specs.declared.documents.Wanted.{Wanted}
+use Rattle.tv_command.specs.declared.documents.Wanted.TheVariants.{All}
 use Rattle.tv_format.specs.Tree.{Document}
 use Rattle.tv_format.specs.Version.{Version}
-use Rattle.tv_reader.specs.ValueType.{value_type_code}
-use Rattle.tv_reader.specs.declared.error.DeserializeError.{DeserializeError}
-use Rattle.tv_reader.specs.declared.error.DeserializeError.TheVariants as errors
-use Rattle.tv_reader.specs.declared.value_type.ValueType.TheVariants.{String}
-use Rattle.tv_store.specs.BlockMigration.{EncodesBlock}
-use Rattle.tv_store.specs.Documents.{HasNoRoom, NoDocument}
+use Rattle.tv_store.specs.declared.limits.ReadLimits.{ReadLimits}
+pub use Rattle.tv_command.specs.Refusals.{IsRefused}
 
--- the bytes encode documents, one after the other, and this is their number
-abbrev pub IsBlock : Version → List ℕ → ℕ → Type 0
-IsBlock v block number = (documents : List Document) × EncodesBlock v block documents × (number ≡ length documents)
+-- the bytes encode documents within the limits, one after the other, and this is their number
+abbrev pub IsBlock : Version → ReadLimits → List ℕ → ℕ → Type 0
+IsBlock v limits block number = (documents : List Document) × EncodesBlockWithin v limits block documents × (number ≡ length documents)
 
--- the error is true of these bytes: they begin with no document, or with one that has no room, unless a read failed or memory was refused
-abbrev pub IsRefused : Version → List ℕ → DeserializeError → Type 0
-IsRefused v bytes (errors.CorruptedValue cause) = NoDocument v bytes (corrupted cause)
-IsRefused v bytes (errors.TypeMismatch String actual) = NoDocument v bytes (no_text_key (value_type_code actual))
-IsRefused v bytes errors.HeapFull = HasNoRoom v bytes
-IsRefused v bytes (errors.Io kind) = Unit {0}
-IsRefused v bytes errors.Memory = Unit {0}
-IsRefused v bytes _ = ⊥
+-- The document with which the bytes begin is refused, after this number of bytes: the reason is true of it, and the places are right. `left` is
+-- what was left of the bytes.
+pub record IsRefusedAt (v : Version) (wanted : Wanted) (bytes left : List ℕ) (start : ℕ) (e : BlockError) : Type 0 where
+  pub reason : IsReason v wanted bytes left e.error
+  pub begins : start + length bytes < 2 ^ 64 - 1 → e.start ≡ start
+  pub placed : start + length bytes < 2 ^ 64 - 1 → e.place + length left ≡ start + length bytes
 
--- The bytes begin with a block of this many documents, and the document with which the rest begins is refused for this reason.
-pub record RefusesAfter (v : Version) (block : List ℕ) (number : ℕ) (error : DeserializeError) : Type 0 where
+-- The block begins with documents of this number, and the document with which the rest begins is refused.
+pub record RefusesBlock (v : Version) (limits : ReadLimits) (block left : List ℕ) (e : BlockError) : Type 0 where
   pub before : List ℕ
   pub behind : List ℕ
   pub joined : block ≡ before ++ behind
-  pub documents : IsBlock v before number
-  pub refused : IsRefused v behind error
-
-abbrev pub RefusesBlock : Version → List ℕ → BlockError → Type 0
-RefusesBlock v block e = RefusesAfter v block e.documents e.error
+  pub documents : IsBlock v limits before e.documents
+  pub refused : IsRefusedAt v (All limits) behind left (length before) e

@@ -1,6 +1,10 @@
 -- What becomes of the next line of an input: its document is stored, or there is a reason why it makes none.
 use Rattle.std.specs.Prelude.{◌≡◌, ◌≢◌, ◌⊎◌, ℕ, Bool, true, false, List, [], ◌++◌, Option, Some, None, Result, Ok, Err, IsUtf8, length}
 use Rattle.tv_base.specs.Sink.{AppendsPrefix}
+use Rattle.tv_base.specs.Stop.{Stop}
+use Rattle.tv_base.specs.Stop.Stop.{Failed, Short}
+use Rattle.tv_command.specs.declared.import.ImportError.{ImportError}
+use Rattle.tv_command.specs.declared.import.ImportError.TheVariants as errors
 use Rattle.tv_command.specs.declared.import.ImportRules.{ImportRules}
 use Rattle.tv_command.specs.declared.import.LineError.{LineError}
 use Rattle.tv_command.specs.declared.import.LineError.TheVariants.{NotUtf8, Refused}
@@ -56,7 +60,17 @@ abbrev pub LeavesBegun : List Entry → ImportRules → List ℕ → List ℕ �
 LeavesBegun schema rules input old new =
     (new ≡ old) ⊎ ((rest : List ℕ) × (text : List ℕ) × ImportsNext schema rules input rest text (Some (outcome.Stored (length text))) × AppendsPrefix old new text)
 
+-- why an import broke off, as its sink sees it
+abbrev pub import_stop : ImportError → Stop ⊥
+import_stop (errors.Write kind) = Failed kind
+import_stop _ = Short
+
 -- ---- for private clauses
+
+-- a read failed
+abbrev pub IsOfReading : ImportError → Type 0
+IsOfReading (errors.Read kind) = Unit {0}
+IsOfReading _ = ⊥
 
 -- whether there was a line, and then which, and what follows it
 abbrev pub HasTaken : List ℕ → List ℕ → Option (List ℕ) → Bool → Type 0

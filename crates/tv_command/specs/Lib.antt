@@ -1,3 +1,5 @@
 pub mod Importing
-pub mod Exporting
+pub mod Refusals
+pub mod Reading
 pub mod Checking
+pub mod Exporting

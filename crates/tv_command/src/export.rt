@@ -2,26 +2,27 @@
 
 ghost use Rattle.std.specs.Prelude.{◌≡◌, ◌++◌, [], IfErr, IfOk, OnErr, OnOk};
 ghost use Rattle.tv_base.specs.Sink.{AppendsPrefix};
+ghost use Rattle.tv_base.specs.Stop.{Counts};
 ghost use Rattle.tv_blocks.specs.Blocks.{AppendsLine};
-ghost use Rattle.tv_command.specs.Exporting.{AppendsBegun, BreaksOff, ExportsAll, IsOfWriting};
+ghost use Rattle.tv_command.specs.Exporting.{AppendsBegun, BreaksOff, ExportsAll, IsOfWriting, sink_stop, source_stop};
 ghost use Rattle.tv_doc.specs.Document.{document_of};
 ghost use Rattle.tv_reader.specs.Version.{version_of};
 
+use crate::documents::{BlockError, DocumentReader, Wanted};
 use std::alloc::{AllocError, Global};
 use std::io;
 use tantivy_schema::common::{ByteSink, ByteSource};
-use tantivy_schema::schema::document::DeserializeError;
 use tantivy_schema::schema::{Document, Schema, TantivyDocument};
-use tantivy_schema::store::{BlockReader, DocStoreVersion};
+use tantivy_schema::store::DocStoreVersion;
 use thiserror::Error;
 use tv_base::write::write_all;
 
 /// Why an export breaks off.
 #[derive(Debug, PartialEq, Drop, Error)]
 pub enum ExportError {
-    /// The next document can't be read.
+    /// The next document can't be read, or passes a limit.
     #[error("{0}")]
-    Read(DeserializeError),
+    Read(BlockError),
     /// A write failed, with this kind.
     #[error("writing failed: {0}")]
     Write(io::ErrorKind),
@@ -74,6 +75,7 @@ fn write_line<K: ByteSink>(
         → OnErr result
         (AppendsBegun schema.now (document_of document.now) (K.held sink.old) (K.held sink.new)) }
     ensures errors { IfErr result IsOfWriting }
+    ensures failures { Counts sink_stop result (K.failures sink.old) (K.failures sink.new) }
     ensures is_known { K.is_known sink.old → K.is_known sink.new }
 {
     put_line(alloc, schema, document, text)?;
@@ -83,32 +85,36 @@ fn write_line<K: ByteSink>(
     }
 }
 
-/// Appends the documents of a block that a source has left, one after the other in this version, to a sink as lines of JSON by the names of
-/// the schema's fields, as `Document::to_json` prints them, and returns how many there are. (Not in tantivy.)
+/// Appends what is wanted of the documents of a block that a source has left, one after the other in this version, to a sink: a line of JSON for each,
+/// by the names of the schema's fields, as `Document::to_json` prints it. Returns how many documents there are. (Not in tantivy.)
 ///
-/// Errors: `Read` for the first document that can't be read, with the error of `read_document`; `Write` where a write failed; `Memory`; `TooMany`
-/// after 2^64 - 1 documents. The sink then holds the lines of the documents before that one, and after `Write` and `Memory` also a beginning of
-/// the line of that one.
+/// Errors: `Read` for the first document that can't be read or passes a limit, with its number and place; `Write` where a write failed; `Memory`;
+/// `TooMany` after 2^64 - 1 documents. The sink then holds the lines of the documents before that one, and after `Write` and `Memory` also a
+/// beginning of the line of that one.
 pub fn export_block<S: ByteSource, K: ByteSink>(
     alloc: Global,
     schema: &Schema,
     version: DocStoreVersion,
+    wanted: Wanted,
     source: &mut S,
     sink: &mut K,
 ) -> Result<u64, ExportError>
     ensures ok { S.is_known source.old → K.is_known sink.old
         → IfOk result
-        (ExportsAll schema.now (version_of version) (S.left source.old) (K.held sink.old)
+        (ExportsAll schema.now (version_of version) wanted (S.left source.old) (K.held sink.old)
         (K.held sink.new)) }
     ensures err { S.is_known source.old → K.is_known sink.old
         → IfErr result
-        (BreaksOff schema.now (version_of version) (S.left source.old) (K.held sink.old)
-        (K.held sink.new)) }
+        (BreaksOff schema.now (version_of version) wanted (S.left source.old) (S.left source.new)
+        (K.held sink.old) (K.held sink.new)) }
     ensures all { S.is_known source.old → OnOk result (S.left source.new ≡ []) }
+    ensures source_failures { Counts source_stop result (S.failures source.old)
+        (S.failures source.new) }
+    ensures sink_failures { Counts sink_stop result (K.failures sink.old) (K.failures sink.new) }
     ensures source_is_known { S.is_known source.old → S.is_known source.new }
     ensures sink_is_known { K.is_known sink.old → K.is_known sink.new }
 {
-    let mut reader = BlockReader::new(alloc, version);
+    let mut reader = DocumentReader::new(alloc, version, wanted);
     let mut text = Vec::new(alloc);
     for documents in 0..u64::MAX {
         match reader.advance(source) {

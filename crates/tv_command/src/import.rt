@@ -1,8 +1,10 @@
 //! Lines of JSON to stored documents.
 
-ghost use Rattle.std.specs.Prelude.{◌≡◌, ◌∷◌, ◌++◌, [], ℕ, List, IfOk, IfSome, OnErr, OnOk, length};
+ghost use Rattle.std.specs.Prelude.{◌≡◌, ◌∷◌, ◌++◌, [], ℕ, List, IfErr, IfOk, IfSome, OnErr, OnOk, length};
 ghost use Rattle.tv_base.specs.Sink.{AppendsPrefix};
+ghost use Rattle.tv_base.specs.Stop.{Counts};
 ghost use Rattle.tv_command.specs.Importing.{HasTaken, Imports, IsParsed, LeavesBegun, ParsesBy};
+ghost use Rattle.tv_command.specs.Importing.{IsOfReading, import_stop};
 ghost use Rattle.tv_doc.specs.Belongs.{Belongs};
 ghost use Rattle.tv_doc.specs.Document.{document_of};
 ghost use Rattle.tv_doc.specs.InPlace.{in_place};
@@ -88,8 +90,9 @@ fn strip_feed(line: &mut Vec<u8>)
 
 // Takes the next line, without its line feed, in place of what `line` holds. Says whether there was one.
 fn take_line<R: BufRead>(reader: &mut R, line: &mut Vec<u8>) -> Result<bool, ImportError>
-    ensures { IfSome (R.remaining reader.old)
+    ensures taken { IfSome (R.remaining reader.old)
         (λ input. IfOk result (λ more. HasTaken input line.new.items (R.remaining reader.new) more)) }
+    ensures errors { IfErr result IsOfReading }
 {
     line.clear();
     match reader.read_until(b'\n', line) {
@@ -168,6 +171,7 @@ fn append<K: ByteSink>(sink: &mut K, bytes: &[u8]) -> Result<u64, ImportError>
     ensures ok { K.is_known sink.old → OnOk result (K.held sink.new ≡ K.held sink.old ++ bytes.now) }
     ensures err { K.is_known sink.old
         → OnErr result (AppendsPrefix (K.held sink.old) (K.held sink.new) bytes.now) }
+    ensures failures { Counts import_stop result (K.failures sink.old) (K.failures sink.new) }
     ensures is_known { K.is_known sink.old → K.is_known sink.new }
 {
     match write_all(sink, bytes) {
@@ -208,7 +212,7 @@ impl LineImporter {
     /// nothing left. A line that makes no document is refused with the reason, as `parse_json_into` and `parse_json_strict_into` return it, and
     /// nothing is appended.
     ///
-    /// Errors: `Read` where a read failed, `Write` where a write did, and `Memory`. The sink then holds what it held before, and a beginning of
+    /// Errors: `Read` where a read failed, `Write` where a write did, and only there, and `Memory`. The sink then holds what it held before, and a beginning of
     /// what was to be appended; some of the reader's bytes are lost.
     pub fn advance<R: BufRead, K: ByteSink>(
         &mut self,
@@ -225,6 +229,7 @@ impl LineImporter {
             (λ input. K.is_known sink.old
             → OnErr result
             (LeavesBegun schema.now self.old.rules input (K.held sink.old) (K.held sink.new))) }
+        ensures failures { Counts import_stop result (K.failures sink.old) (K.failures sink.new) }
         ensures rules { self.new.rules ≡ self.old.rules }
         ensures is_known { K.is_known sink.old → K.is_known sink.new }
     {

@@ -3,5 +3,6 @@
 #![tactic(auto)]
 
 pub mod check;
+pub mod documents;
 pub mod export;
 pub mod import;

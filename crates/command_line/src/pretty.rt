@@ -1,0 +1,52 @@
+//! Documents over several lines.
+
+use serde_json::Value;
+use std::alloc::{AllocError, Global};
+use tantivy_schema::common::{ByteSink, ByteSource};
+use tantivy_schema::schema::{Document, Schema};
+use tantivy_schema::store::DocStoreVersion;
+use tv_base::write::write_all;
+use tv_command::documents::{DocumentReader, Wanted};
+use tv_command::export::ExportError;
+
+/// A text of JSON, over several lines. What isn't JSON stays as it is.
+pub(crate) fn pretty_text(alloc: Global, json: &str) -> Result<String, AllocError> {
+    match Value::from_str(alloc, json) {
+        Ok(value) => value.to_string_pretty(alloc),
+        Err(_) => String::from_str(alloc, json),
+    }
+}
+
+// Appends a document over several lines to the sink.
+fn write_pretty<K: ByteSink>(alloc: Global, json: &str, sink: &mut K) -> Result<(), ExportError> {
+    let mut text = pretty_text(alloc, json)?;
+    text.push('\n')?;
+    match write_all(sink, text.as_bytes()) {
+        Ok(()) => Ok(()),
+        Err(error) => Err(ExportError::Write(error.0)),
+    }
+}
+
+/// Appends what is wanted of the documents of a block to a sink, as `export_block` does, but over several lines.
+pub(crate) fn export_pretty<S: ByteSource, K: ByteSink>(
+    alloc: Global,
+    schema: &Schema,
+    version: DocStoreVersion,
+    wanted: Wanted,
+    source: &mut S,
+    sink: &mut K,
+) -> Result<u64, ExportError> {
+    let mut reader = DocumentReader::new(alloc, version, wanted);
+    for documents in 0..u64::MAX {
+        match reader.advance(source) {
+            Ok(true) => write_pretty(
+                alloc,
+                reader.document().to_json(alloc, schema)?.as_str(),
+                sink,
+            )?,
+            Ok(false) => return Ok(documents),
+            Err(error) => return Err(ExportError::Read(error)),
+        }
+    }
+    Err(ExportError::TooMany)
+}
