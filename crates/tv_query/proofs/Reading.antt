@@ -2,12 +2,13 @@
 use Rattle.std.proofs.Common.{◌≡◌, ◌≢◌, ℕ, zero, suc, ◌+◌, ◌<◌, ◌≤◌, List, [], ◌∷◌, ◌++◌, length, take, drop, get_or, Bool, true, false, MatchBool, if◌then◌else◌, Option, Some, None, option_and_then, refl, sym, subst, ap, ◌∙◌, arith, append-nil, add-one}
 use Rattle.std.proofs.lemmas.List.{take-append-drop, length-append}
 use Rattle.std.specs.Char.{is_ascii_whitespace}
+use Rattle.std.specs.List.{AllByRecursion}
 use Rattle.std.specs.Str.{IsTrimAsciiStart}
 use Rattle.tv_field.specs.Entry.{Entry}
 use Rattle.tv_query.specs.Grammar.{Level, State, Tree, Writes, after, after_all, factor, wants_operand, wants_operator}
 use Rattle.tv_query.specs.Grammar.{all_alone, and_of, in_parentheses, not_of, of_clause, one_factor, or_of}
 use Rattle.tv_query.specs.Parsing.{Awaits, Follows, IsAt, after_and, after_not, after_open, after_or, at_start, state_of}
-use Rattle.tv_query.specs.Refusals.{Refuses, RefusesRest}
+use Rattle.tv_query.specs.Refusals.{IsTaken, Refuses, RefusesRest}
 use Rattle.tv_query.specs.Tokens.{BeginsWithPath, BeginsWithToken, BeginsWithTokens, BeginsWithWanted, BeginsWithout, IsSpace, QueryToken, WritesTokens, and_word, clause, closed, no_tokens, next_token, not_word, opened, or_word, star}
 use Rattle.tv_query.specs.Tokens.{IsOperator, IsQuoted, WantedText, all, bare, bracketed, closes, opens, operates, quoted, quoted_prefix, quoted_text, selects, word_prefix, word_text}
 use Rattle.tv_query.specs.declared.parser.Operator.{Operator}
@@ -94,6 +95,40 @@ at_state : (schema : List Entry) (wants : Bool) (operators : List Operator) (ts 
 at_state schema true operators ts written depth P at = awaits_state operators ts written depth at
 at_state schema false operators ts written depth P at = follows_state factor operators ts written depth at.0
 
+-- ---- clauses
+
+taken_on : (schema : List Entry) (xs ys : List QueryToken) → AllByRecursion (IsTaken schema) xs → AllByRecursion (IsTaken schema) ys → AllByRecursion (IsTaken schema) (xs ++ ys)
+taken_on schema [] ys xs_taken ys_taken = ys_taken
+taken_on schema (x ∷ xs) ys xs_taken ys_taken = (xs_taken.0, taken_on schema xs ys xs_taken.1 ys_taken)
+
+writes_taken : (schema : List Entry) (level : Level) (ts : List QueryToken) (tree : Tree) → Writes schema level ts tree → AllByRecursion (IsTaken schema) ts
+writes_taken schema _ _ _ (of_clause {selection = s} is) = ((s, is), tt)
+writes_taken schema _ _ _ (in_parentheses {tokens = ts} w) = (tt, taken_on schema ts (closed ∷ []) (writes_taken schema _ _ _ w) (tt, tt))
+writes_taken schema _ _ _ (not_of w) = (tt, writes_taken schema _ _ _ w)
+writes_taken schema _ _ _ (one_factor w) = writes_taken schema _ _ _ w
+writes_taken schema _ _ _ (and_of {first = f} {second = s} v w) = taken_on schema f (and_word ∷ s) (writes_taken schema _ _ _ v) (tt, writes_taken schema _ _ _ w)
+writes_taken schema _ _ _ (all_alone w) = writes_taken schema _ _ _ w
+writes_taken schema _ _ _ (or_of {first = f} {second = s} v w) = taken_on schema f (or_word ∷ s) (writes_taken schema _ _ _ v) (tt, writes_taken schema _ _ _ w)
+
+awaits_taken : (schema : List Entry) (operators : List Operator) (ts : List QueryToken) (written : List Step) (depth : ℕ) → Awaits schema operators ts written depth → AllByRecursion (IsTaken schema) ts
+awaits_taken schema _ _ _ _ at_start = tt
+awaits_taken schema _ _ _ _ (after_open {tokens = ts} w) = taken_on schema ts (opened ∷ []) (awaits_taken schema _ _ _ _ w) (tt, tt)
+awaits_taken schema _ _ _ _ (after_not {tokens = ts} w) = taken_on schema ts (not_word ∷ []) (awaits_taken schema _ _ _ _ w) (tt, tt)
+awaits_taken schema _ _ _ _ (after_and {tokens = ts} operand tree w without_not without_and writes) =
+    taken_on schema ts (operand ++ and_word ∷ []) (awaits_taken schema _ _ _ _ w) (taken_on schema operand (and_word ∷ []) (writes_taken schema _ _ _ writes) (tt, tt))
+awaits_taken schema _ _ _ _ (after_or {tokens = ts} operand tree w without_not without_and without_or writes) =
+    taken_on schema ts (operand ++ or_word ∷ []) (awaits_taken schema _ _ _ _ w) (taken_on schema operand (or_word ∷ []) (writes_taken schema _ _ _ writes) (tt, tt))
+
+follows_taken : (schema : List Entry) (level : Level) (operators : List Operator) (ts : List QueryToken) (written : List Step) (depth : ℕ) → Follows schema level operators ts written depth → AllByRecursion (IsTaken schema) ts
+follows_taken schema level operators ts written depth f =
+    subst (AllByRecursion (IsTaken schema)) (sym f.tokens_are)
+    (taken_on schema f.before f.operand (awaits_taken schema operators f.before f.before_steps depth f.awaits) (writes_taken schema level f.operand f.tree f.writes))
+
+at_taken : (schema : List Entry) (wants : Bool) (operators : List Operator) (ts : List QueryToken) (written : List Step) (depth : ℕ) (P : Type 0) → MatchBool wants (Awaits schema operators ts written depth) (Follows schema factor operators ts written depth × P)
+    → AllByRecursion (IsTaken schema) ts
+at_taken schema true operators ts written depth P at = awaits_taken schema operators ts written depth at
+at_taken schema false operators ts written depth P at = follows_taken schema factor operators ts written depth at.0
+
 -- ---- so far
 
 pub record ReadSoFar (schema : List Entry) (text : List ℕ) (parser : Parser) (rest : List ℕ) : Type 0 where
@@ -135,6 +170,7 @@ module _ {schema : List Entry} {text : List ℕ} {parser : Parser} {rest : List 
     no_space = r.no_space;
     place = place;
     follow = at_state schema parser.wants_operand parser.operators.items r.tokens parser.steps.items r.depth _ r.at;
+    taken = at_taken schema parser.wants_operand parser.operators.items r.tokens parser.steps.items r.depth _ r.at;
     reason = reason;
   }
 

@@ -1,18 +1,20 @@
 -- Why a text is no query, and where.
 --
--- The word of the public contract, `Refuses`: before the place stand tokens that may follow one another. What stands there is no token, or one that can't follow, or a
+-- The word of the public contract, `Refuses`: before the place stand tokens that may follow one another, whose clauses the schema takes. What stands there is no token, or one that can't follow, or a
 -- clause that the schema refuses, or the text ends there too early.
 use Rattle.std.specs.Prelude.{◌≡◌, ◌≢◌, ◌==◌, ◌<◌, ◌+◌, ℕ, List, [], ◌∷◌, ◌++◌, length, true, Some, None}
 use Rattle.std.specs.Char.{is_ascii_whitespace}
+use Rattle.std.specs.List.{AllByRecursion}
 use Rattle.std.specs.Str.{NonePass}
 use Rattle.tv_field.specs.Entry.{Entry}
 use Rattle.tv_query.specs.Grammar.{State, after, after_all, wants_operand, wants_operator}
-use Rattle.tv_query.specs.Selections.{RefusesClause}
+use Rattle.tv_query.specs.Selections.{RefusesClause, Selects}
 use Rattle.tv_query.specs.Tokens.{BeginsWithOperator, BeginsWithPath, BeginsWithToken, BeginsWithTokens, BeginsWithout, IsEmptyOrBegins, IsOperator, IsQuoted, IsSpace}
 use Rattle.tv_query.specs.Tokens.{QueryToken, WantedText, clause, closed, closes_range, ends_word, is_quote, opens_range}
 use Rattle.tv_query.specs.declared.query_error.QueryError.{QueryError}
 use Rattle.tv_query.specs.declared.query_error.QueryReason.{QueryReason}
 use Rattle.tv_query.specs.declared.query_error.QueryReason.TheVariants.{NoColon, NoOperand, NoOperator, NoPath, NoText, Unclosed, Unended, Unopened}
+use Rattle.tv_query.specs.declared.selection.Selection.{Selection}
 
 -- ---- a text that begins with no token
 
@@ -69,7 +71,12 @@ pub data RefusesRest (schema : List Entry) (state : State) (text : List ℕ) (re
   no_token : text ≢ [] → RefusesToken text reason → RefusesRest schema state text reason
   no_place : {token : QueryToken} {rest : List ℕ} → BeginsWithToken text token rest → RefusesTaken schema state token reason → RefusesRest schema state text reason
 
--- Tokens that may follow one another, and white space; after them stands what is refused.
+-- the schema refuses no clause that the token is
+abbrev pub IsTaken : List Entry → QueryToken → Type 0
+IsTaken schema (clause path wanted) = (selection : Selection) × Selects schema path wanted selection
+IsTaken schema token = Unit {0}
+
+-- Tokens that may follow one another and aren't refused, and white space; after them stands what is.
 pub record Refuses (schema : List Entry) (text : List ℕ) (error : QueryError) : Type 0 where
   pub tokens : List QueryToken
   pub space : List ℕ
@@ -80,4 +87,5 @@ pub record Refuses (schema : List Entry) (text : List ℕ) (error : QueryError) 
   pub no_space : BeginsWithout is_ascii_whitespace rest
   pub place : error.place + length rest ≡ length text
   pub follow : after_all (wants_operand 0) tokens ≡ Some state
+  pub taken : AllByRecursion (IsTaken schema) tokens
   pub reason : RefusesRest schema state rest error.reason

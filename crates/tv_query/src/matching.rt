@@ -8,7 +8,7 @@ use crate::query::{Query, Step};
 use std::alloc::{AllocError, Global};
 use tv_indexing::TermList;
 
-/// Memory for `Query::matches`, which serves one document after the other.
+/// Memory for `Query::matches`, which serves one document after the other. (Not in tantivy.)
 #[derive(Drop)]
 pub struct QueryStack {
     truths: Vec<bool>,

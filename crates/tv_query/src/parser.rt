@@ -1,7 +1,7 @@
 //! Tokens of a query, taken one by one.
 
-ghost use Rattle.std.specs.Prelude.{◌≡◌, ◌≢◌, ◌++◌, ◌∷◌, [], ℕ, false, true, IfErr, IfOk, List, MatchBool};
-ghost use Rattle.std.specs.Prelude.{OnOk};
+ghost use Rattle.std.specs.Prelude.{◌≡◌, ◌≢◌, ◌++◌, ◌∷◌, [], ℕ, false, IfErr, IfOk};
+ghost use Rattle.std.specs.Prelude.{List, MatchBool, OnOk};
 ghost use Rattle.tv_field.specs.Entry.{Entry};
 ghost use Rattle.tv_query.specs.Grammar.{Tree, Writes, any, factor, steps_of};
 ghost use Rattle.tv_query.specs.Parsing.{Awaits, EndsWithout, Follows, FollowsAll, FollowsAny};

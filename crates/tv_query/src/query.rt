@@ -63,20 +63,13 @@ fn take_first<'q>(
 impl Query {
     /// The query that a text writes.
     ///
-    /// It is clauses with `AND`, `OR`, `NOT` and parentheses: `NOT` binds most, then `AND`, then `OR`. A clause is `PATH:WHAT`, with nothing between. The path is a bare
-    /// word or a text in quotes, `"` or `'`. What stands after the colon is a bare word or a text in quotes, which wants the terms of `terms_of_text`, in a field
-    /// of facets also those below; one of these with a `*` after it, which wants the terms that begin with the text's; a range in brackets, as `ranges_of_text` reads it;
-    /// or `*`, which wants all terms of the path.
+    /// It is clauses with `AND`, `OR`, `NOT` and parentheses: `NOT` binds most, then `AND`, then `OR`. A clause is `PATH:WHAT`, with nothing
+    /// between. The path is a bare word or a text in quotes, `"` or `'`. What stands after the colon is a bare word or a text in quotes, which
+    /// wants the terms of `terms_of_text`, and in a field of facets also those below; one of these with a `*` after it, which wants the terms
+    /// that begin with the first term of its text; a range in brackets, as `ranges_of_text` reads it; or `*`, which wants all terms of the path.
     ///
-    /// Errors: `QueryError`, with the reason for the first token that can't stand where it does or whose clause is refused, and the place in bytes where that
-    /// begins; where the text ends too early that is its length. Of `Memory` no contract says a place.
-    ///
-    /// ```
-    /// pub fn is_staff_of_age(alloc: Global, schema: &Schema, terms: &TermList) -> Result<bool> {
-    ///     let query = Query::parse(alloc, schema, "group:/staff AND age:[30 TO 40]")?;
-    ///     Ok(query.matches(terms, &mut QueryStack::new(alloc))?)
-    /// }
-    /// ```
+    /// Errors: `QueryError`, with the reason for the first token that can't stand where it does or whose clause is refused, and the place in
+    /// bytes where that begins; where the text ends too early, that is its length. Of `Memory` no contract says a place.
     pub fn parse(alloc: Global, schema: &Schema, text: &str) -> Result<Query, QueryError>
         ensures made { IfOk result (λ query. (tokens : List QueryToken) × (tree : Tree)
             × WritesTokens text.now tokens × Writes schema.now any tokens tree

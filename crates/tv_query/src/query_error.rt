@@ -58,8 +58,8 @@ impl From<AllocError> for QueryReason {
 #[derive(Debug, PartialEq, Drop, Error)]
 #[error("{reason}, at byte {place}")]
 pub struct QueryError {
-    /// The place of what is refused, in bytes: where the token begins that can't stand there, or whose clause is refused; or the length of the text, where that ends
-    /// too early.
+    /// The place of what is refused, in bytes: where the token begins that can't stand there, or whose clause is refused; or the length of
+    /// the text, where that ends too early.
     pub place: usize,
     /// Why it is refused.
     pub reason: QueryReason,

@@ -1,6 +1,7 @@
 //! The terms that a clause of a query wants.
 
-ghost use Rattle.std.specs.Prelude.{◌≡◌, ◌≢◌, ◌↔◌, ◌∷◌, [], ℕ, Err, IfErr, IfOk, IsTrue, List, Ok, Some};
+ghost use Rattle.std.specs.Prelude.{◌≡◌, ◌≢◌, ◌↔◌, ◌∷◌, [], ℕ, Err, IfErr, IfOk};
+ghost use Rattle.std.specs.Prelude.{IsTrue, List, Ok, Some};
 ghost use Rattle.std.specs.List.{Any, Contains};
 ghost use Rattle.std.specs.Option.{option_map};
 ghost use Rattle.tv_base.specs.Facet.{parse};
@@ -24,7 +25,7 @@ use tv_schema::Schema;
 use tv_term::{Term, TermRange};
 use tv_value::field::Field;
 
-/// The terms that a clause of a query wants: some terms, and ranges of them.
+/// The terms that a clause of a query wants: some terms, and ranges of them. (Not in tantivy.)
 #[derive(Drop)]
 pub struct Selection {
     exact: TermList,
@@ -226,10 +227,10 @@ fn range_selection(
 }
 
 impl Selection {
-    /// What is wanted at a path.
+    /// The terms that are wanted at a path.
     ///
-    /// Errors: `Clause`, where the schema refuses the path or the text; `NoPrefix`, where a beginning is wanted of a field that is neither of texts nor of facets
-    /// nor of JSON objects; or `Memory`.
+    /// Errors: `Clause`, where the schema refuses the path or the text; `NoPrefix`, where a beginning is wanted of a field that is neither of
+    /// texts nor of facets nor of JSON objects; or `Memory`.
     pub fn of(
         alloc: Global,
         schema: &Schema,

@@ -4,7 +4,8 @@ ghost use Rattle.std.specs.Prelude.{◌≡◌, ◌≢◌, ◌==◌, ◌<◌, ◌
 ghost use Rattle.std.specs.Prelude.{false, slice_index, true, IfErr, IfOk, MatchBool, MatchOption};
 ghost use Rattle.tv_query.specs.Refusals.{IsUnquoted, RefusesToken, RefusesWanted};
 ghost use Rattle.tv_query.specs.Tokens.{BeginsWithPath, BeginsWithToken, BeginsWithWanted};
-ghost use Rattle.tv_query.specs.Tokens.{BeginsWithQuote, BeginsWithout, IsOperator, IsQuoted, IsUpTo, QueryToken};
+ghost use Rattle.tv_query.specs.Tokens.{BeginsWithQuote, BeginsWithout, IsOperator};
+ghost use Rattle.tv_query.specs.Tokens.{IsQuoted, IsUpTo, QueryToken};
 ghost use Rattle.tv_query.specs.Tokens.{ends_word, is_quote, opens_range, star, stops_at};
 ghost use Rattle.tv_query.specs.Tokens.{token_of, wanted_text};
 ghost use Rattle.tv_query.specs.declared.query_error.QueryReason.TheVariants.{Unended};
