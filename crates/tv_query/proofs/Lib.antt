@@ -1,0 +1,5 @@
+mod Words
+mod Parsing
+mod Wanting
+mod Running
+mod Reading

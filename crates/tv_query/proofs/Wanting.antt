@@ -1,0 +1,61 @@
+-- Lists gone over, and what a clause wants.
+use Rattle.std.proofs.Common.{◌≡◌, ◌⊎◌, ◌↔◌, ℕ, zero, suc, ◌<◌, List, [], ◌∷◌, length, get_or, true, false, Option, Some, refl, sym, subst, arith, inl, inr, slice_get}
+use Rattle.std.specs.List.{Any, Contains}
+use Rattle.tv_base.specs.Facet.{parse}
+use Rattle.tv_field.specs.declared.field_type.FieldType.{FieldType}
+use Rattle.tv_query.specs.Selections.{AreBelow, AreOfFirst, is_of_facets}
+use Rattle.tv_term.specs.Range.{HasPrefixed, HasTerms, IsBelowFacet}
+use Rattle.tv_term.specs.declared.range.TermRange.{TermRange}
+
+-- ---- some element
+
+any_of_cons : {X : Type 0} (P : X → Type 0) (x : X) (xs : List X) (k : ℕ) (y : X) → k < length (x ∷ xs) → get_or (x ∷ xs) k y ≡ y → P y → P x ⊎ Any P xs
+any_of_cons P x xs zero y lt is p = inl (subst P (sym is) p)
+any_of_cons P x xs (suc k) y lt is p = inr (k, y, omega arith, is, p)
+
+pub any_cons : {X : Type 0} (P : X → Type 0) (x : X) (xs : List X) → Any P (x ∷ xs) → P x ⊎ Any P xs
+any_cons P x xs a = any_of_cons P x xs a.0 a.1 a.2 a.3 a.4
+
+pub any_first : {X : Type 0} (P : X → Type 0) (x : X) (xs : List X) → P x → Any P (x ∷ xs)
+any_first P x xs p = (0, x, omega arith, refl, p)
+
+pub any_rest : {X : Type 0} (P : X → Type 0) (x : X) (xs : List X) → Any P xs → Any P (x ∷ xs)
+any_rest P x xs a = (suc a.0, a.1, omega (arith, a.2), a.3, a.4)
+
+-- the elements that are left have one exactly where all have, and the next is none
+pub any_left : {X : Type 0} (P : X → Type 0) (whole left next : List X) (x : X) → left ≡ x ∷ next → (P x → ⊥) → Any P whole ↔ Any P left → Any P whole ↔ Any P next
+any_left P whole left next x cut fails same = (
+  λ a. elim (any_cons P x next (subst (Any P) cut (same.0 a))) [ inl p ↦ absurd (fails p) | inr n ↦ n ],
+  λ n. same.1 (subst (Any P) (sym cut) (any_rest P x next n)),
+)
+
+pub any_here : {X : Type 0} (P : X → Type 0) (whole left next : List X) (x : X) → left ≡ x ∷ next → P x → Any P whole ↔ Any P left → Any P whole
+any_here P whole left next x cut p same = same.1 (subst (Any P) (sym cut) (any_first P x next p))
+
+pub none_left : {X : Type 0} (P : X → Type 0) (whole left : List X) → left ≡ [] → Any P whole ↔ Any P left → Any P whole → ⊥
+none_left P whole left none same a = let n = subst (Any P) none (same.0 a) in omega (arith, n.2)
+
+pub contains_any : {X : Type 0} (xs : List X) (x : X) → Contains xs x → Any (λ y. y ≡ x) xs
+contains_any xs x c = (c.0, x, c.1, c.2, refl)
+
+at_same : {X : Type 0} (xs : List X) (k : ℕ) (x y : X) → k < length xs → get_or xs k y ≡ y → y ≡ x → get_or xs k x ≡ x
+at_same xs k x y lt is same = subst (λ z. get_or xs k z ≡ z) same is
+
+pub any_contains : {X : Type 0} (xs : List X) (x : X) → Any (λ y. y ≡ x) xs → Contains xs x
+any_contains xs x a = (a.0, a.2, at_same xs a.0 x a.1 a.2 a.3 a.4)
+
+pub found_in : {X : Type 0} (P : X → Type 0) (xs ys : List X) (k : ℕ) (x : X) → ys ≡ xs → k < length ys → x ≡ get_or ys k x → P x → Any P xs
+found_in P xs ys k x same lt is p = subst (Any P) same (k, x, lt, sym is, p)
+
+pub not_true : false ≡ true → ⊥
+not_true e = absurd (cc)
+
+-- ---- ranges
+
+pub of_first : (terms : List (List ℕ)) (first : List ℕ) (range : TermRange) (ranges : List TermRange) → Some first ≡ slice_get terms 0 → HasPrefixed first range → ranges ≡ range ∷ [] → AreOfFirst terms ranges
+of_first [] first range ranges is has one = absurd (cc)
+of_first (t ∷ ts) first range ranges is has one = let same : first ≡ t = cc in (range, one, subst (λ (l : List ℕ). HasPrefixed l range) same has)
+
+pub below : (found : Option (ℕ × FieldType)) (id : ℕ) (type : FieldType) (s facet : List ℕ) (range : TermRange) (ranges : List TermRange) → Some (id, type) ≡ found → true ≡ is_of_facets type
+    → parse s ≡ Some facet → HasTerms (IsBelowFacet id facet) range → ranges ≡ range ∷ [] → AreBelow found s ranges
+below found id type s facet range ranges is of_facets parsed has one = subst (λ (f : Option (ℕ × FieldType)). AreBelow f s ranges) is (rw (sym of_facets) (facet, range, parsed, one, has))

@@ -1,0 +1,99 @@
+//! Queries.
+
+ghost use Rattle.std.specs.Prelude.{◌≡◌, ◌≢◌, ◌<◌, ◌++◌, ◌∷◌, [], ℕ, length, IfErr, IfOk, List, OnOk};
+ghost use Rattle.tv_query.specs.Grammar.{Tree, Writes, any, steps_of};
+ghost use Rattle.tv_query.specs.Parsing.{IsAt, state_of};
+ghost use Rattle.tv_query.specs.Refusals.{Refuses, RefusesRest};
+ghost use Rattle.tv_query.specs.Tokens.{BeginsWithToken, QueryToken, WritesTokens, token_of};
+ghost use Rattle.tv_query.specs.declared.query_error.QueryReason.TheVariants.{Memory};
+
+use crate::parser::Parser;
+use crate::query_error::{QueryError, QueryReason};
+use crate::selection::Selection;
+use crate::token::next_token;
+use std::alloc::Global;
+use tv_schema::Schema;
+
+/// A step of a query. Each has its truth after those of its operands.
+#[derive(Drop)]
+pub enum Step {
+    /// Whether the document has one of these terms.
+    Clause(Selection),
+    /// The truth of the step before, turned round.
+    Not,
+    /// Whether both are true.
+    And,
+    /// Whether one is true.
+    Or,
+}
+
+/// Which documents are wanted, by their terms. (Not in tantivy, whose queries search an index.)
+#[derive(Drop)]
+pub struct Query {
+    pub(crate) steps: Vec<Step>,
+}
+
+// Takes the token with which the text begins, and returns the rest.
+fn take_first<'q>(
+    alloc: Global,
+    schema: &Schema,
+    parser: &mut Parser,
+    text: &'q str,
+) -> Result<&'q str, QueryReason>
+    requires { text.now ≢ [] }
+    ensures made { (tokens : List QueryToken) (depth : ℕ)
+        → IsAt schema.now parser.old tokens depth
+        → IfOk result (λ rest. (token : QueryToken) × BeginsWithToken text.now token rest.now
+        × ((next : ℕ) × IsAt schema.now parser.new (tokens ++ token ∷ []) next)) }
+    ensures shorter { IfOk result (λ rest. length rest.now < length text.now) }
+    ensures refused { (tokens : List QueryToken) (depth : ℕ)
+        → IsAt schema.now parser.old tokens depth
+        → IfErr result (λ e. e ≢ Memory
+        → RefusesRest schema.now (state_of parser.old depth) text.now e) }
+{
+    match next_token(text) {
+        Ok((token, rest)) => match parser.take(alloc, schema, token) {
+            Ok(()) => Ok(rest),
+            Err(reason) => Err(reason),
+        },
+        Err(reason) => Err(reason),
+    }
+}
+
+impl Query {
+    /// The query that a text writes.
+    ///
+    /// It is clauses with `AND`, `OR`, `NOT` and parentheses: `NOT` binds most, then `AND`, then `OR`. A clause is `PATH:WHAT`, with nothing
+    /// between. The path is a bare word or a text in quotes, `"` or `'`. What stands after the colon is a bare word or a text in quotes, which
+    /// wants the terms of `terms_of_text`, and in a field of facets also those below; one of these with a `*` after it, which wants the terms
+    /// that begin with the first term of its text; a range in brackets, as `ranges_of_text` reads it; or `*`, which wants all terms of the path.
+    ///
+    /// Errors: `QueryError`, with the reason for the first token that can't stand where it does or whose clause is refused, and the place in
+    /// bytes where that begins; where the text ends too early, that is its length. Of `Memory` no contract says a place.
+    pub fn parse(alloc: Global, schema: &Schema, text: &str) -> Result<Query, QueryError>
+        ensures made { IfOk result (λ query. (tokens : List QueryToken) × (tree : Tree)
+            × WritesTokens text.now tokens × Writes schema.now any tokens tree
+            × (query.steps.items ≡ steps_of tree)) }
+        ensures refused { IfErr result
+            (λ e. e.reason ≢ Memory → Refuses schema.now text.now e) }
+    {
+        let mut parser = Parser::new(alloc);
+        let mut rest = text.trim_ascii_start();
+        while !rest.is_empty() {
+            match take_first(alloc, schema, &mut parser, rest) {
+                Ok(after) => rest = after.trim_ascii_start(),
+                Err(reason) => {
+                    let place = text.len() - rest.len();
+                    return Err(QueryError { place, reason });
+                }
+            }
+        }
+        match parser.finish() {
+            Ok(query) => Ok(query),
+            Err(reason) => {
+                let place = text.len();
+                Err(QueryError { place, reason })
+            }
+        }
+    }
+}
