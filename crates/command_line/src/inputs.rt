@@ -18,6 +18,9 @@ pub(crate) type Origin<R> = Either<<R as Files>::File, <R as Input>::Reader>;
 // This many bytes are read at once.
 const PIECE: usize = 65536;
 
+// A schema's JSON has at most this many bytes.
+const MOST_TEXT: u64 = 16 << 20;
+
 /// Opens a file to be read; `-` is the standard input.
 pub(crate) fn open<R: System>(rt: &R, name: &str) -> Result<Origin<R>, Failure> {
     if name == "-" {
@@ -67,11 +70,14 @@ pub(crate) fn source_from<R: System>(
     Ok(BufferedSource::with_capacity(rt.alloc(), PIECE, origin)?)
 }
 
-// The text of a file.
+// The text of a file, which has at most 16 MiB.
 fn text_of<R: System>(rt: &R, name: &str) -> Result<String, Failure> {
-    let mut origin = open(rt, name)?;
+    let mut origin = open(rt, name)?.take(MOST_TEXT + 1);
     let mut text = String::new(rt.alloc());
     match origin.read_to_string(&mut text) {
+        Ok(len) if len as u64 > MOST_TEXT => {
+            Err(failed(rt.alloc(), name, "it is longer than 16 MiB"))
+        }
         Ok(_) => Ok(text),
         Err(error) => Err(failed(rt.alloc(), name, error)),
     }
@@ -85,7 +91,7 @@ pub(crate) fn schema_of<R: System>(rt: &R, name: &str) -> Result<Schema, Failure
         Ok(json) => json,
         Err(error) => return Err(failed(alloc, name, error)),
     };
-    match Schema::from_json_value(alloc, &json) {
+    match Schema::from_json_value_by_key(alloc, &json) {
         Ok(schema) => Ok(schema),
         Err(error) => Err(failed(alloc, name, error)),
     }

@@ -2,7 +2,7 @@
 --
 -- The words of the public contract:
 -- `Selects`: the terms that are wanted at a path. A text wants its terms, as `AnswersText` says; in a field of facets also the facets below, since tantivy
--- indexes with a facet those above it. A beginning wants the terms that begin with the first term of its text, in a field of texts, facets or JSON objects.
+-- indexes with a facet those above it. A prefix wants the terms that begin with the first term of its text, in a field of texts, facets or JSON objects.
 -- A range wants the terms in its ranges, as `AnswersRanges` says.
 -- `RefusesClause`: why nothing is wanted.
 -- `IsWanted`: the term is one of these.
@@ -41,16 +41,16 @@ is_of_facets (types.Facet options) = true
 is_of_facets type = false
 
 -- a field of texts, facets or JSON objects
-abbrev pub has_beginnings : FieldType → Bool
-has_beginnings (types.Str options) = true
-has_beginnings (types.Facet options) = true
-has_beginnings (types.JsonObject options) = true
-has_beginnings type = false
+abbrev pub has_prefixes : FieldType → Bool
+has_prefixes (types.Str options) = true
+has_prefixes (types.Facet options) = true
+has_prefixes (types.JsonObject options) = true
+has_prefixes type = false
 
 -- the path names a field of another type
-abbrev pub refuses_beginnings : Option (ℕ × FieldType) → Bool
-refuses_beginnings None = false
-refuses_beginnings (Some at) = not (has_beginnings at.1)
+abbrev pub refuses_prefixes : Option (ℕ × FieldType) → Bool
+refuses_prefixes None = false
+refuses_prefixes (Some at) = not (has_prefixes at.1)
 
 -- ---- what a clause wants
 
@@ -67,13 +67,13 @@ AreOfFirst (first ∷ terms) ranges = (range : TermRange) × (ranges ≡ range �
 abbrev pub Selects : List Entry → List ℕ → WantedText → Selection → Type 0
 Selects schema path (of_text s) selection = AnswersText schema path s (Ok selection.exact) × AreBelow (field_at schema path) s selection.ranges.items
 Selects schema path (of_prefix s) selection =
-    (refuses_beginnings (field_at schema path) ≡ false) × (terms : List (List ℕ)) × AnswersText schema path s (Ok terms) × (selection.exact ≡ []) × AreOfFirst terms selection.ranges.items
+    (refuses_prefixes (field_at schema path) ≡ false) × (terms : List (List ℕ)) × AnswersText schema path s (Ok terms) × (selection.exact ≡ []) × AreOfFirst terms selection.ranges.items
 Selects schema path (of_range s) selection = (selection.exact ≡ []) × AnswersRanges schema path s (Ok selection.ranges.items)
 
 abbrev pub RefusesClause : List Entry → List ℕ → WantedText → QueryReason → Type 0
 RefusesClause schema path (of_text s) (Clause e) = AnswersText schema path s (Err e)
-RefusesClause schema path (of_prefix s) (Clause e) = (refuses_beginnings (field_at schema path) ≡ false) × AnswersText schema path s (Err e)
-RefusesClause schema path (of_prefix s) NoPrefix = refuses_beginnings (field_at schema path) ≡ true
+RefusesClause schema path (of_prefix s) (Clause e) = (refuses_prefixes (field_at schema path) ≡ false) × AnswersText schema path s (Err e)
+RefusesClause schema path (of_prefix s) NoPrefix = refuses_prefixes (field_at schema path) ≡ true
 RefusesClause schema path (of_range s) (Clause e) = AnswersRanges schema path s (Err e)
 RefusesClause schema path wanted reason = ⊥
 

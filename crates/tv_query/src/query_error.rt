@@ -33,8 +33,8 @@ pub enum QueryReason {
     /// A clause begins here with a quote or a bracket that isn't closed.
     #[error("a quote or a bracket of this clause isn't closed")]
     Unended,
-    /// A clause begins here that wants a beginning, in a field that is neither of texts nor of facets nor of JSON objects.
-    #[error("a field of this type has no beginnings")]
+    /// A clause begins here that wants a prefix, in a field that is neither of texts nor of facets nor of JSON objects.
+    #[error("a prefix is of texts, facets and texts in JSON objects, and this field has none")]
     NoPrefix,
     /// A clause begins here that the schema refuses.
     #[error("{0}")]

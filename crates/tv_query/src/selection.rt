@@ -8,8 +8,8 @@ ghost use Rattle.tv_base.specs.Facet.{parse};
 ghost use Rattle.tv_indexing.specs.TextTerms.{AnswersText};
 ghost use Rattle.tv_query.specs.Selections.{AreBelow, AreOfFirst, HasWanted, IsWanted};
 ghost use Rattle.tv_term.specs.Range.{HasTerms, IsBelowFacet, IsIn};
-ghost use Rattle.tv_query.specs.Selections.{RefusesClause, Selects, field_at, has_beginnings};
-ghost use Rattle.tv_query.specs.Selections.{is_of_facets, refuses_beginnings};
+ghost use Rattle.tv_query.specs.Selections.{RefusesClause, Selects, field_at, has_prefixes};
+ghost use Rattle.tv_query.specs.Selections.{is_of_facets, refuses_prefixes};
 ghost use Rattle.tv_query.specs.Tokens.{of_prefix, of_range, of_text, wanted_text};
 ghost use Rattle.tv_query.specs.declared.query_error.QueryReason.TheVariants.{Clause, Memory};
 ghost use Rattle.tv_indexing.specs.declared.text_terms_error.TextTermsError.{TextTermsError};
@@ -58,8 +58,8 @@ fn is_of_facets(field_type: &FieldType) -> bool
 }
 
 // Whether a field of this type has terms that begin with others.
-fn has_beginnings(field_type: &FieldType) -> bool
-    ensures { result ≡ has_beginnings field_type.now }
+fn has_prefixes(field_type: &FieldType) -> bool
+    ensures { result ≡ has_prefixes field_type.now }
 {
     matches!(
         field_type,
@@ -67,12 +67,12 @@ fn has_beginnings(field_type: &FieldType) -> bool
     )
 }
 
-// Whether the path names a field without beginnings.
-fn refuses_beginnings(schema: &Schema, path: &str) -> bool
-    ensures { result ≡ refuses_beginnings (field_at schema.now path.now) }
+// Whether the path names a field without prefixes.
+fn refuses_prefixes(schema: &Schema, path: &str) -> bool
+    ensures { result ≡ refuses_prefixes (field_at schema.now path.now) }
 {
     match field_at(schema, path) {
-        Some((_, field_type)) => !has_beginnings(field_type),
+        Some((_, field_type)) => !has_prefixes(field_type),
         None => false,
     }
 }
@@ -179,7 +179,7 @@ fn text_selection(
     }
 }
 
-// What a beginning wants.
+// What a prefix wants.
 fn prefix_selection(
     alloc: Global,
     schema: &Schema,
@@ -190,7 +190,7 @@ fn prefix_selection(
     ensures refused { IfErr result
         (λ e. e ≢ Memory → RefusesClause schema.now path.now (of_prefix text.now) e) }
 {
-    if refuses_beginnings(schema, path) {
+    if refuses_prefixes(schema, path) {
         return Err(QueryReason::NoPrefix);
     }
     let terms = match exact_terms(alloc, schema, path, text) {
@@ -229,7 +229,7 @@ fn range_selection(
 impl Selection {
     /// The terms that are wanted at a path.
     ///
-    /// Errors: `Clause`, where the schema refuses the path or the text; `NoPrefix`, where a beginning is wanted of a field that is neither of
+    /// Errors: `Clause`, where the schema refuses the path or the text; `NoPrefix`, where a prefix is wanted of a field that is neither of
     /// texts nor of facets nor of JSON objects; or `Memory`.
     pub fn of(
         alloc: Global,
