@@ -2,3 +2,4 @@ mod Checks
 mod NextDocuments
 mod Prints
 mod Lines
+mod Finds

@@ -3,3 +3,4 @@ pub mod Refusals
 pub mod Reading
 pub mod Checking
 pub mod Exporting
+pub mod Finding

@@ -61,7 +61,7 @@ fn put_line(
 }
 
 // Appends the document's line to the sink. `text` is for the line.
-fn write_line<K: ByteSink>(
+pub(crate) fn write_line<K: ByteSink>(
     alloc: Global,
     schema: &Schema,
     document: &TantivyDocument,

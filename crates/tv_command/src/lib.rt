@@ -5,4 +5,5 @@
 pub mod check;
 pub mod documents;
 pub mod export;
+pub mod find;
 pub mod import;
