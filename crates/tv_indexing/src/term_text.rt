@@ -147,9 +147,9 @@ fn push_text(text: &mut String, leaf: ReferenceValueLeaf<'_>) -> Result<(), Allo
     }
 }
 
-/// The text of a term's value, of the bytes of a serialized term: a text as it is, a number in decimal, `true` or `false`, a date by RFC
-/// 3339, a facet as its path, bytes by the standard alphabet of base64, an address of version 4 by that and another by version 6; of a term
-/// of a value in a JSON object the text of that value. (Not in tantivy.)
+/// The text of a term's value, of the bytes of a serialized term: a text as it is, a number in decimal, `true` or `false`, a date by RFC 3339, a facet
+/// as its path, bytes by the standard alphabet of base64, an address of version 4 by that and another by version 6; of a term of a value in a JSON object
+/// the text of that value. (Not in tantivy.)
 ///
 /// `None` where the bytes are no term, or are one of a text or a facet that isn't UTF-8. Errors: memory was refused.
 ///
