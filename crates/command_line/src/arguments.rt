@@ -218,6 +218,26 @@ fn terms<'a>(alloc: Global) -> Result<Command<'a>, AllocError> {
     )
 }
 
+fn find<'a>(alloc: Global) -> Result<Command<'a>, AllocError> {
+    limited(
+        alloc,
+        Command::new(alloc, "find")
+            .about("Prints the documents of a block that a query matches, as lines of JSON")
+            .after_help(
+                "Example: kormaglen find --schema shop.json products.block 'category:/shop AND price:[10 TO 20]'",
+            )
+            .arg(schema(alloc))?
+            .arg(version(alloc))?
+            .arg(block(alloc))?
+            .arg(argument(
+                alloc,
+                "QUERY",
+                "Clauses PATH:WHAT with AND, OR, NOT and parentheses",
+            ))?
+            .arg(flag(alloc, "count", "Print their number alone"))?,
+    )
+}
+
 fn facets<'a>(alloc: Global) -> Result<Command<'a>, AllocError> {
     limited(
         alloc,
@@ -325,6 +345,7 @@ pub(crate) fn command<'a>(alloc: Global) -> Result<Command<'a>, AllocError> {
             .subcommand(export(alloc)?)?
             .subcommand(get(alloc)?)?
             .subcommand(terms(alloc)?)?
+            .subcommand(find(alloc)?)?
             .subcommand(facets(alloc)?)?
             .subcommand(migrate(alloc)?)?
             .subcommand(check(alloc)?)?

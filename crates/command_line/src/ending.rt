@@ -1,7 +1,7 @@
 //! How the command ends.
 
 use crate::arguments::command;
-use crate::{blocks, facets, imports, migrations, schemas, terms};
+use crate::{blocks, facets, find, imports, migrations, schemas, terms};
 use clap::ArgMatches;
 use std::alloc::{AllocError, AllocFailed, Global};
 use std::fmt::Display;
@@ -20,6 +20,8 @@ pub(crate) enum Ending {
     Done,
     /// Something was refused, and has been reported.
     Refused,
+    /// The words were wrong, and that has been reported.
+    WrongUse,
 }
 
 /// Why a command broke off.
@@ -81,6 +83,7 @@ fn call<R: System>(rt: &R, name: &str, given: &ArgMatches<'_>) -> Result<Ending,
         "stat" => blocks::stat(rt, given),
         "migrate" => migrations::migrate(rt, given),
         "terms" => terms::terms(rt, given),
+        "find" => find::find(rt, given),
         "facets" => facets::facets(rt, given),
         _ => schemas::schema(rt, given),
     }
@@ -91,6 +94,7 @@ fn status<R: System>(rt: &R, ended: Result<Ending, Failure>) -> io::Result<u8> {
     Ok(match ended {
         Ok(Ending::Done) | Err(Failure::Closed) => 0,
         Ok(Ending::Refused) => 1,
+        Ok(Ending::WrongUse) => 2,
         Err(Failure::Said(text)) => {
             eprintln!(rt; "kormaglen: {text}")?;
             3

@@ -6,6 +6,7 @@ mod blocks;
 mod ending;
 mod facets;
 mod files;
+mod find;
 mod imports;
 mod inputs;
 mod migrations;
