@@ -1,4 +1,4 @@
-//! The documents of a block that a query wants, as lines of JSON.
+//! The documents of a block that a query matches, as lines of JSON.
 
 ghost use Rattle.std.specs.Prelude.{◌≡◌, ◌+◌, ◌-◌, ◌<◌, ◌^◌, [], if◌then◌else◌};
 ghost use Rattle.std.specs.Prelude.{IfErr, IfOk, Ok, OnOk};
