@@ -28,7 +28,10 @@ pub fn values_of_file<R: Files + AllocGlobal>(rt: &R, name: &str) -> Result<usiz
     let mut source = BufferedSource::new(alloc, fs::open(rt, name)?)?;
     let mut reader = BlockReader::new(alloc, DocStoreVersion::V2);
     let mut values: usize = 0;
-    while reader.advance(&mut source)? {
+    for _ in 0..u64::MAX {
+        if !reader.advance(&mut source)? {
+            break;
+        }
         values = values.saturating_add(reader.document().len());
     }
     Ok(values)
