@@ -1,5 +1,5 @@
-//! The work of the command `kormaglen`, over readers and writers: lines of JSON to a block of stored documents and back, and a block tested. A
-//! block is documents one after the other, and nothing else.
+//! The work of the command `kormaglen`, over readers and writers: lines of JSON to a block of stored documents and back, a block tested, and the
+//! documents of a block that a query matches. A block is documents one after the other, and nothing else.
 #![tactic(auto)]
 
 pub mod check;
