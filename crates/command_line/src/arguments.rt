@@ -321,7 +321,7 @@ fn schemas<'a>(alloc: Global) -> Result<Command<'a>, AllocError> {
                 .required(true)
                 .action(ArgAction::Append)
                 .help(
-                    "Types: text, string, u64, i64, bool, date, facet, bytes, json, ip. Options: indexed, stored, fast; a text, a string and a facet are always indexed",
+                    "Types: text, string, u64, i64, bool, date, facet, bytes, json, ip. Options: indexed, stored, fast; texts and facets always are indexed",
                 ),
         )?;
     Ok(

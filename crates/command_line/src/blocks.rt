@@ -129,10 +129,16 @@ pub(crate) fn get<R: System>(rt: &R, given: &ArgMatches<'_>) -> Result<Ending, F
     let Some(numbers) = given.get_many::<u64>("NUMBER") else {
         return Ok(ending);
     };
+    let is_read_once = text(given, "BLOCK") == "-";
+    let mut is_first = true;
     for number in numbers {
         let Ok(number) = number else {
             continue;
         };
+        if is_read_once && !is_first {
+            return Err(wrong_use(rt.alloc(), "NUMBER", "the standard input is read once"));
+        }
+        is_first = false;
         match document(rt, given, &schema, number)? {
             Some(json) => print_document(rt, given, json.as_str())?,
             None => {
