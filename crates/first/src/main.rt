@@ -12,18 +12,15 @@ fn main(rt: HostRuntime) -> Result<()> {
     let name = builder.add_text_field("name", TEXT | STORED)?;
     let age = builder.add_u64_field("age", INDEXED | STORED)?;
     let schema = builder.build()?;
-
     let mut document = TantivyDocument::new(alloc);
     document.add_text(name, "ChillFish8")?;
     document.add_u64(age, 20)?;
     if !document.fits(&schema) {
         return Err(anyhow!("a field is not the schema's"));
     }
-
     let mut sink = VecSink::new(alloc);
     BinaryDocumentSerializer::new(&mut sink, &schema).serialize_doc(&document)?;
-    let stored = hex::encode(alloc, sink.as_slice())?;
-    println!(rt; "{stored}")?;
+    println!(rt; "{}", hex::encode(alloc, sink.as_slice())?)?;
 
     let mut source = SliceSource::new(sink.as_slice());
     let read = read_document(alloc, &mut source, DocStoreVersion::V2)?;
@@ -35,7 +32,6 @@ fn main(rt: HostRuntime) -> Result<()> {
             (None, None) => {}
         }
     }
-    let json = read.to_json(alloc, &schema)?;
-    println!(rt; "{json}")?;
+    println!(rt; "{}", read.to_json(alloc, &schema)?)?;
     Ok(())
 }
