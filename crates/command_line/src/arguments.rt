@@ -1,109 +1,15 @@
 //! The words of the command.
 
+use crate::options::{
+    argument, block, flag, limited, option, output, over_block, pretty, schema, version, watched,
+    written,
+};
 use clap::{Arg, ArgAction, Command};
 use std::alloc::{AllocError, Global};
 
-// An option that takes a value.
-fn option<'a>(alloc: Global, name: &'a str, value: &'a str, help: &'a str) -> Arg<'a> {
-    Arg::new(alloc, name)
-        .long(name)
-        .value_name(value)
-        .action(ArgAction::Set)
-        .help(help)
-}
-
-// An argument that takes one value.
-fn argument<'a>(alloc: Global, name: &'a str, help: &'a str) -> Arg<'a> {
-    Arg::new(alloc, name)
-        .value_name(name)
-        .required(true)
-        .action(ArgAction::Set)
-        .help(help)
-}
-
-// An option that takes none.
-fn flag<'a>(alloc: Global, name: &'a str, help: &'a str) -> Arg<'a> {
-    Arg::new(alloc, name)
-        .long(name)
-        .action(ArgAction::SetTrue)
-        .help(help)
-}
-
-fn schema<'a>(alloc: Global) -> Arg<'a> {
-    option(
-        alloc,
-        "schema",
-        "FILE",
-        "The schema's JSON, as tantivy writes it",
-    )
-    .required(true)
-}
-
-fn version<'a>(alloc: Global) -> Arg<'a> {
-    option(
-        alloc,
-        "version",
-        "NUMBER",
-        "The version of the block: 1, 2 or 3",
-    )
-    .value_parser(["1", "2", "3"].as_slice())
-    .default_value("2")
-}
-
-fn written<'a>(alloc: Global, name: &'a str) -> Arg<'a> {
-    option(alloc, name, "NUMBER", "The version that is written: 2 or 3").value_parser([
-        "2", "3",
-    ].as_slice())
-}
-
-fn output<'a>(alloc: Global) -> Arg<'a> {
-    option(
-        alloc,
-        "output",
-        "FILE",
-        "Where the result goes; - is the standard output",
-    )
-    .short('o')
-    .default_value("-")
-}
-
-// The options that limit what is read of one document.
-fn limited<'a>(alloc: Global, command: Command<'a>) -> Result<Command<'a>, AllocError> {
-    command
-        .arg(option(
-            alloc,
-            "limit-bytes",
-            "NUMBER",
-            "Refuse a document of more bytes",
-        )
-        .value_parser(clap::value_parser!(u64)))?
-        .arg(option(
-            alloc,
-            "limit-depth",
-            "NUMBER",
-            "Refuse a document whose values nest in more lists",
-        )
-        .value_parser(clap::value_parser!(u64)))
-}
-
-fn pretty<'a>(alloc: Global) -> Arg<'a> {
-    flag(
-        alloc,
-        "pretty",
-        "Print each document over several lines, indented",
-    )
-}
-
-fn block<'a>(alloc: Global) -> Arg<'a> {
-    argument(
-        alloc,
-        "BLOCK",
-        "The file of the block; - is the standard input",
-    )
-}
-
 fn import<'a>(alloc: Global) -> Result<Command<'a>, AllocError> {
-    Ok(
+    watched(
+        alloc,
         Command::new(alloc, "import")
             .about("Stores the documents of lines of JSON")
             .after_help(
@@ -135,13 +41,12 @@ fn import<'a>(alloc: Global) -> Result<Command<'a>, AllocError> {
                 alloc,
                 "strict",
                 "Refuse a key that no field has, and a key that stands twice",
-            ))?
-            .arg(flag(alloc, "quiet", "Print no summary"))?,
+            ))?,
     )
 }
 
 fn export<'a>(alloc: Global) -> Result<Command<'a>, AllocError> {
-    limited(
+    over_block(
         alloc,
         Command::new(alloc, "export")
             .about("Prints the documents of a block as lines of JSON")
@@ -191,7 +96,7 @@ fn get<'a>(alloc: Global) -> Result<Command<'a>, AllocError> {
 }
 
 fn terms<'a>(alloc: Global) -> Result<Command<'a>, AllocError> {
-    limited(
+    over_block(
         alloc,
         Command::new(alloc, "terms")
             .about("Prints the terms of a field, each once, in their order")
@@ -219,7 +124,7 @@ fn terms<'a>(alloc: Global) -> Result<Command<'a>, AllocError> {
 }
 
 fn find<'a>(alloc: Global) -> Result<Command<'a>, AllocError> {
-    limited(
+    over_block(
         alloc,
         Command::new(alloc, "find")
             .about("Prints the documents of a block that a query matches, as lines of JSON")
@@ -239,7 +144,7 @@ fn find<'a>(alloc: Global) -> Result<Command<'a>, AllocError> {
 }
 
 fn facets<'a>(alloc: Global) -> Result<Command<'a>, AllocError> {
-    limited(
+    over_block(
         alloc,
         Command::new(alloc, "facets")
             .about("Counts documents by the children of a facet")
@@ -257,12 +162,18 @@ fn facets<'a>(alloc: Global) -> Result<Command<'a>, AllocError> {
                 "NUMBER",
                 "Only this number of children, those with the most documents first",
             )
-            .value_parser(clap::value_parser!(u64)))?,
+            .value_parser(clap::value_parser!(u64)))?
+            .arg(flag(
+                alloc,
+                "bars",
+                "Print a table with bars, also where the standard output is no terminal",
+            ))?,
     )
 }
 
 fn migrate<'a>(alloc: Global) -> Result<Command<'a>, AllocError> {
-    Ok(
+    watched(
+        alloc,
         Command::new(alloc, "migrate")
             .about("Writes the documents of a block in another version of the store")
             .after_help("Example: kormaglen migrate old.block --from 1 --to 2 -o new.block")
@@ -283,7 +194,7 @@ fn migrate<'a>(alloc: Global) -> Result<Command<'a>, AllocError> {
 }
 
 fn check<'a>(alloc: Global) -> Result<Command<'a>, AllocError> {
-    limited(
+    over_block(
         alloc,
         Command::new(alloc, "check")
             .about("Tests that a file is a block of documents, and nothing else")
@@ -294,7 +205,7 @@ fn check<'a>(alloc: Global) -> Result<Command<'a>, AllocError> {
 }
 
 fn stat<'a>(alloc: Global) -> Result<Command<'a>, AllocError> {
-    limited(
+    over_block(
         alloc,
         Command::new(alloc, "stat")
             .about("Counts the documents, bytes and values of a block")

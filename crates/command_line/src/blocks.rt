@@ -4,17 +4,19 @@ use crate::ending::{Ending, Failure, System, failed, write_failed, wrong_use};
 use crate::files::{create, finish};
 use crate::inputs::{documents, limits, schema_given, source, text, version};
 use crate::pretty::{export_pretty, pretty_text};
+use crate::progress::Progress;
 use crate::starts::{open_at, start_of};
 use clap::ArgMatches;
 use std::alloc::Global;
 use std::io::{Eprint, Print};
-use tantivy_schema::common::ByteSource;
+use tantivy_schema::common::{ByteSink, ByteSource};
 use tantivy_schema::schema::document::DeserializeError;
 use tantivy_schema::schema::{Document, Schema, TantivyDocument};
 use tantivy_schema::store::LimitedReadError;
 use tv_command::check::check_block;
 use tv_command::documents::{BlockError, DocumentReader, Wanted};
 use tv_command::export::{ExportError, export_block};
+use tv_command::watch::Watch;
 
 // What broke an export off.
 fn broken<R: System>(rt: &R, given: &ArgMatches<'_>, error: ExportError) -> Failure {
@@ -44,20 +46,33 @@ fn wanted(alloc: Global, given: &ArgMatches<'_>, schema: &Schema) -> Result<Want
     Ok(Wanted::Fields(fields))
 }
 
+// Appends what is wanted of the documents of a block to a sink, as lines of JSON.
+fn export_into<R: System, S: ByteSource, K: ByteSink>(
+    rt: &R,
+    given: &ArgMatches<'_>,
+    schema: &Schema,
+    wanted: Wanted,
+    source: &mut S,
+    sink: &mut K,
+) -> Result<u64, ExportError> {
+    let (alloc, version) = (rt.alloc(), version(given, "version"));
+    let mut progress = Progress::of(rt, given, &[text(given, "BLOCK")]);
+    let exported = if given.get_flag("pretty") {
+        export_pretty(alloc, schema, version, wanted, source, sink, &mut progress)
+    } else {
+        export_block(alloc, schema, version, wanted, source, sink, &mut progress)
+    };
+    progress.end();
+    exported
+}
+
 /// Prints the documents of a block as lines of JSON.
 pub(crate) fn export<R: System>(rt: &R, given: &ArgMatches<'_>) -> Result<Ending, Failure> {
-    let alloc = rt.alloc();
     let schema = schema_given(rt, given)?;
-    let wanted = wanted(alloc, given, &schema)?;
+    let wanted = wanted(rt.alloc(), given, &schema)?;
     let mut source = source(rt, text(given, "BLOCK"))?;
     let mut output = create(rt, text(given, "output"))?;
-    let version = version(given, "version");
-    let exported = if given.get_flag("pretty") {
-        export_pretty(alloc, &schema, version, wanted, &mut source, output.sink())
-    } else {
-        export_block(alloc, &schema, version, wanted, &mut source, output.sink())
-    };
-    let ended = match exported {
+    let ended = match export_into(rt, given, &schema, wanted, &mut source, output.sink()) {
         Ok(_) => Ok(()),
         Err(error) => Err(broken(rt, given, error)),
     };
@@ -154,12 +169,11 @@ pub(crate) fn get<R: System>(rt: &R, given: &ArgMatches<'_>) -> Result<Ending, F
 pub(crate) fn check<R: System>(rt: &R, given: &ArgMatches<'_>) -> Result<Ending, Failure> {
     let name = text(given, "BLOCK");
     let mut source = source(rt, name)?;
-    match check_block(
-        rt.alloc(),
-        version(given, "version"),
-        limits(given),
-        &mut source,
-    ) {
+    let mut progress = Progress::of(rt, given, &[name]);
+    let (version, limits) = (version(given, "version"), limits(given));
+    let checked = check_block(rt.alloc(), version, limits, &mut source, &mut progress);
+    progress.end();
+    match checked {
         Ok(documents) => {
             print_line(
                 rt,
@@ -212,6 +226,24 @@ fn count_values(by_field: &mut Vec<u64>, document: &TantivyDocument) {
     }
 }
 
+// Counts the documents that a source has left.
+fn count_all<S: ByteSource, W: Watch>(
+    mut reader: DocumentReader,
+    source: &mut S,
+    counts: &mut Counts,
+    watch: &mut W,
+) -> Result<(), BlockError> {
+    for _ in 0..u64::MAX {
+        if !reader.advance(source)? {
+            break;
+        }
+        count_document(counts, reader.document().len() as u64, reader.bytes());
+        count_values(&mut counts.by_field, reader.document());
+        watch.advance(reader.bytes());
+    }
+    Ok(())
+}
+
 // Counts the documents of a block.
 fn counts_of_block<R: System>(
     rt: &R,
@@ -221,7 +253,6 @@ fn counts_of_block<R: System>(
     let alloc = rt.alloc();
     let name = text(given, "BLOCK");
     let mut source = source(rt, name)?;
-    let mut reader = documents(alloc, given);
     let mut counts = Counts {
         documents: 0,
         bytes: 0,
@@ -230,17 +261,18 @@ fn counts_of_block<R: System>(
         most_values: 0,
         by_field: vec![in alloc; 0; schema.num_fields()]?,
     };
-    for _ in 0..u64::MAX {
-        match reader.advance(&mut source) {
-            Ok(true) => {
-                count_document(&mut counts, reader.document().len() as u64, reader.bytes());
-                count_values(&mut counts.by_field, reader.document());
-            }
-            Ok(false) => break,
-            Err(error) => return Err(failed(alloc, name, error)),
-        }
+    let mut progress = Progress::of(rt, given, &[name]);
+    let counted = count_all(
+        documents(alloc, given),
+        &mut source,
+        &mut counts,
+        &mut progress,
+    );
+    progress.end();
+    match counted {
+        Ok(()) => Ok(counts),
+        Err(error) => Err(failed(alloc, name, error)),
     }
-    Ok(counts)
 }
 
 /// Counts the documents, bytes and values of a block.

@@ -6,12 +6,32 @@ use clap::ArgMatches;
 use std::alloc::{AllocError, AllocFailed, Global};
 use std::fmt::Display;
 use std::fs::Files;
-use std::io::{self, Eprint, Input, Print};
+use std::io::{self, Eprint, Input, IsTerminal, Print};
+use std::time::Clock;
+
+/// Which of the standard streams are terminals.
+pub trait Terminals {
+    /// Whether the standard output is one.
+    fn is_output_terminal(&self) -> bool;
+
+    /// Whether the standard error is one.
+    fn is_error_terminal(&self) -> bool;
+}
+
+impl Terminals for HostRuntime {
+    fn is_output_terminal(&self) -> bool {
+        self.stdout().is_terminal()
+    }
+
+    fn is_error_terminal(&self) -> bool {
+        self.stderr().is_terminal()
+    }
+}
 
 /// What a command needs of the system.
-pub trait System: Files + AllocGlobal + Input + Print + Eprint + Copy {}
+pub trait System: Files + AllocGlobal + Input + Print + Eprint + Clock + Terminals + Copy {}
 
-impl<R: Files + AllocGlobal + Input + Print + Eprint + Copy> System for R {}
+impl<R: Files + AllocGlobal + Input + Print + Eprint + Clock + Terminals + Copy> System for R {}
 
 /// How a command that didn't break off ended.
 #[derive(Clone, Copy, Debug, PartialEq, Eq)]

@@ -1,8 +1,10 @@
 //! `facets`.
 
+use crate::bars::print_table;
 use crate::blocks::print_line;
 use crate::ending::{Ending, Failure, System, failed};
 use crate::inputs::{documents, schema_given, source, text};
+use crate::progress::Progress;
 use clap::ArgMatches;
 use std::alloc::Global;
 use std::collections::BTreeMap;
@@ -11,6 +13,7 @@ use tantivy_schema::schema::{
     DocumentFacet, Facet, FacetCount, Field, Schema, TantivyDocument, Value, count_child_documents,
     greatest_counts,
 };
+use tv_command::watch::Watch;
 
 // How many documents have a facet at or below each child, by the child's encoded text.
 type Counts = BTreeMap<Vec<u8>, u64>;
@@ -49,12 +52,13 @@ fn count_document(
     Ok(())
 }
 
-// Counts the documents of a block.
-fn counts_of_block<R: System>(
+// Counts the documents of a block that the words name.
+fn count_all<R: System, W: Watch>(
     rt: &R,
     given: &ArgMatches<'_>,
     field: Field,
     ancestor: &Facet,
+    watch: &mut W,
 ) -> Result<Counts, Failure> {
     let alloc = rt.alloc();
     let name = text(given, "BLOCK");
@@ -69,12 +73,33 @@ fn counts_of_block<R: System>(
         }
         let facets = facets_of(alloc, reader.document(), field)?;
         count_document(alloc, ancestor, &facets, &mut counts)?;
+        watch.advance(reader.bytes());
     }
     Ok(counts)
 }
 
-// Prints a line for each count.
-fn print_counts<R: System>(rt: &R, counts: &[FacetCount<'_>]) -> Result<(), Failure> {
+// The same, with progress.
+fn counts_of_block<R: System>(
+    rt: &R,
+    given: &ArgMatches<'_>,
+    field: Field,
+    ancestor: &Facet,
+) -> Result<Counts, Failure> {
+    let mut progress = Progress::of(rt, given, &[text(given, "BLOCK")]);
+    let counts = count_all(rt, given, field, ancestor, &mut progress);
+    progress.end();
+    counts
+}
+
+// Prints the counts: as a table with bars on a terminal and where the words ask for it, and else a line for each.
+fn print_counts<R: System>(
+    rt: &R,
+    given: &ArgMatches<'_>,
+    counts: &[FacetCount<'_>],
+) -> Result<(), Failure> {
+    if given.get_flag("bars") || rt.is_output_terminal() {
+        return print_table(rt, counts);
+    }
     for count in counts {
         print_line(rt, format!(in rt.alloc(); "{count}")?.as_str())?;
     }
@@ -115,9 +140,9 @@ pub(crate) fn facets<R: System>(rt: &R, given: &ArgMatches<'_>) -> Result<Ending
     match given.get_one::<u64>("top") {
         Some(top) => {
             let most = usize::try_from(top).unwrap_or(usize::MAX);
-            print_counts(rt, &greatest_counts(alloc, &entries, most)?)?;
+            print_counts(rt, given, &greatest_counts(alloc, &entries, most)?)?;
         }
-        None => print_counts(rt, &entries)?,
+        None => print_counts(rt, given, &entries)?,
     }
     Ok(Ending::Done)
 }

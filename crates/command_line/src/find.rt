@@ -4,6 +4,7 @@ use crate::blocks::print_line;
 use crate::ending::{Ending, Failure, System, failed, write_failed};
 use crate::files::{create, finish};
 use crate::inputs::{limits, schema_given, source, text, version};
+use crate::progress::Progress;
 use clap::ArgMatches;
 use std::alloc::Global;
 use std::io::{self, Eprint, Write};
@@ -72,7 +73,8 @@ fn find_into<R: System, K: ByteSink>(
     let name = text(given, "BLOCK");
     let mut source = source(rt, name)?;
     let (version, limits) = (version(given, "version"), limits(given));
-    match find_in_block(
+    let mut progress = Progress::beside(rt, given, &[name], !given.get_flag("count"));
+    let found = find_in_block(
         rt.alloc(),
         schema,
         version,
@@ -80,7 +82,10 @@ fn find_into<R: System, K: ByteSink>(
         query,
         &mut source,
         sink,
-    ) {
+        &mut progress,
+    );
+    progress.end();
+    match found {
         Ok(found) => Ok(found),
         Err(error) => Err(broken(rt.alloc(), name, error)),
     }

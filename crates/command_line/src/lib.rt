@@ -2,6 +2,7 @@
 #![tactic(auto)]
 
 mod arguments;
+mod bars;
 mod blocks;
 mod ending;
 mod facets;
@@ -10,10 +11,12 @@ mod find;
 mod imports;
 mod inputs;
 mod migrations;
+mod options;
 mod pretty;
+mod progress;
 mod schema_words;
 mod schemas;
 mod starts;
 mod terms;
 
-pub use ending::{System, run};
+pub use ending::{System, Terminals, run};

@@ -8,6 +8,7 @@ use tantivy_schema::store::DocStoreVersion;
 use tv_base::write::write_all;
 use tv_command::documents::{DocumentReader, Wanted};
 use tv_command::export::ExportError;
+use tv_command::watch::Watch;
 
 /// A text of JSON, over several lines. What isn't JSON stays as it is.
 pub(crate) fn pretty_text(alloc: Global, json: &str) -> Result<String, AllocError> {
@@ -27,23 +28,27 @@ fn write_pretty<K: ByteSink>(alloc: Global, json: &str, sink: &mut K) -> Result<
     }
 }
 
-/// Appends what is wanted of the documents of a block to a sink, as `export_block` does, but over several lines.
-pub(crate) fn export_pretty<S: ByteSource, K: ByteSink>(
+/// Appends what is wanted of the documents of a block to a sink, as `export_block` does, but over several lines. `watch` is told the same.
+pub(crate) fn export_pretty<S: ByteSource, K: ByteSink, W: Watch>(
     alloc: Global,
     schema: &Schema,
     version: DocStoreVersion,
     wanted: Wanted,
     source: &mut S,
     sink: &mut K,
+    watch: &mut W,
 ) -> Result<u64, ExportError> {
     let mut reader = DocumentReader::new(alloc, version, wanted);
     for documents in 0..u64::MAX {
         match reader.advance(source) {
-            Ok(true) => write_pretty(
-                alloc,
-                reader.document().to_json(alloc, schema)?.as_str(),
-                sink,
-            )?,
+            Ok(true) => {
+                write_pretty(
+                    alloc,
+                    reader.document().to_json(alloc, schema)?.as_str(),
+                    sink,
+                )?;
+                watch.advance(reader.bytes());
+            }
             Ok(false) => return Ok(documents),
             Err(error) => return Err(ExportError::Read(error)),
         }

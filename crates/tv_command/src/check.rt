@@ -7,21 +7,24 @@ ghost use Rattle.tv_command.specs.Reading.{block_stop};
 ghost use Rattle.tv_reader.specs.Version.{version_of};
 
 use crate::documents::{BlockError, DocumentReader, Wanted};
+use crate::watch::Watch;
 use std::alloc::Global;
 use tantivy_schema::common::{ByteSource, Cause};
 use tantivy_schema::schema::document::DeserializeError;
 use tantivy_schema::store::{DocStoreVersion, LimitedReadError, ReadLimits};
 
 /// Tests that what a source has left is a block of documents of this version, each within the limits, one after the other and nothing else, and returns
-/// how many documents there are. Without limits nothing is kept of them, whatever they hold and however deep that nests. (Not in tantivy.)
+/// how many documents there are. Without limits nothing is kept of them, whatever they hold and however deep that nests. `watch` is told of each
+/// document that passes, with the bytes from the first on. (Not in tantivy.)
 ///
 /// Errors: `BlockError` for the first document that is refused, with the error of `skip_document`, or within limits of `read_document_within`;
 /// `TooLong` after 2^64 - 1 documents or bytes.
-pub fn check_block<S: ByteSource>(
+pub fn check_block<S: ByteSource, W: Watch>(
     alloc: Global,
     version: DocStoreVersion,
     limits: ReadLimits,
     source: &mut S,
+    watch: &mut W,
 ) -> Result<u64, BlockError>
     ensures ok { S.is_known source.old → length (S.left source.old) < 2 ^ 64 - 1
         → IfOk result (IsBlock (version_of version) limits (S.left source.old)) }
@@ -34,7 +37,7 @@ pub fn check_block<S: ByteSource>(
     let mut reader = DocumentReader::new(alloc, version, Wanted::All(limits));
     for documents in 0..u64::MAX {
         match reader.pass(source) {
-            Ok(true) => {}
+            Ok(true) => watch.advance(reader.bytes()),
             Ok(false) => return Ok(documents),
             Err(error) => return Err(error),
         }

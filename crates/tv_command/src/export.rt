@@ -9,6 +9,7 @@ ghost use Rattle.tv_doc.specs.Document.{document_of};
 ghost use Rattle.tv_reader.specs.Version.{version_of};
 
 use crate::documents::{BlockError, DocumentReader, Wanted};
+use crate::watch::Watch;
 use std::alloc::{AllocError, Global};
 use std::io;
 use tantivy_schema::common::{ByteSink, ByteSource};
@@ -86,18 +87,20 @@ pub(crate) fn write_line<K: ByteSink>(
 }
 
 /// Appends what is wanted of the documents of a block that a source has left, one after the other in this version, to a sink: a line of JSON for each,
-/// by the names of the schema's fields, as `Document::to_json` prints it. Returns how many documents there are. (Not in tantivy.)
+/// by the names of the schema's fields, as `Document::to_json` prints it. Returns how many documents there are. `watch` is told of each document whose
+/// line is appended, with the bytes from the first on. (Not in tantivy.)
 ///
 /// Errors: `Read` for the first document that can't be read or passes a limit, with its number and place; `Write` where a write failed; `Memory`;
 /// `TooMany` after 2^64 - 1 documents. The sink then holds the lines of the documents before that one, and after `Write` and `Memory` also a
 /// beginning of the line of that one.
-pub fn export_block<S: ByteSource, K: ByteSink>(
+pub fn export_block<S: ByteSource, K: ByteSink, W: Watch>(
     alloc: Global,
     schema: &Schema,
     version: DocStoreVersion,
     wanted: Wanted,
     source: &mut S,
     sink: &mut K,
+    watch: &mut W,
 ) -> Result<u64, ExportError>
     ensures ok { S.is_known source.old → K.is_known sink.old
         → IfOk result
@@ -122,6 +125,7 @@ pub fn export_block<S: ByteSource, K: ByteSink>(
                 if let Err(error) = write_line(alloc, schema, reader.document(), &mut text, sink) {
                     return Err(error);
                 }
+                watch.advance(reader.bytes());
             }
             Ok(false) => return Ok(documents),
             Err(error) => return Err(ExportError::Read(error)),

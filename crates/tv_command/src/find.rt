@@ -13,6 +13,7 @@ ghost use Rattle.tv_reader.specs.Version.{version_of};
 
 use crate::documents::{BlockError, DocumentReader, Wanted};
 use crate::export::{ExportError, write_line};
+use crate::watch::Watch;
 use std::alloc::Global;
 use std::io;
 use tantivy_schema::common::{ByteSink, ByteSource};
@@ -128,13 +129,13 @@ fn counted(found: u64, matches: bool) -> u64
 }
 
 /// Appends the lines of those documents of a block that the query matches, in order, as `export_block` prints them, and returns how many
-/// documents there are and how many match. (Not in tantivy.)
+/// documents there are and how many match. `watch` is told of each document that was gone over, with the bytes from the first on. (Not in tantivy.)
 ///
 /// A document matches by its terms, as `term_values` gives them. Errors: `Read` for the first document that can't be read or passes a limit, with its
 /// number and place; `Terms` for the first that has no terms by the schema; `Write` where a write failed; `Memory`; `TooMany` after 2^64 - 1
 /// documents. The sink then holds the lines of the documents before that one which match, and after `Write` and `Memory` also a beginning of
 /// the line of that one.
-pub fn find_in_block<S: ByteSource, K: ByteSink>(
+pub fn find_in_block<S: ByteSource, K: ByteSink, W: Watch>(
     alloc: Global,
     schema: &Schema,
     version: DocStoreVersion,
@@ -142,6 +143,7 @@ pub fn find_in_block<S: ByteSource, K: ByteSink>(
     query: &Query,
     source: &mut S,
     sink: &mut K,
+    watch: &mut W,
 ) -> Result<Found, FindError>
     ensures ok { S.is_known source.old → K.is_known sink.old → (tree : Tree)
         → query.now.steps.items ≡ steps_of tree → IfOk result
@@ -173,6 +175,7 @@ pub fn find_in_block<S: ByteSource, K: ByteSink>(
                     Ok(matches) => found = counted(found, matches),
                     Err(error) => return Err(error),
                 }
+                watch.advance(reader.bytes());
             }
             Ok(false) => return Ok(Found { documents, found }),
             Err(error) => return Err(FindError::Read(error)),
