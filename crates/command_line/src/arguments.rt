@@ -214,7 +214,20 @@ fn terms<'a>(alloc: Global) -> Result<Command<'a>, AllocError> {
                 "TEXT",
                 "Only the terms that begin with the term of this text; not with a range",
             ))?
-            .arg(flag(alloc, "counts", "Print how many documents have each"))?,
+            .arg(flag(alloc, "counts", "Print how many documents have each"))?
+            .arg(option(
+                alloc,
+                "memory",
+                "BYTES",
+                "Terms that take more bytes are sorted in temporary files; K, M or G may follow the number",
+            )
+            .default_value("256M"))?
+            .arg(option(
+                alloc,
+                "temporary",
+                "FOLDER",
+                "Where temporary files are made: else in the folder of TMPDIR, or in /tmp",
+            ))?,
     )
 }
 
@@ -244,7 +257,7 @@ fn facets<'a>(alloc: Global) -> Result<Command<'a>, AllocError> {
         Command::new(alloc, "facets")
             .about("Counts documents by the children of a facet")
             .after_help(
-                "Example: kormaglen facets --schema shop.json products.block category /shop",
+                "Memory is kept for the children that are counted.\n\nExample: kormaglen facets --schema shop.json products.block category /shop",
             )
             .arg(schema(alloc))?
             .arg(version(alloc))?

@@ -11,9 +11,11 @@ mod imports;
 mod inputs;
 mod migrations;
 mod pretty;
+mod runs;
 mod schema_words;
 mod schemas;
 mod starts;
+mod term_counts;
 mod terms;
 
 pub use ending::{System, run};
