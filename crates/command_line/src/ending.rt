@@ -4,6 +4,7 @@ use crate::arguments::command;
 use crate::{blocks, facets, find, imports, migrations, schemas, terms};
 use clap::ArgMatches;
 use std::alloc::{AllocError, AllocFailed, Global};
+use std::env::Env;
 use std::fmt::Display;
 use std::fs::Files;
 use std::io::{self, Eprint, Input, IsTerminal, Print};
@@ -29,9 +30,9 @@ impl Terminals for HostRuntime {
 }
 
 /// What a command needs of the system.
-pub trait System: Files + AllocGlobal + Input + Print + Eprint + Clock + Terminals + Copy {}
+pub trait System: Files + Env + AllocGlobal + Input + Print + Eprint + Clock + Terminals + Copy {}
 
-impl<R: Files + AllocGlobal + Input + Print + Eprint + Clock + Terminals + Copy> System for R {}
+impl<R: Files + Env + AllocGlobal + Input + Print + Eprint + Clock + Terminals + Copy> System for R {}
 
 /// How a command that didn't break off ended.
 #[derive(Clone, Copy, Debug, PartialEq, Eq)]

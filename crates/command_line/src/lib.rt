@@ -11,12 +11,14 @@ mod find;
 mod imports;
 mod inputs;
 mod migrations;
-mod options;
 mod pretty;
 mod progress;
+mod runs;
 mod schema_words;
 mod schemas;
 mod starts;
+mod term_counts;
 mod terms;
+mod words;
 
 pub use ending::{System, Terminals, run};

@@ -19,6 +19,9 @@ const STANDING: u64 = 200;
 // The clock is looked at after this many documents at most.
 const MOST_STEP: u64 = 1024;
 
+/// What erases the line where something else is written to the standard error by who doesn't hold the `Progress`. The line comes back as the work goes on.
+pub(crate) const ERASING: &str = "\r                                                                               \r";
+
 // How far the work has come.
 #[derive(Clone, Copy)]
 struct Work {
@@ -194,6 +197,11 @@ impl<'r, R: System> Progress<'r, R> {
             written: 0,
             width: 0,
         }
+    }
+
+    /// Whether anything is shown.
+    pub(crate) fn is_shown(&self) -> bool {
+        self.begun.is_some()
     }
 
     /// Begins the next input: the bytes that are told from here on are counted from its beginning. It may be called before the first input too.

@@ -3,3 +3,5 @@ mod NextDocuments
 mod Prints
 mod Lines
 mod Finds
+mod RunPairs
+mod Merging

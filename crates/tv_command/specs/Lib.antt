@@ -4,3 +4,4 @@ pub mod Reading
 pub mod Checking
 pub mod Exporting
 pub mod Finding
+pub mod Runs

@@ -1,5 +1,5 @@
 //! The work of the command `kormaglen`, over readers and writers: lines of JSON to a block of stored documents and back, a block tested, and the
-//! documents of a block that a query matches. A block is documents one after the other, and nothing else.
+//! documents of a block that a query matches; and terms that are sorted in parts. A block is documents one after the other, and nothing else.
 #![tactic(auto)]
 
 pub mod check;
@@ -7,4 +7,5 @@ pub mod documents;
 pub mod export;
 pub mod find;
 pub mod import;
+pub mod runs;
 pub mod watch;

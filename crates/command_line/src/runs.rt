@@ -1,0 +1,241 @@
+//! Runs of terms in temporary files.
+
+use crate::ending::{Failure, System, failed};
+use crate::term_counts::TermCounts;
+use std::alloc::Global;
+use std::fs;
+use std::fs::Files;
+use std::io::{self, BufWriter, Read, Seek, SeekFrom, Write};
+use tantivy_schema::common::{BufferedSource, WriteSink};
+use tv_command::runs::{Merge, MergeError, write_pair};
+
+// This many bytes of a run are read or written at once.
+const PIECE: usize = 16384;
+
+// At most this many temporary files are open at once, of which one may be written.
+const MOST_FILES: usize = 64;
+
+// So many names are tried for a temporary file.
+const MOST_NAMES: u64 = 1 << 20;
+
+/// A run in a file that has no name in its folder any more: so it is gone with the command, however that ends.
+#[derive(Drop)]
+struct Run<F> {
+    file: F,
+    name: String,
+    // how many merges its pairs have been through
+    merges: u32,
+}
+
+/// Runs, of which none was merged more often than one before it.
+#[derive(Drop)]
+pub(crate) struct Runs<F> {
+    folder: String,
+    runs: Vec<Run<F>>,
+}
+
+impl<F> Runs<F> {
+    /// No runs; their files will be made in this folder.
+    pub(crate) fn new(alloc: Global, folder: String) -> Runs<F> {
+        Runs {
+            folder,
+            runs: Vec::new(alloc),
+        }
+    }
+
+    /// Whether there are none.
+    pub(crate) fn is_empty(&self) -> bool {
+        self.runs.is_empty()
+    }
+}
+
+// A run that is written.
+#[derive(Drop)]
+struct RunWriter<F: Write + Drop> {
+    sink: WriteSink<BufWriter<F>>,
+    name: String,
+}
+
+impl<F: Write + Seek + Drop> RunWriter<F> {
+    // Appends a term and its count.
+    fn write(&mut self, alloc: Global, term: &[u8], count: u64) -> Result<(), Failure> {
+        match write_pair(&mut self.sink, term, count) {
+            Ok(()) => Ok(()),
+            Err(error) => Err(failed(alloc, self.name.as_str(), error.0)),
+        }
+    }
+
+    // Ends the run, to be read from its beginning.
+    fn finish(self, alloc: Global, merges: u32) -> Result<Run<F>, Failure> {
+        let RunWriter { sink, name } = self;
+        let mut writer = sink.into_inner();
+        if let Err(error) = writer.seek(SeekFrom::Start(0)) {
+            return Err(failed(alloc, name.as_str(), error));
+        }
+        let (file, _) = writer.into_parts();
+        Ok(Run { file, name, merges })
+    }
+}
+
+// Makes a file of a name that isn't there.
+fn create_file<R: System>(rt: &R, folder: &str) -> Result<(<R as Files>::File, String), Failure> {
+    let alloc = rt.alloc();
+    for number in 0..MOST_NAMES {
+        let name = format!(in alloc; "{folder}/kormaglen-{number}.run")?;
+        let made = fs::OpenOptions::new()
+            .read(true)
+            .write(true)
+            .create_new(true)
+            .open(rt, name.as_str());
+        match made {
+            Ok(file) => return Ok((file, name)),
+            Err(error) => {
+                if error.kind() != io::ErrorKind::AlreadyExists {
+                    return Err(failed(alloc, name.as_str(), error));
+                }
+            }
+        }
+    }
+    Err(failed(alloc, folder, "there is no free name for a temporary file"))
+}
+
+// Begins a run in a temporary file.
+fn create_run<R: System>(rt: &R, folder: &str) -> Result<RunWriter<<R as Files>::File>, Failure> {
+    let alloc = rt.alloc();
+    let (file, name) = create_file(rt, folder)?;
+    if let Err(error) = fs::remove_file(rt, name.as_str()) {
+        return Err(failed(alloc, name.as_str(), error));
+    }
+    match BufWriter::with_capacity(alloc, PIECE, file) {
+        Ok(writer) => Ok(RunWriter {
+            sink: WriteSink::new(writer),
+            name,
+        }),
+        Err(_) => Err(Failure::Memory),
+    }
+}
+
+/// Several runs, read as one.
+#[derive(Drop)]
+pub(crate) struct MergedRuns<F: Read> {
+    merge: Merge<BufferedSource<F>>,
+    names: Vec<String>,
+}
+
+impl<F: Read + Drop> MergedRuns<F> {
+    // Adds a run.
+    fn add(&mut self, alloc: Global, run: Run<F>) -> Result<(), Failure> {
+        let Run {
+            file,
+            name,
+            merges: _,
+        } = run;
+        let source = BufferedSource::with_capacity(alloc, PIECE, file)?;
+        if let Err(error) = self.merge.add(alloc, source) {
+            return Err(failed(alloc, name.as_str(), error));
+        }
+        self.names.push(name)?;
+        Ok(())
+    }
+
+    /// Takes the next term, and says whether there was one.
+    pub(crate) fn advance(&mut self, alloc: Global) -> Result<bool, Failure> {
+        match self.merge.advance() {
+            Ok(more) => Ok(more),
+            Err(MergeError::Memory) => Err(Failure::Memory),
+            Err(MergeError::Read(run, error)) => match self.names.get(run) {
+                Some(name) => Err(failed(alloc, name.as_str(), error)),
+                None => Err(failed(alloc, "a temporary file", error)),
+            },
+        }
+    }
+
+    /// The bytes of the term that was taken last.
+    pub(crate) fn term(&self) -> &[u8] {
+        self.merge.term()
+    }
+
+    /// How many documents have it.
+    pub(crate) fn count(&self) -> u64 {
+        self.merge.count()
+    }
+}
+
+// Takes this many of the runs, the last first, to be read as one.
+fn merged<F: Read + Drop>(
+    alloc: Global,
+    runs: &mut Runs<F>,
+    number: usize,
+) -> Result<MergedRuns<F>, Failure> {
+    let mut merged = MergedRuns {
+        merge: Merge::new(alloc),
+        names: Vec::new(alloc),
+    };
+    for _ in 0..number {
+        match runs.runs.pop() {
+            Some(run) => merged.add(alloc, run)?,
+            None => break,
+        }
+    }
+    Ok(merged)
+}
+
+/// Takes all runs, to be read as one.
+pub(crate) fn merged_all<F: Read + Drop>(
+    alloc: Global,
+    runs: &mut Runs<F>,
+) -> Result<MergedRuns<F>, Failure> {
+    let number = runs.runs.len();
+    merged(alloc, runs, number)
+}
+
+// How many of the last runs are merged next, which is at least two where there are as many, and how many merges the greatest of them has been through:
+// those that have been through as many as the last but one, or fewer.
+fn to_merge<F>(runs: &[Run<F>]) -> (usize, u32) {
+    let merges = match runs.iter().rev().nth(1) {
+        Some(run) => run.merges,
+        None => 0,
+    };
+    let number = runs
+        .iter()
+        .rev()
+        .take_while(|run| run.merges <= merges)
+        .count();
+    (number, merges)
+}
+
+// Merges some of the last runs into one.
+fn merge_last<R: System>(rt: &R, runs: &mut Runs<<R as Files>::File>) -> Result<(), Failure> {
+    let alloc = rt.alloc();
+    let (number, merges) = to_merge(runs.runs.as_slice());
+    let mut merged = merged(alloc, runs, number)?;
+    let mut writer = create_run(rt, runs.folder.as_str())?;
+    for _ in 0..u64::MAX {
+        if !merged.advance(alloc)? {
+            break;
+        }
+        writer.write(alloc, merged.term(), merged.count())?;
+    }
+    runs.runs
+        .push(writer.finish(alloc, merges.saturating_add(1))?)?;
+    Ok(())
+}
+
+/// Writes the terms that are counted as a run, and forgets them.
+pub(crate) fn add_run<R: System>(
+    rt: &R,
+    runs: &mut Runs<<R as Files>::File>,
+    counts: &mut TermCounts,
+) -> Result<(), Failure> {
+    let alloc = rt.alloc();
+    if runs.runs.len() >= MOST_FILES - 1 {
+        merge_last(rt, runs)?;
+    }
+    let mut writer = create_run(rt, runs.folder.as_str())?;
+    for (term, count) in counts.as_map().iter() {
+        writer.write(alloc, term.as_slice(), *count)?;
+    }
+    counts.clear();
+    runs.runs.push(writer.finish(alloc, 0)?)?;
+    Ok(())
+}
