@@ -1,5 +1,6 @@
 //! `export`, `get`, `check` and `stat`.
 
+use crate::depth::deepest_of;
 use crate::ending::{Ending, Failure, System, failed, write_failed, wrong_use};
 use crate::files::{create, finish};
 use crate::inputs::{documents, limits, schema_given, source, text, version};
@@ -191,6 +192,7 @@ struct Counts {
     largest: u64,
     values: u64,
     most_values: u64,
+    depth: u64,
     by_field: Vec<u64>,
 }
 
@@ -228,6 +230,7 @@ fn counts_of_block<R: System>(
         largest: 0,
         values: 0,
         most_values: 0,
+        depth: 0,
         by_field: vec![in alloc; 0; schema.num_fields()]?,
     };
     for _ in 0..u64::MAX {
@@ -235,6 +238,7 @@ fn counts_of_block<R: System>(
             Ok(true) => {
                 count_document(&mut counts, reader.document().len() as u64, reader.bytes());
                 count_values(&mut counts.by_field, reader.document());
+                counts.depth = deepest_of(alloc, reader.document(), counts.depth)?;
             }
             Ok(false) => break,
             Err(error) => return Err(failed(alloc, name, error)),
@@ -253,6 +257,7 @@ pub(crate) fn stat<R: System>(rt: &R, given: &ArgMatches<'_>) -> Result<Ending, 
         ("bytes of the largest document", counts.largest),
         ("values", counts.values),
         ("most values of a document", counts.most_values),
+        ("lists and objects around the innermost value", counts.depth),
     ] {
         print_line(rt, format!(in rt.alloc(); "{number:>12}  {what}")?.as_str())?;
     }

@@ -3,6 +3,7 @@
 
 mod arguments;
 mod blocks;
+mod depth;
 mod ending;
 mod facets;
 mod files;

@@ -2,4 +2,7 @@ mod Checks
 mod NextDocuments
 mod Prints
 mod Lines
+mod WholeImports
 mod Finds
+mod CountedBytes
+mod Migrations

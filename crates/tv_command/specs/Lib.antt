@@ -1,6 +1,9 @@
 pub mod Importing
+pub mod WholeImports
 pub mod Refusals
 pub mod Reading
 pub mod Checking
 pub mod Exporting
 pub mod Finding
+pub mod Counting
+pub mod Migrating
