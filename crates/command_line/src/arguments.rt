@@ -81,28 +81,24 @@ static SCHEMAS: [Words; 2] = [
         name: "show",
         about: "Prints the fields of a schema as a table",
         example: "",
-        words: &[
-            Word {
-                name: "FILE",
-                value: "FILE",
-                help: "The schema's JSON; - is the standard input",
-                kind: Kind::Argument,
-            },
-        ],
+        words: &[Word {
+            name: "FILE",
+            value: "FILE",
+            help: "The schema's JSON; - is the standard input",
+            kind: Kind::Argument,
+        }],
         shared: &[],
     },
     Words {
         name: "new",
         about: "Prints the JSON of a schema with these fields",
         example: "Example: kormaglen schema new name:text:stored age:u64:indexed,stored group:facet",
-        words: &[
-            Word {
-                name: "FIELD",
-                value: "NAME:TYPE[:OPTION,..]",
-                help: "Types: text, string, u64, i64, bool, date, facet, bytes, json, ip. Options: indexed, stored, fast; texts and facets always are indexed",
-                kind: Kind::Several,
-            },
-        ],
+        words: &[Word {
+            name: "FIELD",
+            value: "NAME:TYPE[:OPTION,..]",
+            help: "Types: text, string, u64, i64, bool, date, facet, bytes, json, ip. Options: indexed, stored, fast; texts and facets always are indexed",
+            kind: Kind::Several,
+        }],
         shared: &[],
     },
 ];
@@ -322,21 +318,14 @@ static COMMANDS: [Words; 9] = [
         name: "check",
         about: "Tests that a file is a block of documents, and nothing else",
         example: "Example: kormaglen check products.block",
-        words: &[
-            VERSION,
-            BLOCK,
-        ],
+        words: &[VERSION, BLOCK],
         shared: &OVER_BLOCK,
     },
     Words {
         name: "stat",
         about: "Counts the documents, bytes and values of a block",
         example: "Example: kormaglen stat --schema shop.json products.block",
-        words: &[
-            SCHEMA,
-            VERSION,
-            BLOCK,
-        ],
+        words: &[SCHEMA, VERSION, BLOCK],
         shared: &OVER_BLOCK,
     },
 ];

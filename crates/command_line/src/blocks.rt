@@ -1,5 +1,6 @@
 //! `export`, `get`, `check` and `stat`.
 
+use crate::depth::deepest_of;
 use crate::ending::{Ending, Failure, System, failed, write_failed, wrong_use};
 use crate::files::{create, finish};
 use crate::inputs::{documents, limits, schema_given, source, text, version};
@@ -205,6 +206,7 @@ struct Counts {
     largest: u64,
     values: u64,
     most_values: u64,
+    depth: u64,
     by_field: Vec<u64>,
 }
 
@@ -228,17 +230,22 @@ fn count_values(by_field: &mut Vec<u64>, document: &TantivyDocument) {
 
 // Counts the documents that a source has left.
 fn count_all<S: ByteSource, W: Watch>(
-    mut reader: DocumentReader,
+    alloc: Global,
+    given: &ArgMatches<'_>,
     source: &mut S,
     counts: &mut Counts,
     watch: &mut W,
-) -> Result<(), BlockError> {
+) -> Result<(), Failure> {
+    let mut reader = documents(alloc, given);
     for _ in 0..u64::MAX {
-        if !reader.advance(source)? {
-            break;
+        match reader.advance(source) {
+            Ok(true) => {}
+            Ok(false) => break,
+            Err(error) => return Err(failed(alloc, text(given, "BLOCK"), error)),
         }
         count_document(counts, reader.document().len() as u64, reader.bytes());
         count_values(&mut counts.by_field, reader.document());
+        counts.depth = deepest_of(alloc, reader.document(), counts.depth)?;
         watch.advance(reader.bytes());
     }
     Ok(())
@@ -259,20 +266,14 @@ fn counts_of_block<R: System>(
         largest: 0,
         values: 0,
         most_values: 0,
+        depth: 0,
         by_field: vec![in alloc; 0; schema.num_fields()]?,
     };
     let mut progress = Progress::of(rt, given, &[name]);
-    let counted = count_all(
-        documents(alloc, given),
-        &mut source,
-        &mut counts,
-        &mut progress,
-    );
+    let counted = count_all(alloc, given, &mut source, &mut counts, &mut progress);
     progress.end();
-    match counted {
-        Ok(()) => Ok(counts),
-        Err(error) => Err(failed(alloc, name, error)),
-    }
+    counted?;
+    Ok(counts)
 }
 
 /// Counts the documents, bytes and values of a block.
@@ -285,6 +286,7 @@ pub(crate) fn stat<R: System>(rt: &R, given: &ArgMatches<'_>) -> Result<Ending, 
         ("bytes of the largest document", counts.largest),
         ("values", counts.values),
         ("most values of a document", counts.most_values),
+        ("lists and objects around the innermost value", counts.depth),
     ] {
         print_line(rt, format!(in rt.alloc(); "{number:>12}  {what}")?.as_str())?;
     }

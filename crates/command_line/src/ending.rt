@@ -32,7 +32,8 @@ impl Terminals for HostRuntime {
 /// What a command needs of the system.
 pub trait System: Files + Env + AllocGlobal + Input + Print + Eprint + Clock + Terminals + Copy {}
 
-impl<R: Files + Env + AllocGlobal + Input + Print + Eprint + Clock + Terminals + Copy> System for R {}
+impl<R: Files + Env + AllocGlobal + Input + Print + Eprint + Clock + Terminals + Copy> System
+    for R {}
 
 /// How a command that didn't break off ended.
 #[derive(Clone, Copy, Debug, PartialEq, Eq)]

@@ -1,31 +1,45 @@
 //! `import`.
 
+ghost use Rattle.std.specs.Prelude.{[]};
+
 use crate::ending::{Ending, Failure, System, failed, write_failed};
 use crate::files::{Output, create, discard, finish};
 use crate::inputs::{lines, schema_given, text};
+use crate::progress::{ERASING, Progress};
 use clap::ArgMatches;
+use std::alloc::Global;
 use std::io::Eprint;
 use tantivy_schema::common::BinarySerializable;
 use tantivy_schema::schema::Schema;
 use tantivy_schema::store::WriteVersion;
 use tv_base::write::{write_all, write_u64};
 use tv_command::import::{ImportError, ImportRules, LineError, LineImporter, LineOutcome};
+use tv_command::imports::{ImportLinesError, Imported, import_lines};
+use tv_command::report::{LineReport, Report};
 
 // What an import has done.
-#[derive(Clone, Copy, Default)]
+#[derive(Clone, Copy)]
 struct Counts {
-    stored: u64,
+    lines: Imported,
     bytes: u64,
-    refused: u64,
 }
 
-// Where an import writes, and what it has done. It has to be ended, as its outputs have.
-struct Importing<'r, 'n, R: System> {
+// Where the lines of a file are reported, and where documents begin. It has to be ended, as its outputs have.
+struct Reports<'r, 'n, R: System> {
     rt: &'r R,
-    block: Output<'r, 'n, R>,
+    name: &'n str,
     offsets: Option<Output<'r, 'n, R>>,
     errors: Option<Output<'r, 'n, R>>,
-    counts: Counts,
+    // What is written before a report that goes to the standard error: it erases a line of progress.
+    erasing: &'static str,
+    bytes: u64,
+}
+
+// Where an import writes, and how many lines it has taken. It has to be ended, as its outputs have.
+struct Importing<'r, 'n, R: System> {
+    block: Output<'r, 'n, R>,
+    reports: Reports<'r, 'n, R>,
+    lines: Imported,
 }
 
 // The rules that the words give.
@@ -51,29 +65,26 @@ fn optional<'r, 'n, R: System>(
 }
 
 // Notes where the document begins that was stored in this number of bytes.
-fn note_stored<R: System>(import: &mut Importing<'_, '_, R>, size: u64) -> Result<(), Failure> {
-    if let Some(offsets) = &mut import.offsets {
-        if let Err(error) = write_u64(offsets.sink(), import.counts.bytes) {
-            return Err(write_failed(import.rt.alloc(), "offsets", error.0));
+fn note_stored<R: System>(reports: &mut Reports<'_, '_, R>, size: u64) -> Result<(), Failure> {
+    if let Some(offsets) = &mut reports.offsets {
+        if let Err(error) = write_u64(offsets.sink(), reports.bytes) {
+            return Err(write_failed(reports.rt.alloc(), "offsets", error.0));
         }
     }
-    import.counts.stored = import.counts.stored.saturating_add(1);
-    import.counts.bytes = import.counts.bytes.saturating_add(size);
+    reports.bytes = reports.bytes.saturating_add(size);
     Ok(())
 }
 
 // Reports a line that is refused.
-fn report<R: System>(
-    import: &mut Importing<'_, '_, R>,
-    name: &str,
+fn note_refused<R: System>(
+    reports: &mut Reports<'_, '_, R>,
     line: u64,
     error: &LineError,
 ) -> Result<(), Failure> {
-    import.counts.refused = import.counts.refused.saturating_add(1);
-    let alloc = import.rt.alloc();
-    let said = format!(in alloc; "{name}:{line}: {error}\n")?;
-    let Some(errors) = &mut import.errors else {
-        let _ = import.rt.eprint(said.as_str());
+    let alloc = reports.rt.alloc();
+    let said = format!(in alloc; "{}:{line}: {error}\n", reports.name)?;
+    let Some(errors) = &mut reports.errors else {
+        let _ = eprint!(reports.rt; "{}{said}", reports.erasing);
         return Ok(());
     };
     match write_all(errors.sink(), said.as_bytes()) {
@@ -82,48 +93,90 @@ fn report<R: System>(
     }
 }
 
+// What a file holds isn't known.
+impl<R: System> Report for Reports<'_, '_, R> {
+    type Error = Failure;
+
+    ghost is_known = { λ _. ⊥ };
+
+    ghost told = { λ _. [] };
+
+    fn tell(&mut self, line: LineReport) -> Result<(), Failure> {
+        match line.outcome {
+            LineOutcome::Stored(size) => note_stored(self, size),
+            LineOutcome::Refused(error) => note_refused(self, line.line, &error),
+        }
+    }
+}
+
 // What broke an import off.
-fn broken<R: System>(rt: &R, given: &ArgMatches<'_>, name: &str, error: ImportError) -> Failure {
+fn broken<R: System>(
+    rt: &R,
+    given: &ArgMatches<'_>,
+    name: &str,
+    error: ImportLinesError<Failure>,
+) -> Failure {
     match error {
-        ImportError::Read(kind) => failed(rt.alloc(), name, kind),
-        ImportError::Write(kind) => write_failed(rt.alloc(), text(given, "output"), kind),
-        ImportError::Memory => Failure::Memory,
+        ImportLinesError::Import(ImportError::Read(kind)) => failed(rt.alloc(), name, kind),
+        ImportLinesError::Import(ImportError::Write(kind)) => {
+            write_failed(rt.alloc(), text(given, "output"), kind)
+        }
+        ImportLinesError::Import(ImportError::Memory) => Failure::Memory,
+        ImportLinesError::Report(failure) => failure,
+        ImportLinesError::TooMany => failed(rt.alloc(), name, "it has too many lines"),
     }
 }
 
 // Imports the lines of a file.
-fn import_file<R: System>(
-    import: &mut Importing<'_, '_, R>,
-    given: &ArgMatches<'_>,
+fn import_file<'n, R: System>(
+    import: &mut Importing<'_, 'n, R>,
+    given: &ArgMatches<'n>,
     schema: &Schema,
     importer: &mut LineImporter,
-    name: &str,
+    name: &'n str,
+    progress: &mut Progress<'_, R>,
 ) -> Result<(), Failure> {
-    let rt = import.rt;
+    let rt = import.reports.rt;
     let mut reader = lines(rt, name)?;
-    for line in 1..u64::MAX {
-        match importer.advance(schema, &mut reader, import.block.sink()) {
-            Ok(Some(LineOutcome::Stored(size))) => note_stored(import, size)?,
-            Ok(Some(LineOutcome::Refused(error))) => report(import, name, line, &error)?,
-            Ok(None) => break,
-            Err(error) => return Err(broken(rt, given, name, error)),
+    progress.begin_input();
+    import.reports.name = name;
+    let block = import.block.sink();
+    let reports = &mut import.reports;
+    match import_lines(importer, schema, &mut reader, block, reports, progress) {
+        Ok(Imported { stored, refused }) => {
+            import.lines.stored = import.lines.stored.saturating_add(stored);
+            import.lines.refused = import.lines.refused.saturating_add(refused);
+            Ok(())
         }
+        Err(error) => Err(broken(rt, given, name, error)),
     }
-    Ok(())
 }
 
-// Imports the lines of each file that is named, or of the standard input.
-fn import_files<R: System>(
-    import: &mut Importing<'_, '_, R>,
-    given: &ArgMatches<'_>,
+// The files that are named, or the standard input.
+fn names<'n>(alloc: Global, given: &ArgMatches<'n>) -> Result<Vec<&'n str>, Failure> {
+    let mut names = Vec::new(alloc);
+    if let Some(named) = given.get_strs("FILE") {
+        for name in named {
+            names.push(*name)?;
+        }
+    }
+    if names.is_empty() {
+        names.push("-")?;
+    }
+    Ok(names)
+}
+
+// Imports the lines of each of these files.
+fn import_files<'n, R: System>(
+    import: &mut Importing<'_, 'n, R>,
+    given: &ArgMatches<'n>,
     schema: &Schema,
+    names: &[&'n str],
+    progress: &mut Progress<'_, R>,
 ) -> Result<(), Failure> {
-    let mut importer = LineImporter::new(import.rt.alloc(), rules(given));
-    let Some(names) = given.get_strs("FILE") else {
-        return import_file(import, given, schema, &mut importer, "-");
-    };
+    let mut importer = LineImporter::new(import.reports.rt.alloc(), rules(given));
     for name in names {
-        import_file(import, given, schema, &mut importer, name)?;
+        import_file(import, given, schema, &mut importer, name, progress)?;
     }
     Ok(())
 }
@@ -150,11 +203,16 @@ fn begin<'r, 'n, R: System>(
         }
     };
     Ok(Importing {
-        rt,
         block,
-        offsets,
-        errors,
-        counts: Counts::default(),
+        reports: Reports {
+            rt,
+            name: "-",
+            offsets,
+            errors,
+            erasing: "",
+            bytes: 0,
+        },
+        lines: Imported::default(),
     })
 }
 
@@ -182,27 +240,38 @@ fn end<R: System>(
     ended: Result<(), Failure>,
 ) -> Result<Counts, Failure> {
     let Importing {
-        rt: _,
         block,
+        reports,
+        lines,
+    } = import;
+    let Reports {
+        rt: _,
+        name: _,
         offsets,
         errors,
-        counts,
-    } = import;
+        erasing: _,
+        bytes,
+    } = reports;
     let ended = finish_optional(errors, ended);
     let ended = finish_optional(offsets, ended);
     finish(block, ended)?;
-    Ok(counts)
+    Ok(Counts { lines, bytes })
 }
 
 /// Stores the documents of lines, and reports the others.
 pub(crate) fn import<R: System>(rt: &R, given: &ArgMatches<'_>) -> Result<Ending, Failure> {
     let schema = schema_given(rt, given)?;
+    let names = names(rt.alloc(), given)?;
     let mut import = begin(rt, given)?;
-    let ended = import_files(&mut import, given, &schema);
+    let mut progress = Progress::of(rt, given, names.as_slice());
+    if progress.is_shown() {
+        import.reports.erasing = ERASING;
+    }
+    let ended = import_files(&mut import, given, &schema, names.as_slice(), &mut progress);
+    progress.end();
     let Counts {
-        stored,
+        lines: Imported { stored, refused },
         bytes,
-        refused,
     } = end(import, ended)?;
     if !given.get_flag("quiet") {
         let _ = eprintln!(rt;

@@ -4,6 +4,7 @@
 mod arguments;
 mod bars;
 mod blocks;
+mod depth;
 mod ending;
 mod facets;
 mod files;

@@ -20,7 +20,8 @@ const STANDING: u64 = 200;
 const MOST_STEP: u64 = 1024;
 
 /// What erases the line where something else is written to the standard error by who doesn't hold the `Progress`. The line comes back as the work goes on.
-pub(crate) const ERASING: &str = "\r                                                                               \r";
+pub(crate) const ERASING: &str =
+    "\r                                                                               \r";
 
 // How far the work has come.
 #[derive(Clone, Copy)]

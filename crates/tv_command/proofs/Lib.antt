@@ -2,6 +2,9 @@ mod Checks
 mod NextDocuments
 mod Prints
 mod Lines
+mod WholeImports
 mod Finds
 mod RunPairs
 mod Merging
+mod CountedBytes
+mod Migrations

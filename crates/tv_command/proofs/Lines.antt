@@ -1,5 +1,5 @@
 -- The first line of an input, as std's readers take it.
-use Rattle.std.proofs.Common.{nat_lt, length, Option, Some, None, IfSome, arith, subst, append-nil, ◌≡◌, ◌≢◌, ◌⊎◌, ◌==◌, ℕ, List, [], ◌∷◌, ◌++◌, true, false, Bool, refl, sym, ap, ◌∙◌, inl, inr}
+use Rattle.std.proofs.Common.{◌+◌, nat_lt, length, Option, Some, None, IfSome, arith, subst, append-nil, ◌≡◌, ◌≢◌, ◌⊎◌, ◌==◌, ℕ, List, [], ◌∷◌, ◌++◌, true, false, Bool, refl, sym, ap, ◌∙◌, inl, inr}
 use borrow.Author.Tests.{eqb-true, eqb-false}
 use Rattle.std.specs.Io.BufRead.{take_through, drop_through}
 use Rattle.std.specs.Io.BufRead.{DropsThrough}
@@ -9,7 +9,7 @@ use Rattle.std.specs.Prelude.{IsErrAnd, OnErr, Result, Ok, Err}
 use Rattle.tv_base.specs.Sink.{AppendsPrefix}
 use Rattle.tv_base.specs.Source.{Failures}
 use Rattle.tv_base.specs.Stop.{Counts, CountsStop}
-use Rattle.tv_command.specs.Importing.{HasTaken, Imports, IsLineError, IsOfReading, IsParsed, LeavesBegun, import_stop}
+use Rattle.tv_command.specs.Importing.{CountsTaken, HasTaken, Imports, IsLineError, IsOfReading, IsParsed, LeavesBegun, import_stop}
 use Rattle.tv_command.specs.declared.import.ImportError.{ImportError}
 use Rattle.tv_command.specs.declared.import.ImportError.TheVariants as errors
 use Rattle.tv_command.specs.declared.import.ImportRules.{ImportRules}
@@ -95,6 +95,20 @@ pub taken : (old new : Option (List ℕ)) (count : ℕ) (read line : List ℕ) �
 taken None new count read line bytes drops counted feed other = tt
 taken (Some input) new count read line bytes drops counted feed other =
     subst (λ (n : ℕ). HasTaken input line new (nat_lt 0 n)) (sym counted) (taken_by input read line new (first_line_of input) bytes drops feed other)
+
+-- ---- how many bytes were taken
+
+through_step : (b : ℕ) (bs : List ℕ) (feed : Bool) → (b == 10) ≡ feed → length bs ≡ length (take_through 10 bs) + length (drop_through 10 bs) → length (b ∷ bs) ≡ length (take_through 10 (b ∷ bs)) + length (drop_through 10 (b ∷ bs))
+through_step b bs true is sum = rw is (omega arith)
+through_step b bs false is sum = rw is (omega (arith, sum))
+
+through_sum : (input : List ℕ) → length input ≡ length (take_through 10 input) + length (drop_through 10 input)
+through_sum [] = refl
+through_sum (b ∷ bs) = through_step b bs (b == 10) refl (through_sum bs)
+
+pub counted_taken : (old new : Option (List ℕ)) (count : ℕ) (read : List ℕ) → IfSome old (λ xs. read ≡ take_through 10 xs) → DropsThrough old new 10 → count ≡ length read → IfSome old (λ input. CountsTaken input new count)
+counted_taken None new count read bytes drops counted = tt
+counted_taken (Some input) new count read bytes drops counted = (drop_through 10 input, drops, omega (arith, counted, ap length bytes, through_sum input))
 
 -- ---- what becomes of it
 

@@ -1,5 +1,5 @@
 -- What becomes of the next line of an input: its document is stored, or there is a reason why it makes none.
-use Rattle.std.specs.Prelude.{◌≡◌, ◌≢◌, ◌⊎◌, ℕ, Bool, true, false, List, [], ◌++◌, Option, Some, None, Result, Ok, Err, IsUtf8, length}
+use Rattle.std.specs.Prelude.{◌≡◌, ◌≢◌, ◌+◌, ◌⊎◌, ℕ, Bool, true, false, List, [], ◌++◌, Option, Some, None, Result, Ok, Err, IsUtf8, length}
 use Rattle.tv_base.specs.Sink.{AppendsPrefix}
 use Rattle.tv_base.specs.Stop.{Stop}
 use Rattle.tv_base.specs.Stop.Stop.{Failed, Short}
@@ -59,6 +59,10 @@ Imports schema rules input left old new said = (rest : List ℕ) × (text : List
 abbrev pub LeavesBegun : List Entry → ImportRules → List ℕ → List ℕ → List ℕ → Type 0
 LeavesBegun schema rules input old new =
     (new ≡ old) ⊎ ((rest : List ℕ) × (text : List ℕ) × ImportsNext schema rules input rest text (Some (outcome.Stored (length text))) × AppendsPrefix old new text)
+
+-- this many bytes of the input were taken, and what was left stands after them
+abbrev pub CountsTaken : List ℕ → Option (List ℕ) → ℕ → Type 0
+CountsTaken input left count = (rest : List ℕ) × (left ≡ Some rest) × (length input ≡ count + length rest)
 
 -- why an import broke off, as its sink sees it
 abbrev pub import_stop : ImportError → Stop ⊥

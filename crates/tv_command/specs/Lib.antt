@@ -1,7 +1,10 @@
 pub mod Importing
+pub mod WholeImports
 pub mod Refusals
 pub mod Reading
 pub mod Checking
 pub mod Exporting
 pub mod Finding
 pub mod Runs
+pub mod Counting
+pub mod Migrating

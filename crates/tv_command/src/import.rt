@@ -1,9 +1,9 @@
 //! Lines of JSON to stored documents.
 
-ghost use Rattle.std.specs.Prelude.{◌≡◌, ◌∷◌, ◌++◌, [], ℕ, List, IfErr, IfOk, IfSome, OnErr, OnOk, length};
+ghost use Rattle.std.specs.Prelude.{◌≡◌, ◌∷◌, ◌++◌, [], ℕ, List, IfErr, IfOk, IfSome, OnErr, OnOk, length, nat_lt};
 ghost use Rattle.tv_base.specs.Sink.{AppendsPrefix};
 ghost use Rattle.tv_base.specs.Stop.{Counts};
-ghost use Rattle.tv_command.specs.Importing.{HasTaken, Imports, IsParsed, LeavesBegun, ParsesBy};
+ghost use Rattle.tv_command.specs.Importing.{CountsTaken, HasTaken, Imports, IsParsed, LeavesBegun, ParsesBy};
 ghost use Rattle.tv_command.specs.Importing.{IsOfReading, import_stop};
 ghost use Rattle.tv_doc.specs.Belongs.{Belongs};
 ghost use Rattle.tv_doc.specs.Document.{document_of};
@@ -88,17 +88,20 @@ fn strip_feed(line: &mut Vec<u8>)
     }
 }
 
-// Takes the next line, without its line feed, in place of what `line` holds. Says whether there was one.
-fn take_line<R: BufRead>(reader: &mut R, line: &mut Vec<u8>) -> Result<bool, ImportError>
+// Takes the next line, without its line feed, in place of what `line` holds. Says how many bytes were taken: none where there was no line.
+fn take_line<R: BufRead>(reader: &mut R, line: &mut Vec<u8>) -> Result<u64, ImportError>
     ensures taken { IfSome (R.remaining reader.old)
-        (λ input. IfOk result (λ more. HasTaken input line.new.items (R.remaining reader.new) more)) }
+        (λ input. IfOk result (λ count. HasTaken input line.new.items (R.remaining reader.new)
+        (nat_lt 0 count))) }
+    ensures counted { IfSome (R.remaining reader.old)
+        (λ input. IfOk result (CountsTaken input (R.remaining reader.new))) }
     ensures errors { IfErr result IsOfReading }
 {
     line.clear();
     match reader.read_until(b'\n', line) {
         Ok(count) => {
             strip_feed(line);
-            Ok(count > 0)
+            Ok(count as u64)
         }
         Err(error) => Err(ImportError::Read(error.kind())),
     }
@@ -187,6 +190,7 @@ fn append<K: ByteSink>(sink: &mut K, bytes: &[u8]) -> Result<u64, ImportError>
 pub struct LineImporter {
     alloc: Global,
     rules: ImportRules,
+    taken: u64,
     line: Vec<u8>,
     document: TantivyDocument,
     buffers: ParseBuffers,
@@ -201,6 +205,7 @@ impl LineImporter {
         LineImporter {
             alloc,
             rules,
+            taken: 0,
             line: Vec::new(alloc),
             document: TantivyDocument::new(alloc),
             buffers: ParseBuffers::new(alloc),
@@ -230,10 +235,13 @@ impl LineImporter {
             → OnErr result
             (LeavesBegun schema.now self.old.rules input (K.held sink.old) (K.held sink.new))) }
         ensures failures { Counts import_stop result (K.failures sink.old) (K.failures sink.new) }
+        ensures bytes { IfSome (R.remaining reader.old)
+            (λ input. OnOk result (CountsTaken input (R.remaining reader.new) self.new.taken)) }
         ensures rules { self.new.rules ≡ self.old.rules }
         ensures is_known { K.is_known sink.old → K.is_known sink.new }
     {
-        if !take_line(reader, &mut self.line)? {
+        self.taken = take_line(reader, &mut self.line)?;
+        if self.taken == 0 {
             return Ok(None);
         }
         let (line, strict) = (self.line.as_slice(), self.rules.strict);
@@ -252,5 +260,12 @@ impl LineImporter {
                 Ok(Some(LineOutcome::Stored(size)))
             }
         }
+    }
+
+    /// How many bytes the last line took that was read, its line feed included: 0 before the first, and where the reader had nothing left.
+    pub fn bytes_read(&self) -> u64
+        ensures { result ≡ self.now.taken }
+    {
+        self.taken
     }
 }

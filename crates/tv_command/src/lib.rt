@@ -3,9 +3,13 @@
 #![tactic(auto)]
 
 pub mod check;
+mod counted;
 pub mod documents;
 pub mod export;
 pub mod find;
 pub mod import;
+pub mod imports;
+pub mod migrate;
+pub mod report;
 pub mod runs;
 pub mod watch;

@@ -1,0 +1,197 @@
+-- What was imported of an input so far.
+use Rattle.std.proofs.Common.{◌≡◌, ◌≢◌, ℕ, ◌+◌, ◌-◌, ◌^◌, ◌<◌, List, [], ◌∷◌, ◌++◌, Bool, true, false, Option, Some, None, IfSome, length, refl, sym, subst, ap, ◌∙◌, arith, append_assoc, append-nil, length-append}
+use Rattle.std.specs.Prelude.{cond, count_by}
+use Rattle.std.proofs.lemmas.List.Sums.{sum_by_push}
+use Rattle.tv_base.specs.Source.{Failures}
+use Rattle.tv_base.specs.Stop.{CountsStop}
+use Rattle.tv_command.specs.Importing.{Imports, ImportsNext, IsOutcome, LeavesBegun, import_stop}
+use Rattle.tv_command.specs.WholeImports.{CountsOutcome, FirstLines, ImportsAll, ImportsEach, LeavesLine, Outcomes, StopsImport, is_refused, is_stored, lines_stop, numbered}
+use Rattle.tv_command.specs.WholeImports.FirstLines.{none_first, one_first}
+use Rattle.tv_command.specs.WholeImports.Outcomes.{next_outcome, no_outcomes}
+use Rattle.tv_command.specs.declared.import.ImportError.{ImportError}
+use Rattle.tv_command.specs.declared.import.ImportRules.{ImportRules}
+use Rattle.tv_command.specs.declared.import.LineOutcome.{LineOutcome}
+use Rattle.tv_command.specs.declared.import.LineOutcome.TheVariants.{Refused, Stored}
+use Rattle.tv_command.specs.declared.imports.ImportLinesError.{ImportLinesError}
+use Rattle.tv_command.specs.declared.imports.ImportLinesError.TheVariants as errors
+use Rattle.tv_command.specs.declared.imports.Imported.{Imported}
+use Rattle.tv_command.specs.declared.report.LineReport.{LineReport}
+use Rattle.tv_field.specs.Entry.{Entry}
+use Rattle.tv_lines.specs.Lines.{FirstLine, Lines}
+use Rattle.tv_lines.specs.Lines.Lines.{no_lines, next_line}
+
+-- ---- one line more
+
+first-snoc : {input rest line behind : List ℕ} {lines : List (List ℕ)} → FirstLines input lines rest → rest ≢ [] → FirstLine rest line behind → FirstLines input (lines ++ line ∷ []) behind
+first-snoc none_first some first = one_first some first none_first
+first-snoc (one_first s f more) some first = one_first s f (first-snoc more some first)
+
+-- where nothing is left, these are the lines
+all_lines : {input rest : List ℕ} {lines : List (List ℕ)} → FirstLines input lines rest → rest ≡ [] → Lines input lines
+all_lines none_first none = subst (λ (l : List ℕ). Lines l []) (sym none) no_lines
+all_lines (one_first s f more) none = next_line s f (all_lines more none)
+
+outcomes-snoc : (schema : List Entry) (rules : ImportRules) (lines : List (List ℕ)) (line block text : List ℕ) (outcomes : List LineOutcome) (said : LineOutcome) → Outcomes schema rules lines block outcomes → IsOutcome schema rules line text said
+    → Outcomes schema rules (lines ++ line ∷ []) (block ++ text) (outcomes ++ said ∷ [])
+outcomes-snoc schema rules [] line [] text (_ ∷ _) said h one = elim h [ ]
+outcomes-snoc schema rules [] line (_ ∷ _) text outcomes said h one = elim h [ ]
+outcomes-snoc schema rules [] line [] text [] said no_outcomes one =
+    subst (λ (l : List ℕ). Outcomes schema rules (line ∷ []) l (said ∷ [])) (append-nil text) (next_outcome text one no_outcomes)
+outcomes-snoc schema rules (first ∷ lines) line block text outcomes said (next_outcome {block = others} {said = told} {outcomes = rest} some is more) one =
+    subst (λ (l : List ℕ). Outcomes schema rules ((first ∷ lines) ++ line ∷ []) l ((told ∷ rest) ++ said ∷ [])) (sym (append_assoc some others text))
+    (next_outcome some is (outcomes-snoc schema rules lines line others text rest said more one))
+
+-- as many outcomes as lines
+as_many : (schema : List Entry) (rules : ImportRules) (lines : List (List ℕ)) (block : List ℕ) (outcomes : List LineOutcome) → Outcomes schema rules lines block outcomes → length lines ≡ length outcomes
+as_many schema rules [] [] [] h = refl
+as_many schema rules [] [] (_ ∷ _) h = elim h [ ]
+as_many schema rules [] (_ ∷ _) outcomes h = elim h [ ]
+as_many schema rules (line ∷ lines) block outcomes (next_outcome {block = others} {outcomes = rest} text is more) = omega (arith, as_many schema rules lines others rest more)
+
+report_of : ℕ → LineOutcome → LineReport
+report_of n said = record { line = n; outcome = said }
+
+numbered-snoc : (first : ℕ) (outcomes : List LineOutcome) (said : LineOutcome) (line : LineReport) → line.line ≡ first + length outcomes → line.outcome ≡ said → numbered first (outcomes ++ said ∷ []) ≡ numbered first outcomes ++ line ∷ []
+numbered-snoc first [] said line is same =
+    let at : first ≡ line.line = omega (arith, is) in
+    ap (λ (n : ℕ). (record { line = n; outcome = said }) ∷ []) at ∙ ap (λ (o : LineOutcome). (record { line = line.line; outcome = o }) ∷ []) (sym same)
+numbered-snoc first (x ∷ xs) said line is same =
+    ap (λ (l : List LineReport). (record { line = first; outcome = x }) ∷ l) (numbered-snoc (first + 1) xs said line (omega (arith, is)) same)
+
+-- ---- so far
+
+-- The first lines of the input were imported, and as many of both kinds as are counted.
+pub record ImportedSoFar (schema : List Entry) (rules : ImportRules) (input : List ℕ) (left : Option (List ℕ)) (old new : List ℕ) (IsTold : Type 0) (begun ended : List LineReport) (number : ℕ) (said : Imported) : Type 0 where
+  pub rest : List ℕ
+  pub left_is : left ≡ Some rest
+  pub lines : List (List ℕ)
+  pub first : FirstLines input lines rest
+  pub imported : ImportsEach schema rules lines old new IsTold begun ended
+  pub counted : number ≡ length imported.outcomes
+  pub stored : said.stored ≡ count_by is_stored imported.outcomes
+  pub refused : said.refused ≡ count_by is_refused imported.outcomes
+
+pub imported_none : (schema : List Entry) (rules : ImportRules) (input : List ℕ) (left : Option (List ℕ)) (old : List ℕ) (IsTold : Type 0) (begun : List LineReport) (said : Imported) → left ≡ Some input → said.stored ≡ 0 → said.refused ≡ 0
+    → ImportedSoFar schema rules input left old old IsTold begun begun 0 said
+imported_none schema rules input left old IsTold begun said is no_stored no_refused = record {
+  rest = input;
+  left_is = is;
+  lines = [];
+  first = none_first;
+  imported = record { outcomes = []; block = []; each = no_outcomes; held = sym (append-nil old); told = λ known. sym (append-nil begun) };
+  counted = refl;
+  stored = no_stored;
+  refused = no_refused;
+}
+
+counts_stored : (outcomes : List LineOutcome) (said : LineOutcome) (old new : Imported) → CountsOutcome old said new → old.stored ≡ count_by is_stored outcomes → new.stored ≡ count_by is_stored (outcomes ++ said ∷ [])
+counts_stored outcomes (Stored size) old new counts is =
+    let one : count_by is_stored (outcomes ++ Stored size ∷ []) ≡ count_by is_stored outcomes + 1 = sum_by_push (λ x. cond (is_stored x) 1 0) outcomes (Stored size) in
+    omega (arith, counts.0, is, one)
+counts_stored outcomes (Refused e) old new counts is =
+    let same : count_by is_stored (outcomes ++ Refused e ∷ []) ≡ count_by is_stored outcomes + 0 = sum_by_push (λ x. cond (is_stored x) 1 0) outcomes (Refused e) in
+    omega (arith, counts.0, is, same)
+
+counts_refused : (outcomes : List LineOutcome) (said : LineOutcome) (old new : Imported) → CountsOutcome old said new → old.refused ≡ count_by is_refused outcomes → new.refused ≡ count_by is_refused (outcomes ++ said ∷ [])
+counts_refused outcomes (Stored size) old new counts is =
+    let same : count_by is_refused (outcomes ++ Stored size ∷ []) ≡ count_by is_refused outcomes + 0 = sum_by_push (λ x. cond (is_refused x) 1 0) outcomes (Stored size) in
+    omega (arith, counts.1, is, same)
+counts_refused outcomes (Refused e) old new counts is =
+    let one : count_by is_refused (outcomes ++ Refused e ∷ []) ≡ count_by is_refused outcomes + 1 = sum_by_push (λ x. cond (is_refused x) 1 0) outcomes (Refused e) in
+    omega (arith, counts.1, is, one)
+
+-- there is one line more
+pub counts_one : (said : LineOutcome) (old new : Imported) → CountsOutcome old said new → new.stored + new.refused ≡ (old.stored + old.refused) + 1
+counts_one (Stored size) old new counts = omega (arith, counts.0, counts.1)
+counts_one (Refused e) old new counts = omega (arith, counts.0, counts.1)
+
+module _ {schema : List Entry} {rules : ImportRules} {input : List ℕ} {left : Option (List ℕ)} {old now : List ℕ} {IsTold : Type 0} {begun told : List LineReport} {number : ℕ} {said : Imported} (m : ImportedSoFar schema rules input left old now IsTold begun told number said) where
+  -- what a call says of what is left
+  at_rest : (P : List ℕ → Type 0) → IfSome left P → P m.rest
+  at_rest P h = subst (λ (o : Option (List ℕ)). IfSome o P) m.left_is h
+
+  step_at : {same : ImportRules} {now_left : Option (List ℕ)} {new : List ℕ} {Known : Type 0} (met : Option LineOutcome) → same ≡ rules → Known → IfSome left (λ rest. Known → Imports schema same rest now_left now new met) → Imports schema rules m.rest now_left now new met
+  step_at {same} {now_left} {new} {Known} met is known h = subst (λ (r : ImportRules). Imports schema r m.rest now_left now new met) is (at_rest (λ rest. Known → Imports schema same rest now_left now new met) h known)
+
+  -- the next line was taken, and told
+  pub imported_more : {same : ImportRules} {now_left : Option (List ℕ)} {new : List ℕ} {ended : List LineReport} {Known : Type 0} (outcome : LineOutcome) (line : LineReport) (count : Imported) → same ≡ rules → Known → IfSome left (λ rest. Known → Imports schema same rest now_left now new (Some outcome))
+      → CountsOutcome said outcome count → line.line ≡ number + 1 → line.outcome ≡ outcome → (IsTold → ended ≡ told ++ line ∷ [])
+      → ImportedSoFar schema rules input now_left old new IsTold begun ended (number + 1) count
+  imported_more {now_left = now_left} {new = new} {ended = ended} outcome line count is known h counts at same tells =
+      let i = m.imported in
+      let t = step_at {now_left = now_left} {new = new} (Some outcome) is known h in
+      record {
+        rest = t.0;
+        left_is = t.2;
+        lines = m.lines ++ t.3.1 ∷ [];
+        first = first-snoc m.first t.3.0 t.3.2;
+        imported = record {
+          outcomes = i.outcomes ++ outcome ∷ [];
+          block = i.block ++ t.1;
+          each = outcomes-snoc schema rules m.lines t.3.1 i.block t.1 i.outcomes outcome i.each t.3.3;
+          held = t.4 ∙ ap (λ (l : List ℕ). l ++ t.1) i.held ∙ append_assoc old i.block t.1;
+          told = λ known. tells known ∙ ap (λ (l : List LineReport). l ++ line ∷ []) (i.told known) ∙ append_assoc begun (numbered 1 i.outcomes) (line ∷ [])
+              ∙ ap (λ (l : List LineReport). begun ++ l) (sym (numbered-snoc 1 i.outcomes outcome line (omega (arith, at, m.counted)) same));
+        };
+        counted = omega (arith, m.counted, length-append i.outcomes (outcome ∷ []));
+        stored = counts_stored i.outcomes outcome said count counts m.stored;
+        refused = counts_refused i.outcomes outcome said count counts m.refused;
+      }
+
+  -- there was no line any more
+  pub imported_all : {same : ImportRules} {now_left : Option (List ℕ)} {new : List ℕ} {Known : Type 0} → same ≡ rules → Known → IfSome left (λ rest. Known → Imports schema same rest now_left now new None) → ImportsAll schema rules input now_left old new IsTold begun told said
+  imported_all {now_left = now_left} {new = new} is known h =
+      let i = m.imported in
+      let t = step_at {now_left = now_left} {new = new} None is known h in
+      record {
+        lines = m.lines;
+        all = all_lines m.first t.3.0;
+        imported = record {
+          outcomes = i.outcomes;
+          block = i.block;
+          each = i.each;
+          held = t.4 ∙ ap (λ (l : List ℕ). now ++ l) t.3.2 ∙ append-nil now ∙ i.held;
+          told = i.told;
+        };
+        stored = m.stored;
+        refused = m.refused;
+        nothing_left = t.2 ∙ ap Some t.3.1;
+      }
+
+  -- the next line wasn't taken, or its document not stored whole
+  pub stops_begun : {E : Type 0} {same : ImportRules} {new : List ℕ} {Known : Type 0} (e : ImportError) → same ≡ rules → Known → IfSome left (λ rest. Known → LeavesBegun schema same rest now new)
+      → StopsImport {E = E} schema rules input old new IsTold begun told (errors.Import e)
+  stops_begun {E} {same} {new} {Known} e is known h =
+      let leaves = subst (λ (r : ImportRules). LeavesBegun schema r m.rest now new) is (at_rest (λ rest. Known → LeavesBegun schema same rest now new) h known) in
+      record { lines = m.lines; rest = m.rest; first = m.first; middle = now; imported = m.imported; next = leaves }
+
+  -- it wasn't told
+  pub stops_untold : {E : Type 0} {same : ImportRules} {new : List ℕ} {ended : List LineReport} {Known : Type 0} (now_left : Option (List ℕ)) (outcome : LineOutcome) (e : E) → same ≡ rules → Known → IfSome left (λ rest. Known → Imports schema same rest now_left now new (Some outcome)) → (IsTold → ended ≡ told)
+      → StopsImport {E = E} schema rules input old new IsTold begun ended (errors.Report e)
+  stops_untold {new = new} {ended = ended} now_left outcome e is known h same =
+      let i = m.imported in
+      let t = step_at {now_left = now_left} {new = new} (Some outcome) is known h in
+      record {
+        lines = m.lines;
+        rest = m.rest;
+        first = m.first;
+        middle = now;
+        imported = record { outcomes = i.outcomes; block = i.block; each = i.each; held = i.held; told = λ known. same known ∙ i.told known };
+        next = (t.0, t.1, outcome, t.3, t.4);
+      }
+
+  pub stops_counting : {E : Type 0} → number ≡ 2 ^ 64 - 1 → StopsImport {E = E} schema rules input old now IsTold begun told errors.TooMany
+  stops_counting {E} most = record {
+    lines = m.lines;
+    rest = m.rest;
+    first = m.first;
+    middle = now;
+    imported = m.imported;
+    next = (refl, omega (arith, most, m.counted, as_many schema rules m.lines m.imported.block m.imported.outcomes m.imported.each));
+  }
+
+-- ---- failures
+
+-- what was before the step is what was at the beginning
+pub counts_lines : (e : ImportError) {begun old : Failures} (new : Failures) → old ≡ begun → CountsStop (import_stop e) old new → CountsStop (import_stop e) begun new
+counts_lines e new same counts = subst (λ (f : Failures). CountsStop (import_stop e) f new) same counts

@@ -1,0 +1,110 @@
+//! All lines of an input to stored documents.
+
+ghost use Rattle.std.specs.Prelude.{◌≡◌, ◌+◌, ◌-◌, ◌^◌, ◌<◌, ℕ, List, IfErr, IfOk, Some};
+ghost use Rattle.tv_base.specs.Stop.{Counts};
+ghost use Rattle.tv_command.specs.WholeImports.{CountsOutcome, ImportsAll, StopsImport, lines_stop};
+
+use crate::import::{ImportError, LineImporter, LineOutcome};
+use crate::report::{LineReport, Report};
+use crate::watch::Watch;
+use std::fmt::Display;
+use std::io::BufRead;
+use tantivy_schema::common::ByteSink;
+use tantivy_schema::schema::Schema;
+use thiserror::Error;
+
+/// How many lines there were.
+#[derive(Clone, Copy, Debug, Default, PartialEq, Eq)]
+pub struct Imported {
+    /// Those whose documents are stored.
+    pub stored: u64,
+    /// Those that make no document.
+    pub refused: u64,
+}
+
+/// Why an import of lines breaks off.
+#[derive(Debug, PartialEq, Drop, Error)]
+#[error_bound(E: Display)]
+pub enum ImportLinesError<E> {
+    /// The next line can't be read, or its document can't be stored.
+    #[error("{0}")]
+    Import(ImportError),
+    /// What became of the line can't be told.
+    #[error("{0}")]
+    Report(E),
+    /// 2^64 - 1 lines were taken, and no more are counted.
+    #[error("there are more lines than are counted")]
+    TooMany,
+}
+
+// One line more.
+fn counted(imported: Imported, outcome: &LineOutcome) -> Imported
+    requires { imported.stored + imported.refused < 2 ^ 64 - 1 }
+    ensures { CountsOutcome imported outcome.now result }
+{
+    match outcome {
+        LineOutcome::Stored(_) => Imported {
+            stored: imported.stored + 1,
+            refused: imported.refused,
+        },
+        LineOutcome::Refused(_) => Imported {
+            stored: imported.stored,
+            refused: imported.refused + 1,
+        },
+    }
+}
+
+/// Reads the lines of JSON that a reader has left, appends the stored pairs of the document of each to the sink, and tells the report what became of each
+/// line, by its number. Returns how many lines there were of both kinds. See `LineImporter::advance`, of which this calls one after the other.
+/// After each line the watch is told how many bytes all of them took, their line feeds included: 2^64 - 1 where it is more. (Not in tantivy.)
+///
+/// Errors: `Import` with an error of `LineImporter::advance`; `Report` where a report failed, with its error; `TooMany` after 2^64 - 1 lines. The sink then holds
+/// the documents of the lines before the one at which it broke off, after `Import` maybe also a beginning of its document, and after `Report` all of it.
+/// The report has been told of the lines before it.
+pub fn import_lines<R: BufRead, K: ByteSink, T: Report, W: Watch>(
+    importer: &mut LineImporter,
+    schema: &Schema,
+    reader: &mut R,
+    sink: &mut K,
+    report: &mut T,
+    watch: &mut W,
+) -> Result<Imported, ImportLinesError<T::Error>>
+    ensures ok { (input : List ℕ) → R.remaining reader.old ≡ Some input → K.is_known sink.old
+        → IfOk result
+        (ImportsAll schema.now importer.old.rules input (R.remaining reader.new) (K.held sink.old)
+        (K.held sink.new) (T.is_known report.old) (T.told report.old) (T.told report.new)) }
+    ensures err { (input : List ℕ) → R.remaining reader.old ≡ Some input → K.is_known sink.old
+        → IfErr result
+        (StopsImport schema.now importer.old.rules input (K.held sink.old) (K.held sink.new)
+        (T.is_known report.old) (T.told report.old) (T.told report.new)) }
+    ensures failures { Counts lines_stop result (K.failures sink.old) (K.failures sink.new) }
+    ensures rules { importer.new.rules ≡ importer.old.rules }
+    ensures sink_is_known { K.is_known sink.old → K.is_known sink.new }
+    ensures report_is_known { T.is_known report.old → T.is_known report.new }
+{
+    let mut imported = Imported {
+        stored: 0,
+        refused: 0,
+    };
+    let mut bytes: u64 = 0;
+    for lines in 0..u64::MAX {
+        match importer.advance(schema, reader, sink) {
+            Ok(Some(outcome)) => {
+                imported = counted(imported, &outcome);
+                let line = LineReport {
+                    line: lines + 1,
+                    outcome,
+                };
+                match report.tell(line) {
+                    Ok(()) => {}
+                    Err(error) => return Err(ImportLinesError::Report(error)),
+                }
+            }
+            Ok(None) => return Ok(imported),
+            Err(error) => return Err(ImportLinesError::Import(error)),
+        }
+        bytes = bytes.saturating_add(importer.bytes_read());
+        watch.advance(bytes);
+    }
+    Err(ImportLinesError::TooMany)
+}
