@@ -96,6 +96,10 @@ taken None new count read line bytes drops counted feed other = tt
 taken (Some input) new count read line bytes drops counted feed other =
     subst (λ (n : ℕ). HasTaken input line new (nat_lt 0 n)) (sym counted) (taken_by input read line new (first_line_of input) bytes drops feed other)
 
+-- some bytes were taken
+pub had_taken : (old new : Option (List ℕ)) (line : List ℕ) (count : ℕ) → ¬ (count ≡ 0) → IfSome old (λ input. HasTaken input line new (nat_lt 0 count)) → IfSome old (λ input. HasTaken input line new true)
+had_taken old new line count some h = subst (λ (b : Bool). IfSome old (λ input. HasTaken input line new b)) (lt-ltb 0 count (omega (arith, some))) h
+
 -- ---- how many bytes were taken
 
 through_step : (b : ℕ) (bs : List ℕ) (feed : Bool) → (b == 10) ≡ feed → length bs ≡ length (take_through 10 bs) + length (drop_through 10 bs) → length (b ∷ bs) ≡ length (take_through 10 (b ∷ bs)) + length (drop_through 10 (b ∷ bs))

@@ -1,8 +1,7 @@
 -- What was carried over of a block so far.
-use Rattle.std.proofs.Common.{◌≡◌, ◌≢◌, ℕ, ◌+◌, ◌-◌, ◌^◌, ◌<◌, ◌≤◌, List, [], ◌∷◌, ◌++◌, length, Result, Ok, Err, refl, sym, ap, subst, ◌∙◌, arith, append-nil, length-append, inl}
+use Rattle.std.proofs.Common.{◌≡◌, ℕ, ◌+◌, List, [], ◌∷◌, ◌++◌, length, Result, Ok, Err, refl, sym, ap, subst, ◌∙◌, arith, append-nil, length-append, inl}
 use Rattle.std.specs.Prelude.{IfErr, IfOk, OnOk}
 use Rattle.std.proofs.lemmas.List.{nil_from_length}
-use Rattle.std.specs.declared.io.ErrorKind.{ErrorKind}
 use Rattle.tv_base.specs.ErrorInPart.{number_ends}
 use Rattle.tv_base.specs.Number.{Groups, last, more}
 use Rattle.tv_base.specs.Sink.{AppendsPrefix}
@@ -15,9 +14,7 @@ use Rattle.tv_builder.specs.Parts.{Part, number}
 use Rattle.tv_builder.specs.Prefix.{Encoded}
 use Rattle.tv_command.proofs.Checks.{is_refused}
 use Rattle.tv_command.proofs.NextDocuments.{reason_of}
-use Rattle.tv_command.specs.Checking.{IsRefusedAt}
-use Rattle.tv_command.specs.Counting.{CountsAll}
-use Rattle.tv_command.specs.Migrating.{BreaksOff, IsUnmigrated, Stops, StopsReading, sink_stop, source_stop}
+use Rattle.tv_command.specs.Migrating.{BreaksOff, IsUnmigrated, Stops, sink_stop, source_stop}
 use Rattle.tv_command.specs.Reading.{IsReason, no_limits}
 use Rattle.tv_command.specs.Refusals.{IsRefused}
 use Rattle.tv_command.specs.declared.documents.BlockError.{BlockError}
@@ -26,7 +23,7 @@ use Rattle.tv_command.specs.declared.migrate.MigrationError.{MigrationError}
 use Rattle.tv_command.specs.declared.migrate.MigrationError.TheVariants as stops
 use Rattle.tv_doc.specs.Document.{document_of}
 use Rattle.tv_doc.specs.declared.document.CompactDoc.{CompactDoc}
-use Rattle.tv_format.specs.InputError.{Refusal, corrupt, corrupted, no_text_key}
+use Rattle.tv_format.specs.InputError.{Refusal, corrupt, corrupted}
 use Rattle.tv_format.specs.Short.{short_document}
 use Rattle.tv_format.specs.Version.{Version}
 use Rattle.tv_format.proofs.SingleTrees.{single_document}
@@ -43,7 +40,7 @@ use Rattle.tv_store.specs.Reading.{ReadsDocument}
 use Rattle.tv_store.specs.declared.limits.LimitedReadError.TheVariants as limited
 use Rattle.tv_store.specs.declared.migration.MigrateError.{MigrateError}
 use Rattle.tv_store.specs.declared.migration.MigrateError.TheVariants.{Read, Write}
-use Rattle.tv_store.proofs.BlockMigration.{MigratedSoFar, all_so_far, carried, few_so_far, migrated_more}
+use Rattle.tv_store.proofs.BlockMigration.{MigratedSoFar, all_so_far}
 use Rattle.tv_store.proofs.Promises.{refusal_is_true}
 use Rattle.tv_writer.specs.Error.{IsIoOrMemory, write_stop}
 use Rattle.tv_writer.specs.declared.error.SerializeError.{SerializeError}

@@ -1,18 +1,17 @@
 -- What was imported of an input so far.
-use Rattle.std.proofs.Common.{◌≡◌, ◌≢◌, ℕ, ◌+◌, ◌-◌, ◌^◌, ◌<◌, List, [], ◌∷◌, ◌++◌, Bool, true, false, Option, Some, None, IfSome, length, refl, sym, subst, ap, ◌∙◌, arith, append_assoc, append-nil, length-append}
+use Rattle.std.proofs.Common.{◌≡◌, ◌≢◌, ℕ, ◌+◌, ◌-◌, ◌^◌, List, [], ◌∷◌, ◌++◌, Option, Some, None, IfSome, length, refl, sym, subst, ap, ◌∙◌, arith, append_assoc, append-nil, length-append}
 use Rattle.std.specs.Prelude.{cond, count_by}
 use Rattle.std.proofs.lemmas.List.Sums.{sum_by_push}
 use Rattle.tv_base.specs.Source.{Failures}
 use Rattle.tv_base.specs.Stop.{CountsStop}
-use Rattle.tv_command.specs.Importing.{Imports, ImportsNext, IsOutcome, LeavesBegun, import_stop}
-use Rattle.tv_command.specs.WholeImports.{CountsOutcome, FirstLines, ImportsAll, ImportsEach, LeavesLine, Outcomes, StopsImport, is_refused, is_stored, lines_stop, numbered}
+use Rattle.tv_command.specs.Importing.{Imports, IsOutcome, LeavesBegun, import_stop}
+use Rattle.tv_command.specs.WholeImports.{CountsOutcome, FirstLines, ImportsAll, ImportsEach, Outcomes, StopsImport, is_refused, is_stored, numbered}
 use Rattle.tv_command.specs.WholeImports.FirstLines.{none_first, one_first}
 use Rattle.tv_command.specs.WholeImports.Outcomes.{next_outcome, no_outcomes}
 use Rattle.tv_command.specs.declared.import.ImportError.{ImportError}
 use Rattle.tv_command.specs.declared.import.ImportRules.{ImportRules}
 use Rattle.tv_command.specs.declared.import.LineOutcome.{LineOutcome}
 use Rattle.tv_command.specs.declared.import.LineOutcome.TheVariants.{Refused, Stored}
-use Rattle.tv_command.specs.declared.imports.ImportLinesError.{ImportLinesError}
 use Rattle.tv_command.specs.declared.imports.ImportLinesError.TheVariants as errors
 use Rattle.tv_command.specs.declared.imports.Imported.{Imported}
 use Rattle.tv_command.specs.declared.report.LineReport.{LineReport}

@@ -1,4 +1,4 @@
-use Rattle.std.proofs.Common.{ℕ, ◌+◌, ◌≡◌, length, refl, ◌∙◌, arith}
+use Rattle.std.proofs.Common.{refl, ◌∙◌, arith}
 use Rattle.tv_command.proofs.Migrations.{ends_all, ends_err, ends_ok, ends_sink, ends_source, read_well, sink_known, still_known, written_well}
 use Rattle.tv_format.specs.WriteVersion.{written_version}
 use Rattle.tv_reader.specs.Version.{version_of}
