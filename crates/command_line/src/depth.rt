@@ -1,14 +1,15 @@
 //! How deep the values of documents nest.
 
 use std::alloc::{AllocError, Global};
-use tantivy_schema::schema::document::{MAX_DEPTH, Nested, lend, nests_within};
-use tantivy_schema::schema::{Document, TantivyDocument, Value};
+use tantivy_schema::schema::document::{MAX_DEPTH, Nested, NestedValue, lend, nests_within};
+use tantivy_schema::schema::{Document, TantivyDocument};
 
 // How many lists are open at once in a value. Those that are open stand on a stack in memory.
-fn value_depth<'a, V: Value<'a>>(alloc: Global, value: &V) -> Result<u64, AllocError> {
-    let Ok(mut list) = lend(value).into_children() else {
+fn nested_depth<N: Nested>(alloc: Global, value: NestedValue<'_, N>) -> Result<u64, AllocError> {
+    let Ok(outermost) = value.into_children() else {
         return Ok(0);
     };
+    let mut list = outermost;
     let mut around = Vec::new(alloc);
     let mut deepest: u64 = 1;
     for _ in 0..u64::MAX {
@@ -19,10 +20,13 @@ fn value_depth<'a, V: Value<'a>>(alloc: Global, value: &V) -> Result<u64, AllocE
             list = outer;
             continue;
         };
-        if let Ok(inner) = child.as_nested().into_children() {
-            around.push(list)?;
-            list = inner;
-            deepest = deepest.max((around.len() as u64).saturating_add(1));
+        match child.as_nested().into_children() {
+            Ok(inner) => {
+                around.push(list)?;
+                list = inner;
+                deepest = deepest.max((around.len() as u64).saturating_add(1));
+            }
+            Err(_) => continue,
         }
     }
     Ok(deepest)
@@ -38,7 +42,7 @@ pub(crate) fn deepest_of(
     for (_, value) in document.field_values() {
         let most = u32::try_from(deepest).unwrap_or(u32::MAX).min(MAX_DEPTH);
         if !nests_within(&value, most) {
-            deepest = deepest.max(value_depth(alloc, &value)?);
+            deepest = deepest.max(nested_depth(alloc, lend(&value))?);
         }
     }
     Ok(deepest)

@@ -25,20 +25,20 @@ struct Counts {
 }
 
 // Where the lines of a file are reported, and where documents begin. It has to be ended, as its outputs have.
-struct Reports<'r, 'n, R: System> {
-    rt: &'r R,
-    name: &'n str,
-    offsets: Option<Output<'r, 'n, R>>,
-    errors: Option<Output<'r, 'n, R>>,
+struct Reports<'a, R: System> {
+    rt: &'a R,
+    name: &'a str,
+    offsets: Option<Output<'a, 'a, R>>,
+    errors: Option<Output<'a, 'a, R>>,
     // What is written before a report that goes to the standard error: it erases a line of progress.
     erasing: &'static str,
     bytes: u64,
 }
 
 // Where an import writes, and how many lines it has taken. It has to be ended, as its outputs have.
-struct Importing<'r, 'n, R: System> {
-    block: Output<'r, 'n, R>,
-    reports: Reports<'r, 'n, R>,
+struct Importing<'a, R: System> {
+    block: Output<'a, 'a, R>,
+    reports: Reports<'a, R>,
     lines: Imported,
 }
 
@@ -54,10 +54,10 @@ fn rules(given: &ArgMatches<'_>) -> ImportRules {
 }
 
 // Begins an output, if its name is given.
-fn optional<'r, 'n, R: System>(
-    rt: &'r R,
-    name: Option<&'n str>,
-) -> Result<Option<Output<'r, 'n, R>>, Failure> {
+fn optional<'a, R: System>(
+    rt: &'a R,
+    name: Option<&'a str>,
+) -> Result<Option<Output<'a, 'a, R>>, Failure> {
     match name {
         Some(name) => Ok(Some(create(rt, name)?)),
         None => Ok(None),
@@ -65,7 +65,7 @@ fn optional<'r, 'n, R: System>(
 }
 
 // Notes where the document begins that was stored in this number of bytes.
-fn note_stored<R: System>(reports: &mut Reports<'_, '_, R>, size: u64) -> Result<(), Failure> {
+fn note_stored<R: System>(reports: &mut Reports<'_, R>, size: u64) -> Result<(), Failure> {
     if let Some(offsets) = &mut reports.offsets {
         if let Err(error) = write_u64(offsets.sink(), reports.bytes) {
             return Err(write_failed(reports.rt.alloc(), "offsets", error.0));
@@ -77,7 +77,7 @@ fn note_stored<R: System>(reports: &mut Reports<'_, '_, R>, size: u64) -> Result
 
 // Reports a line that is refused.
 fn note_refused<R: System>(
-    reports: &mut Reports<'_, '_, R>,
+    reports: &mut Reports<'_, R>,
     line: u64,
     error: &LineError,
 ) -> Result<(), Failure> {
@@ -94,7 +94,7 @@ fn note_refused<R: System>(
 }
 
 // What a file holds isn't known.
-impl<R: System> Report for Reports<'_, '_, R> {
+impl<R: System> Report for Reports<'_, R> {
     type Error = Failure;
 
     ghost is_known = { λ _. ⊥ };
@@ -102,9 +102,10 @@ impl<R: System> Report for Reports<'_, '_, R> {
     ghost told = { λ _. [] };
 
     fn tell(&mut self, line: LineReport) -> Result<(), Failure> {
-        match line.outcome {
+        let LineReport { line, outcome } = line;
+        match outcome {
             LineOutcome::Stored(size) => note_stored(self, size),
-            LineOutcome::Refused(error) => note_refused(self, line.line, &error),
+            LineOutcome::Refused(error) => note_refused(self, line, &error),
         }
     }
 }
@@ -128,12 +129,12 @@ fn broken<R: System>(
 }
 
 // Imports the lines of a file.
-fn import_file<'n, R: System>(
-    import: &mut Importing<'_, 'n, R>,
-    given: &ArgMatches<'n>,
+fn import_file<'a, R: System>(
+    import: &mut Importing<'a, R>,
+    given: &ArgMatches<'a>,
     schema: &Schema,
     importer: &mut LineImporter,
-    name: &'n str,
+    name: &'a str,
     progress: &mut Progress<'_, R>,
 ) -> Result<(), Failure> {
     let rt = import.reports.rt;
@@ -153,7 +154,7 @@ fn import_file<'n, R: System>(
 }
 
 // The files that are named, or the standard input.
-fn names<'n>(alloc: Global, given: &ArgMatches<'n>) -> Result<Vec<&'n str>, Failure> {
+fn names<'a>(alloc: Global, given: &ArgMatches<'a>) -> Result<Vec<&'a str>, Failure> {
     let mut names = Vec::new(alloc);
     if let Some(named) = given.get_strs("FILE") {
         for name in named {
@@ -167,11 +168,11 @@ fn names<'n>(alloc: Global, given: &ArgMatches<'n>) -> Result<Vec<&'n str>, Fail
 }
 
 // Imports the lines of each of these files.
-fn import_files<'n, R: System>(
-    import: &mut Importing<'_, 'n, R>,
-    given: &ArgMatches<'n>,
+fn import_files<'a, R: System>(
+    import: &mut Importing<'a, R>,
+    given: &ArgMatches<'a>,
     schema: &Schema,
-    names: &[&'n str],
+    names: &[&'a str],
     progress: &mut Progress<'_, R>,
 ) -> Result<(), Failure> {
     let mut importer = LineImporter::new(import.reports.rt.alloc(), rules(given));
@@ -182,10 +183,7 @@ fn import_files<'n, R: System>(
 }
 
 // Begins the outputs. Those that were begun are ended where another one fails.
-fn begin<'r, 'n, R: System>(
-    rt: &'r R,
-    given: &ArgMatches<'n>,
-) -> Result<Importing<'r, 'n, R>, Failure> {
+fn begin<'a, R: System>(rt: &'a R, given: &ArgMatches<'a>) -> Result<Importing<'a, R>, Failure> {
     let block = create(rt, text(given, "output"))?;
     let offsets = match optional(rt, given.get_str("offsets")) {
         Ok(offsets) => offsets,
@@ -235,10 +233,7 @@ fn finish_optional<R: System, T: Drop>(
 }
 
 // Ends the outputs.
-fn end<R: System>(
-    import: Importing<'_, '_, R>,
-    ended: Result<(), Failure>,
-) -> Result<Counts, Failure> {
+fn end<R: System>(import: Importing<'_, R>, ended: Result<(), Failure>) -> Result<Counts, Failure> {
     let Importing {
         block,
         reports,
