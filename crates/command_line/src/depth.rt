@@ -1,8 +1,8 @@
 //! How deep the values of documents nest.
 
 use std::alloc::{AllocError, Global};
+use tantivy_schema::schema::Document;
 use tantivy_schema::schema::document::{MAX_DEPTH, Nested, NestedValue, lend, nests_within};
-use tantivy_schema::schema::{Document, TantivyDocument};
 
 // How many lists are open at once in a value. Those that are open stand on a stack in memory.
 fn nested_depth<N: Nested>(alloc: Global, value: NestedValue<'_, N>) -> Result<u64, AllocError> {
@@ -33,13 +33,13 @@ fn nested_depth<N: Nested>(alloc: Global, value: NestedValue<'_, N>) -> Result<u
 }
 
 /// The number of lists and objects around the innermost value of a document, or `deepest` where that is greater.
-pub(crate) fn deepest_of(
+pub(crate) fn deepest_of<'a, D: Document<'a>>(
     alloc: Global,
-    document: &TantivyDocument,
+    document: &'a D,
     deepest: u64,
 ) -> Result<u64, AllocError> {
     let mut deepest = deepest;
-    for (_, value) in document.field_values() {
+    for (_, value) in document.iter_fields_and_values() {
         let most = u32::try_from(deepest).unwrap_or(u32::MAX).min(MAX_DEPTH);
         if !nests_within(&value, most) {
             deepest = deepest.max(nested_depth(alloc, lend(&value))?);

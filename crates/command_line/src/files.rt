@@ -29,14 +29,14 @@ pub(crate) type Target<R> = Either<<R as Files>::File, StandardOutput<R>>;
 const PIECE: usize = 65536;
 
 /// An output that is written: a new file beside the one that is named, or the standard output. It can't be dropped, so each way out ends it by `finish`.
-pub(crate) struct Output<'r, 'n, R: System> {
-    rt: &'r R,
-    name: &'n str,
+pub(crate) struct Output<R: System> {
+    rt: R,
+    name: String,
     part: Option<String>,
     sink: WriteSink<BufWriter<Target<R>>>,
 }
 
-impl<'r, 'n, R: System> Output<'r, 'n, R> {
+impl<R: System> Output<R> {
     /// Where results are appended.
     pub(crate) fn sink(&mut self) -> &mut WriteSink<BufWriter<Target<R>>> {
         &mut self.sink
@@ -75,28 +75,27 @@ fn standing<R: System>(rt: &R, name: &str) -> Result<Target<R>, Failure> {
 
 /// Begins an output. A file of this name stays as it is until the output is finished; one that has `.part` after the name may not be there. A device or a pipe
 /// is written as it stands.
-pub(crate) fn create<'r, 'n, R: System>(
-    rt: &'r R,
-    name: &'n str,
-) -> Result<Output<'r, 'n, R>, Failure> {
+pub(crate) fn create<R: System>(rt: &R, name: &str) -> Result<Output<R>, Failure> {
+    let alloc = rt.alloc();
+    let named = String::from_str(alloc, name)?;
     if name == "-" || is_special(rt, name) {
         let sink = sink_of(rt, standing(rt, name)?)?;
         return Ok(Output {
-            rt,
-            name,
+            rt: *rt,
+            name: named,
             part: None,
             sink,
         });
     }
-    let part = format!(in rt.alloc(); "{name}.part")?;
+    let part = format!(in alloc; "{name}.part")?;
     let file = match fs::File::create_new(rt, part.as_str()) {
         Ok(file) => file,
-        Err(error) => return Err(failed(rt.alloc(), part.as_str(), error)),
+        Err(error) => return Err(failed(alloc, part.as_str(), error)),
     };
     match sink_of(rt, Either::Left(file)) {
         Ok(sink) => Ok(Output {
-            rt,
-            name,
+            rt: *rt,
+            name: named,
             part: Some(part),
             sink,
         }),
@@ -108,7 +107,7 @@ pub(crate) fn create<'r, 'n, R: System>(
 }
 
 /// Gives up an output. A file that was begun is gone.
-pub(crate) fn discard<R: System>(output: Output<'_, '_, R>) {
+pub(crate) fn discard<R: System>(output: Output<R>) {
     let Output {
         rt,
         name: _,
@@ -117,12 +116,12 @@ pub(crate) fn discard<R: System>(output: Output<'_, '_, R>) {
     } = output;
     drop(sink);
     if let Some(part) = part {
-        let _ = fs::remove_file(rt, part.as_str());
+        let _ = fs::remove_file(&rt, part.as_str());
     }
 }
 
 // Writes what is buffered, and gives the file its name.
-fn complete<R: System>(output: Output<'_, '_, R>) -> Result<(), Failure> {
+fn complete<R: System>(output: Output<R>) -> Result<(), Failure> {
     let Output {
         rt,
         name,
@@ -131,19 +130,19 @@ fn complete<R: System>(output: Output<'_, '_, R>) -> Result<(), Failure> {
     } = output;
     let flushed = sink.into_inner().flush();
     let Some(part) = part else {
-        return flushed.map_err(|error| write_failed(rt.alloc(), name, error.kind()));
+        return flushed.map_err(|error| write_failed(rt.alloc(), name.as_str(), error.kind()));
     };
-    let named = flushed.and_then(|()| fs::rename(rt, part.as_str(), name));
+    let named = flushed.and_then(|()| fs::rename(&rt, part.as_str(), name.as_str()));
     if let Err(error) = named {
-        let _ = fs::remove_file(rt, part.as_str());
-        return Err(failed(rt.alloc(), name, error));
+        let _ = fs::remove_file(&rt, part.as_str());
+        return Err(failed(rt.alloc(), name.as_str(), error));
     }
     Ok(())
 }
 
 /// Ends an output: where all went well, what is buffered is written and the file has its name, and else the file is gone.
 pub(crate) fn finish<R: System, T: Drop>(
-    output: Output<'_, '_, R>,
+    output: Output<R>,
     ended: Result<T, Failure>,
 ) -> Result<T, Failure> {
     match ended {

@@ -25,20 +25,20 @@ struct Counts {
 }
 
 // Where the lines of a file are reported, and where documents begin. It has to be ended, as its outputs have.
-struct Reports<'a, R: System> {
-    rt: &'a R,
-    name: &'a str,
-    offsets: Option<Output<'a, 'a, R>>,
-    errors: Option<Output<'a, 'a, R>>,
-    // What is written before a report that goes to the standard error: it erases a line of progress.
-    erasing: &'static str,
+struct Reports<R: System> {
+    rt: R,
+    name: String,
+    offsets: Option<Output<R>>,
+    errors: Option<Output<R>>,
+    // Whether a line of progress is erased before a report that goes to the standard error.
+    is_erasing: bool,
     bytes: u64,
 }
 
 // Where an import writes, and how many lines it has taken. It has to be ended, as its outputs have.
-struct Importing<'a, R: System> {
-    block: Output<'a, 'a, R>,
-    reports: Reports<'a, R>,
+struct Importing<R: System> {
+    block: Output<R>,
+    reports: Reports<R>,
     lines: Imported,
 }
 
@@ -54,10 +54,7 @@ fn rules(given: &ArgMatches<'_>) -> ImportRules {
 }
 
 // Begins an output, if its name is given.
-fn optional<'a, R: System>(
-    rt: &'a R,
-    name: Option<&'a str>,
-) -> Result<Option<Output<'a, 'a, R>>, Failure> {
+fn optional<R: System>(rt: &R, name: Option<&str>) -> Result<Option<Output<R>>, Failure> {
     match name {
         Some(name) => Ok(Some(create(rt, name)?)),
         None => Ok(None),
@@ -65,7 +62,7 @@ fn optional<'a, R: System>(
 }
 
 // Notes where the document begins that was stored in this number of bytes.
-fn note_stored<R: System>(reports: &mut Reports<'_, R>, size: u64) -> Result<(), Failure> {
+fn note_stored<R: System>(reports: &mut Reports<R>, size: u64) -> Result<(), Failure> {
     if let Some(offsets) = &mut reports.offsets {
         if let Err(error) = write_u64(offsets.sink(), reports.bytes) {
             return Err(write_failed(reports.rt.alloc(), "offsets", error.0));
@@ -77,14 +74,15 @@ fn note_stored<R: System>(reports: &mut Reports<'_, R>, size: u64) -> Result<(),
 
 // Reports a line that is refused.
 fn note_refused<R: System>(
-    reports: &mut Reports<'_, R>,
+    reports: &mut Reports<R>,
     line: u64,
     error: &LineError,
 ) -> Result<(), Failure> {
     let alloc = reports.rt.alloc();
-    let said = format!(in alloc; "{}:{line}: {error}\n", reports.name)?;
+    let said = format!(in alloc; "{}:{line}: {error}\n", reports.name.as_str())?;
     let Some(errors) = &mut reports.errors else {
-        let _ = eprint!(reports.rt; "{}{said}", reports.erasing);
+        let erasing = if reports.is_erasing { ERASING } else { "" };
+        let _ = eprint!(reports.rt; "{erasing}{said}");
         return Ok(());
     };
     match write_all(errors.sink(), said.as_bytes()) {
@@ -94,7 +92,7 @@ fn note_refused<R: System>(
 }
 
 // What a file holds isn't known.
-impl<R: System> Report for Reports<'_, R> {
+impl<R: System> Report for Reports<R> {
     type Error = Failure;
 
     ghost is_known = { λ _. ⊥ };
@@ -129,18 +127,18 @@ fn broken<R: System>(
 }
 
 // Imports the lines of a file.
-fn import_file<'a, R: System>(
-    import: &mut Importing<'a, R>,
-    given: &ArgMatches<'a>,
+fn import_file<R: System>(
+    import: &mut Importing<R>,
+    given: &ArgMatches<'_>,
     schema: &Schema,
     importer: &mut LineImporter,
-    name: &'a str,
-    progress: &mut Progress<'_, R>,
+    name: &str,
+    progress: &mut Progress<R>,
 ) -> Result<(), Failure> {
     let rt = import.reports.rt;
-    let mut reader = lines(rt, name)?;
+    let mut reader = lines(&rt, name)?;
     progress.begin_input();
-    import.reports.name = name;
+    import.reports.name = String::from_str(rt.alloc(), name)?;
     let block = import.block.sink();
     let reports = &mut import.reports;
     match import_lines(importer, schema, &mut reader, block, reports, progress) {
@@ -149,7 +147,7 @@ fn import_file<'a, R: System>(
             import.lines.refused = import.lines.refused.saturating_add(refused);
             Ok(())
         }
-        Err(error) => Err(broken(rt, given, name, error)),
+        Err(error) => Err(broken(&rt, given, name, error)),
     }
 }
 
@@ -168,12 +166,12 @@ fn names<'a>(alloc: Global, given: &ArgMatches<'a>) -> Result<Vec<&'a str>, Fail
 }
 
 // Imports the lines of each of these files.
-fn import_files<'a, R: System>(
-    import: &mut Importing<'a, R>,
-    given: &ArgMatches<'a>,
+fn import_files<R: System>(
+    import: &mut Importing<R>,
+    given: &ArgMatches<'_>,
     schema: &Schema,
-    names: &[&'a str],
-    progress: &mut Progress<'_, R>,
+    names: &[&str],
+    progress: &mut Progress<R>,
 ) -> Result<(), Failure> {
     let mut importer = LineImporter::new(import.reports.rt.alloc(), rules(given));
     for name in names {
@@ -183,7 +181,7 @@ fn import_files<'a, R: System>(
 }
 
 // Begins the outputs. Those that were begun are ended where another one fails.
-fn begin<'a, R: System>(rt: &'a R, given: &ArgMatches<'a>) -> Result<Importing<'a, R>, Failure> {
+fn begin<R: System>(rt: &R, given: &ArgMatches<'_>) -> Result<Importing<R>, Failure> {
     let block = create(rt, text(given, "output"))?;
     let offsets = match optional(rt, given.get_str("offsets")) {
         Ok(offsets) => offsets,
@@ -203,11 +201,11 @@ fn begin<'a, R: System>(rt: &'a R, given: &ArgMatches<'a>) -> Result<Importing<'
     Ok(Importing {
         block,
         reports: Reports {
-            rt,
-            name: "-",
+            rt: *rt,
+            name: String::new(rt.alloc()),
             offsets,
             errors,
-            erasing: "",
+            is_erasing: false,
             bytes: 0,
         },
         lines: Imported::default(),
@@ -215,7 +213,7 @@ fn begin<'a, R: System>(rt: &'a R, given: &ArgMatches<'a>) -> Result<Importing<'
 }
 
 // Gives up an output, if it was begun.
-fn discard_optional<R: System>(output: Option<Output<'_, '_, R>>) {
+fn discard_optional<R: System>(output: Option<Output<R>>) {
     if let Some(output) = output {
         discard(output);
     }
@@ -223,7 +221,7 @@ fn discard_optional<R: System>(output: Option<Output<'_, '_, R>>) {
 
 // Ends an output, if it was begun.
 fn finish_optional<R: System, T: Drop>(
-    output: Option<Output<'_, '_, R>>,
+    output: Option<Output<R>>,
     ended: Result<T, Failure>,
 ) -> Result<T, Failure> {
     match output {
@@ -233,7 +231,7 @@ fn finish_optional<R: System, T: Drop>(
 }
 
 // Ends the outputs.
-fn end<R: System>(import: Importing<'_, R>, ended: Result<(), Failure>) -> Result<Counts, Failure> {
+fn end<R: System>(import: Importing<R>, ended: Result<(), Failure>) -> Result<Counts, Failure> {
     let Importing {
         block,
         reports,
@@ -244,7 +242,7 @@ fn end<R: System>(import: Importing<'_, R>, ended: Result<(), Failure>) -> Resul
         name: _,
         offsets,
         errors,
-        erasing: _,
+        is_erasing: _,
         bytes,
     } = reports;
     let ended = finish_optional(errors, ended);
@@ -259,9 +257,7 @@ pub(crate) fn import<R: System>(rt: &R, given: &ArgMatches<'_>) -> Result<Ending
     let names = names(rt.alloc(), given)?;
     let mut import = begin(rt, given)?;
     let mut progress = Progress::of(rt, given, names.as_slice());
-    if progress.is_shown() {
-        import.reports.erasing = ERASING;
-    }
+    import.reports.is_erasing = progress.is_shown();
     let ended = import_files(&mut import, given, &schema, names.as_slice(), &mut progress);
     progress.end();
     let Counts {

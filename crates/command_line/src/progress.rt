@@ -103,8 +103,8 @@ impl Work {
 /// It is told of each document or line as a `Watch`. It has to be ended before results are printed after the work, and the line is erased before
 /// anything else goes to the standard error.
 #[derive(Drop)]
-pub(crate) struct Progress<'r, R: System> {
-    rt: &'r R,
+pub(crate) struct Progress<R: System> {
+    rt: R,
     // When the work began. `None` where nothing is shown.
     begun: Option<Instant>,
     work: Work,
@@ -159,20 +159,20 @@ fn millis_of(time: Duration) -> u64 {
     u64::try_from(time.as_millis()).unwrap_or(u64::MAX)
 }
 
-impl<'r, R: System> Progress<'r, R> {
+impl<R: System> Progress<R> {
     /// Begins to show the work on the inputs of these names, as the words ask for it. `-` is the standard input. The command's results are those of its
     /// `--output`, or are printed after the work.
-    pub(crate) fn of(rt: &'r R, given: &ArgMatches<'_>, names: &[&str]) -> Progress<'r, R> {
+    pub(crate) fn of(rt: &R, given: &ArgMatches<'_>, names: &[&str]) -> Progress<R> {
         Progress::beside(rt, given, names, text(given, "output") == "-")
     }
 
     /// The same, for a command that says itself whether it prints results on the standard output during the work.
     pub(crate) fn beside(
-        rt: &'r R,
+        rt: &R,
         given: &ArgMatches<'_>,
         names: &[&str],
         is_printing: bool,
-    ) -> Progress<'r, R> {
+    ) -> Progress<R> {
         let begun = if is_shown(rt, given, is_printing) {
             Instant::now(rt).ok()
         } else {
@@ -184,7 +184,7 @@ impl<'r, R: System> Progress<'r, R> {
             None
         };
         Progress {
-            rt,
+            rt: *rt,
             begun,
             work: Work {
                 total,
@@ -240,7 +240,7 @@ impl<'r, R: System> Progress<'r, R> {
 
     // Looks at the clock, and writes the line if it is time.
     fn look(&mut self, begun: Instant) {
-        let Ok(elapsed) = begun.elapsed(self.rt) else {
+        let Ok(elapsed) = begun.elapsed(&self.rt) else {
             self.begun = None;
             return;
         };
@@ -255,7 +255,7 @@ impl<'r, R: System> Progress<'r, R> {
     }
 }
 
-impl<R: System> Watch for Progress<'_, R> {
+impl<R: System> Watch for Progress<R> {
     fn advance(&mut self, bytes: u64) {
         self.work.taken = bytes;
         self.work.documents = self.work.documents.saturating_add(1);

@@ -36,7 +36,7 @@ fn count_block<R: System>(
     schema: &Schema,
     counts: &mut TermCounts,
     runs: &mut Runs<<R as Files>::File>,
-    progress: &mut Progress<'_, R>,
+    progress: &mut Progress<R>,
 ) -> Result<(), Failure> {
     let alloc = rt.alloc();
     let name = text(given, "BLOCK");
