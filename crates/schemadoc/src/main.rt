@@ -5,9 +5,9 @@
 //! there was no memory for a line.
 #![tactic(auto)]
 
-use line_program::answer_lines;
 use std::io;
 use std::process::ExitCode;
+use tantivy_schema::answer_lines;
 
 fn main(rt: HostRuntime) -> ExitCode {
     ExitCode::from(answer_lines(rt.alloc(), rt.reader(), io::writer(&rt)))

@@ -2,12 +2,11 @@
 
 use anyhow::{Context, Result, anyhow, ensure};
 use case_words as words;
-use line_program::answer_lines;
 use std::alloc::Global;
 use std::io;
 use std::io::Read;
 use tantivy_schema::common::{ByteSource, FaultSink, FaultSource, SliceSource, VecSink};
-use tantivy_schema::{RunEnd, run};
+use tantivy_schema::{RunEnd, answer_lines, run};
 
 // A schema of one field of texts, which are stored.
 const ONE_TEXT: &str = r#"[{"name":"t","type":"text","options":{"stored":true}}]"#;

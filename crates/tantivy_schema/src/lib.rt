@@ -9,6 +9,6 @@ pub mod store;
 pub mod tokenizer;
 
 pub use schema::{TantivyDocument, Term};
-pub use tv_lines::{Halt, RunEnd, run};
+pub use tv_lines::{Halt, RunEnd, answer_lines, run};
 pub use tv_value::date_error::DateError;
 pub use tv_value::date_time::DateTime;

@@ -1,6 +1,6 @@
 //! Blocks of documents as lines of JSON.
 
-ghost use Rattle.std.specs.Prelude.{◌≡◌, [], IfErr, OnOk};
+ghost use Rattle.std.specs.Prelude.{◌≡◌, [], IfErr, OnOk, string_bytes};
 ghost use Rattle.tv_blocks.specs.Blocks.{AppendsLine, IsExported, IsPrintedBlock, IsRefusedBlock};
 ghost use Rattle.tv_blocks.specs.Buffer.{FillsBuffer};
 ghost use Rattle.tv_blocks.specs.Refusals.{IsBlockRefusal, IsExportRefusal};
@@ -17,19 +17,20 @@ use tv_doc::document_trait::Document;
 use tv_schema::Schema;
 use tv_store::{BlockReader, DocStoreVersion};
 
-// Appends the document's text of JSON and a line feed.
-fn append_line(
+/// Appends the document's text of JSON by the names of the schema's fields, see `to_json`, and a line feed. The only error is that memory was
+/// refused.
+pub fn append_line(
     alloc: Global,
     schema: &Schema,
     document: &CompactDoc,
-    text: &mut Vec<u8>,
+    text: &mut String,
 ) -> Result<(), AllocError>
     ensures { OnOk result
-        (AppendsLine schema.now (document_of document.now) text.old.items text.new.items) }
+        (AppendsLine schema.now (document_of document.now) (string_bytes text.old)
+        (string_bytes text.new)) }
 {
-    let json = document.to_json(alloc, schema)?;
-    text.extend_from_slice(json.as_bytes())?;
-    text.push(b'\n')?;
+    document.push_json(alloc, schema, text)?;
+    text.push('\n')?;
     Ok(())
 }
 
@@ -39,11 +40,11 @@ fn append_documents(
     schema: &Schema,
     version: DocStoreVersion,
     block: &[u8],
-    text: &mut Vec<u8>,
+    text: &mut String,
 ) -> Result<(), BlockError>
-    requires { text.old.items ≡ [] }
+    requires { string_bytes text.old ≡ [] }
     ensures ok { OnOk result
-        (IsPrintedBlock schema.now (version_of version) block.now text.new.items) }
+        (IsPrintedBlock schema.now (version_of version) block.now (string_bytes text.new)) }
     ensures err { IfErr result (IsRefusedBlock (version_of version) block.now) }
 {
     let mut source = SliceSource::new(block);
@@ -72,9 +73,9 @@ pub fn export_block_by(
     ensures { FillsBuffer (IsPrintedBlock schema.now (version_of version) block.now)
         (IsBlockRefusal (version_of version) block.now) lines.old lines.new result }
 {
-    let mut text = Vec::new(alloc);
+    let mut text = String::new(alloc);
     append_documents(alloc, schema, version, block, &mut text)?;
-    put_whole(text.as_slice(), lines)
+    put_whole(text.as_bytes(), lines)
 }
 
 /// Writes the documents of a block as lines of JSON, see `export_block_by`, and returns how many bytes these take.

@@ -28,12 +28,19 @@ pub(crate) enum FoundMembers<'a> {
 // A key that isn't above the last one is put into a list of fewer members than this, since those above it are moved.
 const MOST_MOVED: usize = 128;
 
+// The outermost object gets memory for this many members at once.
+const FIRST_MEMBERS: usize = 16;
+
 impl<'a> FoundMembers<'a> {
-    // None.
-    pub(crate) fn new(alloc: Global) -> FoundMembers<'a>
-        ensures { found_data result ≡ no_members }
+    // None so far. `None` where memory is refused.
+    #[inline(always)]
+    pub(crate) fn begin(alloc: Global, is_outermost: bool) -> Option<FoundMembers<'a>>
+        ensures { IfSome result (λ found. found_data found ≡ no_members) }
     {
-        FoundMembers::Listed(Vec::new(alloc))
+        if is_outermost {
+            return Some(FoundMembers::Listed(Vec::with_capacity(alloc, FIRST_MEMBERS).ok()?));
+        }
+        Some(FoundMembers::Listed(Vec::new(alloc)))
     }
 
     // Puts a member where its key belongs, in place of the one that has the key already. `None` where memory is refused.

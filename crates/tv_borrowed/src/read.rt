@@ -128,7 +128,7 @@ fn read_members<'a>(
     ensures floats { IfSome result
         (λ v. Notes met_float.old met_float.new (members_have_float (members_data v.items))) }
 {
-    let mut found = FoundMembers::new(alloc);
+    let mut found = FoundMembers::begin(alloc, depth == MAX_DEPTH - 1)?;
     'members: while let Some(key) = reader.next_key().ok()? {
         let member = read(alloc, reader, depth, met_float)?;
         found.put(alloc, key, member)?;

@@ -17,6 +17,7 @@ use tantivy_schema::schema::{Document, Schema, TantivyDocument};
 use tantivy_schema::store::DocStoreVersion;
 use thiserror::Error;
 use tv_base::write::write_all;
+use tv_blocks::export::append_line;
 
 /// Why an export breaks off.
 #[derive(Debug, PartialEq, Drop, Error)]
@@ -45,28 +46,12 @@ impl From<AllocError> for ExportError {
     }
 }
 
-// Puts the document's text of JSON and a line feed in place of what `text` holds.
-fn put_line(
-    alloc: Global,
-    schema: &Schema,
-    document: &TantivyDocument,
-    text: &mut Vec<u8>,
-) -> Result<(), AllocError>
-    ensures { OnOk result (AppendsLine schema.now (document_of document.now) [] text.new.items) }
-{
-    text.clear();
-    let json = document.to_json(alloc, schema)?;
-    text.extend_from_slice(json.as_bytes())?;
-    text.push(b'\n')?;
-    Ok(())
-}
-
 // Appends the document's line to the sink. `text` is for the line.
 pub(crate) fn write_line<K: ByteSink>(
     alloc: Global,
     schema: &Schema,
     document: &TantivyDocument,
-    text: &mut Vec<u8>,
+    text: &mut String,
     sink: &mut K,
 ) -> Result<(), ExportError>
     ensures ok { K.is_known sink.old
@@ -79,8 +64,9 @@ pub(crate) fn write_line<K: ByteSink>(
     ensures failures { Counts sink_stop result (K.failures sink.old) (K.failures sink.new) }
     ensures is_known { K.is_known sink.old → K.is_known sink.new }
 {
-    put_line(alloc, schema, document, text)?;
-    match write_all(sink, text.as_slice()) {
+    text.clear();
+    append_line(alloc, schema, document, text)?;
+    match write_all(sink, text.as_bytes()) {
         Ok(()) => Ok(()),
         Err(failed) => Err(ExportError::Write(failed.0)),
     }
@@ -118,7 +104,7 @@ pub fn export_block<S: ByteSource, K: ByteSink, W: Watch>(
     ensures sink_is_known { K.is_known sink.old → K.is_known sink.new }
 {
     let mut reader = DocumentReader::new(alloc, version, wanted);
-    let mut text = Vec::new(alloc);
+    let mut text = String::new(alloc);
     for documents in 0..u64::MAX {
         match reader.advance(source) {
             Ok(true) => {

@@ -57,7 +57,7 @@ pub struct Found {
 struct FindBuffers {
     terms: TermList,
     stack: QueryStack,
-    text: Vec<u8>,
+    text: String,
 }
 
 // Why a line wasn't written.
@@ -164,7 +164,7 @@ pub fn find_in_block<S: ByteSource, K: ByteSink, W: Watch>(
     let mut buffers = FindBuffers {
         terms: TermList::new(alloc),
         stack: QueryStack::new(alloc),
-        text: Vec::new(alloc),
+        text: String::new(alloc),
     };
     let mut found: u64 = 0;
     for documents in 0..u64::MAX {

@@ -4,7 +4,7 @@
 -- `CopiesByName`: copies of a document's values under the names of their fields. `named`: for each name of a field that has a value, they are the
 -- copies of its values in order. `within`: where the call returns no error, each value of a field that has a name nests within this depth.
 -- `deep`: the error is `TooDeep` exactly where one of them does not.
-use Rattle.std.specs.Prelude.{◌≡◌, ℕ, List, [], ◌∷◌, ◌↔◌, map, Option, Some, None, Result, IfOk, OnOk, IsErrOf, OnSome, slice_get, string_bytes}
+use Rattle.std.specs.Prelude.{◌≡◌, ℕ, List, [], ◌∷◌, ◌++◌, ◌↔◌, map, Option, Some, None, Result, IfOk, OnOk, IsErrOf, OnSome, slice_get, string_bytes}
 use Rattle.std.specs.BTreeMap.{insert_entry}
 use Rattle.std.specs.Cmp.Lexicographic.{slice_cmp}
 use Rattle.std.specs.List.{AllByRecursion}
@@ -45,6 +45,10 @@ IsNamed names d named = (groups : List (ℕ × List Tree)) × IsGrouped d groups
 -- the text of the object of these names and the arrays of their values, without spaces
 abbrev pub IsJsonText : List (List ℕ) → Document → List ℕ → Type 0
 IsJsonText names d text = (named : Named) × IsNamed names d named × (text ≡ compact_text (object (named_json named)))
+
+-- that text was added to another
+abbrev pub AddsJsonText : List (List ℕ) → Document → List ℕ → List ℕ → Type 0
+AddsJsonText names d before after = (text : List ℕ) × IsJsonText names d text × (after ≡ before ++ text)
 
 abbrev pub named_of : NamedFieldDocument → Named
 named_of n = map (λ e. (string_bytes e.0, map owned_tree e.1.items)) n.0.entries

@@ -1,18 +1,19 @@
 //! Documents of any kind: pairs of a field and a value.
 
-ghost use Rattle.std.specs.Prelude.{◌≡◌, ◌↔◌, Option, IfOk, IsTrue, map, string_bytes};
+ghost use Rattle.std.specs.Prelude.{◌≡◌, ◌↔◌, Option, IfOk, IsTrue, OnErr, OnOk, map, string_bytes};
 ghost use Rattle.std.specs.Iterator.{IsFinite, YieldsFirstBy};
 ghost use Rattle.tv_value.specs.declared.field.Field.{Field};
 ghost use Rattle.tv_format.specs.Tree.{Document as Pairs};
 ghost use Rattle.tv_doc.specs.Grouped.{IsGrouped, group_seen};
-ghost use Rattle.tv_doc.specs.Named.{CopiesByName, IsJsonText, NamedNestWithin};
+ghost use Rattle.tv_doc.specs.Named.{AddsJsonText, CopiesByName, IsJsonText};
+ghost use Rattle.tv_doc.specs.Named.{NamedNestWithin};
 ghost use Rattle.tv_doc.specs.FieldValues.{pair_seen};
 
 use crate::grouped::{grouped, sort_pairs};
 use crate::lent_names::{by_name, rising_by_name};
 use crate::named::{FieldNames, NamedFieldDocument, owned_by_name};
 use std::alloc::{AllocError, Global};
-use tv_json::named::named_to_json;
+use tv_json::named::push_named_json;
 use tv_value::copy_error::CopyError;
 use tv_value::field::Field;
 use tv_value::nesting::{MAX_DEPTH, nests_within};
@@ -20,6 +21,9 @@ use tv_value::value::Value;
 
 // This many pairs are gathered in memory that is taken once.
 const FIRST_PAIRS: usize = 16;
+
+// The first room of a text.
+const FIRST_BYTES: usize = 256;
 
 // The pairs of a document.
 fn gathered<'a, D: Document<'a>>(
@@ -131,12 +135,30 @@ pub trait Document<'a> {
         ensures { IfOk result
             (λ text. IsJsonText (S.names schema.now) (pairs self.now) (string_bytes text)) }
     {
+        let mut text = String::with_capacity(alloc, FIRST_BYTES)?;
+        self.push_json(alloc, schema, &mut text)?;
+        Ok(text)
+    }
+
+    /// Adds the text of JSON that `to_json` gives to a text, so that the same memory serves for many documents. (Not in tantivy.) The only
+    /// error is that memory was refused, and then the text is as it was.
+    final fn push_json<S: FieldNames>(
+        &'a self,
+        alloc: Global,
+        schema: &S,
+        text: &mut String,
+    ) -> Result<(), AllocError>
+        ensures added { OnOk result
+            (AddsJsonText (S.names schema.now) (pairs self.now) (string_bytes text.old)
+            (string_bytes text.new)) }
+        ensures unchanged { OnErr result (string_bytes text.new ≡ string_bytes text.old) }
+    {
         let mut pairs = gathered(alloc, self)?;
         if let Some(named) = rising_by_name(alloc, schema, pairs.as_slice())? {
-            return named_to_json(alloc, named.as_slice());
+            return push_named_json(alloc, text, named.as_slice());
         }
         sort_pairs(&mut pairs)?;
         let named = by_name(alloc, schema, pairs.as_slice())?;
-        named_to_json(alloc, named.as_slice())
+        push_named_json(alloc, text, named.as_slice())
     }
 }

@@ -1,6 +1,6 @@
 //! Values under names, as texts of JSON.
 
-ghost use Rattle.std.specs.Prelude.{◌≡◌, ◌++◌, ◌∷◌, [], OnOk, IfOk, string_bytes, map};
+ghost use Rattle.std.specs.Prelude.{◌≡◌, ◌++◌, ◌∷◌, [], OnErr, OnOk, string_bytes, map};
 ghost use Rattle.json.specs.Token as Token;
 ghost use Rattle.serde_json.specs.Data.{object};
 ghost use Rattle.serde_json.specs.Written.{compact_text};
@@ -11,11 +11,10 @@ ghost use Rattle.tv_json.specs.Rising.{data_tokens, rest_of_object};
 use crate::compact::write_lent;
 use crate::write::{JsonWriter, begin_list};
 use std::alloc::{AllocError, Global};
+use std::convert::AsStr;
+use std::mem::replace;
 use tv_value::field::Field;
 use tv_value::value::Value;
-
-// The first room of a text.
-const FIRST_BYTES: usize = 256;
 
 // Writes a name and the array of the values.
 fn write_list<'a, V: Value<'a>>(
@@ -52,18 +51,45 @@ fn write_lists<'a, V: Value<'a>>(
     json.out.end_object()
 }
 
-/// The text of an object, without spaces: for each name, in the order in which they stand, the array of the values that stand under it,
-/// beside whatever fields. (Not in tantivy.) The only error is that memory was refused.
-pub fn named_to_json<'a, V: Value<'a>>(
-    alloc: Global,
+// Writes names and the arrays of their values, as an object.
+fn write_named<'a, V: Value<'a>>(
+    json: &mut JsonWriter,
     named: &[(&str, &[(Field, V)])],
-) -> Result<String, AllocError>
-    ensures { IfOk result
-        (λ text. string_bytes text
-        ≡ compact_text (object (named_json (map (named_trees V.tree) named.now)))) }
+) -> Result<(), AllocError>
+    ensures ok { OnOk result
+        (json.new.out.tokens
+        ≡ json.old.out.tokens
+        ++ data_tokens (object (named_json (map (named_trees V.tree) named.now)))) }
+    ensures before { json.new.out.before ≡ json.old.out.before }
 {
-    let mut json = JsonWriter::new(alloc, Vec::with_capacity(alloc, FIRST_BYTES)?);
     json.out.begin_object()?;
-    write_lists(&mut json, named)?;
-    Ok(json.into_text())
+    write_lists(json, named)
+}
+
+/// Adds the JSON of an object to a text, without spaces: for each name, in the order in which they stand, the array of the values that
+/// stand under it, beside whatever fields. (Not in tantivy.) The only error is that memory was refused, and then the text is as it was.
+pub fn push_named_json<'a, V: Value<'a>>(
+    alloc: Global,
+    text: &mut String,
+    named: &[(&str, &[(Field, V)])],
+) -> Result<(), AllocError>
+    ensures ok { OnOk result
+        (string_bytes text.new
+        ≡ string_bytes text.old
+        ++ compact_text (object (named_json (map (named_trees V.tree) named.now)))) }
+    ensures err { OnErr result (string_bytes text.new ≡ string_bytes text.old) }
+{
+    let len = text.as_str().len();
+    let bytes = replace(text, String::new(alloc)).into_bytes();
+    let mut json = JsonWriter::new(alloc, bytes);
+    match write_named(&mut json, named) {
+        Ok(()) => {
+            *text = json.into_text();
+            Ok(())
+        }
+        Err(refused) => {
+            *text = json.into_start(len);
+            Err(refused)
+        }
+    }
 }

@@ -31,10 +31,19 @@ pub(crate) struct LineMemory {
     document: CompactDoc,
     /// What reading its JSON needs.
     buffers: ParseBuffers,
+    /// What its answer is made of.
+    parts: AnswerParts,
+}
+
+// What the answer of a document is made of.
+#[derive(Drop)]
+struct AnswerParts {
     /// Its stored bytes.
     stored: VecSink,
     /// The document that is read back from them.
     found: CompactDoc,
+    /// The text of JSON of that document.
+    json: String,
 }
 
 impl LineMemory {
@@ -43,8 +52,11 @@ impl LineMemory {
         LineMemory {
             document: CompactDoc::new(alloc),
             buffers: ParseBuffers::new(alloc),
-            stored: VecSink::new(alloc),
-            found: CompactDoc::new(alloc),
+            parts: AnswerParts {
+                stored: VecSink::new(alloc),
+                found: CompactDoc::new(alloc),
+                json: String::new(alloc),
+            },
         }
     }
 }
@@ -96,13 +108,12 @@ fn write_stored(
 }
 
 // Appends the stored bytes in hexadecimal, a space, and the text of JSON of what is read back from them. Else it gives what is
-// answered. `bytes` and `found` are for what is stored and for what is read back.
+// answered.
 fn append_document(
     alloc: Global,
     schema: &Schema,
     document: &CompactDoc,
-    bytes: &mut VecSink,
-    found: &mut CompactDoc,
+    parts: &mut AnswerParts,
     text: &mut Vec<u8>,
 ) -> Result<(), &'static str>
     requires { Belongs schema.now (document_of document.now) }
@@ -114,32 +125,34 @@ fn append_document(
     documents_are_valid();
     stored_pairs_are_valid();
     stored_pairs_need_no_more_room();
-    if write_stored(schema, document, bytes).is_err() {
+    if write_stored(schema, document, &mut parts.stored).is_err() {
         return Err(NO_MEMORY);
     }
-    read_back(alloc, bytes.as_slice(), found)?;
-    match append_texts(alloc, schema, found, bytes.as_slice(), text) {
+    read_back(alloc, parts.stored.as_slice(), &mut parts.found)?;
+    match append_texts(alloc, schema, parts, text) {
         Ok(()) => Ok(()),
         Err(_) => Err(NO_MEMORY),
     }
 }
 
-// Appends these bytes in hexadecimal, a space, and the document's text of JSON. The only error is that memory was refused.
+// Appends the stored bytes in hexadecimal, a space, and the text of JSON of the document that was read back. The only error is that memory
+// was refused.
 fn append_texts(
     alloc: Global,
     schema: &Schema,
-    found: &CompactDoc,
-    bytes: &[u8],
+    parts: &mut AnswerParts,
     text: &mut Vec<u8>,
 ) -> Result<(), AllocError>
     ensures { OnOk result
-        (WritesText (IsTexts schema.now bytes.now (document_of found.now)) text.old.items
-        text.new.items) }
+        (WritesText
+        (IsTexts schema.now parts.old.stored.bytes.items (document_of parts.old.found))
+        text.old.items text.new.items) }
 {
-    let json = found.to_json(alloc, schema)?;
-    append_hex(text, bytes)?;
+    parts.json.clear();
+    parts.found.push_json(alloc, schema, &mut parts.json)?;
+    append_hex(text, parts.stored.as_slice())?;
     text.push(b' ')?;
-    text.extend_from_slice(json.as_bytes())
+    text.extend_from_slice(parts.json.as_bytes())
 }
 
 // Appends what is answered for the line where there is a document of it. Else it gives what is answered.
@@ -164,8 +177,7 @@ fn append_answer(
             alloc,
             schema,
             &memory.document,
-            &mut memory.stored,
-            &mut memory.found,
+            &mut memory.parts,
             text,
         ),
         Err(error) => Err(refusal(&error)),

@@ -5,11 +5,13 @@ mod document_line;
 pub mod halt;
 mod hex_text;
 mod line_reader;
+pub mod program;
 mod read_back;
 pub mod run_end;
 pub mod runs;
 mod schema_line;
 
 pub use halt::Halt;
+pub use program::answer_lines;
 pub use run_end::RunEnd;
 pub use runs::run;

@@ -17,6 +17,18 @@ fn schema_of(alloc: Global, names: &[&str]) -> Option<Schema> {
     builder.build().ok()
 }
 
+// The JSON of a document, where `push_json` adds the same to a text.
+fn json_of(alloc: Global, document: &CompactDoc, schema: &Schema) -> Option<String> {
+    let json = document.to_json(alloc, schema).ok()?;
+    let mut text = String::from_str(alloc, "> ").ok()?;
+    document.push_json(alloc, schema, &mut text).ok()?;
+    if text.as_str().strip_prefix("> ") == Some(json.as_str()) {
+        Some(json)
+    } else {
+        None
+    }
+}
+
 // The JSON of a document with 0, 1, 2 and so on as the values of these fields, by a schema of these names.
 fn printed(alloc: Global, names: &[&str], fields: &[u32]) -> Option<String> {
     let schema = schema_of(alloc, names)?;
@@ -26,7 +38,7 @@ fn printed(alloc: Global, names: &[&str], fields: &[u32]) -> Option<String> {
             .add_u64(Field::from_field_id(*field), number as u64)
             .ok()?;
     }
-    document.to_json(alloc, &schema).ok()
+    json_of(alloc, &document, &schema)
 }
 
 // Whether that JSON is this text.

@@ -1,4 +1,4 @@
-use Rattle.std.proofs.Common.{◌≡◌, ℕ, ◌-◌, ◌^◌, ◌<◌, List, [], length, refl, sym, subst, ap, ◌∙◌, arith}
+use Rattle.std.proofs.Common.{◌≡◌, ℕ, ◌-◌, ◌^◌, ◌<◌, List, [], length, refl, sym, subst, ap, ◌∙◌, arith, string_bytes}
 use Rattle.tv_blocks.specs.Blocks.{AppendsLine, IsRefusedBlock, PrintedSoFar}
 use Rattle.tv_doc.specs.Document.{document_of}
 use Rattle.tv_reader.specs.Version.{version_of}
@@ -16,7 +16,7 @@ pub loop-reader-init : goal.loop-reader-init
 loop-reader-init c = record {
   live = c.new-reader.ensures.not_failed;
   version = c.new-reader.ensures.version;
-  so_far = subst (λ (l : List ℕ). PrintedSoFar c.args.schema.now (version_of c.args.version) c.args.block.now l c.args.text.now.items) (sym c.new-source.ensures)
+  so_far = subst (λ (l : List ℕ). PrintedSoFar c.args.schema.now (version_of c.args.version) c.args.block.now l (string_bytes c.args.text.now)) (sym c.new-source.ensures)
       (printed_none c.args.schema.now (version_of c.args.version) c.args.block.now c.args.text.now.items c.requires);
 }
 
@@ -28,7 +28,7 @@ loop-reader-preserved c =
       live = c.in-Ok-true.ensures.not_failed;
       version = c.advance.ensures.version ∙ i.version;
       so_far = printed_more i.so_far (subst (λ (w : DocStoreVersion). BeginsWithDocument (version_of w) c.loop-reader.source.rest.now c.advance.new.source.rest.now (document_of c.advance.new.self.document)) i.version (reads.found tt))
-          (subst (λ d. AppendsLine c.args.schema.now (document_of d) c.loop-reader.text.items c.append_line.new.text.items) c.document.ensures c.in_ok-append_line-in-Ok-true.ensures);
+          (subst (λ d. AppendsLine c.args.schema.now (document_of d) (string_bytes c.loop-reader.text) (string_bytes c.append_line.new.text)) c.document.ensures c.in_ok-append_line-in-Ok-true.ensures);
     }
 
 pub returns-in-Err-clause-err : goal.returns-in-Err-clause-err

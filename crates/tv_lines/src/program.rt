@@ -1,11 +1,12 @@
 //! The program `schemadoc` over any reader and any writer.
-#![tactic(auto)]
 
+use crate::halt::Halt;
+use crate::run_end::RunEnd;
+use crate::runs::run;
 use std::alloc::Global;
 use std::io;
 use std::io::{BufWriter, Read, Write};
-use tantivy_schema::common::{ReadSource, WriteSink};
-use tantivy_schema::{Halt, RunEnd, run};
+use tv_io::{ReadSource, WriteSink};
 
 // This many bytes of answers are collected before they are written.
 const BUFFERED: usize = 65536;
