@@ -6,7 +6,7 @@ use Rattle.std.specs.Ordering.{match_ordering}
 use Rattle.std.specs.Result.{result_ok}
 use Rattle.serde_json.specs.Data.{member, put}
 use Rattle.tv_borrowed.specs.BorrowedData.{data_of, members_data}
-use Rattle.tv_borrowed.specs.Rising.{AreAbove, Rise}
+use Rattle.tv_borrowed.specs.RisingMembers.{AreAbove, Rise}
 use Rattle.tv_borrowed.specs.declared.borrowed.BorrowedJson.{BorrowedJson}
 use Rattle.tv_borrowed.proofs.Copies.{turned}
 use Rattle.tv_borrowed.proofs.Places.{Entry}

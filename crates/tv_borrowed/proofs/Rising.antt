@@ -6,7 +6,7 @@ use Rattle.std.specs.FinMap.{nat_cmp-IsAntisymmetric, slice_cmp-IsAntisymmetric}
 use Rattle.std.specs.List.{insert}
 use Rattle.serde_json.specs.Data.{Data, Members, no_members, member, put}
 use Rattle.tv_borrowed.specs.BorrowedData.{data_of, members_data}
-use Rattle.tv_borrowed.specs.Rising.{AreAbove, Rise, EndsBelow}
+use Rattle.tv_borrowed.specs.RisingMembers.{AreAbove, Rise, EndsBelow}
 use Rattle.tv_borrowed.proofs.Copies.{turned, turned_back}
 use Rattle.tv_borrowed.specs.declared.borrowed.BorrowedJson.{BorrowedJson}
 use Rattle.tv_borrowed.proofs.Places.{Entry, put_before, put_before-append, from_here}

@@ -1,5 +1,5 @@
 pub mod BorrowedData
-pub mod Rising
+pub mod RisingMembers
 pub mod Found
 pub mod Notes
 pub mod Begun

@@ -4,7 +4,7 @@ ghost use Rattle.std.specs.Prelude.{◌≡◌, OnSome, IfSome, IsTrue};
 ghost use Rattle.serde_json.specs.Data.{no_members, put};
 ghost use Rattle.tv_borrowed.specs.BorrowedData.{data_of, members_data};
 ghost use Rattle.tv_borrowed.specs.Found.{found_data};
-ghost use Rattle.tv_borrowed.specs.Rising.{Rise, EndsBelow};
+ghost use Rattle.tv_borrowed.specs.RisingMembers.{Rise, EndsBelow};
 
 use crate::borrowed::BorrowedJson;
 use crate::order::compare;

@@ -4,7 +4,7 @@ use Rattle.std.specs.BTreeMap.{insert_entry}
 use Rattle.std.specs.Vec.Iter.{into_iter_items}
 use Rattle.serde_json.specs.Data.{put}
 use Rattle.tv_borrowed.specs.BorrowedData.{data_of, members_data}
-use Rattle.tv_borrowed.specs.Rising.{Rise}
+use Rattle.tv_borrowed.specs.RisingMembers.{Rise}
 use Rattle.tv_borrowed.proofs.Mapped.{key_cmp, members_data-insert_entry, put_next, when_ok}
 use Rattle.tv_borrowed.proofs.Places.{Entry}
 use Rattle.tv_borrowed.proofs.members.mapped.Goals as goal

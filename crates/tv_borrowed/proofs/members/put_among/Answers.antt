@@ -4,7 +4,7 @@ use Rattle.std.specs.Cmp.Lexicographic.{slice_cmp}
 use Rattle.std.specs.List.{insert}
 use Rattle.serde_json.specs.Data.{put}
 use Rattle.tv_borrowed.specs.BorrowedData.{data_of, members_data}
-use Rattle.tv_borrowed.specs.Rising.{Rise}
+use Rattle.tv_borrowed.specs.RisingMembers.{Rise}
 use Rattle.tv_borrowed.proofs.Places.{Entry, put_above, put_at, where_added}
 use Rattle.tv_borrowed.proofs.Rising.{IsBelow, below_here, passed_above, passed_same, put_here}
 use Rattle.tv_borrowed.proofs.members.put_among.Goals as goal

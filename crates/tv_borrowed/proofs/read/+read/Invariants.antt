@@ -7,7 +7,7 @@ use Rattle.serde_json.specs.Written.{items_have_float, members_have_float}
 use Rattle.tv_borrowed.specs.Found.{found_data}
 use Rattle.tv_borrowed.specs.BorrowedData.{items_data}
 use Rattle.tv_borrowed.specs.Notes.{Notes}
-use Rattle.tv_borrowed.specs.Rising.{Rise}
+use Rattle.tv_borrowed.specs.RisingMembers.{Rise}
 use Rattle.tv_borrowed.proofs.Places.{items_before}
 use Rattle.tv_borrowed.proofs.read.+read.Given as goal
 

@@ -2,7 +2,7 @@ use Rattle.std.proofs.Common.{◌≡◌, ◌++◌, ◌∷◌, [], sym, ap, subst
 use Rattle.serde_json.specs.Data.{put}
 use Rattle.tv_borrowed.specs.BorrowedData.{data_of, members_data}
 use Rattle.tv_borrowed.specs.Found.{found_data}
-use Rattle.tv_borrowed.specs.Rising.{Rise, EndsBelow}
+use Rattle.tv_borrowed.specs.RisingMembers.{Rise, EndsBelow}
 use Rattle.tv_borrowed.proofs.Places.{where_added}
 use Rattle.tv_borrowed.proofs.Rising.{put_at_end}
 use Rattle.tv_borrowed.proofs.members.FoundMembers.put.Goals as goal
