@@ -2,10 +2,10 @@
 use Rattle.std.proofs.Common.{◌≡◌, List, ℕ, false, Option, Some, Ok, slice_get, Bor, Vec, Global, refl, ap, subst, ◌∙◌}
 use Rattle.serde_json.specs.Data.{Data, Items, Members, array, object}
 use Rattle.serde_json.specs.Written.{has_float}
-use Rattle.tv_borrowed.proofs.Levels.{data_of-Object}
-use Rattle.tv_borrowed.specs.BorrowedData.{data_of}
-use Rattle.tv_borrowed.specs.declared.borrowed.BorrowedJson.{BorrowedJson}
-use Rattle.tv_borrowed.specs.declared.borrowed.BorrowedJson.TheVariants as borrowed
+use Rattle.tv_json.proofs.Levels.{data_of-Object}
+use Rattle.tv_json.specs.BorrowedData.{data_of}
+use Rattle.tv_json.specs.declared.borrowed.BorrowedJson.{BorrowedJson}
+use Rattle.tv_json.specs.declared.borrowed.BorrowedJson.TheVariants as borrowed
 use Rattle.tv_field.specs.JsonTable.{Table, json_row}
 use Rattle.tv_field.specs.declared.field_type.FieldType.{FieldType}
 use Rattle.tv_field.specs.declared.field_type.FieldType.TheVariants as types

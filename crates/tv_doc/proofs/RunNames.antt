@@ -1,6 +1,6 @@
 -- Runs of pairs of one field, whose fields' names rise.
 use Rattle.std.proofs.Common.{◌≡◌, ◌≢◌, ◌⊎◌, ◌↔◌, ℕ, zero, suc, ◌<◌, Bool, true, false, cond, List, [], ◌∷◌, ◌++◌, length, map, get_or, Option, Some, None, IfSome, Ordering, Less, Equal, Greater, Bor, refl, sym, ap, subst, ◌∙◌, append_assoc, arith, inl, inr}
-use Rattle.tv_borrowed.proofs.Copies.{turned, turned_back}
+use Rattle.tv_json.proofs.Copies.{turned, turned_back}
 use Rattle.std.specs.Prelude.{nat_eq, nat_lt, slice_get}
 use Rattle.std.specs.BTreeMap.{insert_entry}
 use Rattle.std.specs.Cmp.Lexicographic.{slice_cmp}

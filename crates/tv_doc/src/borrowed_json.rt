@@ -2,7 +2,7 @@
 
 ghost use Rattle.std.specs.Prelude.{◌≡◌, ◌↔◌, ◌<◌, ◌^◌, ◌∷◌, [], false, IfNone, OnSome, IsOkAnd, IsTrue};
 ghost use Rattle.serde_json.specs.Written.{has_float, members_have_float};
-ghost use Rattle.tv_borrowed.specs.BorrowedData.{data_of, members_data};
+ghost use Rattle.tv_json.specs.BorrowedData.{data_of, members_data};
 ghost use Rattle.tv_doc.specs.AddsRow.{AddsRow};
 ghost use Rattle.tv_doc.specs.Additions.{Accepts};
 ghost use Rattle.tv_doc.specs.Document.{IsUnchanged};
@@ -19,8 +19,8 @@ use crate::lent_borrowed::LentBorrowed;
 use crate::named_field::NamedField;
 use crate::parse_buffers::{Adding, ParseBuffers};
 use std::alloc::Global;
-use tv_borrowed::borrowed::BorrowedJson;
-use tv_borrowed::read::read_noting_floats;
+use tv_json::borrowed::BorrowedJson;
+use tv_json::read::read_noting_floats;
 use tv_field::FieldType;
 use tv_field::json_value::{
     JsonRefusal, JsonScratch, lend_bytes_text, lend_date_text, lend_facet_text, lend_ip_addr_text,

@@ -4,12 +4,12 @@ ghost use Rattle.std.specs.Prelude.{◌≡◌, map};
 ghost use Rattle.std.specs.Iterator.{YieldsFirstBy, item_count};
 ghost use Rattle.std.specs.Slice.Iter.{iter_rest};
 ghost use Rattle.serde_json.specs.Data.{unsigned};
-ghost use Rattle.tv_borrowed.specs.BorrowedData.{data_of};
+ghost use Rattle.tv_json.specs.BorrowedData.{data_of};
 ghost use Rattle.tv_value.specs.JsonTree.{number_leaf as number_leaf_of, whole_tree};
 ghost use Rattle.tv_value.specs.Lent.{leaf_of};
 
 use std::slice;
-use tv_borrowed::borrowed::BorrowedJson;
+use tv_json::borrowed::BorrowedJson;
 use tv_value::leaf::ReferenceValueLeaf;
 use tv_value::value::{ReferenceValue, Value};
 

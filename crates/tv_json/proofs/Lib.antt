@@ -3,3 +3,10 @@ pub mod InOrder
 pub mod ItemsBefore
 mod OpenLists
 mod WrittenParts
+pub mod Levels
+mod Places
+pub mod Copies
+mod Rising
+mod Mapped
+mod Turns
+pub mod Floats

@@ -2,3 +2,8 @@ pub mod JsonOf
 pub mod Rising
 pub mod Named
 pub mod Open
+pub mod BorrowedData
+pub mod RisingMembers
+pub mod Found
+pub mod Notes
+pub mod Begun

@@ -1,10 +1,20 @@
-//! Values as JSON: as JSON values, and as texts without spaces.
+//! Values as JSON: as JSON values, and as texts without spaces; and JSON values that borrow their texts from the text that they were read from.
 #![tactic(auto)]
 
+mod begun;
+pub mod borrowed;
 pub mod compact;
 pub mod json_value;
 mod leaf_text;
 mod member_order;
+mod members;
 pub mod named;
+mod number;
 mod open_lists;
+pub mod order;
+pub mod read;
+pub mod value;
 mod write;
+
+/// Where texts with escapes are written while a JSON value is read: one serves any number of readings, one after the other.
+pub use json::Scratch;

@@ -1,5 +1,5 @@
 use Rattle.std.specs.Prelude.{drop}
-use Rattle.tv_borrowed.specs.BorrowedData.{data_of, items_data}
+use Rattle.tv_json.specs.BorrowedData.{data_of, items_data}
 use Rattle.tv_schema.specs.Schema.{field_named}
 use Rattle.tv_doc.specs.JsonObject.{values_at, items_for}
 use Rattle.tv_doc.proofs.JsonDocuments.{SoFar}

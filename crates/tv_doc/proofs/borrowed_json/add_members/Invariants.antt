@@ -1,5 +1,5 @@
 use Rattle.std.specs.Prelude.{drop}
-use Rattle.tv_borrowed.specs.BorrowedData.{members_data}
+use Rattle.tv_json.specs.BorrowedData.{members_data}
 use Rattle.tv_doc.specs.JsonObject.{object_values}
 use Rattle.tv_doc.proofs.JsonDocuments.{SoFar}
 use Rattle.tv_doc.proofs.borrowed_json.add_members.Given as goal

@@ -1,5 +1,5 @@
 use Rattle.std.proofs.Common.{[], ◌∷◌}
-use Rattle.tv_borrowed.specs.BorrowedData.{data_of}
+use Rattle.tv_json.specs.BorrowedData.{data_of}
 use Rattle.tv_doc.specs.JsonObject.{value_for}
 use Rattle.tv_doc.proofs.JsonDocuments.{told_from, one_added}
 use Rattle.tv_doc.proofs.borrowed_json.add_one.Goals as goal

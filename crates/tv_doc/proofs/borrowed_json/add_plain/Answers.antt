@@ -2,7 +2,7 @@ use Rattle.std.proofs.Common.{◌≡◌, ℕ, Result, Ok, Err, sym, ap, subst}
 use Rattle.std.specs.Prelude.{OnSome}
 use Rattle.std.specs.Result.{result_ok}
 use Rattle.serde_json.specs.Data.{Data}
-use Rattle.tv_borrowed.specs.BorrowedData.{data_of}
+use Rattle.tv_json.specs.BorrowedData.{data_of}
 use Rattle.tv_builder.specs.declared.add_error.AddError.{AddError}
 use Rattle.tv_field.specs.JsonTable.{Table}
 use Rattle.tv_field.specs.declared.field_type.FieldType.{FieldType}

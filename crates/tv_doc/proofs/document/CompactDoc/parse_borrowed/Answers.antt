@@ -1,7 +1,7 @@
 use Rattle.std.proofs.Common.{Some, sym, ap, ◌∙◌}
 use Rattle.serde_json.specs.Data.{object}
-use Rattle.tv_borrowed.proofs.Levels.{data_of-Object}
-use Rattle.tv_borrowed.specs.BorrowedData.{data_of, members_data}
+use Rattle.tv_json.proofs.Levels.{data_of-Object}
+use Rattle.tv_json.specs.BorrowedData.{data_of, members_data}
 use Rattle.tv_doc.specs.Additions.{IsEmpty}
 use Rattle.tv_doc.proofs.JsonDocuments.{told_object}
 use Rattle.tv_doc.proofs.document.CompactDoc.parse_borrowed.Goals as goal
