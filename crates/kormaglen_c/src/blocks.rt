@@ -5,13 +5,13 @@ ghost use Rattle.kormaglen_c.specs.Handles.{IsClosedHandle};
 ghost use Rattle.std.specs.Prelude.{◌≡◌, MatchOption};
 ghost use Rattle.tv_blocks.specs.FieldValues.{AreNamedValues, IsNamedValuesRefusal};
 ghost use Rattle.tv_blocks.specs.SchemaTerms.{AreSchemaTerms, IsSchemaTermsRefusal};
-ghost use Rattle.tv_handles.specs.Held.{entries_of};
+ghost use Rattle.tv_blocks.specs.Held.{entries_of};
 ghost use Rattle.tv_reader.specs.Version.{version_of_number, version_of};
 
 use crate::handles::closed;
 use std::alloc::Global;
 use tv_blocks::status::{Answer, written_answer, wrong_version};
-use tv_handles::schema_handle::SchemaHandle;
+use tv_blocks::schema_handle::SchemaHandle;
 use tv_schema::Schema;
 use tv_store::DocStoreVersion;
 

@@ -9,7 +9,7 @@ ghost use Rattle.tv_blocks.specs.Documents.{IsForeignRefusal, IsPrintedBy, IsSto
 ghost use Rattle.tv_blocks.specs.Status.{wrong_version};
 ghost use Rattle.tv_doc.specs.Document.{document_of};
 ghost use Rattle.tv_format.specs.WriteVersion.{written_version};
-ghost use Rattle.tv_handles.specs.Held.{entries_of};
+ghost use Rattle.tv_blocks.specs.Held.{entries_of};
 ghost use Rattle.tv_reader.specs.Version.{version_of_number, version_of};
 
 use crate::handles::closed;
@@ -19,9 +19,9 @@ use tv_blocks::BlockError;
 use tv_blocks::status::{Answer, written_answer, wrong_version};
 use tv_doc::document::CompactDoc;
 use tv_doc::parse_buffers::ParseBuffers;
-use tv_handles::document_handle::DocumentHandle;
-use tv_handles::schema_handle::SchemaHandle;
-use tv_handles::schema_memory::SchemaMemory;
+use tv_blocks::document_handle::DocumentHandle;
+use tv_blocks::schema_handle::SchemaHandle;
+use tv_blocks::schema_memory::SchemaMemory;
 use tv_schema::Schema;
 use tv_store::DocStoreVersion;
 

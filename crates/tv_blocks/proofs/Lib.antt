@@ -10,3 +10,6 @@ pub mod Queries
 pub mod Stops
 pub mod SchemaTerms
 pub mod FieldValues
+mod Boxes
+mod Heap
+mod Pointers

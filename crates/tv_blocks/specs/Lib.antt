@@ -15,3 +15,5 @@ pub mod Terms
 pub mod SchemaTerms
 pub mod FieldValues
 pub mod FacetCounts
+pub mod Kept
+pub mod Held

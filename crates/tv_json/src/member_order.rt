@@ -7,21 +7,19 @@ ghost use Rattle.tv_json.specs.Rising.{Below, KeysRise, entries_of, listed_json,
 ghost use Rattle.tv_format.specs.Tree.{entries};
 ghost use Rattle.tv_value.specs.Lent.{nested_tree};
 
+use crate::order::compare;
 use std::alloc::{AllocError, Global};
 use std::cmp::Ordering;
 use std::collections::BTreeMap;
 use std::convert::AsStr;
 use tv_value::nested::{Nested, NestedValue};
 
-// Whether a key is below another in byte order. Where their first bytes differ, these decide.
+// Whether a key is below another in byte order.
 #[inline(always)]
 fn is_below(key: &str, other: &str) -> bool
     ensures { IsTrue result ↔ Below key.now other.now }
 {
-    match (key.as_bytes().first(), other.as_bytes().first()) {
-        (Some(one), Some(two)) if one != two => one < two,
-        _ => key.cmp(other) == Ordering::Less,
-    }
+    compare(key, other) == Ordering::Less
 }
 
 // Whether each key is below the next in byte order.

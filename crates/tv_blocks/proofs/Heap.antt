@@ -21,7 +21,7 @@ heap_laws = arg_laws (raw (layout global_row)) no global_row global_laws.the_row
 
 -- it needs no drop
 abbrev pub heap_drop : Dict
-heap_drop = impl ("tv_handles::Destruct++none::drop" ∷ []) (tcons (layout Heap) tnil) dnil
+heap_drop = impl ("tv_blocks::Destruct++none::drop" ∷ []) (tcons (layout Heap) tnil) dnil
 
 abbrev pub heap_vals : Global → List Val
 heap_vals alloc = global_laws.the_told.val alloc ∷ []

@@ -2,7 +2,7 @@
 use Rattle.std.specs.Prelude.{List, Option}
 use Rattle.std.specs.Option.{option_map}
 use Rattle.tv_field.specs.Entry.{Entry}
-use Rattle.tv_handles.specs.declared.schema_handle.SchemaHandle.{SchemaHandle}
+use Rattle.tv_blocks.specs.declared.schema_handle.SchemaHandle.{SchemaHandle}
 
 -- the entries of its schema, if it holds one
 abbrev pub entries_of : SchemaHandle → Option (List Entry)

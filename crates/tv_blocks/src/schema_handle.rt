@@ -3,9 +3,9 @@
 ghost use Rattle.std.specs.Option.{option_map};
 ghost use Rattle.std.specs.Coded.{coded_option};
 ghost use Rattle.std.specs.Prelude.{◌≡◌, None, Option, Some, OnErr, OnOk};
-ghost use Rattle.tv_handles.specs.Kept.{keeps};
-ghost use Rattle.tv_handles.specs.contracts.schema_memory.SchemaMemory.{the_row as schema_row};
-ghost use Rattle.tv_handles.specs.declared.schema_memory.SchemaMemory.{SchemaMemory};
+ghost use Rattle.tv_blocks.specs.Kept.{keeps};
+ghost use Rattle.tv_blocks.specs.contracts.schema_memory.SchemaMemory.{the_row as schema_row};
+ghost use Rattle.tv_blocks.specs.declared.schema_memory.SchemaMemory.{SchemaMemory};
 
 use crate::kept::Kept;
 use crate::schema_memory::SchemaMemory;
@@ -28,7 +28,7 @@ impl Model for SchemaHandle {
 }
 
 impl SchemaHandle {
-    ghost use Rattle.tv_handles.specs.Held.{entries_of};
+    ghost use Rattle.tv_blocks.specs.Held.{entries_of};
 
     // The handle of what is kept.
     fn of(kept: Kept<SchemaMemory>) -> SchemaHandle

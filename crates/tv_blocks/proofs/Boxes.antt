@@ -7,9 +7,9 @@ use Rattle.std.specs.Ptr.{Ptr}
 use Rattle.std.specs.contracts.alloc.Global.{the_row as global_row}
 use Rattle.std.specs.contracts.boxed.Box as box
 use Rattle.std.specs.contracts.impls.GlobalAllocator.TheImpl.{ghosts}
-use Rattle.tv_handles.proofs.Pointers.{pointer_vals}
-use Rattle.tv_handles.specs.Kept.{keeps}
-use Rattle.tv_handles.specs.contracts.kept.Kept.{the_row, the_type}
+use Rattle.tv_blocks.proofs.Pointers.{pointer_vals}
+use Rattle.tv_blocks.specs.Kept.{keeps}
+use Rattle.tv_blocks.specs.contracts.kept.Kept.{the_row, the_type}
 use base.Logic.{ent}
 use denote.Laws.{Lawful}
 use denote.Param.Laws.{Laws}

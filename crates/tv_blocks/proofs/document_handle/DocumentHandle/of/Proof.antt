@@ -1,13 +1,13 @@
 -- The pointer goes into the handle with what is kept after it.
 use Rattle.tv_doc.proofs.document.CompactDoc.TheLaws as document_laws
 use Rattle.std.proofs.Common.{refl}
-use Rattle.tv_handles.proofs.Pointers.{passes}
-use Rattle.tv_handles.proofs.document_handle.DocumentHandle.of.Code as code
-use Rattle.tv_handles.proofs.document_handle.DocumentHandle.of.Statement.{statement}
-use Rattle.tv_handles.proofs.kept.Kept.TheLaws as kept_laws
-use Rattle.tv_handles.specs.contracts.document_handle.DocumentHandle.of as f
-use Rattle.tv_handles.specs.contracts.document_handle.DocumentHandle.{the_row}
-use Rattle.tv_handles.specs.contracts.kept.Kept.{the_row as kept_row}
+use Rattle.tv_blocks.proofs.Pointers.{passes}
+use Rattle.tv_blocks.proofs.document_handle.DocumentHandle.of.Code as code
+use Rattle.tv_blocks.proofs.document_handle.DocumentHandle.of.Statement.{statement}
+use Rattle.tv_blocks.proofs.kept.Kept.TheLaws as kept_laws
+use Rattle.tv_blocks.specs.contracts.document_handle.DocumentHandle.of as f
+use Rattle.tv_blocks.specs.contracts.document_handle.DocumentHandle.{the_row}
+use Rattle.tv_blocks.specs.contracts.kept.Kept.{the_row as kept_row}
 use Rattle.tv_doc.specs.contracts.document.CompactDoc.{the_row as document_row}
 use base.Logic.{emp, id⊢}
 use contract.Monad.{fact_i}

@@ -3,7 +3,7 @@
 ghost use Rattle.std.specs.Option.{option_map};
 ghost use Rattle.std.specs.Prelude.{◌≡◌, None, Option, Some};
 ghost use Rattle.std.specs.Coded.{coded_option};
-ghost use Rattle.tv_handles.specs.Kept.{keeps};
+ghost use Rattle.tv_blocks.specs.Kept.{keeps};
 
 use std::alloc::Global;
 use std::marker::Model;

@@ -4,7 +4,7 @@ ghost use Rattle.std.specs.Option.{option_map};
 ghost use Rattle.std.specs.Prelude.{◌≡◌, None, Option, Some};
 ghost use Rattle.std.specs.Coded.{coded_option};
 ghost use Rattle.tv_doc.specs.declared.document.CompactDoc.{CompactDoc};
-ghost use Rattle.tv_handles.specs.Kept.{keeps};
+ghost use Rattle.tv_blocks.specs.Kept.{keeps};
 ghost use Rattle.tv_doc.specs.contracts.document.CompactDoc.{the_row as document_row};
 
 use crate::kept::Kept;

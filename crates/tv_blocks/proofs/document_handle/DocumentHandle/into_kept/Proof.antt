@@ -1,12 +1,12 @@
 -- The pointer goes out of the handle with what is kept after it.
 use Rattle.std.proofs.Common.{refl}
-use Rattle.tv_handles.proofs.Pointers.{passes}
-use Rattle.tv_handles.proofs.document_handle.DocumentHandle.TheLaws as handle_laws
-use Rattle.tv_handles.proofs.document_handle.DocumentHandle.into_kept.Code as code
-use Rattle.tv_handles.proofs.document_handle.DocumentHandle.into_kept.Statement.{statement}
-use Rattle.tv_handles.specs.contracts.document_handle.DocumentHandle.into_kept as f
-use Rattle.tv_handles.specs.contracts.document_handle.DocumentHandle.{the_row}
-use Rattle.tv_handles.specs.contracts.kept.Kept.{the_row as kept_row}
+use Rattle.tv_blocks.proofs.Pointers.{passes}
+use Rattle.tv_blocks.proofs.document_handle.DocumentHandle.TheLaws as handle_laws
+use Rattle.tv_blocks.proofs.document_handle.DocumentHandle.into_kept.Code as code
+use Rattle.tv_blocks.proofs.document_handle.DocumentHandle.into_kept.Statement.{statement}
+use Rattle.tv_blocks.specs.contracts.document_handle.DocumentHandle.into_kept as f
+use Rattle.tv_blocks.specs.contracts.document_handle.DocumentHandle.{the_row}
+use Rattle.tv_blocks.specs.contracts.kept.Kept.{the_row as kept_row}
 use Rattle.tv_doc.specs.contracts.document.CompactDoc.{the_row as document_row}
 use base.Logic.{emp, id⊢}
 use contract.Monad.{fact_i}

@@ -3,12 +3,12 @@ use Rattle.std.proofs.Common.{[], ◌∷◌, ◌≡◌, refl}
 use Rattle.std.proofs.raw_atomic.Walks.{proved, leaves}
 use Rattle.std.specs.Prelude.{None}
 use Rattle.std.specs.Ptr.{Ptr, null_ptr}
-use Rattle.tv_handles.proofs.Boxes.{made}
-use Rattle.tv_handles.proofs.Pointers.{pointer_val, pointer_vals, pointer_typed}
-use Rattle.tv_handles.proofs.kept.Kept.none.Code as code
-use Rattle.tv_handles.proofs.kept.Kept.none.Statement.{statement}
-use Rattle.tv_handles.specs.contracts.kept.Kept.{the_row}
-use Rattle.tv_handles.specs.contracts.kept.Kept.none as f
+use Rattle.tv_blocks.proofs.Boxes.{made}
+use Rattle.tv_blocks.proofs.Pointers.{pointer_val, pointer_vals, pointer_typed}
+use Rattle.tv_blocks.proofs.kept.Kept.none.Code as code
+use Rattle.tv_blocks.proofs.kept.Kept.none.Statement.{statement}
+use Rattle.tv_blocks.specs.contracts.kept.Kept.{the_row}
+use Rattle.tv_blocks.specs.contracts.kept.Kept.none as f
 use base.Fml.{flft, ftrue}
 use base.Logic.{emp}
 use contract.Monad.{fact, fact_i}

@@ -1,14 +1,14 @@
 -- The pointer goes into the handle with what is kept after it.
-use Rattle.tv_handles.proofs.schema_memory.SchemaMemory.TheLaws as schema_laws
+use Rattle.tv_blocks.proofs.schema_memory.SchemaMemory.TheLaws as schema_laws
 use Rattle.std.proofs.Common.{refl}
-use Rattle.tv_handles.proofs.Pointers.{passes}
-use Rattle.tv_handles.proofs.schema_handle.SchemaHandle.of.Code as code
-use Rattle.tv_handles.proofs.schema_handle.SchemaHandle.of.Statement.{statement}
-use Rattle.tv_handles.proofs.kept.Kept.TheLaws as kept_laws
-use Rattle.tv_handles.specs.contracts.schema_handle.SchemaHandle.of as f
-use Rattle.tv_handles.specs.contracts.schema_handle.SchemaHandle.{the_row}
-use Rattle.tv_handles.specs.contracts.kept.Kept.{the_row as kept_row}
-use Rattle.tv_handles.specs.contracts.schema_memory.SchemaMemory.{the_row as schema_row}
+use Rattle.tv_blocks.proofs.Pointers.{passes}
+use Rattle.tv_blocks.proofs.schema_handle.SchemaHandle.of.Code as code
+use Rattle.tv_blocks.proofs.schema_handle.SchemaHandle.of.Statement.{statement}
+use Rattle.tv_blocks.proofs.kept.Kept.TheLaws as kept_laws
+use Rattle.tv_blocks.specs.contracts.schema_handle.SchemaHandle.of as f
+use Rattle.tv_blocks.specs.contracts.schema_handle.SchemaHandle.{the_row}
+use Rattle.tv_blocks.specs.contracts.kept.Kept.{the_row as kept_row}
+use Rattle.tv_blocks.specs.contracts.schema_memory.SchemaMemory.{the_row as schema_row}
 use base.Logic.{emp, id⊢}
 use contract.Monad.{fact_i}
 use denote.Exit.{no}

@@ -1,13 +1,13 @@
 -- The pointer goes out of the handle with what is kept after it.
 use Rattle.std.proofs.Common.{refl}
-use Rattle.tv_handles.proofs.Pointers.{passes}
-use Rattle.tv_handles.proofs.schema_handle.SchemaHandle.TheLaws as handle_laws
-use Rattle.tv_handles.proofs.schema_handle.SchemaHandle.into_kept.Code as code
-use Rattle.tv_handles.proofs.schema_handle.SchemaHandle.into_kept.Statement.{statement}
-use Rattle.tv_handles.specs.contracts.schema_handle.SchemaHandle.into_kept as f
-use Rattle.tv_handles.specs.contracts.schema_handle.SchemaHandle.{the_row}
-use Rattle.tv_handles.specs.contracts.kept.Kept.{the_row as kept_row}
-use Rattle.tv_handles.specs.contracts.schema_memory.SchemaMemory.{the_row as schema_row}
+use Rattle.tv_blocks.proofs.Pointers.{passes}
+use Rattle.tv_blocks.proofs.schema_handle.SchemaHandle.TheLaws as handle_laws
+use Rattle.tv_blocks.proofs.schema_handle.SchemaHandle.into_kept.Code as code
+use Rattle.tv_blocks.proofs.schema_handle.SchemaHandle.into_kept.Statement.{statement}
+use Rattle.tv_blocks.specs.contracts.schema_handle.SchemaHandle.into_kept as f
+use Rattle.tv_blocks.specs.contracts.schema_handle.SchemaHandle.{the_row}
+use Rattle.tv_blocks.specs.contracts.kept.Kept.{the_row as kept_row}
+use Rattle.tv_blocks.specs.contracts.schema_memory.SchemaMemory.{the_row as schema_row}
 use base.Logic.{emp, id⊢}
 use contract.Monad.{fact_i}
 use denote.Exit.{yes}

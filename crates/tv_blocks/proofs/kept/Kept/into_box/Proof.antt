@@ -17,16 +17,16 @@ use Rattle.std.specs.contracts.boxed.Box.{the_row as box_row}
 use Rattle.std.specs.contracts.boxed.Box.from_raw as g
 use Rattle.std.specs.contracts.impls.GlobalAllocator.TheImpl.{ghosts, dict}
 use Rattle.std.specs.contracts.option.Option.{the_row as option_row}
-use Rattle.tv_handles.proofs.Boxes.{boxed_lawful}
-use Rattle.tv_handles.proofs.Destruct++none.drop.Code as none_code
-use Rattle.tv_handles.proofs.Heap.{Heap, heap_laws, heap_drop, heap_vals, both}
-use Rattle.tv_handles.proofs.Pointers.{pointer_val, pointer_vals, pointer_typed}
-use Rattle.tv_handles.proofs.kept.Kept.TheLaws as kept_laws
-use Rattle.tv_handles.proofs.kept.Kept.into_box.Code as code
-use Rattle.tv_handles.proofs.kept.Kept.into_box.Statement.{statement}
-use Rattle.tv_handles.specs.Kept.{keeps}
-use Rattle.tv_handles.specs.contracts.kept.Kept.{the_row}
-use Rattle.tv_handles.specs.contracts.kept.Kept.into_box as f
+use Rattle.tv_blocks.proofs.Boxes.{boxed_lawful}
+use Rattle.tv_blocks.proofs.Destruct++none.drop.Code as none_code
+use Rattle.tv_blocks.proofs.Heap.{Heap, heap_laws, heap_drop, heap_vals, both}
+use Rattle.tv_blocks.proofs.Pointers.{pointer_val, pointer_vals, pointer_typed}
+use Rattle.tv_blocks.proofs.kept.Kept.TheLaws as kept_laws
+use Rattle.tv_blocks.proofs.kept.Kept.into_box.Code as code
+use Rattle.tv_blocks.proofs.kept.Kept.into_box.Statement.{statement}
+use Rattle.tv_blocks.specs.Kept.{keeps}
+use Rattle.tv_blocks.specs.contracts.kept.Kept.{the_row}
+use Rattle.tv_blocks.specs.contracts.kept.Kept.into_box as f
 use base.Fml.{Lft, Share, flft, ftrue}
 use base.Fraction.{full_share}
 use base.Logic.{emp, id⊢, guard_i, SProp, ent}
@@ -128,7 +128,7 @@ module _ {M : Type 1} (𝓤 : Ura M) (𝓛 : Logic 𝓤) (𝓜 : Model 𝓤 𝓛
         let met_here = met 𝓤 𝓛 𝓜 𝓡 (code.calls-std_alloc::boxed::Box::from_raw 𝓡.env wired) T Heap L heap_laws ghosts dict heap_drop
         (passed 𝓡.env (code.calls-std_heap::GlobalAllocator::allocate 𝓡.env wired) (code.calls-std_heap::GlobalAllocator::deallocate 𝓡.env wired)
         (code.calls-std_heap::GlobalAllocator::grow 𝓡.env wired) (code.calls-std_heap::GlobalAllocator::shrink 𝓡.env wired) _ 𝓤 𝓛 𝓜 𝓡)
-        (glues "tv_handles::Destruct++none::drop" 𝓡.env (code.calls-tv_handles::Destruct++none::drop 𝓡.env wired) Heap heap_laws _ 𝓤 𝓛 𝓜 𝓡) in
+        (glues "tv_blocks::Destruct++none::drop" 𝓡.env (code.calls-tv_blocks::Destruct++none::drop 𝓡.env wired) Heap heap_laws _ 𝓤 𝓛 𝓜 𝓡) in
         let z : G.Ghost = (((κ, ([], tt)), (q, (full_share, tt)), tt, (alloc, (at, tt)), (heap_vals alloc, (rawptr_vals at, tt))), value) in
         qed 𝓛 (‵ (box_owns (ghosts.dealloc_token alloc) R at value) ∷ ‵ (global_row.own_val alloc (heap_vals alloc)) ∷ ‵ (flft κ q) ∷ raw (fact 𝓤 (κ ⊑ T.lives)) ∷ []) ∵
         enter ! _ _ _ _ _ $ alloc_all ! (λ l. pass_all ! refl (pointer_typed at, ((tt, ((tt, tt), tt)), tt)) $

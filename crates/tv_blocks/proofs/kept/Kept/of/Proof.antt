@@ -12,14 +12,14 @@ use Rattle.std.specs.contracts.alloc.Global.{the_row as global_row}
 use Rattle.std.specs.contracts.boxed.Box as box
 use Rattle.std.specs.contracts.boxed.Box.into_raw as g
 use Rattle.std.specs.contracts.impls.GlobalAllocator.TheImpl.{ghosts, dict}
-use Rattle.tv_handles.proofs.Boxes.{made, boxed_lawful}
-use Rattle.tv_handles.proofs.Destruct++none.drop.Code as none_code
-use Rattle.tv_handles.proofs.Heap.{Heap, heap_laws, heap_drop}
-use Rattle.tv_handles.proofs.Pointers.{pointer_val, pointer_vals, pointer_typed}
-use Rattle.tv_handles.proofs.kept.Kept.of.Code as code
-use Rattle.tv_handles.proofs.kept.Kept.of.Statement.{statement}
-use Rattle.tv_handles.specs.contracts.kept.Kept.{the_row}
-use Rattle.tv_handles.specs.contracts.kept.Kept.of as f
+use Rattle.tv_blocks.proofs.Boxes.{made, boxed_lawful}
+use Rattle.tv_blocks.proofs.Destruct++none.drop.Code as none_code
+use Rattle.tv_blocks.proofs.Heap.{Heap, heap_laws, heap_drop}
+use Rattle.tv_blocks.proofs.Pointers.{pointer_val, pointer_vals, pointer_typed}
+use Rattle.tv_blocks.proofs.kept.Kept.of.Code as code
+use Rattle.tv_blocks.proofs.kept.Kept.of.Statement.{statement}
+use Rattle.tv_blocks.specs.contracts.kept.Kept.{the_row}
+use Rattle.tv_blocks.specs.contracts.kept.Kept.of as f
 use base.Fml.{ftrue, flft}
 use base.Fraction.{full_share}
 use base.Logic.{emp, id⊢}
@@ -62,7 +62,7 @@ of_spec 𝓤 𝓛 𝓜 𝓡 wired T L drops glue =
     let met_here = met 𝓤 𝓛 𝓜 𝓡 (code.calls-std_alloc::boxed::Box::into_raw 𝓡.env wired) T Heap L heap_laws ghosts dict heap_drop drops
     (passed 𝓡.env (code.calls-std_heap::GlobalAllocator::allocate 𝓡.env wired) (code.calls-std_heap::GlobalAllocator::deallocate 𝓡.env wired)
     (code.calls-std_heap::GlobalAllocator::grow 𝓡.env wired) (code.calls-std_heap::GlobalAllocator::shrink 𝓡.env wired) _ 𝓤 𝓛 𝓜 𝓡)
-    (glues "tv_handles::Destruct++none::drop" 𝓡.env (code.calls-tv_handles::Destruct++none::drop 𝓡.env wired) Heap heap_laws _ 𝓤 𝓛 𝓜 𝓡) glue in
+    (glues "tv_blocks::Destruct++none::drop" 𝓡.env (code.calls-tv_blocks::Destruct++none::drop 𝓡.env wired) Heap heap_laws _ 𝓤 𝓛 𝓜 𝓡) glue in
     let typed = (boxed_lawful 𝓛 R LR).typed a.0 vs are.0 in
     let z : G.Ghost = (((κs.0, ([], tt)), (qs.0, (full_share, tt)), tt, (a.0, tt), (vs, tt)), tt) in
     let toks = ‵ (flft κs.0 qs.0) ⊛ ‵ ftrue in let within = raw (fact 𝓤 (κs.0 ⊑ T.lives)) in

@@ -1,3 +1,0 @@
-mod Boxes
-mod Heap
-mod Pointers
