@@ -9,8 +9,8 @@ ghost use Rattle.tv_blocks.specs.Held.{entries_of};
 
 use crate::handles::closed;
 use std::alloc::Global;
-use tv_blocks::status::{Answer, written_answer};
 use tv_blocks::schema_handle::SchemaHandle;
+use tv_blocks::status::{Answer, written_answer};
 use tv_schema::Schema;
 
 // Writes the terms that a text has at a path by a schema.

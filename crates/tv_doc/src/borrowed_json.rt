@@ -19,12 +19,12 @@ use crate::lent_borrowed::LentBorrowed;
 use crate::named_field::NamedField;
 use crate::parse_buffers::{Adding, ParseBuffers};
 use std::alloc::Global;
-use tv_json::borrowed::BorrowedJson;
-use tv_json::read::read_noting_floats;
 use tv_field::FieldType;
 use tv_field::json_value::{
     JsonRefusal, JsonScratch, lend_bytes_text, lend_date_text, lend_facet_text, lend_ip_addr_text,
 };
+use tv_json::borrowed::BorrowedJson;
+use tv_json::read::read_noting_floats;
 use tv_schema::Schema;
 use tv_value::field::Field;
 use tv_value::leaf::ReferenceValueLeaf;

@@ -5,8 +5,8 @@ ghost use Rattle.std.specs.Prelude.{◌≡◌, Some, None};
 use crate::doc_parsing_error::DocParsingError;
 use crate::recent_fields::RecentFields;
 use std::alloc::Global;
-use tv_json::Scratch;
 use tv_field::json_value::JsonScratch;
+use tv_json::Scratch;
 
 /// Memory that `CompactDoc::parse_json_into` and `parse_json_strict_into` use as they read: for texts with escapes, for values that their fields have
 /// in another form, and for the fields that were named. (Not in tantivy.) One serves any number of documents, one after the other.

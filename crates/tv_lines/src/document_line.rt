@@ -173,13 +173,7 @@ fn append_answer(
         .document
         .parse_json_into(alloc, schema, json, &mut memory.buffers)
     {
-        Ok(()) => append_document(
-            alloc,
-            schema,
-            &memory.document,
-            &mut memory.parts,
-            text,
-        ),
+        Ok(()) => append_document(alloc, schema, &memory.document, &mut memory.parts, text),
         Err(error) => Err(refusal(&error)),
     }
 }

@@ -3,9 +3,9 @@
 use std::alloc::Global;
 use std::test::Fail;
 use tantivy_schema::schema::{Field, TantivyDocument};
-use tv_blocks::{BlockError, FoundField, find_field_by, read_schema};
 use tv_blocks::document_handle::DocumentHandle;
 use tv_blocks::schema_handle::SchemaHandle;
+use tv_blocks::{BlockError, FoundField, find_field_by, read_schema};
 
 const SCHEMA: &[u8] = br#"[{"name":"s","type":"text","options":{"stored":true}}]"#;
 
