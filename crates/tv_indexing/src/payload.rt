@@ -40,6 +40,7 @@ fn eight<'a, T: FastValue>(value: T) -> Payload<'a>
 }
 
 // The type of the value that the term of a leaf stands for, and what stands after its code, or `None` where the leaf has no term.
+#[inline(always)]
 pub(crate) fn payload_of(leaf: ReferenceValueLeaf<'_>) -> Option<(Type, Payload<'_>)>
     ensures parts { option_map part_seen result
         ≡ option_map value_parts (leaf_value (leaf_of leaf.entry)) }

@@ -1,6 +1,7 @@
 //! Terms of values of fields that aren't of JSON objects.
 
-ghost use Rattle.std.specs.Prelude.{◌≡◌, ◌≢◌, Err, IfErr, IfSome, OnErr, OnOk};
+ghost use Rattle.std.specs.Prelude.{◌≡◌, ◌≢◌, ◌++◌, ◌∷◌, Err, IfErr, IfSome, OnErr, OnOk};
+ghost use Rattle.std.specs.Int.{to_be_bytes, w32};
 ghost use Rattle.tv_heap.specs.Value.{tree_of};
 ghost use Rattle.tv_indexing.specs.DocumentTerms.{AreAppended, plain_terms};
 ghost use Rattle.tv_indexing.specs.LeafTerms.{leaf_value, tree_value};
@@ -8,7 +9,7 @@ ghost use Rattle.tv_indexing.specs.declared.term_values_error.TermValuesError.Th
 ghost use Rattle.tv_term.specs.Key.{Fits};
 ghost use Rattle.tv_value.specs.Lent.{leaf_of};
 
-use crate::payload::payload_of;
+use crate::payload::{Payload, payload_of};
 use crate::term_list::TermList;
 use crate::term_values_error::TermValuesError;
 use tv_heap::value::CompactDocValue;
@@ -17,7 +18,20 @@ use tv_value::field::Field;
 use tv_value::leaf::ReferenceValueLeaf;
 use tv_value::value::{ReferenceValue, Value};
 
+// The term of what stands for a value in eight bytes.
+#[inline(always)]
+fn number_term(field: Field, code: u8, number: [u8; 8]) -> [u8; 13]
+    ensures { result ≡ to_be_bytes w32 field.id ++ code ∷ number }
+{
+    let [first, second, third, fourth] = field.field_id().to_be_bytes();
+    let [n0, n1, n2, n3, n4, n5, n6, n7] = number;
+    [
+        first, second, third, fourth, code, n0, n1, n2, n3, n4, n5, n6, n7,
+    ]
+}
+
 // Appends the term of a value without children of a field of this type.
+#[inline(always)]
 pub(crate) fn push_leaf(
     terms: &mut TermList,
     field: Field,
@@ -38,9 +52,13 @@ pub(crate) fn push_leaf(
     if value_type.to_code() != wanted.to_code() {
         return Err(TermValuesError::WrongType(field));
     }
+    let code = value_type.to_code();
+    if let Payload::Eight(number) = payload {
+        terms.push_whole(&number_term(field, code, number))?;
+        return Ok(());
+    }
     let [first, second, third, fourth] = field.field_id().to_be_bytes();
-    let start = [first, second, third, fourth, value_type.to_code()];
-    terms.push(&start, payload.as_slice())?;
+    terms.push(&[first, second, third, fourth, code], payload.as_slice())?;
     Ok(())
 }
 

@@ -178,6 +178,16 @@ impl TermList {
         self.push_parts(&[start, payload])
     }
 
+    // Appends a term that is given whole. Errors: memory was refused, and then the list is as it was.
+    #[inline(always)]
+    pub(crate) fn push_whole(&mut self, term: &[u8]) -> Result<(), AllocError>
+        requires { 5 ≤ length term.now }
+        ensures made { OnOk result (self.new ≡ self.old ++ term.now ∷ []) }
+        ensures unchanged { OnErr result (self.new ≡ self.old) }
+    {
+        self.push_parts(&[term])
+    }
+
     // Appends a term at a path: how it starts, the path, the code of the value's type, and the value. Errors: memory was refused, and then the
     // list is as it was.
     pub(crate) fn push_at_path<'p>(
@@ -196,6 +206,7 @@ impl TermList {
     }
 
     // Appends a term that is given in parts. Errors: memory was refused, and then the list is as it was.
+    #[inline(always)]
     fn push_parts(&mut self, parts: &[&[u8]]) -> Result<(), AllocError>
         requires { 5 ≤ length (joined_parts parts.now) }
         ensures made { OnOk result (self.new ≡ self.old ++ joined_parts parts.now ∷ []) }
@@ -281,6 +292,7 @@ fn dedup_places(bytes: &[u8], places: &mut Vec<TermPlace>)
 
 // Appends the parts, and the place where they stand. Errors: memory was refused, and then a beginning of the parts may be appended, and
 // no place.
+#[inline(always)]
 fn append(
     bytes: &mut Vec<u8>,
     places: &mut Vec<TermPlace>,
