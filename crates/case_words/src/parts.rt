@@ -21,9 +21,9 @@ pub enum Part<'a> {
     Text(&'a str),
     /// A name, told as it is.
     Name(&'a str),
-    /// Bytes, told by their digits.
+    /// Bytes, written by their digits.
     Bytes(&'a [u8]),
-    /// An address, told by its digits.
+    /// An address, written by its digits.
     Address(Ipv6Addr),
 }
 

@@ -7,13 +7,34 @@ use tv_options::TEXT;
 use tv_schema::{Schema, SchemaBuilder};
 
 // The schema that the word `types` stands for: a field of each type, and some that coerce.
-const TYPES: &str =
-    r#"[{"name":"s","type":"text","options":{"stored":true}},{"name":"sc","type":"text","options":{"stored":true,"coerce":true}},{"name":"u","type":"u64","options":{"indexed":false,"stored":true}},{"name":"uc","type":"u64","options":{"indexed":false,"stored":true,"coerce":true}},{"name":"i","type":"i64","options":{"indexed":false,"stored":true}},{"name":"ic","type":"i64","options":{"indexed":false,"stored":true,"coerce":true}},{"name":"b","type":"bool","options":{"indexed":false,"stored":true}},{"name":"bc","type":"bool","options":{"indexed":false,"stored":true,"coerce":true}},{"name":"d","type":"date","options":{"indexed":false,"fieldnorms":false,"stored":true}},{"name":"f","type":"facet","options":{"stored":true}},{"name":"y","type":"bytes","options":{"indexed":false,"fast":false,"stored":true}},{"name":"j","type":"json_object","options":{"stored":true,"fast":false}},{"name":"p","type":"ip_addr","options":{"indexed":false,"fieldnorms":false,"fast":false,"stored":true}},{"name":"n","type":"u64","options":{"indexed":true,"stored":false}}]"#;
+const TYPES: &str = r#"[{"name":"s","type":"text","options":{"stored":true}},
+    {"name":"sc","type":"text","options":{"stored":true,"coerce":true}},
+    {"name":"u","type":"u64","options":{"indexed":false,"stored":true}},
+    {"name":"uc","type":"u64","options":{"indexed":false,"stored":true,"coerce":true}},
+    {"name":"i","type":"i64","options":{"indexed":false,"stored":true}},
+    {"name":"ic","type":"i64","options":{"indexed":false,"stored":true,"coerce":true}},
+    {"name":"b","type":"bool","options":{"indexed":false,"stored":true}},
+    {"name":"bc","type":"bool","options":{"indexed":false,"stored":true,"coerce":true}},
+    {"name":"d","type":"date","options":{"indexed":false,"fieldnorms":false,"stored":true}},
+    {"name":"f","type":"facet","options":{"stored":true}},
+    {"name":"y","type":"bytes","options":{"indexed":false,"fast":false,"stored":true}},
+    {"name":"j","type":"json_object","options":{"stored":true,"fast":false}},
+    {"name":"p","type":"ip_addr","options":{"indexed":false,"fieldnorms":false,"fast":false,"stored":true}},
+    {"name":"n","type":"u64","options":{"indexed":true,"stored":false}}]"#;
 
 // The schema that the word `indexed` stands for: an indexed field of each type, one of JSON objects whose dots are expanded, and one that
 // isn't indexed.
-const INDEXED: &str =
-    r#"[{"name":"s","type":"text","options":{"indexing":{"record":"basic"}}},{"name":"u","type":"u64","options":{"indexed":true,"stored":false}},{"name":"i","type":"i64","options":{"indexed":true,"stored":false}},{"name":"b","type":"bool","options":{"indexed":true,"stored":false}},{"name":"d","type":"date","options":{"indexed":true,"fieldnorms":true,"stored":false}},{"name":"f","type":"facet","options":{"stored":false}},{"name":"y","type":"bytes","options":{"indexed":true,"fast":false,"stored":false}},{"name":"p","type":"ip_addr","options":{"indexed":true,"fieldnorms":true,"fast":false,"stored":false}},{"name":"j","type":"json_object","options":{"indexing":{"record":"basic"},"fast":false,"stored":false}},{"name":"e","type":"json_object","options":{"indexing":{"record":"basic"},"fast":false,"stored":false,"expand_dots_enabled":true}},{"name":"n","type":"u64","options":{"indexed":false,"stored":true}}]"#;
+const INDEXED: &str = r#"[{"name":"s","type":"text","options":{"indexing":{"record":"basic"}}},
+    {"name":"u","type":"u64","options":{"indexed":true,"stored":false}},
+    {"name":"i","type":"i64","options":{"indexed":true,"stored":false}},
+    {"name":"b","type":"bool","options":{"indexed":true,"stored":false}},
+    {"name":"d","type":"date","options":{"indexed":true,"fieldnorms":true,"stored":false}},
+    {"name":"f","type":"facet","options":{"stored":false}},
+    {"name":"y","type":"bytes","options":{"indexed":true,"fast":false,"stored":false}},
+    {"name":"p","type":"ip_addr","options":{"indexed":true,"fieldnorms":true,"fast":false,"stored":false}},
+    {"name":"j","type":"json_object","options":{"indexing":{"record":"basic"},"fast":false,"stored":false}},
+    {"name":"e","type":"json_object","options":{"indexing":{"record":"basic"},"fast":false,"stored":false,"expand_dots_enabled":true}},
+    {"name":"n","type":"u64","options":{"indexed":false,"stored":true}}]"#;
 
 /// The schema of a JSON description. A list of names stands for fields of texts with these names, the word `types` for a field of each type,
 /// and the word `indexed` for fields that are indexed.

@@ -203,7 +203,7 @@ fn add_lent(document: &mut CompactDoc, field: Field, json: JsonValue) -> Result<
     outcome
 }
 
-// Adds a value by the call of its type, and lets it go.
+// Adds a value by the call of its type, and drops it.
 fn add_value(document: &mut CompactDoc, field: Field, value: OwnedValue) -> Result<(), AddError> {
     let outcome = add_typed(document, field, &value);
     drop(value);

@@ -65,7 +65,7 @@ fn shown(alloc: Global, text: PreTokenizedStr<'_>, length: usize) -> Result<Stri
     Ok(answer)
 }
 
-// Appends a text with its tokens as JSON, and lets it go.
+// Appends a text with its tokens as JSON, and drops it.
 fn push_kept(alloc: Global, answer: &mut String, kept: PreTokenizedString) -> Result<()> {
     let checked = check_copies(alloc, &kept);
     let value = OwnedValue::PreTokStr(kept);

@@ -29,7 +29,7 @@ pub fn bytes_stand_in_the_heap_at_once(
     }
 }
 
-/// An array opens without an element, and takes nothing for those that are announced.
+/// An array opens without an element, and announcing elements writes nothing.
 pub fn announced_elements_take_nothing(
     builder: &mut PairBuilder,
     announced: u64,

@@ -85,7 +85,7 @@ document_refusal start (reads.TypeMismatch expected actual) = errors.BadDocument
 document_refusal start reads.HeapFull = errors.BadDocument start documents.HeapFull
 document_refusal start e = errors.Memory
 
--- the same of migrating it: that it isn't written is for want of memory
+-- the same of migrating it: that it isn't written is because memory was refused
 abbrev pub migration_refusal : ℕ → MigrateError → BlockError
 migration_refusal start (Read e) = document_refusal start e
 migration_refusal start (Write e) = errors.Memory

@@ -31,8 +31,8 @@ pub struct Answer {
     /// `TermsRefusal`. With status 11 the number of the `LineRefusal`,
     /// with status 13 that of the `QueryRefusal`. Else 0.
     pub detail: u32,
-    /// With status 6 the place of the entry, from 1, and 0 where the whole is meant; with status 8 where in the block the document begins, with status 14 where among
-    /// the records the pair begins;
+    /// With status 6 the place of the entry, from 1, and 0 where the whole is meant; with status 8 where in the block the document begins,
+    /// with status 14 where among the records the pair begins;
     /// with status 11 the number of the field whose value is refused, 0 where it isn't a value that is; with status 12 the number of the
     /// field; with status 13 the number of the field that the path names, 0 where the text is no range. Else 0.
     pub place: u64,

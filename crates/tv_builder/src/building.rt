@@ -78,7 +78,7 @@ impl Building {
         }
     }
 
-    // Lets go of what isn't finished, and cuts the heap to this length.
+    // Drops what isn't finished, and cuts the heap to this length.
     pub(crate) fn clear(&mut self, len: usize)
         ensures { Empty (take len self.old.heap.items) self.new }
     {

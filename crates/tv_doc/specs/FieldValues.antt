@@ -1,4 +1,4 @@
--- What pairs that are lent out of a document are seen as.
+-- What pairs that are borrowed from a document are seen as.
 use Rattle.std.specs.Prelude.{ℕ, List, map, nat_eq}
 use Rattle.std.specs.List.{filter}
 use Rattle.tv_value.specs.declared.field.Field.{Field}

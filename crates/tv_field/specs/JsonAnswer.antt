@@ -29,7 +29,7 @@ abbrev pub string_in : Data → List ℕ
 string_in (json.string s) = s
 string_in d = []
 
--- what a refusal says of the value, where it isn't for want of memory
+-- what a refusal says of the value, where memory wasn't refused
 abbrev pub refusal_of : Data → JsonRefusal → Option TableRefusal
 refusal_of d (refusal.Overflow expected) = Some (overflow expected.now d)
 refusal_of d (refusal.Mismatch expected) = Some (mismatch expected.now d)

@@ -1,4 +1,4 @@
--- What values that are lent out of a heap are seen as.
+-- What values that are borrowed from a heap are seen as.
 use Rattle.std.specs.Prelude.{ℕ, List}
 use Rattle.std.specs.Borrow.{Bor}
 use Rattle.tv_format.specs.Tree.{Tree}

@@ -1,4 +1,4 @@
-//! Values in a heap of bytes: how they are written at its end, and lent out of it.
+//! Values in a heap of bytes: how they are written at its end, and borrowed from it.
 #![tactic(auto)]
 
 pub mod encoded;

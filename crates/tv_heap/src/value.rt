@@ -1,4 +1,4 @@
-//! Values that are lent out of a document.
+//! Values that are borrowed from a document.
 
 ghost use Rattle.std.specs.Prelude.{◌≡◌, ◌↔◌};
 ghost use Rattle.std.specs.Iterator.{YieldsFirstBy, item_count};
@@ -169,7 +169,7 @@ impl<'a> Value<'a> for CompactDocValue<'a> {
     }
 }
 
-/// For walks over values of any kind. Its children are lent out of the document too, so they may outlive it.
+/// For walks over values of any kind. Its children are borrowed from the document too, so they may outlive it.
 impl<'a> Nested for CompactDocValue<'a> {
     type Key = &'a str;
 

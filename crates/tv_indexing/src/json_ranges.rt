@@ -436,8 +436,8 @@ fn typed_ranges(
 /// writes, and of numbers from 2^63 on. So a number above 10 is in one of two ranges, and a text that lies between the bounds as a text is in another
 /// one. Two bounds that are both numbers, dates or truth values run backwards as these do, and all others as texts.
 ///
-/// Errors: `UnknownPath`, `NotIndexed`; of a path into JSON objects `PathEnds`, `NulInPath`; of other fields `WrongText`; `Backwards`, where the start is above the
-/// end; or `Memory`.
+/// Errors: `UnknownPath`, `NotIndexed`; of a path into JSON objects `PathEnds`, `NulInPath`; of other fields `WrongText`; `Backwards`, where the
+/// start is above the end; or `Memory`.
 pub fn ranges_between_texts(
     alloc: Global,
     schema: &Schema,

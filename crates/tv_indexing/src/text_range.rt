@@ -235,8 +235,8 @@ fn end_of_range(text: &str) -> Option<Bound<&str>>
 }
 
 /// The two bounds that a text of a query writes, as in tantivy's query language: `[10 TO 20]` with both, `{10 TO 20}` without, `[10 TO 20}` and
-/// `{10 TO 20]` with one of them; `*` for a bound is none, and `*` alone is a range without bounds. The bounds stand around the first ` TO `, and are as they stand
-/// there. `None` where the text is none of these.
+/// `{10 TO 20]` with one of them; `*` for a bound is none, and `*` alone is a range without bounds. The bounds stand around the first ` TO `,
+/// and are as they stand there. `None` where the text is none of these.
 pub fn bounds_of_text(text: &str) -> Option<(Bound<&str>, Bound<&str>)>
     ensures { MatchOption result ((start end : Bound (List ℕ)) → ¬ WritesBounds text.now start end)
         (λ bounds. WritesBounds text.now (bound_map (λ text. text.now) bounds.0)

@@ -66,7 +66,7 @@ pub(crate) fn unknown_path(alloc: Global, path: &str) -> TextTermsError
     }
 }
 
-// The error for a text that is refused as a value of a field, and not for want of memory.
+// The error for a text that is refused as a value of a field, and not because memory was refused.
 pub(crate) fn wrong_text(
     alloc: Global,
     field: Field,

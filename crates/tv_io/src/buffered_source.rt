@@ -107,7 +107,7 @@ impl<R: Read> BufferedSource<R> {
         }
     }
 
-    /// The reader, taken out of the source. It stands where the reads have left it, and what is buffered is lost.
+    /// The reader, taken out of the source. It stands where the reads have left it, and what is buffered is dropped.
     pub fn into_inner(self) -> R
         ensures { result ≡ reader_inner self.inner }
     {

@@ -55,7 +55,7 @@ impl<S: ByteSource> StoreReader<S> {
     }
 
     /// Reads this source, with values of any type in which no more than `levels` lists are open at once. Nothing is read yet. Reading such a
-    /// value calls itself once for each list that is open, and so does letting it go: a limit in the thousands needs a large stack. (Not in
+    /// value calls itself once for each list that is open, and so does its drop: a limit in the thousands needs a large stack. (Not in
     /// tantivy.)
     pub fn with_depth(source: S, version: DocStoreVersion, levels: u32) -> StoreReader<S>
         ensures source { result.source ≡ source }

@@ -11,7 +11,7 @@ use crate::pre_tokenized::TokenRef;
 use std::alloc::AllocError;
 use tv_base::vint::VInt;
 
-/// Adds the shortest encoding of a number. (Not in tantivy.) The only error is that memory was refused; what was there then still stands in
+/// Adds the shortest encoding of a number. (Not in tantivy.) The only error is that memory was refused; the old bytes are then still a
 /// prefix.
 #[inline(always)]
 pub fn push_number(bytes: &mut Vec<u8>, number: u64) -> Result<(), AllocError>

@@ -1,4 +1,4 @@
-//! Arrays in each other, ten thousand of them: kept in a document, lent out of it and written.
+//! Arrays in each other, ten thousand of them: kept in a document, borrowed from it and written.
 
 use std::alloc::{AllocError, Global};
 use std::test::Fail;
