@@ -92,6 +92,7 @@ pub use Rattle.tv_indexing.specs.TextTerms
 pub use Rattle.tv_indexing.specs.TextRange
 pub use Rattle.tv_indexing.specs.JsonBounds
 pub use Rattle.tv_indexing.specs.JsonRanges
+pub use Rattle.tv_indexing.specs.TermText
 -- facets that are counted
 pub use Rattle.tv_facets.specs.FacetCounting
 pub use Rattle.tv_facets.specs.ChildPlaces
