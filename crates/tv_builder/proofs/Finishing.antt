@@ -129,12 +129,12 @@ finish_fields old mid new ps kept f failed_new (Err e) ok err s =
 -- ---- what the call says
 
 finish_done : (old new : PairBuilder) (mid : Building) (f : ℕ) → old.failed ≡ false → Kept old.building mid old.pairs.items new.pairs.items new.kept f → Settled mid new.building new.kept old.failed new.failed (Ok tt) → Finished old new f
-finish_done old new mid f live k s =
+finish_done old new mid f not_failed k s =
     let w = whole old k.at k.is in
     record {
       tree = w.tree;
       was = w.is;
-      live = s.live ∙ live;
+      not_failed = s.not_failed ∙ not_failed;
       document = same_document (take new.kept (heap_so_far new)) (heap_so_far old) new.pairs.items new.pairs.items new.document (with_pair old mid new.pairs.items new.kept f k) (prefix_is old mid new.building new.pairs.items new.kept f k s.ok) refl;
       state = same_behind (take new.kept new.building.heap.items) (take new.kept new.building.heap.items) new.building new.state (after_pair old mid new.building new.pairs.items new.kept f k s.ok);
       pairs = k.pairs ∙ ap (λ (p : Place). old.pairs.items ++ pair_at f p ∷ []) w.place;
@@ -144,12 +144,12 @@ finish_done old new mid f live k s =
 
 finish_live : (old new : PairBuilder) (mid : Building) (f : ℕ) (r : Answer) → old.failed ≡ false → OnOk r (Kept old.building mid old.pairs.items new.pairs.items new.kept f)
     → IfErr r (λ e. KeptNot old.building mid old.pairs.items new.pairs.items old.kept new.kept e) → Settled mid new.building new.kept old.failed new.failed r → FinishesIf false old new f r
-finish_live old new mid f (Ok x) live ok err s = finish_done old new mid f live ok s
-finish_live old new mid f (Err e) live ok err s = answer e err.why fails
+finish_live old new mid f (Ok x) not_failed ok err s = finish_done old new mid f not_failed ok s
+finish_live old new mid f (Err e) not_failed ok err s = answer e err.why fails
   where
     fails : Fails old new
     fails = fails_now old new mid (λ s. s) e (record {
-      live = live;
+      not_failed = not_failed;
       left = left_same old mid e err.same;
       settled = settled_as mid new.building new.kept old.kept old.failed new.failed (Err e) err.kept_same s;
       kept = err.kept_same;
@@ -168,4 +168,4 @@ finish_live old new mid f (Err e) live ok err s = answer e err.why fails
 
 pub finishes : (old new : PairBuilder) (mid : Building) (f : ℕ) (r t : Answer) → old.failed ≡ false → OnOk r (Kept old.building mid old.pairs.items new.pairs.items new.kept f)
     → IfErr r (λ e. KeptNot old.building mid old.pairs.items new.pairs.items old.kept new.kept e) → Settled mid new.building new.kept old.failed new.failed r → t ≡ r → Finishes old new f t
-finishes old new mid f r t live ok err s e = subst (λ z. FinishesIf z old new f t) (sym live) (subst (λ z. FinishesIf false old new f z) (sym e) (finish_live old new mid f r live ok err s))
+finishes old new mid f r t not_failed ok err s e = subst (λ z. FinishesIf z old new f t) (sym not_failed) (subst (λ z. FinishesIf false old new f z) (sym e) (finish_live old new mid f r not_failed ok err s))

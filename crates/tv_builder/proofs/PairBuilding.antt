@@ -181,7 +181,7 @@ built_same old new e f = same_document (take new.kept new.building.heap.items) (
 
 -- a call on the building ran and was settled
 pub record Ran (old new : PairBuilder) (mid : Building) (after : State → State) (r : Answer) : Type 0 where
-  pub live : old.failed ≡ false
+  pub not_failed : old.failed ≡ false
   pub left : Left old.building mid after r
   pub settled : Settled mid new.building old.kept old.failed new.failed r
   pub kept : new.kept ≡ old.kept
@@ -194,7 +194,7 @@ goes_on old new mid after c =
     let base : take new.kept new.building.heap.items ≡ kept_heap old = ap (λ z. take z new.building.heap.items) c.kept ∙ prefix.0 in
     let state = moved_stands (kept_heap old) old.building mid new.building after old.state moves c.settled.ok in
     record {
-      live = c.settled.live ∙ c.live;
+      not_failed = c.settled.not_failed ∙ c.not_failed;
       document = built_same old new base c.pairs;
       pairs = c.pairs;
       kept = c.kept;
@@ -244,21 +244,21 @@ ends_live old new mid here well (Err AlreadyFailed) to from is be d c = absurd d
 
 ran : (old new : PairBuilder) (mid : Building) (here well fits : Type 0) (after : State → State) (r : Answer) → old.failed ≡ false → Does old.building mid here well fits after r → Settled mid new.building old.kept old.failed new.failed r
     → new.kept ≡ old.kept → new.pairs.items ≡ old.pairs.items → Ran old new mid after r
-ran old new mid here well fits after r live d s kept pairs = record { live = live; left = does_left old.building mid here well fits after r d; settled = s; kept = kept; pairs = pairs }
+ran old new mid here well fits after r not_failed d s kept pairs = record { not_failed = not_failed; left = does_left old.building mid here well fits after r d; settled = s; kept = kept; pairs = pairs }
 
 builds : (old new : PairBuilder) (mid : Building) (here P fits : Type 0) (after : State → State) (r t : Answer) → (here → P) → (P → here) → old.failed ≡ false → Does old.building mid here (Unit {0}) fits after r
     → Settled mid new.building old.kept old.failed new.failed r → new.kept ≡ old.kept → new.pairs.items ≡ old.pairs.items → t ≡ r → Builds old new P fits after t
-builds old new mid here P fits after r t to from live d s kept pairs e =
-    subst (λ z. BuildsIf z old new P fits after t) (sym live)
-    (subst (λ z. BuildsIf false old new P fits after z) (sym e) (builds_live old new mid here P fits after r to from d (ran old new mid here (Unit {0}) fits after r live d s kept pairs)))
+builds old new mid here P fits after r t to from not_failed d s kept pairs e =
+    subst (λ z. BuildsIf z old new P fits after t) (sym not_failed)
+    (subst (λ z. BuildsIf false old new P fits after z) (sym e) (builds_live old new mid here P fits after r to from d (ran old new mid here (Unit {0}) fits after r not_failed d s kept pairs)))
 
 -- a call that belongs where something of this kind comes next
 pub builds_next : (old new : PairBuilder) (mid : Building) (next : Awaits) (fits : Type 0) (after : State → State) (r t : Answer) → old.failed ≡ false
     → Does old.building mid (awaited_by old.building ≡ next) (Unit {0}) fits after r → Settled mid new.building old.kept old.failed new.failed r → new.kept ≡ old.kept → new.pairs.items ≡ old.pairs.items → t ≡ r
     → Builds old new (awaited (state_of old) ≡ next) fits after t
-builds_next old new mid next fits after r t live d s kept pairs e =
+builds_next old new mid next fits after r t not_failed d s kept pairs e =
     let same_next = awaited_is old.building (stands old) in
-    builds old new mid (awaited_by old.building ≡ next) (awaited (state_of old) ≡ next) fits after r t (λ p. sym same_next ∙ p) (λ p. same_next ∙ p) live d s kept pairs e
+    builds old new mid (awaited_by old.building ≡ next) (awaited (state_of old) ≡ next) fits after r t (λ p. sym same_next ∙ p) (λ p. same_next ∙ p) not_failed d s kept pairs e
 
 -- what holds of the state that is held, told from the building
 in_state : (old : PairBuilder) (P : State → Type 0) → ((s : State) → IsProp (P s)) → InState old.building P → P (state_of old)
@@ -289,18 +289,18 @@ HasContent-prop (in_lists ls) = λ x y. absurd x
 pub builds_chunk : (old new : PairBuilder) (mid : Building) (n : ℕ) (fits : Type 0) (after : State → State) (r t : Answer) → old.failed ≡ false
     → Does old.building mid (InState old.building (λ s. TakesBytes s n)) (Unit {0}) fits after r → Settled mid new.building old.kept old.failed new.failed r → new.kept ≡ old.kept → new.pairs.items ≡ old.pairs.items → t ≡ r
     → Builds old new (TakesBytes (state_of old) n) fits after t
-builds_chunk old new mid n fits after r t live d s kept pairs e =
+builds_chunk old new mid n fits after r t not_failed d s kept pairs e =
     let P = λ (z : State). TakesBytes z n in
-    builds old new mid (InState old.building P) (P (state_of old)) fits after r t (in_state old P (TakesBytes-prop n)) (of_state old P) live d s kept pairs e
+    builds old new mid (InState old.building P) (P (state_of old)) fits after r t (in_state old P (TakesBytes-prop n)) (of_state old P) not_failed d s kept pairs e
 
 pub ends : (old new : PairBuilder) (mid : Building) (r t : Answer) → old.failed ≡ false → Does old.building mid (InState old.building HasAllBytes) (InState old.building HasContent) (Unit {0}) and_end r → Settled mid new.building old.kept old.failed new.failed r
     → new.kept ≡ old.kept → new.pairs.items ≡ old.pairs.items → t ≡ r → Ends old new t
-ends old new mid r t live d s kept pairs e =
+ends old new mid r t not_failed d s kept pairs e =
     let here = InState old.building HasAllBytes in
     let well = InState old.building HasContent in
-    subst (λ z. EndsIf z old new t) (sym live)
+    subst (λ z. EndsIf z old new t) (sym not_failed)
     (subst (λ z. EndsIf false old new z) (sym e)
-    (ends_live old new mid here well r (in_state old HasAllBytes HasAllBytes-prop) (of_state old HasAllBytes) (in_state old HasContent HasContent-prop) (of_state old HasContent) d (ran old new mid here well (Unit {0}) and_end r live d s kept pairs)))
+    (ends_live old new mid here well r (in_state old HasAllBytes HasAllBytes-prop) (of_state old HasAllBytes) (in_state old HasContent HasContent-prop) (of_state old HasContent) d (ran old new mid here well (Unit {0}) and_end r not_failed d s kept pairs)))
 
 -- ---- a new builder
 

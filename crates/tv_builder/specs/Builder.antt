@@ -50,7 +50,7 @@ HasContent _ = ⊥
 -- A call that goes on to this state. After the finished pairs the heap is that of the state, and has room for all announced bytes. `kept`
 -- stays at the end of the last finished pair.
 pub record Goes (old new : PairBuilder) (after : State) : Type 0 where
-  pub live : new.failed ≡ false
+  pub not_failed : new.failed ≡ false
   pub document : built new ≡ built old
   pub pairs : pairs_so_far new ≡ pairs_so_far old
   pub kept : new.kept ≡ old.kept
@@ -102,7 +102,7 @@ Ends old new r = EndsIf old.failed old new r
 pub record Finished (old new : PairBuilder) (f : ℕ) : Type 0 where
   pub tree : Tree
   pub was : state_of old ≡ complete tree
-  pub live : new.failed ≡ false
+  pub not_failed : new.failed ≡ false
   pub document : built new ≡ built old ++ (f, tree) ∷ []
   pub state : state_of new ≡ in_lists []
   pub pairs : pairs_so_far new ≡ pairs_so_far old ++ pair_at f (tree_place (kept_heap old) tree) ∷ []

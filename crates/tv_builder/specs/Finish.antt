@@ -26,7 +26,7 @@ pub record Empty (heap : List ℕ) (b : Building) : Type 0 where
 -- After a refusal what isn't finished is dropped, and that is marked; else nothing changes.
 pub record Settled (old new : Building) (kept : ℕ) (failed failed_new : Bool) (answer : Result (Unit {0}) BuildError) : Type 0 where
   pub ok : OnOk answer (new ≡ old)
-  pub live : OnOk answer (failed_new ≡ failed)
+  pub not_failed : OnOk answer (failed_new ≡ failed)
   pub err : OnErr answer (Empty (take kept old.heap.items) new)
   pub mark : OnErr answer (failed_new ≡ true)
 

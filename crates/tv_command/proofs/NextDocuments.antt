@@ -177,7 +177,7 @@ module _ {D S : Type 0} {source : Ghosts S} {IsKept : Document → Type 0} {want
       → (source.is_known source_old → Taken (source.left source_old) (source.left source_new) 0 new.taken)
       → CountsBy (λ e. CountsStop (store_stop e)) (as_read result document) (source.failures source_old) (source.failures source_new) → (source.is_known source_old → source.is_known source_new)
       → OnOk result (new.failed ≡ false) → OnErr result (new.failed ≡ true) → new.version ≡ old.version → ReadsNextOf wanted IsKept source source_old source_new old new said
-  next_told result said document is one fewer taken counts stays live mark version =
+  next_told result said document is one fewer taken counts stays not_failed mark version =
       subst (λ (r : Result Bool LimitedReadError). ReadsNextOf wanted IsKept source source_old source_new old new r) (sym is)
       (record {
         one = one;
@@ -185,7 +185,7 @@ module _ {D S : Type 0} {source : Ghosts S} {IsKept : Document → Type 0} {want
         taken = taken;
         failures = told_counts result document _ _ counts;
         stays_known = stays;
-        live = told_ok result _ live;
+        not_failed = told_ok result _ not_failed;
         mark = told_err result _ mark;
         version = version;
       })
@@ -209,7 +209,7 @@ module _ {S : Type 0} {source : Ghosts S} {IsKept : Document → Type 0} {source
         placed = λ known room. placed_at _ _ old.start mid.reader.taken new.start (reads.taken known) room (counts.2 ∙ ap (λ (n : ℕ). min (n + mid.reader.taken) (2 ^ 64 - 1)) start);
         failures = reads.failures;
         stays_known = reads.stays_known;
-        live = ap (λ (r : BlockReader). r.failed) reader ∙ reads.live;
+        not_failed = ap (λ (r : BlockReader). r.failed) reader ∙ reads.not_failed;
         mark = tt;
         version = ap (λ (r : BlockReader). r.version) reader ∙ reads.version;
         wanted = same ∙ wanted;
@@ -223,7 +223,7 @@ module _ {S : Type 0} {source : Ghosts S} {IsKept : Document → Type 0} {source
         placed = λ known room. let none = reads.one known in omega (arith, counts.2, start, ap length none.0, ap length none.1);
         failures = reads.failures;
         stays_known = reads.stays_known;
-        live = ap (λ (r : BlockReader). r.failed) reader ∙ reads.live;
+        not_failed = ap (λ (r : BlockReader). r.failed) reader ∙ reads.not_failed;
         mark = tt;
         version = ap (λ (r : BlockReader). r.version) reader ∙ reads.version;
         wanted = same ∙ wanted;
@@ -237,7 +237,7 @@ module _ {S : Type 0} {source : Ghosts S} {IsKept : Document → Type 0} {source
         placed = λ known room. placed_at _ _ old.start mid.reader.taken _ (reads.taken known) room (ap (λ (n : ℕ). min (n + mid.reader.taken) (2 ^ 64 - 1)) start);
         failures = reads.failures;
         stays_known = reads.stays_known;
-        live = tt;
+        not_failed = tt;
         mark = ap (λ (r : BlockReader). r.failed) reader ∙ reads.mark;
         version = ap (λ (r : BlockReader). r.version) reader ∙ reads.version;
         wanted = same ∙ wanted;

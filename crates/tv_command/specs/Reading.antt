@@ -124,7 +124,7 @@ pub record ReadsCounted {S : Type 0} (IsKept : Document → Type 0) (source : Gh
   pub placed : source.is_known source_old → old.start + length (source.left source_old) < 2 ^ 64 → PlacesOne (source.left source_old) (source.left source_new) old new result
   pub failures : Counts block_stop result (source.failures source_old) (source.failures source_new)
   pub stays_known : source.is_known source_old → source.is_known source_new
-  pub live : OnOk result (new.reader.failed ≡ false)
+  pub not_failed : OnOk result (new.reader.failed ≡ false)
   pub mark : OnErr result (new.reader.failed ≡ true)
   pub version : new.reader.version ≡ old.reader.version
   pub wanted : new.wanted ≡ old.wanted
@@ -150,7 +150,7 @@ pub record ReadsNextOf {S : Type 0} (wanted : Wanted) (IsKept : Document → Typ
   pub taken : source.is_known source_old → Taken (source.left source_old) (source.left source_new) 0 new.taken
   pub failures : Counts limited_stop result (source.failures source_old) (source.failures source_new)
   pub stays_known : source.is_known source_old → source.is_known source_new
-  pub live : OnOk result (new.failed ≡ false)
+  pub not_failed : OnOk result (new.failed ≡ false)
   pub mark : OnErr result (new.failed ≡ true)
   pub version : new.version ≡ old.version
 

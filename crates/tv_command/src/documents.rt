@@ -122,7 +122,7 @@ impl DocumentReader {
     /// A reader of documents of this version. It reads nothing, and takes no memory.
     pub fn new(alloc: Global, version: DocStoreVersion, wanted: Wanted) -> DocumentReader
         ensures version { result.reader.version ≡ version }
-        ensures live { result.reader.failed ≡ false }
+        ensures not_failed { result.reader.failed ≡ false }
         ensures wanted { result.wanted ≡ wanted }
         ensures documents { result.documents ≡ 0 }
         ensures start { result.start ≡ 0 }
@@ -139,7 +139,7 @@ impl DocumentReader {
         bytes: u64,
     ) -> DocumentReader
         ensures version { result.reader.version ≡ version }
-        ensures live { result.reader.failed ≡ false }
+        ensures not_failed { result.reader.failed ≡ false }
         ensures wanted { result.wanted ≡ wanted }
         ensures documents { result.documents ≡ documents }
         ensures start { result.start ≡ bytes }

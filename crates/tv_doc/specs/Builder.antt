@@ -83,7 +83,7 @@ pub record IsNewBuilder (doc : CompactDoc) (b : TreeBuilder) : Type 0 where
   pub kept : kept_heap b ≡ heap_of doc
   pub pairs : pairs_so_far b ≡ pairs_of doc
   pub state : state_of b ≡ in_lists []
-  pub live : b.builder.failed ≡ false
+  pub not_failed : b.builder.failed ≡ false
 
 -- the document of the finished pairs
 pub record IsDocumentOf (b : TreeBuilder) (doc : CompactDoc) : Type 0 where

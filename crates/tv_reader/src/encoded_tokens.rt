@@ -23,7 +23,7 @@ use tv_value::pre_tokenized::TokenRef;
 use tv_value::tokenizer::Token;
 
 // What tokens are gathered in, one after the other.
-pub(crate) trait Gathers: Sized + Drop {
+pub(crate) trait TokenBuffer: Sized + Drop {
     /// The tokens.
     ghost tokens: { Self → List Token };
 
@@ -37,7 +37,7 @@ pub(crate) trait Gathers: Sized + Drop {
 }
 
 // In their shortest encoding, and not owned one by one.
-impl Gathers for EncodedTokens {
+impl TokenBuffer for EncodedTokens {
     ghost tokens = { λ e. gathered e };
 
     fn none(alloc: Global) -> EncodedTokens {
@@ -50,7 +50,7 @@ impl Gathers for EncodedTokens {
 }
 
 // Owned.
-impl Gathers for Vec<Token> {
+impl TokenBuffer for Vec<Token> {
     ghost tokens = { λ ts. map token_of ts.items };
 
     fn none(alloc: Global) -> Vec<Token> {
@@ -96,7 +96,7 @@ fn take_lent_token<'t, S: ByteSource>(
 }
 
 // This many tokens. Nothing is reserved from their number.
-fn gather_tokens<G: Gathers, S: ByteSource>(
+fn gather_tokens<G: TokenBuffer, S: ByteSource>(
     alloc: Global,
     source: &mut S,
     count: &mut u64,
@@ -116,7 +116,7 @@ fn gather_tokens<G: Gathers, S: ByteSource>(
 
 // The number of the tokens, and each.
 #[tactic(auto, using(tv_base::proofs::TakeSteps::Taken_then), unfolding(crate::specs::Leaves::counted_tokens_at))]
-fn gather_counted_tokens<G: Gathers, S: ByteSource>(
+fn gather_counted_tokens<G: TokenBuffer, S: ByteSource>(
     alloc: Global,
     source: &mut S,
     count: &mut u64,
@@ -130,7 +130,7 @@ fn gather_counted_tokens<G: Gathers, S: ByteSource>(
 
 // A text and its tokens.
 #[tactic(auto, using(tv_base::proofs::TakeSteps::Taken_then), unfolding(crate::specs::Leaves::tokenized_at))]
-pub(crate) fn gather_tokenized<G: Gathers, S: ByteSource>(
+pub(crate) fn gather_tokenized<G: TokenBuffer, S: ByteSource>(
     alloc: Global,
     source: &mut S,
     count: &mut u64,

@@ -21,7 +21,7 @@ called_live old new in_place fits after (Err HeapFull) here h = h.2
 called_live old new in_place fits after (Err Memory) here h = tt
 
 pub called : (old new : PairBuilder) (in_place fits : Type 0) (after : State → State) (r : Result (Unit {0}) BuildError) → old.failed ≡ false → in_place → Builds old new in_place fits after r → Called old new (after (state_of old)) r
-called old new in_place fits after r live here h = called_live old new in_place fits after r here (subst (λ z. BuildsIf z old new in_place fits after r) live h)
+called old new in_place fits after r not_failed here h = called_live old new in_place fits after r here (subst (λ z. BuildsIf z old new in_place fits after r) not_failed h)
 
 -- at the end of open bytes
 abbrev pub CalledEnd : PairBuilder → PairBuilder → Result (Unit {0}) BuildError → Type 0
@@ -40,7 +40,7 @@ ended_live old new (Err HeapFull) all h = (h.1, h.3)
 ended_live old new (Err Memory) all h = h.1
 
 pub ended : (old new : PairBuilder) (r : Result (Unit {0}) BuildError) → old.failed ≡ false → HasAllBytes (state_of old) → Ends old new r → CalledEnd old new r
-ended old new r live all h = ended_live old new r all (subst (λ z. EndsIf z old new r) live h)
+ended old new r not_failed all h = ended_live old new r all (subst (λ z. EndsIf z old new r) not_failed h)
 
 -- where a value is complete
 abbrev pub CalledFinish : PairBuilder → PairBuilder → ℕ → Result (Unit {0}) BuildError → Type 0
@@ -57,4 +57,4 @@ finished_live old new f (Err HeapFull) whole h = absurd h
 finished_live old new f (Err Memory) whole h = tt
 
 pub finished : (old new : PairBuilder) (f : ℕ) (r : Result (Unit {0}) BuildError) → old.failed ≡ false → IsComplete (state_of old) → Finishes old new f r → CalledFinish old new f r
-finished old new f r live whole h = finished_live old new f r whole (subst (λ z. FinishesIf z old new f r) live h)
+finished old new f r not_failed whole h = finished_live old new f r whole (subst (λ z. FinishesIf z old new f r) not_failed h)

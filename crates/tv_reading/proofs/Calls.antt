@@ -96,10 +96,10 @@ fills r s ps sound has is t full =
 
 module _ (r : Reading) (b : PairBuilder) (what : Awaits) (in_place fits : Type 0) (after : State → State) (ps : List Part) where
   pub call_opens : (x : Unit {0}) → Awaiting r what → in_place → Builds r.builder b in_place fits after (Ok x) → MayStand (after (state_of r.builder)) → IsOpen (with_builder r b)
-  call_opens x h here c stands = opened r b (after (state_of r.builder)) h.sound h.field (called r.builder b in_place fits after (Ok x) h.sound.live here c) stands
+  call_opens x h here c stands = opened r b (after (state_of r.builder)) h.sound h.field (called r.builder b in_place fits after (Ok x) h.sound.not_failed here c) stands
 
   pub call_lead : (x : Unit {0}) → Awaiting r what → in_place → Builds r.builder b in_place fits after (Ok x) → Trades (parts_of (state_of r.builder) ++ ps) (parts_of (after (state_of r.builder))) → Leads r (with_builder r b) ps
-  call_lead x h here c t = call_leads r b (after (state_of r.builder)) ps h.sound h.field (called r.builder b in_place fits after (Ok x) h.sound.live here c) t
+  call_lead x h here c t = call_leads r b (after (state_of r.builder)) ps h.sound h.field (called r.builder b in_place fits after (Ok x) h.sound.not_failed here c) t
 
   pub call_puts : (x : Unit {0}) (new : Reading) (result : Result (Unit {0}) DeserializeError) → Awaiting r what → in_place → Builds r.builder b in_place fits after (Ok x) → Trades (parts_of (state_of r.builder) ++ ps) (parts_of (after (state_of r.builder)))
       → PutsParts (with_builder r b) new [] result → PutsParts r new ps result
@@ -107,11 +107,11 @@ module _ (r : Reading) (b : PairBuilder) (what : Awaits) (in_place fits : Type 0
 
   pub call_left : (x : Unit {0}) (new : Reading) (result : Result (Unit {0}) DeserializeError) → Awaiting r what → in_place → Builds r.builder b in_place fits after (Ok x) → OnErr result (LetGo (with_builder r b) new) → OnErr result (LetGo r new)
   call_left x new (Ok y) h here c l = tt
-  call_left x new (Err e) h here c l = goes_let_go r b (after (state_of r.builder)) new (called r.builder b in_place fits after (Ok x) h.sound.live here c) l
+  call_left x new (Err e) h here c l = goes_let_go r b (after (state_of r.builder)) new (called r.builder b in_place fits after (Ok x) h.sound.not_failed here c) l
 
   pub call_refused : (e : BuildError) (new : Reading) → Awaiting r what → in_place → Builds r.builder b in_place fits after (Err e) → IsState (after (state_of r.builder)) → Trades (parts_of (state_of r.builder) ++ ps) (parts_of (after (state_of r.builder)))
       → PutsParts r new ps (Err (build_error e))
-  call_refused e new h here c is t = refused e (called r.builder b in_place fits after (Err e) h.sound.live here c)
+  call_refused e new h here c is t = refused e (called r.builder b in_place fits after (Err e) h.sound.not_failed here c)
     where
       refused : (e : BuildError) → Called r.builder b (after (state_of r.builder)) (Err e) → PutsParts r new ps (Err (build_error e))
       refused HeapFull k = fills r (after (state_of r.builder)) ps h.sound h.field is t k

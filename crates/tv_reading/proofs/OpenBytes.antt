@@ -139,13 +139,13 @@ pub end_opens : (r : Reading) (b : PairBuilder) (x : Unit {0}) → AtEnd r → E
 end_opens r b x h c =
     let s = state_of r.builder in
     let all = ends_all r h in
-    let k = ended r.builder b (Ok x) h.live all c in
+    let k = ended r.builder b (Ok x) h.not_failed all c in
     let g = k.0 in
     let e = ended_at r.announced r.field (built r.builder) s (and_end s) h.ending (and_end_stands s all) (end_trades s (is_state r.builder) all k.1) in
     let now : parts_at r.announced (built r.builder) r.field (and_end s) ≡ parts_read (with_builder r b) = λ i. parts_at r.announced (sym g.document i) r.field (sym g.state i) in
     record {
       open_is = record {
-        live = g.live;
+        not_failed = g.not_failed;
         counted = h.counted ∙ ap length (sym g.document);
         within = subst (λ z. IsWithinPair r.announced z r.field (state_of b)) (sym g.document) (subst (λ z. IsWithinPair r.announced (built r.builder) r.field z) (sym g.state) e.within);
       };
@@ -165,7 +165,7 @@ end_fills_at (Some n) None d s finished h is t full = absurd h
 end_fills_at (Some n) (Some f) d s finished h is t full = record { announced = n; field = f; state = and_end s; less = h.0; is = is; trades = open_trades n d f s (and_end s) [] t; full = full }
 
 pub end_refused : (r new : Reading) (b : PairBuilder) (e : BuildError) → AtEnd r → Ends r.builder b (Err e) → PutsEnd r new (Err (build_error e))
-end_refused r new b e h c = refused e c (ended r.builder b (Err e) h.live (ends_all r h) c)
+end_refused r new b e h c = refused e c (ended r.builder b (Err e) h.not_failed (ends_all r h) c)
   where
     s : State
     s = state_of r.builder
@@ -232,7 +232,7 @@ bytes_from_end r mid new more ps (Err errors.TooDeep) t map h = absurd h
 -- some bytes were refused: for want of memory alone
 pub bytes_refused : (r new : Reading) (b : PairBuilder) (in_place fits : Type 0) (after : State → State) (more : List ℕ) (ps : List Part) (e : BuildError) → r.builder.failed ≡ false → in_place → Builds r.builder b in_place fits after (Err e) → ¬ IsErrOf {T = Unit {0}} (Err e) HeapFull
     → PutsBytes r new more ps (Err (build_error e))
-bytes_refused r new b in_place fits after more ps e live here c roomy = refused e roomy (subst (λ z. BuildsIf z r.builder b in_place fits after (Err e)) live c)
+bytes_refused r new b in_place fits after more ps e not_failed here c roomy = refused e roomy (subst (λ z. BuildsIf z r.builder b in_place fits after (Err e)) not_failed c)
   where
     refused : (e : BuildError) → ¬ IsErrOf {T = Unit {0}} (Err e) HeapFull → BuildsIf false r.builder b in_place fits after (Err e) → PutsBytes r new more ps (Err (build_error e))
     refused HeapFull roomy k = absurd (roomy refl)
@@ -249,7 +249,7 @@ ending_at (Some n) (Some f) d old new has h all = (h.0, all)
 
 pub at_end : (r : Reading) (b : PairBuilder) (s : State) → IsSound r → HasField r.field → Goes r.builder b s → HasAllBytes s → AtEnd (with_builder r b)
 at_end r b s h has g all = record {
-  live = g.live;
+  not_failed = g.not_failed;
   counted = h.counted ∙ ap length (sym g.document);
   ending =
       subst (λ z. IsEnding r.announced z r.field (state_of b)) (sym g.document)

@@ -46,7 +46,7 @@ closed r new f h is g announced finished field =
     let now : parts_at r.announced (built r.builder ++ (f, g.tree) ∷ []) None (in_lists []) ≡ parts_read new = λ i. parts_at (sym announced i) (sym g.document i) (sym field i) (sym g.state i) in
     record {
       sound = record {
-        live = g.live;
+        not_failed = g.not_failed;
         counted = omega (arith, finished, h.counted, ap length g.document, length-append (built r.builder) ((f, g.tree) ∷ []));
         place =
             subst (λ z. IsPlace z (built new.builder) new.field (state_of new.builder)) (sym announced)
@@ -82,7 +82,7 @@ same_grows r new e = record { heap = ([], ap heap_so_far e ∙ sym (append-nil (
 
 pub stays : (r : Reading) → IsOpen r → awaited (state_of r.builder) ≢ awaits.Finish → PartsPut r r []
 stays r h other = record {
-  sound = record { live = h.live; counted = h.counted; place = place_at r.announced (built r.builder) r.field (state_of r.builder) other h.within };
+  sound = record { not_failed = h.not_failed; counted = h.counted; place = place_at r.announced (built r.builder) r.field (state_of r.builder) other h.within };
   grows = same_grows r r refl;
   trades = trades_from _ (append-nil (parts_read r)) same;
 }
@@ -103,7 +103,7 @@ within_at (Some n) (Some f) d old new has h stands = (h.0, stands)
 
 pub opened : (r : Reading) (b : PairBuilder) (s : State) → IsSound r → HasField r.field → Goes r.builder b s → MayStand s → IsOpen (with_builder r b)
 opened r b s h has g stands = record {
-  live = g.live;
+  not_failed = g.not_failed;
   counted = h.counted ∙ ap length (sym g.document);
   within =
       subst (λ z. IsWithinPair r.announced z r.field (state_of b)) (sym g.document)

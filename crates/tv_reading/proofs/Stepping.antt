@@ -66,7 +66,7 @@ number_put r new n sound none announced finished field_is builder =
     let after : number n ∷ [] ≡ parts_read new = sym k.1 ∙ λ i. parts_at (sym announced i) (sym none_built i) (sym field_is i) (sym state i) in
     record {
       sound = record {
-        live = ap (λ (b : PairBuilder). b.failed) builder ∙ sound.live;
+        not_failed = ap (λ (b : PairBuilder). b.failed) builder ∙ sound.not_failed;
         counted = finished ∙ sound.counted ∙ ap length (sym none_built);
         place =
             subst (λ z. IsPlace z (built new.builder) new.field (state_of new.builder)) (sym announced)
@@ -93,7 +93,7 @@ field_put r new f sound none lacks announced finished field_is builder =
     let after : parts_at r.announced (built r.builder) None (state_of r.builder) ++ field f ∷ [] ≡ parts_read new = k.1 ∙ λ i. parts_at (sym announced i) (sym built_is i) (sym field_is i) (sym state i) in
     record {
       sound = record {
-        live = ap (λ (b : PairBuilder). b.failed) builder ∙ sound.live;
+        not_failed = ap (λ (b : PairBuilder). b.failed) builder ∙ sound.not_failed;
         counted = finished ∙ sound.counted ∙ ap length (sym built_is);
         place =
             subst (λ z. IsPlace z (built new.builder) new.field (state_of new.builder)) (sym announced)

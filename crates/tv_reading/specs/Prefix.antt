@@ -38,7 +38,7 @@ IsPlace (Some n) d None s = (length d ≤ n) × (s ≡ in_lists [])
 IsPlace (Some n) d (Some f) s = (length d < n) × IsBetweenParts s
 
 pub record IsSound (r : Reading) : Type 0 where
-  pub live : r.builder.failed ≡ false
+  pub not_failed : r.builder.failed ≡ false
   pub counted : r.finished ≡ length (built r.builder)
   pub place : IsPlace r.announced (built r.builder) r.field (state_of r.builder)
 

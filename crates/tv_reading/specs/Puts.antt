@@ -34,7 +34,7 @@ IsWithinPair _ d f s = ⊥
 
 -- within a pair
 pub record IsOpen (r : Reading) : Type 0 where
-  pub live : r.builder.failed ≡ false
+  pub not_failed : r.builder.failed ≡ false
   pub counted : r.finished ≡ length (built r.builder)
   pub within : IsWithinPair r.announced (built r.builder) r.field (state_of r.builder)
 
@@ -44,7 +44,7 @@ IsEnding _ d f s = ⊥
 
 -- within a pair, and all open bytes have come
 pub record AtEnd (r : Reading) : Type 0 where
-  pub live : r.builder.failed ≡ false
+  pub not_failed : r.builder.failed ≡ false
   pub counted : r.finished ≡ length (built r.builder)
   pub ending : IsEnding r.announced (built r.builder) r.field (state_of r.builder)
 

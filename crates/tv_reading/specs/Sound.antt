@@ -24,7 +24,7 @@ IsPlace-prop (Some n) d (Some f) s x y = λ i. (le_prop x.0 y.0 i, IsBetweenPart
 IsSound-prop : (r : Reading) → IsProp (IsSound r)
 IsSound-prop r x y =
     let place = IsPlace-prop r.announced (built r.builder) r.field (state_of r.builder) x.place y.place in
-    λ i. record { live = Coded-set coded_bool _ _ x.live y.live i; counted = ℕ_set _ _ x.counted y.counted i; place = place i }
+    λ i. record { not_failed = Coded-set coded_bool _ _ x.not_failed y.not_failed i; counted = ℕ_set _ _ x.counted y.counted i; place = place i }
 
 -- as long as no step has failed
 pub SoundUnless-prop : (failed : Bool) (r : Reading) → IsProp (failed ≡ false → IsSound r)

@@ -38,7 +38,7 @@ module _ {R E Y S X : Type 0} {grammar : Grammar R Y} {source : Ghosts S} {view 
 
   -- what it had not failed for
   pub reads_live : {failed : Bool} → failed ≡ false → Reads (resumed failed again kind) grammar source old new view result → Reads kind grammar source old new view result
-  reads_live {failed = failed} live r = record {
+  reads_live {failed = failed} not_failed r = record {
     found = r.found;
     only = λ known y prefix rest joined encoded room. read_unless view result y rest (source.left new) (λ e h. one_of h) (r.only known y prefix rest joined encoded room);
     error = r.error;

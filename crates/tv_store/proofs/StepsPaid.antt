@@ -50,10 +50,10 @@ none_before true after seen none = absurd (both (sym none ∙ seen.still refl))
 
 -- a decoder that has read nothing
 pub paid_at_start : (d : DirectDecoder) → d.failed ≡ false → parts_read d.reading ≡ [] → d.count ≡ 0 → IsPaidFor d
-paid_at_start d live none zero_count =
+paid_at_start d not_failed none zero_count =
     let v = version_of d.version in
     let start : Encoded NoLegacy v [] (parts_read d.reading) = subst (Encoded NoLegacy v []) (sym none) refl in
-    record { paid = paid_now v d.reading [] d.count (d.sound live) start (omega (arith, zero_count)); encoded = λ _. ([], start, zero_count) }
+    record { paid = paid_now v d.reading [] d.count (d.sound not_failed) start (omega (arith, zero_count)); encoded = λ _. ([], start, zero_count) }
 
 module _ {S : Type 0} (source : Ghosts S) {source_old source_new : S} {old new : DirectDecoder} {result : Result Step DeserializeError} (h : ReadsStep source source_old source_new old new result) where
   -- what encodes what has come then
@@ -61,12 +61,12 @@ module _ {S : Type 0} (source : Ghosts S) {source_old source_new : S} {old new :
       → OnErr answer (new.failed ≡ true) → new.failed ≡ false
       → Found store_stop (corrupted UnexpectedEnd) (λ b _. Stepped (version_of old.version) new.legacy_seen old.reading new.reading b) (IsMalformedNext (version_of old.version) old.reading) (source.left source_old) (source.left source_new) new.count answer
       → (all : List ℕ) × Encoded NoLegacy (version_of new.version) all (parts_read new.reading) × (new.count ≡ length all)
-  encoded_then (Ok step) bytes encoded counted none taken mark live f = (
+  encoded_then (Ok step) bytes encoded counted none taken mark not_failed f = (
     bytes ++ f.prefix,
     subst (λ w. Encoded NoLegacy (version_of w) (bytes ++ f.prefix) (parts_read new.reading)) (sym h.version) (f.encoded.plain none bytes encoded),
     omega (arith, taken.counted, counted, ap length f.joined, ap length taken.joined, length-append bytes f.prefix, length-append f.prefix (source.left source_new), length-append taken.prefix (source.left source_new)),
   )
-  encoded_then (Err e) bytes encoded counted none taken mark live found = absurd (both (sym live ∙ mark))
+  encoded_then (Err e) bytes encoded counted none taken mark not_failed found = absurd (both (sym not_failed ∙ mark))
 
   -- a decoder that is paid for still is after the next step
   pub still_paid : StaysPaid old new → Sees old.reading (source.left source_old) old.legacy_seen new.legacy_seen → source.is_known source_old → (old.legacy_seen ≡ false → IsPaidFor old) → new.legacy_seen ≡ false → IsPaidFor new
@@ -74,14 +74,14 @@ module _ {S : Type 0} (source : Ghosts S) {source_old source_new : S} {old new :
       let p = before (none_before old.legacy_seen new.legacy_seen seen none) in
       elim (failed_or_live old.failed) [
         | inl failed ↦ subst IsPaidFor (sym (h.refused failed).same) p
-        | inr live ↦ elim (done_or_not old.reading) [
-          | inl done ↦ subst IsPaidFor (sym (h.finished live done).same) p
+        | inr not_failed ↦ elim (done_or_not old.reading) [
+          | inl done ↦ subst IsPaidFor (sym (h.finished not_failed done).same) p
           | inr more ↦
-              let finds = h.finds live more in
+              let finds = h.finds not_failed more in
               let taken = finds.taken known in
-              let so_far = p.encoded live in
+              let so_far = p.encoded not_failed in
               record {
-                paid = subst (PaidBy new.reading.builder) (omega (arith, taken.counted, so_far.2)) (stays live so_far.0 so_far.1 none);
+                paid = subst (PaidBy new.reading.builder) (omega (arith, taken.counted, so_far.2)) (stays not_failed so_far.0 so_far.1 none);
                 encoded = λ is_live. encoded_then result so_far.0 so_far.1 so_far.2 none taken h.mark is_live (finds.found known);
               }
         ]
@@ -93,7 +93,7 @@ module _ {S : Type 0} (source : Ghosts S) {source_old source_new : S} {old new :
     start = made.start;
     nothing = made.nothing;
     uncounted = made.uncounted;
-    live = made.live;
+    not_failed = made.not_failed;
     same_version = made.same_version;
     stepped = subst (λ k. StepsTo source k first made.start source_new new) (sym (add-one n)) (source_old, old, result, made.stepped, h);
   }
@@ -102,18 +102,18 @@ module _ {S : Type 0} (source : Ghosts S) {source_old source_new : S} {old new :
   pub still_known : source.is_known source_old → source.is_known source_new
   still_known known = elim (failed_or_live old.failed) [
     | inl failed ↦ subst source.is_known (sym (h.refused failed).unread) known
-    | inr live ↦ elim (done_or_not old.reading) [
-      | inl done ↦ subst source.is_known (sym (h.finished live done).unread) known
-      | inr more ↦ (h.finds live more).stays_known known
+    | inr not_failed ↦ elim (done_or_not old.reading) [
+      | inl done ↦ subst source.is_known (sym (h.finished not_failed done).unread) known
+      | inr more ↦ (h.finds not_failed more).stays_known known
     ]
   ]
 
   pub still_counted : source.is_known source_old → Taken (source.left source_old) (source.left source_new) old.count new.count
   still_counted known = elim (failed_or_live old.failed) [
     | inl failed ↦ unchanged (h.refused failed).same (h.refused failed).unread
-    | inr live ↦ elim (done_or_not old.reading) [
-      | inl done ↦ unchanged (h.finished live done).same (h.finished live done).unread
-      | inr more ↦ (h.finds live more).taken known
+    | inr not_failed ↦ elim (done_or_not old.reading) [
+      | inl done ↦ unchanged (h.finished not_failed done).same (h.finished not_failed done).unread
+      | inr more ↦ (h.finds not_failed more).taken known
     ]
   ]
     where
@@ -124,11 +124,11 @@ module _ {S : Type 0} (source : Ghosts S) {source_old source_new : S} {old new :
 
 module _ (d at then new : DirectDecoder) (first : ℕ) (reading : at.reading ≡ d.reading) (begun : at.count ≡ first + d.count) (same : new.reading ≡ then.reading) (ended : new.count ≡ then.count - first) (seen : new.legacy_seen ≡ then.legacy_seen) where
   pub recounted_paid : at.version ≡ d.version → at.failed ≡ d.failed → at.count ≤ then.count → StaysPaid at then → StaysPaid d new
-  recounted_paid version failed rises stays = λ live bytes encoded none.
+  recounted_paid version failed rises stays = λ not_failed bytes encoded none.
       let v = version_of at.version in
       let as_at = subst (λ (r : Reading). Encoded NoLegacy v bytes (parts_read r)) (sym reading) (subst (λ w. Encoded NoLegacy (version_of w) bytes (parts_read d.reading)) (sym version) encoded) in
       subst (λ (r : Reading). PaidBy r.builder (length bytes + (new.count - d.count))) (sym same)
-      (subst (PaidBy then.reading.builder) (omega (arith, begun, ended, rises)) (stays (failed ∙ live) bytes as_at (sym seen ∙ none)))
+      (subst (PaidBy then.reading.builder) (omega (arith, begun, ended, rises)) (stays (failed ∙ not_failed) bytes as_at (sym seen ∙ none)))
 
   pub recounted_few : (left : List ℕ) → IsFew at.reading left at.count then.count → IsFew d.reading left d.count new.count
   recounted_few left few = elim few [
@@ -138,5 +138,5 @@ module _ (d at then new : DirectDecoder) (first : ℕ) (reading : at.reading ≡
 
 -- nothing was read
 pub rests_paid : (old new : DirectDecoder) → new.reading ≡ old.reading → StaysPaid old new
-rests_paid old new same = λ live bytes encoded none.
-    subst (λ (r : Reading). PaidBy r.builder (length bytes + (new.count - old.count))) (sym same) (paid_now (version_of old.version) old.reading bytes _ (old.sound live) encoded (omega arith))
+rests_paid old new same = λ not_failed bytes encoded none.
+    subst (λ (r : Reading). PaidBy r.builder (length bytes + (new.count - old.count))) (sym same) (paid_now (version_of old.version) old.reading bytes _ (old.sound not_failed) encoded (omega arith))

@@ -45,7 +45,7 @@ pub record Steps {E S : Type 0} (kind : Errors Refusal E) (MayStop : E → ℕ �
   pub finds : old.failed ≡ false → ¬ IsDone old.reading → FindsBy kind.stop MayStop kind.end source.is_known source.left source.failures source_old old.count source_new new.count result (λ b _. Stepped (version_of old.version) new.legacy_seen old.reading new.reading b) (IsMalformedNext (version_of old.version) old.reading)
   pub full : source.is_known source_old → (e : E) → IsErrOf result e → kind.IsFull e → NoRoomBehind (version_of old.version) old.reading (source.left source_old)
   pub done : IfOk result (λ step. SaysDone step ↔ IsDone new.reading)
-  pub live : OnOk result (new.failed ≡ false)
+  pub not_failed : OnOk result (new.failed ≡ false)
   pub mark : OnErr result (new.failed ≡ true)
   pub version : new.version ≡ old.version
 
@@ -75,6 +75,6 @@ pub record IsStepped {S : Type 0} (source : Ghosts S) (version : DocStoreVersion
   pub start : DirectDecoder
   pub nothing : parts_read start.reading ≡ []
   pub uncounted : start.count ≡ 0
-  pub live : start.failed ≡ false
+  pub not_failed : start.failed ≡ false
   pub same_version : start.version ≡ version
   pub stepped : StepsTo source steps source_old start source_new d

@@ -168,7 +168,7 @@ fn step_capped<S: ByteSource>(
     source: &mut S,
     most: Option<u64>,
 ) -> Result<Step, LimitedReadError>
-    requires live { decoder.old.failed ≡ false }
+    requires not_failed { decoder.old.failed ≡ false }
     requires more { ¬ IsDone decoder.old.reading }
     requires within { ¬ IsPast most decoder.old.count }
     ensures finds { FindsPart S.ByteSource source.old decoder.old.count source.new
@@ -215,7 +215,7 @@ fn take_within<S: ByteSource>(
     source: &mut S,
     limits: ReadLimits,
 ) -> Result<Option<ReadLimit>, DeserializeError>
-    requires live { decoder.old.failed ≡ false }
+    requires not_failed { decoder.old.failed ≡ false }
     requires more { ¬ IsDone decoder.old.reading }
     ensures finds { FindsWithin S.ByteSource source.old decoder.old.count source.new
         decoder.new.count result

@@ -5,7 +5,7 @@ use Rattle.tv_blocks.proofs.export.append_documents.Given as goal
 
 abbrev pub invariant-loop-reader : goal.invariant-loop-reader
 invariant-loop-reader l = record {
-  live : l.reader.failed ≡ false;
+  not_failed : l.reader.failed ≡ false;
   version : l.reader.version ≡ l.fn.version;
   so_far : PrintedSoFar l.schema (version_of l.fn.version) l.block l.source.rest.now (string_bytes l.text);
 }

@@ -5,7 +5,7 @@ use Rattle.tv_blocks.proofs.schema_terms.append_block.Given as goal
 
 abbrev pub invariant-loop-reader : goal.invariant-loop-reader
 invariant-loop-reader l = record {
-  live : l.reader.failed ≡ false;
+  not_failed : l.reader.failed ≡ false;
   version : l.reader.version ≡ l.fn.version;
   few : l.number + length l.source.rest.now ≤ length l.block;
   so_far : SchemaTermsSoFar l.schema (version_of l.fn.version) l.block l.source.rest.now l.content.items l.number;

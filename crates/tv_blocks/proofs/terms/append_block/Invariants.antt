@@ -5,7 +5,7 @@ use Rattle.tv_blocks.proofs.terms.append_block.Given as goal
 
 abbrev pub invariant-loop-writer : goal.invariant-loop-writer
 invariant-loop-writer l = record {
-  live : l.reader.failed ≡ false;
+  not_failed : l.reader.failed ≡ false;
   version : l.reader.version ≡ l.fn.version;
   few : l.number + length l.source.rest.now ≤ length l.block;
   so_far : TermsSoFar (version_of l.fn.version) l.field.id l.block l.source.rest.now l.terms.items l.number;

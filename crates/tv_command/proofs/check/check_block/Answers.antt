@@ -7,7 +7,7 @@ use Rattle.tv_command.proofs.check.check_block.Goals as goal
 
 pub loop-documents-init : goal.loop-documents-init
 loop-documents-init g c = record {
-  live = c.new-reader.ensures.live;
+  not_failed = c.new-reader.ensures.not_failed;
   version = c.new-reader.ensures.version;
   wanted = c.new-reader.ensures.wanted;
   counted = c.new-reader.ensures.documents;
@@ -19,9 +19,9 @@ loop-documents-init g c = record {
 pub loop-documents-preserved : goal.loop-documents-preserved
 loop-documents-preserved g c =
     let i = c.loop-documents.invariant in
-    let reads = rw c.in-Ok-true.field-0-test at (c.in-Ok-true.ensures.reads i.live) in
+    let reads = rw c.in-Ok-true.field-0-test at (c.in-Ok-true.ensures.reads i.not_failed) in
     record {
-      live = reads.live;
+      not_failed = reads.not_failed;
       version = reads.version ∙ i.version;
       wanted = reads.wanted ∙ i.wanted;
       counted = omega (arith, reads.counted, i.counted, c.loop-documents-test.true);
@@ -33,7 +33,7 @@ loop-documents-preserved g c =
 pub returns-in-Ok-false-clause-ok : goal.returns-in-Ok-false-clause-ok
 returns-in-Ok-false-clause-ok g c =
     let i = c.loop-documents.invariant in
-    let reads = rw c.in-Ok-false.field-0-test at (c.in-Ok-false.ensures.reads i.live) in
+    let reads = rw c.in-Ok-false.field-0-test at (c.in-Ok-false.ensures.reads i.not_failed) in
     λ s few.
     let m = i.so_far s in (
       m.documents,
@@ -44,18 +44,18 @@ returns-in-Ok-false-clause-ok g c =
 pub returns-in-Ok-false-clause-failures : goal.returns-in-Ok-false-clause-failures
 returns-in-Ok-false-clause-failures g c =
     let i = c.loop-documents.invariant in
-    let reads = rw c.in-Ok-false.field-0-test at (c.in-Ok-false.ensures.reads i.live) in
+    let reads = rw c.in-Ok-false.field-0-test at (c.in-Ok-false.ensures.reads i.not_failed) in
     reads.failures ∙ i.failures
 
 pub returns-in-Ok-false-clause-is_known : goal.returns-in-Ok-false-clause-is_known
 returns-in-Ok-false-clause-is_known g c =
     let i = c.loop-documents.invariant in
-    λ s. (c.in-Ok-false.ensures.reads i.live).stays_known (i.stays_known s)
+    λ s. (c.in-Ok-false.ensures.reads i.not_failed).stays_known (i.stays_known s)
 
 pub returns-in-Err-clause-err : goal.returns-in-Err-clause-err
 returns-in-Err-clause-err g c =
     let i = c.loop-documents.invariant in
-    let reads = c.in-Err.ensures.reads i.live in
+    let reads = c.in-Err.ensures.reads i.not_failed in
     λ s few.
     let m = i.so_far s in
     refuses_block {wanted = All c.args.limits} m c.args.limits refl c.in-Err.error (reads.counted.0 ∙ i.counted)
@@ -64,13 +64,13 @@ returns-in-Err-clause-err g c =
 pub returns-in-Err-clause-failures : goal.returns-in-Err-clause-failures
 returns-in-Err-clause-failures g c =
     let i = c.loop-documents.invariant in
-    let reads = c.in-Err.ensures.reads i.live in
+    let reads = c.in-Err.ensures.reads i.not_failed in
     counts_source c.in-Err.error _ i.failures reads.failures
 
 pub returns-in-Err-clause-is_known : goal.returns-in-Err-clause-is_known
 returns-in-Err-clause-is_known g c =
     let i = c.loop-documents.invariant in
-    λ s. (c.in-Err.ensures.reads i.live).stays_known (i.stays_known s)
+    λ s. (c.in-Err.ensures.reads i.not_failed).stays_known (i.stays_known s)
 
 pub returns-clause-err : goal.returns-clause-err
 returns-clause-err g c =

@@ -8,7 +8,7 @@ abbrev pub invariant-loop-documents : goal.invariant-loop-documents
 invariant-loop-documents g l =
     let source = g.S.ByteSource in
     record {
-      live : l.reader.reader.failed ≡ false;
+      not_failed : l.reader.reader.failed ≡ false;
       version : l.reader.reader.version ≡ l.fn.version;
       wanted : l.reader.wanted ≡ All l.fn.limits;
       counted : l.reader.documents ≡ l.documents;

@@ -13,37 +13,37 @@ use Rattle.tv_store.proofs.Resuming.{reads_live}
 use Rattle.tv_command.proofs.documents.pass_next.Goals as goal
 
 pub returns-in-Fields-clause-reads : goal.returns-in-Fields-clause-reads
-returns-in-Fields-clause-reads g c = λ live.
+returns-in-Fields-clause-reads g c = λ not_failed.
     let source = g.S.ByteSource in
     let read = c.skip in
     let said = c.tell in
-    let reads = reads_live reading AlreadyFailed live read.ensures.reads in
-    next_told read.result said.result tt said.ensures (λ known. one_passed source (version_of c.args.reader.now.version) c.args.wanted.now (ap limits_of c.in-Fields.is) read.result reads (λ k. read.ensures.end live k) (λ k. read.ensures.ended live k) known)
-    read.ensures.fewer (λ k. read.ensures.counted live k) reads.failures reads.stays_known read.ensures.not_failed read.ensures.failed read.ensures.version
+    let reads = reads_live reading AlreadyFailed not_failed read.ensures.reads in
+    next_told read.result said.result tt said.ensures (λ known. one_passed source (version_of c.args.reader.now.version) c.args.wanted.now (ap limits_of c.in-Fields.is) read.result reads (λ k. read.ensures.end not_failed k) (λ k. read.ensures.ended not_failed k) known)
+    read.ensures.fewer (λ k. read.ensures.counted not_failed k) reads.failures reads.stays_known read.ensures.not_failed read.ensures.failed read.ensures.version
 
 pub returns-then-is_unlimited-clause-reads : goal.returns-then-is_unlimited-clause-reads
-returns-then-is_unlimited-clause-reads g c = λ live.
+returns-then-is_unlimited-clause-reads g c = λ not_failed.
     let source = g.S.ByteSource in
     let read = c.skip-then-is_unlimited in
     let said = c.tell-then-is_unlimited in
-    let reads = reads_live reading AlreadyFailed live read.ensures.reads in
-    next_told read.result said.result tt said.ensures (λ known. one_passed source (version_of c.args.reader.now.version) c.args.wanted.now (ap limits_of (c.in-All.is ∙ ap All (c.is_unlimited.ensures c.if-is_unlimited.true))) read.result reads (λ k. read.ensures.end live k) (λ k. read.ensures.ended live k) known)
-    read.ensures.fewer (λ k. read.ensures.counted live k) reads.failures reads.stays_known read.ensures.not_failed read.ensures.failed read.ensures.version
+    let reads = reads_live reading AlreadyFailed not_failed read.ensures.reads in
+    next_told read.result said.result tt said.ensures (λ known. one_passed source (version_of c.args.reader.now.version) c.args.wanted.now (ap limits_of (c.in-All.is ∙ ap All (c.is_unlimited.ensures c.if-is_unlimited.true))) read.result reads (λ k. read.ensures.end not_failed k) (λ k. read.ensures.ended not_failed k) known)
+    read.ensures.fewer (λ k. read.ensures.counted not_failed k) reads.failures reads.stays_known read.ensures.not_failed read.ensures.failed read.ensures.version
 
 pub returns-else-is_unlimited-clause-reads : goal.returns-else-is_unlimited-clause-reads
-returns-else-is_unlimited-clause-reads g c = λ live.
+returns-else-is_unlimited-clause-reads g c = λ not_failed.
     let source = g.S.ByteSource in
     let read = c.advance_within in
     let document = read.new.self.document in
-    let reads = reads_live (within c.in-All.limits) (Read AlreadyFailed) live read.ensures.reads in
+    let reads = reads_live (within c.in-All.limits) (Read AlreadyFailed) not_failed read.ensures.reads in
     subst (λ (w : Wanted). ReadsNextOf w (λ d. Unit {0}) source c.args.source.now read.new.source c.args.reader.now read.new.self read.result) (sym c.in-All.is)
     (record {
-      one = λ known. any_document _ (All c.in-All.limits) (λ d. document_of document ≡ d) _ _ read.result (one_within source (version_of c.args.reader.now.version) c.in-All.limits read.result document reads read.ensures.stops read.ensures.shallow read.ensures.small (λ k. read.ensures.end live k) (λ k. read.ensures.ended live k) known);
+      one = λ known. any_document _ (All c.in-All.limits) (λ d. document_of document ≡ d) _ _ read.result (one_within source (version_of c.args.reader.now.version) c.in-All.limits read.result document reads read.ensures.stops read.ensures.shallow read.ensures.small (λ k. read.ensures.end not_failed k) (λ k. read.ensures.ended not_failed k) known);
       fewer = read.ensures.fewer;
-      taken = λ k. read.ensures.counted live k;
+      taken = λ k. read.ensures.counted not_failed k;
       failures = counts_within read.result document _ _ reads.failures;
       stays_known = reads.stays_known;
-      live = read.ensures.not_failed;
+      not_failed = read.ensures.not_failed;
       mark = read.ensures.failed;
       version = read.ensures.version;
     })

@@ -10,7 +10,7 @@ use Rattle.tv_command.proofs.export.export_block.Goals as goal
 
 pub loop-documents-init : goal.loop-documents-init
 loop-documents-init g c = record {
-  live = c.new-reader.ensures.live;
+  not_failed = c.new-reader.ensures.not_failed;
   version = c.new-reader.ensures.version;
   wanted = c.new-reader.ensures.wanted;
   counted = c.new-reader.ensures.documents;
@@ -24,10 +24,10 @@ loop-documents-init g c = record {
 pub loop-documents-preserved : goal.loop-documents-preserved
 loop-documents-preserved g c =
     let i = c.loop-documents.invariant in
-    let reads = rw c.in-Ok-true.field-0-test at (c.in-Ok-true.ensures.reads i.live) in
+    let reads = rw c.in-Ok-true.field-0-test at (c.in-Ok-true.ensures.reads i.not_failed) in
     let write = c.in_default.ensures in
     record {
-      live = reads.live;
+      not_failed = reads.not_failed;
       version = reads.version ∙ i.version;
       wanted = reads.wanted ∙ i.wanted;
       counted = omega (arith, reads.counted, i.counted, c.loop-documents-test.true);
@@ -42,28 +42,28 @@ loop-documents-preserved g c =
 pub returns-in-Ok-false-clause-ok : goal.returns-in-Ok-false-clause-ok
 returns-in-Ok-false-clause-ok g c =
     let i = c.loop-documents.invariant in
-    let reads = rw c.in-Ok-false.field-0-test at (c.in-Ok-false.ensures.reads i.live) in
+    let reads = rw c.in-Ok-false.field-0-test at (c.in-Ok-false.ensures.reads i.not_failed) in
     λ s k. printed_all (i.so_far s k) (reads.one (i.source_is_known s)).0
 
 pub returns-in-Ok-false-clause-all : goal.returns-in-Ok-false-clause-all
 returns-in-Ok-false-clause-all g c =
     let i = c.loop-documents.invariant in
-    let reads = rw c.in-Ok-false.field-0-test at (c.in-Ok-false.ensures.reads i.live) in
+    let reads = rw c.in-Ok-false.field-0-test at (c.in-Ok-false.ensures.reads i.not_failed) in
     λ s. (reads.one (i.source_is_known s)).1
 
 pub returns-in-Ok-false-clause-source_failures : goal.returns-in-Ok-false-clause-source_failures
 returns-in-Ok-false-clause-source_failures g c =
     let i = c.loop-documents.invariant in
-    let reads = rw c.in-Ok-false.field-0-test at (c.in-Ok-false.ensures.reads i.live) in
+    let reads = rw c.in-Ok-false.field-0-test at (c.in-Ok-false.ensures.reads i.not_failed) in
     reads.failures ∙ i.source_failures
 
 pub returns-in-Ok-false-clause-source_is_known : goal.returns-in-Ok-false-clause-source_is_known
-returns-in-Ok-false-clause-source_is_known g c = λ s. (c.in-Ok-false.ensures.reads c.loop-documents.invariant.live).stays_known (c.loop-documents.invariant.source_is_known s)
+returns-in-Ok-false-clause-source_is_known g c = λ s. (c.in-Ok-false.ensures.reads c.loop-documents.invariant.not_failed).stays_known (c.loop-documents.invariant.source_is_known s)
 
 pub returns-in-Err-clause-err : goal.returns-in-Err-clause-err
 returns-in-Err-clause-err g c =
     let i = c.loop-documents.invariant in
-    let reads = c.in-Err.ensures.reads i.live in
+    let reads = c.in-Err.ensures.reads i.not_failed in
     λ s k.
     let m = i.so_far s k in
     printed_stops m (errors.Read c.in-Err.error)
@@ -72,10 +72,10 @@ returns-in-Err-clause-err g c =
 pub returns-in-Err-clause-source_failures : goal.returns-in-Err-clause-source_failures
 returns-in-Err-clause-source_failures g c =
     let i = c.loop-documents.invariant in
-    counts_source c.in-Err.error _ i.source_failures (c.in-Err.ensures.reads i.live).failures
+    counts_source c.in-Err.error _ i.source_failures (c.in-Err.ensures.reads i.not_failed).failures
 
 pub returns-in-Err-clause-source_is_known : goal.returns-in-Err-clause-source_is_known
-returns-in-Err-clause-source_is_known g c = λ s. (c.in-Err.ensures.reads c.loop-documents.invariant.live).stays_known (c.loop-documents.invariant.source_is_known s)
+returns-in-Err-clause-source_is_known g c = λ s. (c.in-Err.ensures.reads c.loop-documents.invariant.not_failed).stays_known (c.loop-documents.invariant.source_is_known s)
 
 pub returns-clause-err : goal.returns-clause-err
 returns-clause-err g c = λ s k.
@@ -85,7 +85,7 @@ returns-clause-err g c = λ s k.
 pub returns-in-Err-write_line-clause-err : goal.returns-in-Err-write_line-clause-err
 returns-in-Err-write_line-clause-err g c =
     let i = c.loop-documents.invariant in
-    let reads = rw c.in-Ok-true.field-0-test at (c.in-Ok-true.ensures.reads i.live) in
+    let reads = rw c.in-Ok-true.field-0-test at (c.in-Ok-true.ensures.reads i.not_failed) in
     let error = c.in-Err-write_line.error in
     λ s k.
     let m = i.so_far s k in
@@ -100,11 +100,11 @@ returns-in-Err-write_line-clause-sink_failures g c =
 pub returns-in-Err-write_line-clause-source_failures : goal.returns-in-Err-write_line-clause-source_failures
 returns-in-Err-write_line-clause-source_failures g c =
     let i = c.loop-documents.invariant in
-    let reads = rw c.in-Ok-true.field-0-test at (c.in-Ok-true.ensures.reads i.live) in
+    let reads = rw c.in-Ok-true.field-0-test at (c.in-Ok-true.ensures.reads i.not_failed) in
     not_source c.in-Err-write_line.error c.in-Err-write_line.ensures.errors (reads.failures ∙ i.source_failures)
 
 pub returns-in-Err-write_line-clause-source_is_known : goal.returns-in-Err-write_line-clause-source_is_known
 returns-in-Err-write_line-clause-source_is_known g c =
     let i = c.loop-documents.invariant in
-    let reads = rw c.in-Ok-true.field-0-test at (c.in-Ok-true.ensures.reads i.live) in
+    let reads = rw c.in-Ok-true.field-0-test at (c.in-Ok-true.ensures.reads i.not_failed) in
     λ s. reads.stays_known (i.source_is_known s)

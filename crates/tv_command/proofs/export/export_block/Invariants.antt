@@ -8,7 +8,7 @@ invariant-loop-documents g l =
     let source = g.S.ByteSource in
     let sink = g.K.ByteSink in
     record {
-      live : l.reader.reader.failed ≡ false;
+      not_failed : l.reader.reader.failed ≡ false;
       version : l.reader.reader.version ≡ l.fn.version;
       wanted : l.reader.wanted ≡ l.fn.wanted;
       counted : l.reader.documents ≡ l.documents;

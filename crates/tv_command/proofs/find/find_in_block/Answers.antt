@@ -9,7 +9,7 @@ use Rattle.tv_command.proofs.find.find_in_block.Goals as goal
 
 pub loop-documents-init : goal.loop-documents-init
 loop-documents-init g c = record {
-  live = c.new-reader.ensures.live;
+  not_failed = c.new-reader.ensures.not_failed;
   version = c.new-reader.ensures.version;
   wanted = c.new-reader.ensures.wanted;
   counted = c.new-reader.ensures.documents;
@@ -24,10 +24,10 @@ loop-documents-init g c = record {
 pub loop-documents-preserved : goal.loop-documents-preserved
 loop-documents-preserved g c =
     let i = c.loop-documents.invariant in
-    let reads = rw c.in-Ok-true.field-0-test at (c.in-Ok-true.ensures.reads i.live) in
+    let reads = rw c.in-Ok-true.field-0-test at (c.in-Ok-true.ensures.reads i.not_failed) in
     let gone = c.in-Ok.ensures in
     record {
-      live = reads.live;
+      not_failed = reads.not_failed;
       version = reads.version ∙ i.version;
       wanted = reads.wanted ∙ i.wanted;
       counted = omega (arith, reads.counted, i.counted, c.loop-documents-test.true);
@@ -45,28 +45,28 @@ loop-documents-preserved g c =
 pub returns-in-Ok-false-clause-ok : goal.returns-in-Ok-false-clause-ok
 returns-in-Ok-false-clause-ok g c =
     let i = c.loop-documents.invariant in
-    let reads = rw c.in-Ok-false.field-0-test at (c.in-Ok-false.ensures.reads i.live) in
+    let reads = rw c.in-Ok-false.field-0-test at (c.in-Ok-false.ensures.reads i.not_failed) in
     λ s k tree is. found_all (i.so_far s k tree is) _ refl refl (reads.one (i.source_is_known s)).0
 
 pub returns-in-Ok-false-clause-all : goal.returns-in-Ok-false-clause-all
 returns-in-Ok-false-clause-all g c =
     let i = c.loop-documents.invariant in
-    let reads = rw c.in-Ok-false.field-0-test at (c.in-Ok-false.ensures.reads i.live) in
+    let reads = rw c.in-Ok-false.field-0-test at (c.in-Ok-false.ensures.reads i.not_failed) in
     λ s. (reads.one (i.source_is_known s)).1
 
 pub returns-in-Ok-false-clause-source_failures : goal.returns-in-Ok-false-clause-source_failures
 returns-in-Ok-false-clause-source_failures g c =
     let i = c.loop-documents.invariant in
-    let reads = rw c.in-Ok-false.field-0-test at (c.in-Ok-false.ensures.reads i.live) in
+    let reads = rw c.in-Ok-false.field-0-test at (c.in-Ok-false.ensures.reads i.not_failed) in
     reads.failures ∙ i.source_failures
 
 pub returns-in-Ok-false-clause-source_is_known : goal.returns-in-Ok-false-clause-source_is_known
-returns-in-Ok-false-clause-source_is_known g c = λ s. (c.in-Ok-false.ensures.reads c.loop-documents.invariant.live).stays_known (c.loop-documents.invariant.source_is_known s)
+returns-in-Ok-false-clause-source_is_known g c = λ s. (c.in-Ok-false.ensures.reads c.loop-documents.invariant.not_failed).stays_known (c.loop-documents.invariant.source_is_known s)
 
 pub returns-in-Err-clause-err : goal.returns-in-Err-clause-err
 returns-in-Err-clause-err g c =
     let i = c.loop-documents.invariant in
-    let reads = c.in-Err.ensures.reads i.live in
+    let reads = c.in-Err.ensures.reads i.not_failed in
     λ s k tree is.
     let m = i.so_far s k tree is in
     found_stops m (errors.Read c.in-Err.error)
@@ -75,10 +75,10 @@ returns-in-Err-clause-err g c =
 pub returns-in-Err-clause-source_failures : goal.returns-in-Err-clause-source_failures
 returns-in-Err-clause-source_failures g c =
     let i = c.loop-documents.invariant in
-    counts_source c.in-Err.error _ i.source_failures (c.in-Err.ensures.reads i.live).failures
+    counts_source c.in-Err.error _ i.source_failures (c.in-Err.ensures.reads i.not_failed).failures
 
 pub returns-in-Err-clause-source_is_known : goal.returns-in-Err-clause-source_is_known
-returns-in-Err-clause-source_is_known g c = λ s. (c.in-Err.ensures.reads c.loop-documents.invariant.live).stays_known (c.loop-documents.invariant.source_is_known s)
+returns-in-Err-clause-source_is_known g c = λ s. (c.in-Err.ensures.reads c.loop-documents.invariant.not_failed).stays_known (c.loop-documents.invariant.source_is_known s)
 
 pub returns-clause-err : goal.returns-clause-err
 returns-clause-err g c = λ s k tree is.
@@ -88,7 +88,7 @@ returns-clause-err g c = λ s k tree is.
 pub returns-in-Err-find_in_document-clause-err : goal.returns-in-Err-find_in_document-clause-err
 returns-in-Err-find_in_document-clause-err g c =
     let i = c.loop-documents.invariant in
-    let reads = rw c.in-Ok-true.field-0-test at (c.in-Ok-true.ensures.reads i.live) in
+    let reads = rw c.in-Ok-true.field-0-test at (c.in-Ok-true.ensures.reads i.not_failed) in
     let error = c.in-Err-find_in_document.error in
     λ s k tree is.
     let m = i.so_far s k tree is in
@@ -103,11 +103,11 @@ returns-in-Err-find_in_document-clause-sink_failures g c =
 pub returns-in-Err-find_in_document-clause-source_failures : goal.returns-in-Err-find_in_document-clause-source_failures
 returns-in-Err-find_in_document-clause-source_failures g c =
     let i = c.loop-documents.invariant in
-    let reads = rw c.in-Ok-true.field-0-test at (c.in-Ok-true.ensures.reads i.live) in
+    let reads = rw c.in-Ok-true.field-0-test at (c.in-Ok-true.ensures.reads i.not_failed) in
     not_of_source c.in-Err-find_in_document.error c.in-Err-find_in_document.ensures.errors (reads.failures ∙ i.source_failures)
 
 pub returns-in-Err-find_in_document-clause-source_is_known : goal.returns-in-Err-find_in_document-clause-source_is_known
 returns-in-Err-find_in_document-clause-source_is_known g c =
     let i = c.loop-documents.invariant in
-    let reads = rw c.in-Ok-true.field-0-test at (c.in-Ok-true.ensures.reads i.live) in
+    let reads = rw c.in-Ok-true.field-0-test at (c.in-Ok-true.ensures.reads i.not_failed) in
     λ s. reads.stays_known (i.source_is_known s)

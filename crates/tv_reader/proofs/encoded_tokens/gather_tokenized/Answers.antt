@@ -20,4 +20,4 @@ unfolding tokenized_at
 returns g c =
     let text = string_bytes c.in_ok-text.text in
     let step = SoFar-step (λ content. counted_tokens_at content.1 >>= λ tokens. Ok ((content.0, tokens.0), tokens.1)) (λ _. refl) (SoFar-start _ _ _ _ _ tokenized_at tokenized_at (λ _. refl)) c.in_ok-text.ensures.takes in
-    record { takes = SoFar-returns read_stop (λ x. (string_bytes x.0, g.G.Gathers.tokens x.1)) (c.in_ok-text.text, c.in_ok-tokens.tokens) (λ _. refl) (SoFar-step (λ tokens. Ok ((text, tokens.0), tokens.1)) (λ _. refl) step c.in_ok-tokens.ensures.takes) }
+    record { takes = SoFar-returns read_stop (λ x. (string_bytes x.0, g.G.TokenBuffer.tokens x.1)) (c.in_ok-text.text, c.in_ok-tokens.tokens) (λ _. refl) (SoFar-step (λ tokens. Ok ((text, tokens.0), tokens.1)) (λ _. refl) step c.in_ok-tokens.ensures.takes) }

@@ -14,25 +14,25 @@ pub returns-in_err-token : goal.returns-in_err-token
 returns-in_err-token g c =
     let p = err_from_is_err_and c.from_residual.result c.from_residual.ensures.1 in
     let l = c.loop in
-    let prefix = g.G.Gathers.tokens l.tokens in
+    let prefix = g.G.TokenBuffer.tokens l.tokens in
     record { takes = rw (p.1, p.2) (SoFar-fails _ _ (λ x. with_prefix (prefix ++ x.0 ∷ []) (tokens_at (c.args.announced - (l.counter + 1)) x.1)) (next token_at prefix c.args.announced l.counter c.loop-test.true) l.invariant c.in_err-token.ensures.takes) }
 
 pub returns-in_err-put : goal.returns-in_err-put
 returns-in_err-put g c =
     let p = err_from_is_err_and c.from_residual-in_err-put.result c.from_residual-in_err-put.ensures.1 in
     let l = c.loop in
-    let prefix = g.G.Gathers.tokens l.tokens in
+    let prefix = g.G.TokenBuffer.tokens l.tokens in
     let step = SoFar-step (λ x. with_prefix (prefix ++ x.0 ∷ []) (tokens_at (c.args.announced - (l.counter + 1)) x.1)) (next token_at prefix c.args.announced l.counter c.loop-test.true) l.invariant c.in_ok-token.ensures.takes in
     record { takes = rw (p.1, p.2) (SoFar-stops read_stop _ Memory refl tt step) }
 
 pub loop-preserved : goal.loop-preserved
 loop-preserved g c =
     let l = c.loop in
-    let prefix = g.G.Gathers.tokens l.tokens in
+    let prefix = g.G.TokenBuffer.tokens l.tokens in
     let step = SoFar-step (λ x. with_prefix (prefix ++ x.0 ∷ []) (tokens_at (c.args.announced - (l.counter + 1)) x.1)) (next token_at prefix c.args.announced l.counter c.loop-test.true) l.invariant c.in_ok-token.ensures.takes in
     rw c.in_ok-put.ensures step
 
 pub returns : goal.returns
 returns g c =
     let l = c.loop in
-    record { takes = SoFar-returns read_stop _ _ (none token_at (g.G.Gathers.tokens l.tokens) c.args.announced l.counter (omega arith)) l.invariant }
+    record { takes = SoFar-returns read_stop _ _ (none token_at (g.G.TokenBuffer.tokens l.tokens) c.args.announced l.counter (omega arith)) l.invariant }

@@ -9,4 +9,4 @@ abbrev pub invariant-loop : goal.invariant-loop
 invariant-loop g l =
     let source = g.S.ByteSource in
     SoFar (told source.is_known) (λ p. source.left p.source) (λ p. p.count) (λ p. source.failures p.source) (record { source = l.initial.source; count = l.initial.count }) (record { source = l.source; count = l.count })
-    (tokens_at l.announced) (λ whole. with_prefix (g.G.Gathers.tokens l.tokens) (tokens_at (l.announced - l.counter) whole))
+    (tokens_at l.announced) (λ whole. with_prefix (g.G.TokenBuffer.tokens l.tokens) (tokens_at (l.announced - l.counter) whole))

@@ -19,7 +19,7 @@ returns-in-Ok-clause-finds g c =
     let begun : at.count ≡ c.first_count-first.result + d.count = c.recount.ensures.count ∙ ap (λ n. c.first_count-first.result + n) c.bytes_read-taken.ensures in
     let ended : new.count ≡ then.count - c.first_count-first.result = c.recount-2.ensures.count ∙ ap (λ n. n - c.first_count-first.result) c.bytes_read-count.ensures in
     let more = subst (λ r. ¬ IsDone r) (sym c.recount.ensures.reading) c.requires.more in
-    let h = c.in-Ok.ensures.steps.finds (c.recount.ensures.failed ∙ c.requires.live) more in
+    let h = c.in-Ok.ensures.steps.finds (c.recount.ensures.failed ∙ c.requires.not_failed) more in
     part_read c.first_count-first.result begun ended c.in-Ok.step _ (λ b x. Stepped v new.legacy_seen d.reading new.reading b) _ (IsMalformedNext v d.reading)
     (λ b. stepped_as _ _ _ _ _ _ _ _ b (ap version_of c.recount.ensures.version) (sym c.recount-2.ensures.seen) c.recount.ensures.reading (sym c.recount-2.ensures.reading)) h
 
@@ -33,7 +33,7 @@ returns-in-Err-clause-finds g c =
     let begun : at.count ≡ c.first_count-first.result + d.count = c.recount.ensures.count ∙ ap (λ n. c.first_count-first.result + n) c.bytes_read-taken.ensures in
     let ended : new.count ≡ then.count - c.first_count-first.result = c.recount-2.ensures.count ∙ ap (λ n. n - c.first_count-first.result) c.bytes_read-count.ensures in
     let more = subst (λ r. ¬ IsDone r) (sym c.recount.ensures.reading) c.requires.more in
-    let h = c.in-Err.ensures.steps.finds (c.recount.ensures.failed ∙ c.requires.live) more in
+    let h = c.in-Err.ensures.steps.finds (c.recount.ensures.failed ∙ c.requires.not_failed) more in
     let same = subst (λ n. IsTrue c.is_all.result ↔ (IsSome c.args.most × (n ≡ 2 ^ 64 - 1))) c.bytes_read-count.ensures c.is_all.ensures in
     part_refused c.first_count-first.result begun ended c.in-Err.error c.is_all.result c.refused.result c.args.most _ (λ b x. Stepped v new.legacy_seen d.reading new.reading b) _ (IsMalformedNext v d.reading)
     c.refused.ensures c.first_count-first.ensures.count same
@@ -45,7 +45,7 @@ returns-in-Err-clause-ends g c = λ known is.
     let at = c.recount.new.self in
     let v = version_of d.version in
     let more = subst (λ r. ¬ IsDone r) (sym c.recount.ensures.reading) c.requires.more in
-    let h = c.in-Err.ensures.steps.finds (c.recount.ensures.failed ∙ c.requires.live) more in
+    let h = c.in-Err.ensures.steps.finds (c.recount.ensures.failed ∙ c.requires.not_failed) more in
     let said : c.refused.result ≡ limited.Limit limit.Bytes = cc in
     part_early c.in-Err.error c.is_all.result c.refused.result _ _ (IsMalformedNext v d.reading) c.refused.ensures said
     (λ b f p. subst (λ r. IsMalformedNext v r b f) c.recount.ensures.reading (subst (λ z. IsMalformedNext (version_of z) at.reading b f) c.recount.ensures.version p)) h known
@@ -61,7 +61,7 @@ returns-in-Ok-clause-paid g c = λ known.
     let begun = c.recount.ensures.count ∙ ap (λ n. c.first_count-first.result + n) c.bytes_read-taken.ensures in
     let ended = c.recount-2.ensures.count ∙ ap (λ n. n - c.first_count-first.result) c.bytes_read-count.ensures in
     let more = subst (λ r. ¬ IsDone r) (sym c.recount.ensures.reading) c.requires.more in
-    let h = c.in-Ok.ensures.steps.finds (c.recount.ensures.failed ∙ c.requires.live) more in
+    let h = c.in-Ok.ensures.steps.finds (c.recount.ensures.failed ∙ c.requires.not_failed) more in
     recounted_paid c.args.decoder.now c.recount.new.self c.step-stepped.new.self c.recount-2.new.self c.first_count-first.result c.recount.ensures.reading begun c.recount-2.ensures.reading ended c.recount-2.ensures.seen c.recount.ensures.version c.recount.ensures.failed h.rises (c.in-Ok.ensures.paid known)
 
 pub returns-in-Err-clause-at_most : goal.returns-in-Err-clause-at_most
@@ -75,5 +75,5 @@ returns-in-Err-clause-paid g c = λ known.
     let begun = c.recount.ensures.count ∙ ap (λ n. c.first_count-first.result + n) c.bytes_read-taken.ensures in
     let ended = c.recount-2.ensures.count ∙ ap (λ n. n - c.first_count-first.result) c.bytes_read-count.ensures in
     let more = subst (λ r. ¬ IsDone r) (sym c.recount.ensures.reading) c.requires.more in
-    let h = c.in-Err.ensures.steps.finds (c.recount.ensures.failed ∙ c.requires.live) more in
+    let h = c.in-Err.ensures.steps.finds (c.recount.ensures.failed ∙ c.requires.not_failed) more in
     recounted_paid c.args.decoder.now c.recount.new.self c.step-stepped.new.self c.recount-2.new.self c.first_count-first.result c.recount.ensures.reading begun c.recount-2.ensures.reading ended c.recount-2.ensures.seen c.recount.ensures.version c.recount.ensures.failed h.rises (c.in-Err.ensures.paid known)

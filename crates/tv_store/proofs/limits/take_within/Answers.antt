@@ -17,7 +17,7 @@ returns-in_err-step-clause-finds g c =
     let v = version_of c.args.decoder.now.version in
     let l = c.loop in
     rw (p.1, p.2) (fails v (version_of l.decoder.version) (ap version_of l.invariant.version) c.args.decoder.now.reading l.decoder.reading _ c.step.new.self.legacy_seen c.step.new.self.reading (λ b x. Advances Legacy v c.args.decoder.now.reading c.step.new.self.reading b)
-    (l.decoder.sound l.invariant.live) l.invariant.more l.invariant.finds (c.in_err-step.ensures.steps.finds l.invariant.live l.invariant.more))
+    (l.decoder.sound l.invariant.not_failed) l.invariant.more l.invariant.finds (c.in_err-step.ensures.steps.finds l.invariant.not_failed l.invariant.more))
 
 pub returns-in_err-step-clause-full : goal.returns-in_err-step-clause-full
 returns-in_err-step-clause-full g c = λ told is.
@@ -32,22 +32,22 @@ returns-then-is_some-clause-finds g c =
     let v = version_of c.args.decoder.now.version in
     let l = c.loop in
     finds_as _ (λ b x. Advances Legacy v c.args.decoder.now.reading c.step.new.self.reading b) (IsMalformedNext v c.args.decoder.now.reading) (λ a s. s)
-    (goes_on v (version_of l.decoder.version) (ap version_of l.invariant.version) c.args.decoder.now.reading l.decoder.reading c.in_ok-step.step c.step.new.self.legacy_seen c.step.new.self.reading l.invariant.finds (c.in_ok-step.ensures.steps.finds l.invariant.live l.invariant.more))
+    (goes_on v (version_of l.decoder.version) (ap version_of l.invariant.version) c.args.decoder.now.reading l.decoder.reading c.in_ok-step.step c.step.new.self.legacy_seen c.step.new.self.reading l.invariant.finds (c.in_ok-step.ensures.steps.finds l.invariant.not_failed l.invariant.more))
 
 pub returns-in-Done-clause-finds : goal.returns-in-Done-clause-finds
 returns-in-Done-clause-finds g c =
     let v = version_of c.args.decoder.now.version in
     let l = c.loop in
     finds_as _ (λ b x. Advances Legacy v c.args.decoder.now.reading c.step.new.self.reading b) (IsMalformedNext v c.args.decoder.now.reading) (λ a s. s)
-    (goes_on v (version_of l.decoder.version) (ap version_of l.invariant.version) c.args.decoder.now.reading l.decoder.reading c.in_ok-step.step c.step.new.self.legacy_seen c.step.new.self.reading l.invariant.finds (c.in_ok-step.ensures.steps.finds l.invariant.live l.invariant.more))
+    (goes_on v (version_of l.decoder.version) (ap version_of l.invariant.version) c.args.decoder.now.reading l.decoder.reading c.in_ok-step.step c.step.new.self.legacy_seen c.step.new.self.reading l.invariant.finds (c.in_ok-step.ensures.steps.finds l.invariant.not_failed l.invariant.more))
 
 pub loop-preserved : goal.loop-preserved
 loop-preserved g c =
     let v = version_of c.args.decoder.now.version in
     let l = c.loop in
-    let did = c.in_ok-step.ensures.steps.finds l.invariant.live l.invariant.more in
+    let did = c.in_ok-step.ensures.steps.finds l.invariant.not_failed l.invariant.more in
     record {
-      live = search rules;
+      not_failed = search rules;
       more = search rules;
       version = c.in_ok-step.ensures.steps.version ∙ l.invariant.version;
       finds = goes_on v (version_of l.decoder.version) (ap version_of l.invariant.version) c.args.decoder.now.reading l.decoder.reading c.in_ok-step.step c.step.new.self.legacy_seen c.step.new.self.reading l.invariant.finds did;
@@ -58,4 +58,4 @@ pub returns-clause-finds : goal.returns-clause-finds
 returns-clause-finds g c =
     let v = version_of c.args.decoder.now.version in
     let l = c.loop in
-    too_many v (version_of l.decoder.version) (ap version_of l.invariant.version) c.args.decoder.now.reading l.decoder.reading l.counter (λ b x. Advances Legacy v c.args.decoder.now.reading l.decoder.reading b) (l.decoder.sound l.invariant.live) l.invariant.more (omega arith) (omega arith) l.invariant.counted l.invariant.finds
+    too_many v (version_of l.decoder.version) (ap version_of l.invariant.version) c.args.decoder.now.reading l.decoder.reading l.counter (λ b x. Advances Legacy v c.args.decoder.now.reading l.decoder.reading b) (l.decoder.sound l.invariant.not_failed) l.invariant.more (omega arith) (omega arith) l.invariant.counted l.invariant.finds

@@ -10,7 +10,7 @@ abbrev pub invariant-loop : goal.invariant-loop
 invariant-loop g l =
     let source = g.S.ByteSource in
     record {
-      live : l.decoder.failed ≡ false;
+      not_failed : l.decoder.failed ≡ false;
       more : ¬ IsDone l.decoder.reading;
       version : l.decoder.version ≡ l.initial.decoder.version;
       finds : Finds source l.initial.source l.initial.decoder.count l.source l.decoder.count (Ok l.decoder.reading) (Goes (version_of l.initial.decoder.version) l.initial.decoder.reading) Nothing;

@@ -15,7 +15,7 @@ loop-init g c =
         start = d.result;
         nothing = d.ensures.parts;
         uncounted = d.ensures.count;
-        live = d.ensures.not_failed;
+        not_failed = d.ensures.not_failed;
         same_version = d.ensures.version;
         stepped = (refl, refl);
       };

@@ -16,7 +16,7 @@ returns-clause-sound c =
     let d = c.args.document in
     let counted : c.len-finished.result ≡ length (document_of d) = omega (arith, c.len-finished.ensures, d.pairs.ok.0, document_length d) in
     let same = ap length c.new.ensures.document in
-    record { live = c.new.ensures.not_failed; counted = counted ∙ sym same; place = (omega (arith, counted, same), subst IsBetweenParts (sym c.new.ensures.state) tt) }
+    record { not_failed = c.new.ensures.not_failed; counted = counted ∙ sym same; place = (omega (arith, counted, same), subst IsBetweenParts (sym c.new.ensures.state) tt) }
 
 pub returns-clause-at_most : goal.returns-clause-at_most
 returns-clause-at_most c =

@@ -11,4 +11,4 @@ pub returns-in-Ok-clause-puts : goal.returns-in-Ok-clause-puts
 returns-in-Ok-clause-puts c =
     let r = c.args.self.now in
     let whole = finish_awaited (state_of r.builder) (sym c.awaits.ensures ∙ c.in-Finish.is) in
-    closed r _ c.in-Some-Some.field c.requires c.in-Some-Some.is-0 (finished r.builder c.finish.new.self c.in-Some-Some.field (Ok c.in-Ok.field-0) c.requires.live whole c.in-Ok.ensures) refl refl refl
+    closed r _ c.in-Some-Some.field c.requires c.in-Some-Some.is-0 (finished r.builder c.finish.new.self c.in-Some-Some.field (Ok c.in-Ok.field-0) c.requires.not_failed whole c.in-Ok.ensures) refl refl refl

@@ -25,7 +25,7 @@ returns-then-announced-gt0 c =
     let b = c.begin_bytes.new.self in
     let e = c.requires.next in
     let mid = with_builder r b in
-    let g = called r.builder b _ _ (λ s. and_head s c.args.kind c.args.announced) (Ok c.in_default.field-0) c.requires.sound.live e c.in_default.ensures in
+    let g = called r.builder b _ _ (λ s. and_head s c.args.kind c.args.announced) (Ok c.in_default.field-0) c.requires.sound.not_failed e c.in_default.ensures in
     let opened = call_opens r b _ _ _ (λ s. and_head s c.args.kind c.args.announced) [] c.in_default.field-0 c.requires e c.in_default.ensures (head_stands s c.args.kind c.args.announced e c.if-announced-gt0.true) in
     let more = stays mid opened (head_awaits_more s (state_of b) c.args.kind c.args.announced g.state e) in
     record {
@@ -38,7 +38,7 @@ put_end-requires c =
     let r = c.args.self.now in
     let b = c.begin_bytes.new.self in
     let e = c.requires.next in
-    let g = called r.builder b _ _ (λ s. and_head s c.args.kind c.args.announced) (Ok c.in_default.field-0) c.requires.sound.live e c.in_default.ensures in
+    let g = called r.builder b _ _ (λ s. and_head s c.args.kind c.args.announced) (Ok c.in_default.field-0) c.requires.sound.not_failed e c.in_default.ensures in
     let none : c.args.announced ≡ 0 = omega (arith, c.if-announced-gt0.false) in
     at_end r b (and_head (state_of r.builder) c.args.kind c.args.announced) c.requires.sound c.requires.field g (head_all (state_of r.builder) c.args.kind c.args.announced e none)
 
@@ -48,7 +48,7 @@ returns-clause-puts c =
     let s = state_of r.builder in
     let b = c.begin_bytes.new.self in
     let e = c.requires.next in
-    let g = called r.builder b _ _ (λ s. and_head s c.args.kind c.args.announced) (Ok c.in_default.field-0) c.requires.sound.live e c.in_default.ensures in
+    let g = called r.builder b _ _ (λ s. and_head s c.args.kind c.args.announced) (Ok c.in_default.field-0) c.requires.sound.not_failed e c.in_default.ensures in
     let content = subst HasContent (sym g.state) (head_content s c.args.kind c.args.announced e) in
     puts_from_end r (with_builder r b) c.put_end.new.self (bytes_head c.args.kind c.args.announced ∷ []) c.put_end.result
     (call_lead r b _ _ _ (λ s. and_head s c.args.kind c.args.announced) (bytes_head c.args.kind c.args.announced ∷ []) c.in_default.field-0 c.requires e c.in_default.ensures (head_trades s c.args.kind c.args.announced e)) content c.put_end.ensures.puts

@@ -9,7 +9,7 @@ use Rattle.tv_store.proofs.Resuming.{reads_on}
 use Rattle.tv_store.proofs.block.BlockReader.advance.Goals as goal
 
 pub returns-clause-ended : goal.returns-clause-ended
-returns-clause-ended g c = λ live told none.
+returns-clause-ended g c = λ not_failed told none.
     let s = g.S.ByteSource in
     let read = c.take_in_place-read in
     let next = c.next_of-next in

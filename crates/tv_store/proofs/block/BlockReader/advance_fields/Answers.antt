@@ -13,7 +13,7 @@ use Rattle.tv_store.proofs.Skips.{next_at_end, next_end, next_fewer, next_found}
 use Rattle.tv_store.proofs.block.BlockReader.advance_fields.Goals as goal
 
 pub returns-clause-end : goal.returns-clause-end
-returns-clause-end g c = λ live told is.
+returns-clause-end g c = λ not_failed told is.
     let s = g.S.ByteSource in
     let read = c.take_fields_in_place-read in
     let next = c.next_of-next in
@@ -23,7 +23,7 @@ returns-clause-end g c = λ live told is.
     next_end v next.result _ _ read.new.count (passed_of v c.args.fields.now next.result document _ _ read.new.count (h.found told)) (h.taken told) (next.ensures.end is) is
 
 pub returns-clause-ended : goal.returns-clause-ended
-returns-clause-ended g c = λ live told none.
+returns-clause-ended g c = λ not_failed told none.
     let s = g.S.ByteSource in
     let read = c.take_fields_in_place-read in
     let next = c.next_of-next in

@@ -12,7 +12,7 @@ use Rattle.tv_store.proofs.WithinLimits.{reads_within, stops_within}
 use Rattle.tv_store.proofs.block.BlockReader.advance_within.Goals as goal
 
 pub returns-clause-end : goal.returns-clause-end
-returns-clause-end g c = λ live told is.
+returns-clause-end g c = λ not_failed told is.
     let v = version_of c.args.self.now.version in
     let read = c.read_parts_in_place-read in
     let next = c.next_within-next in
@@ -21,7 +21,7 @@ returns-clause-end g c = λ live told is.
     said_end v c.args.limits _ _ read.new.count next.result document h (read.ensures.counted told) (next.ensures.end is) is
 
 pub returns-clause-ended : goal.returns-clause-ended
-returns-clause-ended g c = λ live told none.
+returns-clause-ended g c = λ not_failed told none.
     let v = version_of c.args.self.now.version in
     let read = c.read_parts_in_place-read in
     let next = c.next_within-next in
@@ -50,7 +50,7 @@ returns-clause-small g c = λ is.
     said_ok (¬ IsPast c.args.limits.heap_bytes (length (heap_of read.new.document))) read.result next.result read.new.document next.ensures.same read.ensures.small is
 
 pub returns-clause-none : goal.returns-clause-none
-returns-clause-none g c = λ live other.
+returns-clause-none g c = λ not_failed other.
     let read = c.read_parts_in_place-read in
     let next = c.next_within-next in
     said_none (document_of read.new.document ≡ []) read.result next.result read.new.document next.ensures.same read.ensures.none other

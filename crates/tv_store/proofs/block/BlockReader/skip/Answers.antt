@@ -11,13 +11,13 @@ use Rattle.tv_store.proofs.Resuming.{reads_on}
 use Rattle.tv_store.proofs.block.BlockReader.skip.Goals as goal
 
 pub returns-clause-end : goal.returns-clause-end
-returns-clause-end g c = λ live told is.
+returns-clause-end g c = λ not_failed told is.
     let v = version_of c.args.self.now.version in
     let h = of_pass v c.pass_document-passed.result c.next_of-next.result c.next_of-next.ensures.passed c.pass_document-passed.ensures.finds in
     next_end v _ _ _ _ (h.found told) (h.taken told) (c.next_of-next.ensures.end is) is
 
 pub returns-clause-ended : goal.returns-clause-ended
-returns-clause-ended g c = λ live told none.
+returns-clause-ended g c = λ not_failed told none.
     let v = version_of c.args.self.now.version in
     let next = c.next_of-next in
     let h = of_pass v c.pass_document-passed.result next.result next.ensures.passed c.pass_document-passed.ensures.finds in
