@@ -209,7 +209,7 @@ fails_now old new mid after e c =
     let prefix = same_prefix_kept old.building mid new.building old.kept old.failed new.failed after (Err e) old.kept_within c.left c.settled in
     let small = fits_of old.building (stands old) in
     record {
-      failed = c.settled.mark;
+      failed = c.settled.marked;
       document = built_same old new (ap (λ z. take z new.building.heap.items) c.kept ∙ prefix.0) c.pairs;
       pairs = c.pairs;
       kept = c.kept;

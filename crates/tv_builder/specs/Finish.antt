@@ -28,7 +28,7 @@ pub record Settled (old new : Building) (kept : ℕ) (failed failed_new : Bool) 
   pub ok : OnOk answer (new ≡ old)
   pub not_failed : OnOk answer (failed_new ≡ failed)
   pub err : OnErr answer (Empty (take kept old.heap.items) new)
-  pub mark : OnErr answer (failed_new ≡ true)
+  pub marked : OnErr answer (failed_new ≡ true)
 
 -- the complete value became that of a pair
 pub record Kept (old new : Building) (ps qs : List HeapPair) (kept f : ℕ) : Type 0 where

@@ -177,7 +177,7 @@ module _ {D S : Type 0} {source : Ghosts S} {IsKept : Document → Type 0} {want
       → (source.is_known source_old → Taken (source.left source_old) (source.left source_new) 0 new.taken)
       → CountsBy (λ e. CountsStop (store_stop e)) (as_read result document) (source.failures source_old) (source.failures source_new) → (source.is_known source_old → source.is_known source_new)
       → OnOk result (new.failed ≡ false) → OnErr result (new.failed ≡ true) → new.version ≡ old.version → ReadsNextOf wanted IsKept source source_old source_new old new said
-  next_told result said document is one fewer taken counts stays not_failed mark version =
+  next_told result said document is one fewer taken counts stays not_failed marked version =
       subst (λ (r : Result Bool LimitedReadError). ReadsNextOf wanted IsKept source source_old source_new old new r) (sym is)
       (record {
         one = one;
@@ -186,7 +186,7 @@ module _ {D S : Type 0} {source : Ghosts S} {IsKept : Document → Type 0} {want
         failures = told_counts result document _ _ counts;
         stays_known = stays;
         not_failed = told_ok result _ not_failed;
-        mark = told_err result _ mark;
+        marked = told_err result _ marked;
         version = version;
       })
 
@@ -210,7 +210,7 @@ module _ {S : Type 0} {source : Ghosts S} {IsKept : Document → Type 0} {source
         failures = reads.failures;
         stays_known = reads.stays_known;
         not_failed = ap (λ (r : BlockReader). r.failed) reader ∙ reads.not_failed;
-        mark = tt;
+        marked = tt;
         version = ap (λ (r : BlockReader). r.version) reader ∙ reads.version;
         wanted = same ∙ wanted;
       })
@@ -224,7 +224,7 @@ module _ {S : Type 0} {source : Ghosts S} {IsKept : Document → Type 0} {source
         failures = reads.failures;
         stays_known = reads.stays_known;
         not_failed = ap (λ (r : BlockReader). r.failed) reader ∙ reads.not_failed;
-        mark = tt;
+        marked = tt;
         version = ap (λ (r : BlockReader). r.version) reader ∙ reads.version;
         wanted = same ∙ wanted;
       })
@@ -238,7 +238,7 @@ module _ {S : Type 0} {source : Ghosts S} {IsKept : Document → Type 0} {source
         failures = reads.failures;
         stays_known = reads.stays_known;
         not_failed = tt;
-        mark = ap (λ (r : BlockReader). r.failed) reader ∙ reads.mark;
+        marked = ap (λ (r : BlockReader). r.failed) reader ∙ reads.marked;
         version = ap (λ (r : BlockReader). r.version) reader ∙ reads.version;
         wanted = same ∙ wanted;
       })

@@ -125,7 +125,7 @@ pub record ReadsCounted {S : Type 0} (IsKept : Document → Type 0) (source : Gh
   pub failures : Counts block_stop result (source.failures source_old) (source.failures source_new)
   pub stays_known : source.is_known source_old → source.is_known source_new
   pub not_failed : OnOk result (new.reader.failed ≡ false)
-  pub mark : OnErr result (new.reader.failed ≡ true)
+  pub marked : OnErr result (new.reader.failed ≡ true)
   pub version : new.reader.version ≡ old.reader.version
   pub wanted : new.wanted ≡ old.wanted
 
@@ -151,7 +151,7 @@ pub record ReadsNextOf {S : Type 0} (wanted : Wanted) (IsKept : Document → Typ
   pub failures : Counts limited_stop result (source.failures source_old) (source.failures source_new)
   pub stays_known : source.is_known source_old → source.is_known source_new
   pub not_failed : OnOk result (new.failed ≡ false)
-  pub mark : OnErr result (new.failed ≡ true)
+  pub marked : OnErr result (new.failed ≡ true)
   pub version : new.version ≡ old.version
 
 -- what is counted of what was read

@@ -61,12 +61,12 @@ module _ {S : Type 0} (source : Ghosts S) {source_old source_new : S} {old new :
       → OnErr answer (new.failed ≡ true) → new.failed ≡ false
       → Found store_stop (corrupted UnexpectedEnd) (λ b _. Stepped (version_of old.version) new.legacy_seen old.reading new.reading b) (IsMalformedNext (version_of old.version) old.reading) (source.left source_old) (source.left source_new) new.count answer
       → (all : List ℕ) × Encoded NoLegacy (version_of new.version) all (parts_read new.reading) × (new.count ≡ length all)
-  encoded_then (Ok step) bytes encoded counted none taken mark not_failed f = (
+  encoded_then (Ok step) bytes encoded counted none taken marked not_failed f = (
     bytes ++ f.prefix,
     subst (λ w. Encoded NoLegacy (version_of w) (bytes ++ f.prefix) (parts_read new.reading)) (sym h.version) (f.encoded.plain none bytes encoded),
     omega (arith, taken.counted, counted, ap length f.joined, ap length taken.joined, length-append bytes f.prefix, length-append f.prefix (source.left source_new), length-append taken.prefix (source.left source_new)),
   )
-  encoded_then (Err e) bytes encoded counted none taken mark not_failed found = absurd (both (sym not_failed ∙ mark))
+  encoded_then (Err e) bytes encoded counted none taken marked not_failed found = absurd (both (sym not_failed ∙ marked))
 
   -- a decoder that is paid for still is after the next step
   pub still_paid : StaysPaid old new → Sees old.reading (source.left source_old) old.legacy_seen new.legacy_seen → source.is_known source_old → (old.legacy_seen ≡ false → IsPaidFor old) → new.legacy_seen ≡ false → IsPaidFor new
@@ -82,7 +82,7 @@ module _ {S : Type 0} (source : Ghosts S) {source_old source_new : S} {old new :
               let so_far = p.encoded not_failed in
               record {
                 paid = subst (PaidBy new.reading.builder) (omega (arith, taken.counted, so_far.2)) (stays not_failed so_far.0 so_far.1 none);
-                encoded = λ is_live. encoded_then result so_far.0 so_far.1 so_far.2 none taken h.mark is_live (finds.found known);
+                encoded = λ is_live. encoded_then result so_far.0 so_far.1 so_far.2 none taken h.marked is_live (finds.found known);
               }
         ]
       ]

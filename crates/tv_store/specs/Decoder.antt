@@ -46,7 +46,7 @@ pub record Steps {E S : Type 0} (kind : Errors Refusal E) (MayStop : E → ℕ �
   pub full : source.is_known source_old → (e : E) → IsErrOf result e → kind.IsFull e → NoRoomBehind (version_of old.version) old.reading (source.left source_old)
   pub done : IfOk result (λ step. SaysDone step ↔ IsDone new.reading)
   pub not_failed : OnOk result (new.failed ≡ false)
-  pub mark : OnErr result (new.failed ≡ true)
+  pub marked : OnErr result (new.failed ≡ true)
   pub version : new.version ≡ old.version
 
 -- a step without limits

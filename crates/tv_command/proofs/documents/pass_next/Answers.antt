@@ -44,6 +44,6 @@ returns-else-is_unlimited-clause-reads g c = λ not_failed.
       failures = counts_within read.result document _ _ reads.failures;
       stays_known = reads.stays_known;
       not_failed = read.ensures.not_failed;
-      mark = read.ensures.failed;
+      marked = read.ensures.failed;
       version = read.ensures.version;
     })
