@@ -31,7 +31,7 @@ pub fn short_documents_encode()
         → EncodesDocument NoLegacy v (short_document v d) d }
 {}
 
-/// No encoding of a value is shorter than its shortest one.
+/// No encoding of a value is shorter than its shortest one. Objects in the legacy form don't count: they may be shorter.
 pub fn short_values_are_shortest()
     ensures { (v : Version) → IsWritten v → (t : Tree) (bytes : List ℕ)
         → Encodes NoLegacy v bytes t → length (short v t) ≤ length bytes }
