@@ -33,8 +33,9 @@ pub use tv_doc::laws::{
 };
 pub use tv_format::laws::{
     documents_have_one_reading, errors_of_documents_are_unique, errors_of_values_are_unique,
-    malformed_documents_derive_none, malformed_values_encode_none, short_documents_encode,
-    short_values_encode, values_have_one_reading,
+    malformed_documents_derive_none, malformed_values_encode_none, short_documents_are_shortest,
+    short_documents_encode, short_values_are_shortest, short_values_encode,
+    values_have_one_reading,
 };
 pub use tv_heap::laws::places_read_as_one_tree;
 pub use tv_indexing::laws::{terms_of_texts_are_of_no_other_value, texts_of_values_are_read_back};

@@ -7,5 +7,6 @@ pub mod SingleTrees
 pub mod DecidingLeaves
 pub mod DecidingTrees
 pub mod ShortEncodings
+pub mod Shortest
 pub mod Prefixes
 pub mod Lists

@@ -59,7 +59,7 @@ pub tokenized_of : (t : List ℕ) (ts : List Token) → IsText t → AreTokens t
 tokenized_of t ts p q = then _ _ (text_of t p) (then _ _ (vnum_encodes (length ts) (omega (arith, q.count))) (tokens_of ts q.each))
 
 -- in the versions that are written each number stands for itself
-written_scale : (v : Version) → IsWritten v → (t : LeafType) → scale v t ≡ plain
+pub written_scale : (v : Version) → IsWritten v → (t : LeafType) → scale v t ≡ plain
 written_scale V1 w t = absurd w
 written_scale V2 w types.Date = refl
 written_scale V2 w _ = refl

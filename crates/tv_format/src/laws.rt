@@ -1,6 +1,6 @@
 //! Laws of the store format, each the contract of a function that does nothing.
 
-ghost use Rattle.std.specs.Prelude.{◌≡◌, ℕ, ◌++◌, List};
+ghost use Rattle.std.specs.Prelude.{◌≡◌, ◌≤◌, ℕ, ◌++◌, List, length};
 ghost use Rattle.tv_base.specs.Parts.{OneReading};
 ghost use Rattle.tv_format.specs.InputError.{Refusal, ErrorInValue, ErrorInDocument};
 ghost use Rattle.tv_format.specs.InputError.{NoErrorInLegacy};
@@ -29,6 +29,18 @@ pub fn short_values_encode()
 pub fn short_documents_encode()
     ensures { (v : Version) → IsWritten v → (d : Document) → IsDocument d
         → EncodesDocument NoLegacy v (short_document v d) d }
+{}
+
+/// No encoding of a value is shorter than its shortest one. Objects in the legacy form don't count: they may be shorter.
+pub fn short_values_are_shortest()
+    ensures { (v : Version) → IsWritten v → (t : Tree) (bytes : List ℕ)
+        → Encodes NoLegacy v bytes t → length (short v t) ≤ length bytes }
+{}
+
+/// The same of documents.
+pub fn short_documents_are_shortest()
+    ensures { (v : Version) → IsWritten v → (d : Document) (bytes : List ℕ)
+        → EncodesDocument NoLegacy v bytes d → length (short_document v d) ≤ length bytes }
 {}
 
 /// Where bytes are malformed, no prefix of them encodes a value.
