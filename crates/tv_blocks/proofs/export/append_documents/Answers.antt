@@ -17,7 +17,7 @@ loop-reader-init c = record {
   not_failed = c.new-reader.ensures.not_failed;
   version = c.new-reader.ensures.version;
   so_far = subst (λ (l : List ℕ). PrintedSoFar c.args.schema.now (version_of c.args.version) c.args.block.now l (string_bytes c.args.text.now)) (sym c.new-source.ensures)
-      (printed_none c.args.schema.now (version_of c.args.version) c.args.block.now c.args.text.now.items c.requires);
+      (printed_none c.args.schema.now (version_of c.args.version) c.args.block.now (string_bytes c.args.text.now) c.requires);
 }
 
 pub loop-reader-preserved : goal.loop-reader-preserved
