@@ -14,12 +14,15 @@ use std::collections::BTreeMap;
 use std::convert::AsStr;
 use tv_value::nested::{Nested, NestedValue};
 
-// Whether a key is below another in byte order.
+// Whether a key is below another in byte order. Where their first bytes differ, these decide.
 #[inline(always)]
 fn is_below(key: &str, other: &str) -> bool
     ensures { IsTrue result ↔ Below key.now other.now }
 {
-    compare(key, other) == Ordering::Less
+    match (key.as_bytes().first(), other.as_bytes().first()) {
+        (Some(one), Some(two)) if one != two => one < two,
+        _ => compare(key, other) == Ordering::Less,
+    }
 }
 
 // Whether each key is below the next in byte order.
