@@ -1,6 +1,7 @@
 mod Checks
 mod NextDocuments
 mod Prints
+mod Pieces
 mod Lines
 mod WholeImports
 mod Finds

@@ -1,4 +1,5 @@
 pub mod Importing
+pub mod Pieces
 pub mod WholeImports
 pub mod Refusals
 pub mod Reading

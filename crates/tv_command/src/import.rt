@@ -1,18 +1,17 @@
 //! Lines of JSON to stored documents.
 
-ghost use Rattle.std.specs.Prelude.{◌≡◌, ◌∷◌, ◌++◌, [], ℕ, List, IfErr, IfOk, IfSome, OnErr, OnOk, length, nat_lt};
+ghost use Rattle.std.specs.Prelude.{◌≡◌, ◌++◌, IfOk, IfSome, OnErr, OnOk, length};
 ghost use Rattle.tv_base.specs.Sink.{AppendsPrefix};
 ghost use Rattle.tv_base.specs.Stop.{Counts};
-ghost use Rattle.tv_command.specs.Importing.{CountsTaken, HasTaken, Imports, IsParsed, LeavesBegun, ParsesBy};
-ghost use Rattle.tv_command.specs.Importing.{IsOfReading, import_stop};
+ghost use Rattle.tv_command.specs.Importing.{CountsTaken, Imports, IsParsed, LeavesBegun, ParsesBy, import_stop};
 ghost use Rattle.tv_doc.specs.Belongs.{Belongs};
 ghost use Rattle.tv_doc.specs.Document.{document_of};
 ghost use Rattle.tv_doc.specs.InPlace.{in_place};
 ghost use Rattle.tv_format.specs.Short.{short_document};
 ghost use Rattle.tv_format.specs.WriteVersion.{written_version};
-ghost use Rattle.tv_lines.specs.Lines.{IsUnbroken};
 ghost use Rattle.tv_store.specs.Stored.{stored};
 
+use crate::line::take_line;
 use std::alloc::{AllocError, Global};
 use std::io;
 use std::io::BufRead;
@@ -74,37 +73,6 @@ pub struct ImportRules {
     pub version: WriteVersion,
     /// Whether each key of a line's object has to name a field, and none may stand twice. Else a key that no field has is skipped.
     pub strict: bool,
-}
-
-// Takes the line feed off the end, if one stands there.
-fn strip_feed(line: &mut Vec<u8>)
-    ensures ended { (before : List ℕ) → line.old.items ≡ before ++ 10 ∷ []
-        → line.new.items ≡ before }
-    ensures other { IsUnbroken line.old.items → line.new.items ≡ line.old.items }
-{
-    let len = line.len();
-    if len > 0 && line[len - 1] == b'\n' {
-        line.truncate(len - 1);
-    }
-}
-
-// Takes the next line, without its line feed, in place of what `line` holds. Says how many bytes were taken: none where there was no line.
-fn take_line<R: BufRead>(reader: &mut R, line: &mut Vec<u8>) -> Result<u64, ImportError>
-    ensures taken { IfSome (R.remaining reader.old)
-        (λ input. IfOk result (λ count. HasTaken input line.new.items (R.remaining reader.new)
-        (nat_lt 0 count))) }
-    ensures counted { IfSome (R.remaining reader.old)
-        (λ input. IfOk result (CountsTaken input (R.remaining reader.new))) }
-    ensures errors { IfErr result IsOfReading }
-{
-    line.clear();
-    match reader.read_until(b'\n', line) {
-        Ok(count) => {
-            strip_feed(line);
-            Ok(count as u64)
-        }
-        Err(error) => Err(ImportError::Read(error.kind())),
-    }
 }
 
 // Puts the document of a text in place of one that is there.

@@ -9,6 +9,7 @@ pub mod export;
 pub mod find;
 pub mod import;
 pub mod imports;
+mod line;
 pub mod migrate;
 pub mod report;
 pub mod runs;
