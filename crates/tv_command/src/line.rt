@@ -9,7 +9,7 @@ use memchr::memchr;
 use std::io;
 use std::io::BufRead;
 
-// What stands behind a piece of a line.
+// What comes after a piece of a line.
 enum Piece {
     // More of the line may follow.
     Open,
