@@ -192,15 +192,18 @@ pub(crate) fn merged_all<F: Read + Drop>(
 // How many of the last runs are merged next, which is at least two where there are as many, and how many merges the greatest of them has been through:
 // those that have been through as many as the last but one, or fewer.
 fn to_merge<F>(runs: &[Run<F>]) -> (usize, u32) {
-    let merges = match runs.iter().rev().nth(1) {
-        Some(run) => run.merges,
-        None => 0,
-    };
-    let number = runs
-        .iter()
-        .rev()
-        .take_while(|run| run.merges <= merges)
-        .count();
+    let mut merges = 0;
+    if runs.len() > 1 {
+        if let Some(run) = runs.get(runs.len() - 2) {
+            merges = run.merges;
+        }
+    }
+    let mut number: usize = 0;
+    for run in runs {
+        if run.merges <= merges {
+            number = number.saturating_add(1);
+        }
+    }
     (number, merges)
 }
 
