@@ -4,8 +4,10 @@ use clap::{Arg, ArgAction, Command};
 use std::alloc::{AllocError, Global};
 
 // A line for each word: its key, its kind, its name, what its value is called, and its help. An option has its name after two hyphens.
-const WORDS: &str = "show.FILE|argument|FILE|FILE|The schema's JSON; - is the standard input
-new.FIELD|several|FIELD|NAME:TYPE[:OPTION,..]|Types: text, string, u64, i64, bool, date, facet, bytes, json, ip. Options: indexed, stored, fast; texts and facets always are indexed
+const WORDS: &str = "\
+show.FILE|argument|FILE|FILE|The schema's JSON; - is the standard input
+new.FIELD|several|FIELD|NAME:TYPE[:OPTION,..]|Types: text, string, u64, i64, bool, date, facet, bytes, json, ip. \
+Options: indexed, stored, fast; texts and facets always are indexed
 schema|required|schema|FILE|The schema's JSON, as tantivy writes it
 import.FILE|any|FILE|FILE|Files of lines; - or none is the standard input
 output|output|output|FILE|Where the result goes; - is the standard output
@@ -96,8 +98,8 @@ fn cut(text: &'static str, separator: &str) -> (&'static str, &'static str) {
     text.split_once(separator).unwrap_or((text, ""))
 }
 
-// The word of this key.
-fn word_of(key: &str) -> Word {
+// The line of a word, after its key.
+fn line_of(key: &str) -> &'static str {
     let mut line = "";
     for words in WORDS.split('\n') {
         let (found, rest) = cut(words, "|");
@@ -105,6 +107,11 @@ fn word_of(key: &str) -> Word {
             line = rest;
         }
     }
+    line
+}
+
+// The word of a line.
+fn word_of(line: &'static str) -> Word {
     let (kind, rest) = cut(line, "|");
     let (name, rest) = cut(rest, "|");
     let (value, help) = cut(rest, "|");
@@ -159,37 +166,53 @@ fn values<'a>(alloc: Global, word: &Word, least: usize) -> Arg<'a> {
         .action(ArgAction::Append)
 }
 
-// An option or an argument.
-fn arg<'a>(alloc: Global, word: &Word) -> Result<Arg<'a>, AllocError> {
-    Ok(match word.kind {
-        // an option without a value
-        "flag" => flag(alloc, word),
-        // one that can't stand beside `--quiet`
-        "loud" => flag(alloc, word).conflicts_with("quiet")?,
-        "option" => option(alloc, word),
-        "required" => option(alloc, word).required(true),
-        "number" => option(alloc, word).value_parser(clap::value_parser!(u64)),
-        // a version of the store that is read
-        "version" => with_versions(with_default(alloc, word, "2"), false),
-        "from" => with_versions(option(alloc, word).required(true), false),
-        // one that is written
-        "written" => with_versions(with_default(alloc, word, "2"), true),
-        "to" => with_versions(option(alloc, word).required(true), true),
-        "output" => with_default(alloc, word, "-").short('o'),
-        "memory" => with_default(alloc, word, "256M"),
+// An argument of a kind.
+fn positional<'a>(alloc: Global, word: &Word) -> Arg<'a> {
+    match word.kind {
         "argument" => valued(alloc, word).required(true),
-        // arguments
         "any" => values(alloc, word, 0),
         "several" => values(alloc, word, 1),
         _ => values(alloc, word, 1).value_parser(clap::value_parser!(u64)),
-    })
+    }
+}
+
+// An option whose value is a version of the store: one that is read, or one that is written.
+fn versioned<'a>(alloc: Global, word: &Word) -> Arg<'a> {
+    match word.kind {
+        "version" => with_versions(with_default(alloc, word, "2"), false),
+        "from" => with_versions(option(alloc, word).required(true), false),
+        "written" => with_versions(with_default(alloc, word, "2"), true),
+        _ => with_versions(option(alloc, word).required(true), true),
+    }
+}
+
+// An option of another kind, with a value.
+fn other<'a>(alloc: Global, word: &Word) -> Arg<'a> {
+    match word.kind {
+        "required" => option(alloc, word).required(true),
+        "number" => option(alloc, word).value_parser(clap::value_parser!(u64)),
+        "output" => with_default(alloc, word, "-").short('o'),
+        "memory" => with_default(alloc, word, "256M"),
+        _ => option(alloc, word),
+    }
+}
+
+// An option or an argument. A loud option can't stand beside `--quiet`.
+fn arg<'a>(alloc: Global, word: &Word) -> Result<Arg<'a>, AllocError> {
+    match word.kind {
+        "flag" => Ok(flag(alloc, word)),
+        "loud" => flag(alloc, word).conflicts_with("quiet"),
+        "argument" | "any" | "several" | "numbers" => Ok(positional(alloc, word)),
+        "version" | "from" | "written" | "to" => Ok(versioned(alloc, word)),
+        _ => Ok(other(alloc, word)),
+    }
 }
 
 // The arguments of these keys.
 fn args<'a>(alloc: Global, keys: &'static str) -> Result<Vec<Arg<'a>>, AllocError> {
     let mut args = Vec::new(alloc);
     for key in keys.split(' ') {
-        args.push(arg(alloc, &word_of(key))?)?;
+        args.push(arg(alloc, &word_of(line_of(key)))?)?;
     }
     Ok(args)
 }

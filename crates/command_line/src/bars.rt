@@ -9,7 +9,7 @@ use tantivy_schema::schema::FacetCount;
 const LONGEST: u64 = 40;
 
 // How wide the columns of a table are, in characters, and its greatest count.
-#[derive(Clone, Copy, Default)]
+#[derive(Clone, Copy)]
 struct Columns {
     child: usize,
     count: usize,
@@ -71,7 +71,11 @@ fn line_of(alloc: Global, count: &FacetCount<'_>) -> Result<String, AllocError> 
 
 // Columns that are wide enough for these counts.
 fn columns_of(alloc: Global, counts: &[FacetCount<'_>]) -> Result<Columns, AllocError> {
-    let mut columns = Columns::default();
+    let mut columns = Columns {
+        child: 0,
+        count: 0,
+        greatest: 0,
+    };
     for count in counts {
         columns = widened(columns, line_of(alloc, count)?.as_str(), count.count);
     }

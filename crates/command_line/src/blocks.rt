@@ -2,10 +2,10 @@
 
 use crate::ending::{Ending, Failure, System, failed, write_failed, wrong_use};
 use crate::files::{create, finish};
-use crate::inputs::{limits, schema_given, source, text, version};
+use crate::inputs::{limits, schema_given, source, source_from, text, version};
 use crate::pretty::{export_pretty, pretty_text};
 use crate::progress::Progress;
-use crate::starts::{open_at, start_of};
+use crate::starts::{Start, start_of};
 use clap::ArgMatches;
 use std::alloc::Global;
 use std::io::{Eprint, Print};
@@ -100,24 +100,26 @@ fn pass<S: ByteSource>(
     Ok(true)
 }
 
-// The text of JSON of the document of this number, if the block has it.
-fn document<R: System>(
-    rt: &R,
+// The text of JSON of the document of this number, if the source has it, which begins at this place of the block.
+fn read_document<S: ByteSource>(
+    alloc: Global,
     given: &ArgMatches<'_>,
     schema: &Schema,
+    source: &mut S,
+    start: Start,
     number: u64,
 ) -> Result<Option<String>, Failure> {
-    let alloc = rt.alloc();
-    let Some(start) = start_of(rt, given, number)? else {
-        return Ok(None);
-    };
-    let (mut source, mut reader) = open_at(rt, given, start)?;
-    let read = match pass(
-        &mut reader,
-        &mut source,
-        number.saturating_sub(start.documents),
-    ) {
-        Ok(true) => reader.advance(&mut source),
+    let wanted = Wanted::All(limits(given));
+    let version = version(given, "version");
+    let mut reader = DocumentReader::starting_at(
+        alloc,
+        version,
+        wanted,
+        start.documents,
+        start.byte,
+    );
+    let read = match pass(&mut reader, source, number.saturating_sub(start.documents)) {
+        Ok(true) => reader.advance(source),
         other => other,
     };
     match read {
@@ -125,6 +127,20 @@ fn document<R: System>(
         Ok(false) => Ok(None),
         Err(error) => Err(failed(alloc, text(given, "BLOCK"), error)),
     }
+}
+
+// The text of JSON of the document of this number, if the block has it.
+fn document<R: System>(
+    rt: &R,
+    given: &ArgMatches<'_>,
+    schema: &Schema,
+    number: u64,
+) -> Result<Option<String>, Failure> {
+    let Some(start) = start_of(rt, given, number)? else {
+        return Ok(None);
+    };
+    let mut source = source_from(rt, text(given, "BLOCK"), start.byte)?;
+    read_document(rt.alloc(), given, schema, &mut source, start, number)
 }
 
 // Prints the text of a document, as it stands or over several lines.
@@ -168,6 +184,34 @@ pub(crate) fn get<R: System>(rt: &R, given: &ArgMatches<'_>) -> Result<Ending, F
     Ok(ending)
 }
 
+// Whether bytes were refused, and not a read or memory.
+fn is_of_bytes(error: &LimitedReadError) -> bool {
+    !matches!(
+        error,
+        LimitedReadError::Read(DeserializeError::Io(_) | DeserializeError::Memory)
+    )
+}
+
+// What is printed of a block that was tested.
+fn verdict(
+    alloc: Global,
+    name: &str,
+    checked: Result<u64, BlockError>,
+) -> Result<(Ending, String), Failure> {
+    match checked {
+        Ok(documents) => {
+            let line = format!(in alloc; "{name}: all right, {documents} documents")?;
+            Ok((Ending::Done, line))
+        }
+        Err(refused) => {
+            if !is_of_bytes(&refused.error) {
+                return Err(failed(alloc, name, refused));
+            }
+            Ok((Ending::Refused, format!(in alloc; "{name}: {refused}")?))
+        }
+    }
+}
+
 /// Tests a block.
 pub(crate) fn check<R: System>(rt: &R, given: &ArgMatches<'_>) -> Result<Ending, Failure> {
     let name = text(given, "BLOCK");
@@ -176,26 +220,7 @@ pub(crate) fn check<R: System>(rt: &R, given: &ArgMatches<'_>) -> Result<Ending,
     let (version, limits) = (version(given, "version"), limits(given));
     let checked = check_block(rt.alloc(), version, limits, &mut source, &mut progress);
     progress.end();
-    match checked {
-        Ok(documents) => {
-            print_line(
-                rt,
-                format!(in rt.alloc(); "{name}: all right, {documents} documents")?.as_str(),
-            )?;
-            Ok(Ending::Done)
-        }
-        Err(refused) if is_of_bytes(&refused.error) => {
-            print_line(rt, format!(in rt.alloc(); "{name}: {refused}")?.as_str())?;
-            Ok(Ending::Refused)
-        }
-        Err(refused) => Err(failed(rt.alloc(), name, refused)),
-    }
-}
-
-// Whether bytes were refused, and not a read or memory.
-fn is_of_bytes(error: &LimitedReadError) -> bool {
-    !matches!(
-        error,
-        LimitedReadError::Read(DeserializeError::Io(_) | DeserializeError::Memory)
-    )
+    let (ending, line) = verdict(rt.alloc(), name, checked)?;
+    print_line(rt, line.as_str())?;
+    Ok(ending)
 }

@@ -124,8 +124,10 @@ pub(crate) fn find<R: System>(rt: &R, given: &ArgMatches<'_>) -> Result<Ending, 
             print_found(rt, given, &schema, &query)?;
             Ok(Ending::Done)
         }
-        Err(error) if error.reason == QueryReason::Memory => Err(Failure::Memory),
         Err(error) => {
+            if matches!(error.reason, QueryReason::Memory) {
+                return Err(Failure::Memory);
+            }
             report(rt, words, &error)?;
             Ok(Ending::WrongUse)
         }

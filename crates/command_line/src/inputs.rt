@@ -54,15 +54,17 @@ fn seek_to<F: Seek>(alloc: Global, name: &str, file: &mut F, start: u64) -> Resu
     Ok(())
 }
 
-/// A source of the bytes of a file from this byte on. A file that has no byte there is refused.
+/// A source of the bytes of a file from this byte on. A file that has no byte there is refused, unless that is its first.
 pub(crate) fn source_from<R: System>(
     rt: &R,
     name: &str,
     start: u64,
 ) -> Result<BufferedSource<Origin<R>>, Failure> {
     let mut origin = open(rt, name)?;
-    if let Either::Left(file) = &mut origin {
-        seek_to(rt.alloc(), name, file, start)?;
+    if start > 0 {
+        if let Either::Left(file) = &mut origin {
+            seek_to(rt.alloc(), name, file, start)?;
+        }
     }
     Ok(BufferedSource::with_capacity(rt.alloc(), PIECE, origin)?)
 }
@@ -115,8 +117,9 @@ pub(crate) fn limits(given: &ArgMatches<'_>) -> ReadLimits {
     ReadLimits {
         bytes: given.get_one::<u64>("limit-bytes"),
         heap_bytes: None,
-        depth: given
-            .get_one::<u64>("limit-depth")
-            .map(|depth| u32::try_from(depth).unwrap_or(u32::MAX)),
+        depth: match given.get_one::<u64>("limit-depth") {
+            Some(depth) => Some(u32::try_from(depth).unwrap_or(u32::MAX)),
+            None => None,
+        },
     }
 }

@@ -1,20 +1,24 @@
 //! Where a document of a block begins, by a file of offsets.
 
 use crate::ending::{Failure, System, failed, of_file};
-use crate::inputs::{Origin, limits, open, source, source_from, text, version};
+use crate::inputs::{open, text};
 use clap::ArgMatches;
 use either::Either;
 use std::alloc::Global;
 use std::io::{Read, Seek, SeekFrom};
-use tantivy_schema::common::BufferedSource;
-use tv_command::documents::{DocumentReader, Wanted};
 
 /// A place in a block, with the number of the documents before it.
-#[derive(Clone, Copy, Default)]
+#[derive(Clone, Copy)]
 pub(crate) struct Start {
     pub(crate) documents: u64,
     pub(crate) byte: u64,
 }
+
+// The place of the first document.
+const FIRST: Start = Start {
+    documents: 0,
+    byte: 0,
+};
 
 // The number of this index in a file of numbers of eight bytes, if it has as many.
 fn offset_in<F: Read + Seek>(
@@ -51,37 +55,15 @@ pub(crate) fn start_of<R: System>(
     given: &ArgMatches<'_>,
     number: u64,
 ) -> Result<Option<Start>, Failure> {
-    match given.get_str("offsets") {
-        Some(name) if text(given, "BLOCK") != "-" => Ok(offset(rt, name, number)?.map(
-            |byte| Start {
-                documents: number,
-                byte,
-            },
-        )),
-        _ => Ok(Some(Start::default())),
-    }
-}
-
-/// The block that the words name from this place on, and a reader of its documents within their limits.
-pub(crate) fn open_at<R: System>(
-    rt: &R,
-    given: &ArgMatches<'_>,
-    start: Start,
-) -> Result<(BufferedSource<Origin<R>>, DocumentReader), Failure> {
-    let name = text(given, "BLOCK");
-    let source = if start.byte == 0 {
-        source(rt, name)?
-    } else {
-        source_from(rt, name, start.byte)?
+    let Some(name) = given.get_str("offsets") else {
+        return Ok(Some(FIRST));
     };
-    let wanted = Wanted::All(limits(given));
-    let version = version(given, "version");
-    let reader = DocumentReader::starting_at(
-        rt.alloc(),
-        version,
-        wanted,
-        start.documents,
-        start.byte,
-    );
-    Ok((source, reader))
+    if text(given, "BLOCK") == "-" {
+        return Ok(Some(FIRST));
+    }
+    let documents = number;
+    match offset(rt, name, number)? {
+        Some(byte) => Ok(Some(Start { documents, byte })),
+        None => Ok(None),
+    }
 }

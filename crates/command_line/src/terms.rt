@@ -78,12 +78,15 @@ impl<R: System> Visit for Counting<R> {
 // The terms of a field that are asked for: those of a range, those that begin with the term of a text, or all.
 fn wanted(alloc: Global, given: &ArgMatches<'_>, schema: &Schema) -> Result<Selection, Failure> {
     let path = text(given, "FIELD");
-    let wanted = match (given.get_str("range"), given.get_str("prefix")) {
-        (Some(_), Some(_)) => {
-            return Err(wrong_use(alloc, "--prefix", "it can't stand beside --range"));
+    let range = given.get_str("range");
+    let wanted = match given.get_str("prefix") {
+        Some(prefix) => {
+            if range.is_some() {
+                return Err(wrong_use(alloc, "--prefix", "it can't stand beside --range"));
+            }
+            Wanted::Prefix(prefix)
         }
-        (None, Some(prefix)) => Wanted::Prefix(prefix),
-        (range, None) => Wanted::Range(range.unwrap_or("*")),
+        None => Wanted::Range(range.unwrap_or("*")),
     };
     match Selection::of(alloc, schema, path, wanted) {
         Ok(selection) => Ok(selection),
