@@ -100,14 +100,13 @@ fn cut(text: &'static str, separator: &str) -> (&'static str, &'static str) {
 
 // The line of a word, after its key.
 fn line_of(key: &str) -> &'static str {
-    let mut line = "";
     for words in WORDS.split('\n') {
         let (found, rest) = cut(words, "|");
         if found == key {
-            line = rest;
+            return rest;
         }
     }
-    line
+    ""
 }
 
 // The word of a line.
@@ -222,10 +221,11 @@ fn command_of<'a>(alloc: Global, text: &'static str) -> Result<Command<'a>, Allo
     let (head, rest) = cut(text, "\n");
     let (name, about) = cut(head, "|");
     let (keys, example) = cut(rest, "\n");
+    let args = args(alloc, keys)?;
     Command::new(alloc, name)
         .about(about)
         .after_help(example)
-        .args(args(alloc, keys)?)
+        .args(args)
 }
 
 // Adds the commands of texts to commands.
@@ -240,14 +240,13 @@ fn push_commands<'a>(
     Ok(())
 }
 
-// A command with this name and commands below it.
+// A command with commands below it, and what it does.
 fn with_commands<'a>(
-    alloc: Global,
-    name: &'static str,
+    command: Command<'a>,
     about: &'static str,
     below: Vec<Command<'a>>,
 ) -> Result<Command<'a>, AllocError> {
-    Command::new(alloc, name)
+    command
         .about(about)
         .subcommand_required(true)
         .subcommands(below)
@@ -257,7 +256,11 @@ fn with_commands<'a>(
 fn schema<'a>(alloc: Global) -> Result<Command<'a>, AllocError> {
     let mut below = Vec::new(alloc);
     push_commands(alloc, &mut below, &BELOW_SCHEMA)?;
-    with_commands(alloc, "schema", "Shows and makes schemas", below)
+    with_commands(
+        Command::new(alloc, "schema"),
+        "Shows and makes schemas",
+        below,
+    )
 }
 
 /// The command with its words.
@@ -265,6 +268,10 @@ pub(crate) fn command<'a>(alloc: Global) -> Result<Command<'a>, AllocError> {
     let mut below = Vec::new(alloc);
     below.push(schema(alloc)?)?;
     push_commands(alloc, &mut below, &COMMANDS)?;
-    let about = "Stored documents, schemas and terms of tantivy 0.26";
-    Ok(with_commands(alloc, "kormaglen", about, below)?.version("0.1.0"))
+    let command = Command::new(alloc, "kormaglen").version("0.1.0");
+    with_commands(
+        command,
+        "Stored documents, schemas and terms of tantivy 0.26",
+        below,
+    )
 }
