@@ -9,7 +9,7 @@ use tantivy_schema::schema::FacetCount;
 const LONGEST: u64 = 40;
 
 // How wide the columns of a table are, in characters, and its greatest count.
-#[derive(Clone, Copy, Default)]
+#[derive(Clone, Copy)]
 struct Columns {
     child: usize,
     count: usize,
@@ -64,25 +64,34 @@ fn row(alloc: Global, columns: Columns, line: &str, count: u64) -> Result<String
     Ok(row)
 }
 
-// The line of each count.
-fn lines_of(alloc: Global, counts: &[FacetCount<'_>]) -> Result<Vec<String>, AllocError> {
-    let mut lines = Vec::with_capacity(alloc, counts.len())?;
+// The line of a count.
+fn line_of(alloc: Global, count: &FacetCount<'_>) -> Result<String, AllocError> {
+    format!(in alloc; "{count}")
+}
+
+// Columns that are wide enough for these counts.
+fn columns_of(alloc: Global, counts: &[FacetCount<'_>]) -> Result<Columns, AllocError> {
+    let mut columns = Columns {
+        child: 0,
+        count: 0,
+        greatest: 0,
+    };
     for count in counts {
-        lines.push(format!(in alloc; "{count}")?)?;
+        columns = widened(columns, line_of(alloc, count)?.as_str(), count.count);
     }
-    Ok(lines)
+    Ok(columns)
 }
 
 /// Prints counts as a table: each child, a bar as long as its share of the greatest count, and the count. The columns are aligned by characters.
 pub(crate) fn print_table<R: System>(rt: &R, counts: &[FacetCount<'_>]) -> Result<(), Failure> {
-    let lines = lines_of(rt.alloc(), counts)?;
-    let mut columns = Columns::default();
-    for (line, count) in lines.iter().zip(counts.iter()) {
-        columns = widened(columns, line.as_str(), count.count);
-    }
-    for (line, count) in lines.iter().zip(counts.iter()) {
-        let row = row(rt.alloc(), columns, line.as_str(), count.count)?;
-        print_line(rt, row.as_str())?;
+    let alloc = rt.alloc();
+    let columns = columns_of(alloc, counts)?;
+    for count in counts {
+        let line = line_of(alloc, count)?;
+        print_line(
+            rt,
+            row(alloc, columns, line.as_str(), count.count)?.as_str(),
+        )?;
     }
     Ok(())
 }

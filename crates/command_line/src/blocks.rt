@@ -1,30 +1,28 @@
-//! `export`, `get`, `check` and `stat`.
+//! `export`, `get` and `check`.
 
-use crate::depth::deepest_of;
 use crate::ending::{Ending, Failure, System, failed, write_failed, wrong_use};
 use crate::files::{create, finish};
-use crate::inputs::{documents, limits, schema_given, source, text, version};
+use crate::inputs::{limits, schema_given, source, source_from, text, version};
 use crate::pretty::{export_pretty, pretty_text};
 use crate::progress::Progress;
-use crate::starts::{open_at, start_of};
+use crate::starts::{Start, start_of};
 use clap::ArgMatches;
 use std::alloc::Global;
 use std::io::{Eprint, Print};
 use tantivy_schema::common::{ByteSink, ByteSource};
 use tantivy_schema::schema::document::DeserializeError;
-use tantivy_schema::schema::{Document, Schema, TantivyDocument};
+use tantivy_schema::schema::{Document, Schema};
 use tantivy_schema::store::LimitedReadError;
 use tv_command::check::check_block;
 use tv_command::documents::{BlockError, DocumentReader, Wanted};
 use tv_command::export::{ExportError, export_block};
-use tv_command::watch::Watch;
 
 // What broke an export off.
-fn broken<R: System>(rt: &R, given: &ArgMatches<'_>, error: ExportError) -> Failure {
+fn broken(alloc: Global, given: &ArgMatches<'_>, error: ExportError) -> Failure {
     match error {
-        ExportError::Write(kind) => write_failed(rt.alloc(), text(given, "output"), kind),
+        ExportError::Write(kind) => write_failed(alloc, text(given, "output"), kind),
         ExportError::Memory => Failure::Memory,
-        other => failed(rt.alloc(), text(given, "BLOCK"), other),
+        other => failed(alloc, text(given, "BLOCK"), other),
     }
 }
 
@@ -73,11 +71,10 @@ pub(crate) fn export<R: System>(rt: &R, given: &ArgMatches<'_>) -> Result<Ending
     let wanted = wanted(rt.alloc(), given, &schema)?;
     let mut source = source(rt, text(given, "BLOCK"))?;
     let mut output = create(rt, text(given, "output"))?;
-    let ended = match export_into(rt, given, &schema, wanted, &mut source, output.sink()) {
-        Ok(_) => Ok(()),
-        Err(error) => Err(broken(rt, given, error)),
-    };
-    finish(output, ended)?;
+    match export_into(rt, given, &schema, wanted, &mut source, output.sink()) {
+        Ok(_) => finish(output)?,
+        Err(error) => return Err(broken(rt.alloc(), given, error)),
+    }
     Ok(Ending::Done)
 }
 
@@ -103,24 +100,26 @@ fn pass<S: ByteSource>(
     Ok(true)
 }
 
-// The text of JSON of the document of this number, if the block has it.
-fn document<R: System>(
-    rt: &R,
+// The text of JSON of the document of this number, if the source has it, which begins at this place of the block.
+fn read_document<S: ByteSource>(
+    alloc: Global,
     given: &ArgMatches<'_>,
     schema: &Schema,
+    source: &mut S,
+    start: Start,
     number: u64,
 ) -> Result<Option<String>, Failure> {
-    let alloc = rt.alloc();
-    let Some(start) = start_of(rt, given, number)? else {
-        return Ok(None);
-    };
-    let (mut source, mut reader) = open_at(rt, given, start)?;
-    let read = match pass(
-        &mut reader,
-        &mut source,
-        number.saturating_sub(start.documents),
-    ) {
-        Ok(true) => reader.advance(&mut source),
+    let wanted = Wanted::All(limits(given));
+    let version = version(given, "version");
+    let mut reader = DocumentReader::starting_at(
+        alloc,
+        version,
+        wanted,
+        start.documents,
+        start.byte,
+    );
+    let read = match pass(&mut reader, source, number.saturating_sub(start.documents)) {
+        Ok(true) => reader.advance(source),
         other => other,
     };
     match read {
@@ -128,6 +127,20 @@ fn document<R: System>(
         Ok(false) => Ok(None),
         Err(error) => Err(failed(alloc, text(given, "BLOCK"), error)),
     }
+}
+
+// The text of JSON of the document of this number, if the block has it.
+fn document<R: System>(
+    rt: &R,
+    given: &ArgMatches<'_>,
+    schema: &Schema,
+    number: u64,
+) -> Result<Option<String>, Failure> {
+    let Some(start) = start_of(rt, given, number)? else {
+        return Ok(None);
+    };
+    let mut source = source_from(rt, text(given, "BLOCK"), start.byte)?;
+    read_document(rt.alloc(), given, schema, &mut source, start, number)
 }
 
 // Prints the text of a document, as it stands or over several lines.
@@ -138,56 +151,37 @@ fn print_document<R: System>(rt: &R, given: &ArgMatches<'_>, json: &str) -> Resu
     print_line(rt, json)
 }
 
+// Prints the document of a number, and says whether there is one.
+fn get_one<R: System>(
+    rt: &R,
+    given: &ArgMatches<'_>,
+    schema: &Schema,
+    number: u64,
+) -> Result<bool, Failure> {
+    let Some(json) = document(rt, given, schema, number)? else {
+        let _ = eprintln!(rt; "{}: there is no document {number}", text(given, "BLOCK"));
+        return Ok(false);
+    };
+    print_document(rt, given, json.as_str())?;
+    Ok(true)
+}
+
 /// Prints documents by their numbers.
 pub(crate) fn get<R: System>(rt: &R, given: &ArgMatches<'_>) -> Result<Ending, Failure> {
     let schema = schema_given(rt, given)?;
-    let mut ending = Ending::Done;
-    let Some(numbers) = given.get_many::<u64>("NUMBER") else {
-        return Ok(ending);
-    };
     let is_read_once = text(given, "BLOCK") == "-";
+    let mut ending = Ending::Done;
     let mut is_first = true;
-    for number in numbers {
-        let Ok(number) = number else {
-            continue;
-        };
+    for word in given.get_strs("NUMBER").unwrap_or(&[]) {
         if is_read_once && !is_first {
             return Err(wrong_use(rt.alloc(), "NUMBER", "the standard input is read once"));
         }
         is_first = false;
-        match document(rt, given, &schema, number)? {
-            Some(json) => print_document(rt, given, json.as_str())?,
-            None => {
-                let _ = eprintln!(rt; "{}: there is no document {number}", text(given, "BLOCK"));
-                ending = Ending::Refused;
-            }
+        if !get_one(rt, given, &schema, word.parse::<u64>().unwrap_or(0))? {
+            ending = Ending::Refused;
         }
     }
     Ok(ending)
-}
-
-/// Tests a block.
-pub(crate) fn check<R: System>(rt: &R, given: &ArgMatches<'_>) -> Result<Ending, Failure> {
-    let name = text(given, "BLOCK");
-    let mut source = source(rt, name)?;
-    let mut progress = Progress::of(rt, given, &[name]);
-    let (version, limits) = (version(given, "version"), limits(given));
-    let checked = check_block(rt.alloc(), version, limits, &mut source, &mut progress);
-    progress.end();
-    match checked {
-        Ok(documents) => {
-            print_line(
-                rt,
-                format!(in rt.alloc(); "{name}: all right, {documents} documents")?.as_str(),
-            )?;
-            Ok(Ending::Done)
-        }
-        Err(refused) if is_of_bytes(&refused.error) => {
-            print_line(rt, format!(in rt.alloc(); "{name}: {refused}")?.as_str())?;
-            Ok(Ending::Refused)
-        }
-        Err(refused) => Err(failed(rt.alloc(), name, refused)),
-    }
 }
 
 // Whether bytes were refused, and not a read or memory.
@@ -198,105 +192,35 @@ fn is_of_bytes(error: &LimitedReadError) -> bool {
     )
 }
 
-// What is counted of a block.
-#[derive(Drop)]
-struct Counts {
-    documents: u64,
-    bytes: u64,
-    largest: u64,
-    values: u64,
-    most_values: u64,
-    depth: u64,
-    by_field: Vec<u64>,
-}
-
-// Counts a document that was read, whose last byte is this one of the block.
-fn count_document(counts: &mut Counts, values: u64, bytes: u64) {
-    counts.documents = counts.documents.saturating_add(1);
-    counts.largest = counts.largest.max(bytes.saturating_sub(counts.bytes));
-    counts.bytes = bytes;
-    counts.values = counts.values.saturating_add(values);
-    counts.most_values = counts.most_values.max(values);
-}
-
-// Counts the values of a document by their fields.
-fn count_values(by_field: &mut Vec<u64>, document: &TantivyDocument) {
-    for (field, _) in document.field_values() {
-        if let Some(count) = by_field.get_mut(field.field_id() as usize) {
-            *count = count.saturating_add(1);
-        }
-    }
-}
-
-// Counts the documents that a source has left.
-fn count_all<S: ByteSource, W: Watch>(
+// What is printed of a block that was tested.
+fn verdict(
     alloc: Global,
-    given: &ArgMatches<'_>,
-    source: &mut S,
-    counts: &mut Counts,
-    watch: &mut W,
-) -> Result<(), Failure> {
-    let mut reader = documents(alloc, given);
-    for _ in 0..u64::MAX {
-        match reader.advance(source) {
-            Ok(true) => {}
-            Ok(false) => break,
-            Err(error) => return Err(failed(alloc, text(given, "BLOCK"), error)),
+    name: &str,
+    checked: Result<u64, BlockError>,
+) -> Result<(Ending, String), Failure> {
+    match checked {
+        Ok(documents) => {
+            let line = format!(in alloc; "{name}: all right, {documents} documents")?;
+            Ok((Ending::Done, line))
         }
-        count_document(counts, reader.document().len() as u64, reader.bytes());
-        count_values(&mut counts.by_field, reader.document());
-        counts.depth = deepest_of(alloc, reader.document(), counts.depth)?;
-        watch.advance(reader.bytes());
+        Err(refused) => {
+            if !is_of_bytes(&refused.error) {
+                return Err(failed(alloc, name, refused));
+            }
+            Ok((Ending::Refused, format!(in alloc; "{name}: {refused}")?))
+        }
     }
-    Ok(())
 }
 
-// Counts the documents of a block.
-fn counts_of_block<R: System>(
-    rt: &R,
-    given: &ArgMatches<'_>,
-    schema: &Schema,
-) -> Result<Counts, Failure> {
-    let alloc = rt.alloc();
+/// Tests a block.
+pub(crate) fn check<R: System>(rt: &R, given: &ArgMatches<'_>) -> Result<Ending, Failure> {
     let name = text(given, "BLOCK");
     let mut source = source(rt, name)?;
-    let mut counts = Counts {
-        documents: 0,
-        bytes: 0,
-        largest: 0,
-        values: 0,
-        most_values: 0,
-        depth: 0,
-        by_field: vec![in alloc; 0; schema.num_fields()]?,
-    };
     let mut progress = Progress::of(rt, given, &[name]);
-    let counted = count_all(alloc, given, &mut source, &mut counts, &mut progress);
+    let (version, limits) = (version(given, "version"), limits(given));
+    let checked = check_block(rt.alloc(), version, limits, &mut source, &mut progress);
     progress.end();
-    counted?;
-    Ok(counts)
-}
-
-/// Counts the documents, bytes and values of a block.
-pub(crate) fn stat<R: System>(rt: &R, given: &ArgMatches<'_>) -> Result<Ending, Failure> {
-    let schema = schema_given(rt, given)?;
-    let counts = counts_of_block(rt, given, &schema)?;
-    for (what, number) in [
-        ("documents", counts.documents),
-        ("bytes", counts.bytes),
-        ("bytes of the largest document", counts.largest),
-        ("values", counts.values),
-        ("most values of a document", counts.most_values),
-        ("lists and objects around the innermost value", counts.depth),
-    ] {
-        print_line(rt, format!(in rt.alloc(); "{number:>12}  {what}")?.as_str())?;
-    }
-    for ((field, entry), values) in schema.fields().zip(counts.by_field.iter()) {
-        let (number, kind) = (field.field_id(), entry.field_type().value_type());
-        let line = format!(in rt.alloc();
-            "{values:>12}  values of field {number}, {} ({kind:?})",
-            entry.name()
-        )?;
-        print_line(rt, line.as_str())?;
-    }
-    Ok(Ending::Done)
+    let (ending, line) = verdict(rt.alloc(), name, checked)?;
+    print_line(rt, line.as_str())?;
+    Ok(ending)
 }

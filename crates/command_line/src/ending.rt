@@ -1,7 +1,7 @@
 //! How the command ends.
 
 use crate::arguments::command;
-use crate::{blocks, facets, find, imports, migrations, schemas, terms};
+use crate::{blocks, facets, find, imports, migrations, schemas, stat, terms};
 use clap::ArgMatches;
 use std::alloc::{AllocError, AllocFailed, Global};
 use std::env::Env;
@@ -36,7 +36,7 @@ impl<R: Files + Env + AllocGlobal + Input + Print + Eprint + Clock + Terminals +
     for R {}
 
 /// How a command that didn't break off ended.
-#[derive(Clone, Copy, Debug, PartialEq, Eq)]
+#[derive(Clone, Copy)]
 pub(crate) enum Ending {
     /// All was done.
     Done,
@@ -47,7 +47,7 @@ pub(crate) enum Ending {
 }
 
 /// Why a command broke off.
-#[derive(Debug, Drop)]
+#[derive(Drop)]
 pub(crate) enum Failure {
     /// What reads the standard output has closed it.
     Closed,
@@ -79,6 +79,18 @@ pub(crate) fn failed<T: Display + Drop>(alloc: Global, name: &str, what: T) -> F
     }
 }
 
+/// What a call on a file of this name answered, with its error in words.
+pub(crate) fn of_file<T: Drop>(
+    alloc: Global,
+    name: &str,
+    call: io::Result<T>,
+) -> Result<T, Failure> {
+    match call {
+        Ok(value) => Ok(value),
+        Err(error) => Err(failed(alloc, name, error)),
+    }
+}
+
 /// A word that can't stand where it stands, and why.
 pub(crate) fn wrong_use<T: Display + Drop>(alloc: Global, word: &str, what: T) -> Failure {
     match failed(alloc, word, what) {
@@ -102,7 +114,7 @@ fn call<R: System>(rt: &R, name: &str, given: &ArgMatches<'_>) -> Result<Ending,
         "export" => blocks::export(rt, given),
         "get" => blocks::get(rt, given),
         "check" => blocks::check(rt, given),
-        "stat" => blocks::stat(rt, given),
+        "stat" => stat::stat(rt, given),
         "migrate" => migrations::migrate(rt, given),
         "terms" => terms::terms(rt, given),
         "find" => find::find(rt, given),
@@ -113,23 +125,19 @@ fn call<R: System>(rt: &R, name: &str, given: &ArgMatches<'_>) -> Result<Ending,
 
 // The exit status, and what broke the command off on the standard error.
 fn status<R: System>(rt: &R, ended: Result<Ending, Failure>) -> io::Result<u8> {
-    Ok(match ended {
-        Ok(Ending::Done) | Err(Failure::Closed) => 0,
-        Ok(Ending::Refused) => 1,
-        Ok(Ending::WrongUse) => 2,
-        Err(Failure::Said(text)) => {
-            eprintln!(rt; "kormaglen: {text}")?;
-            3
-        }
-        Err(Failure::Use(text)) => {
-            eprintln!(rt; "kormaglen: {text}")?;
-            2
-        }
+    let (status, text) = match ended {
+        Ok(Ending::Done) | Err(Failure::Closed) => return Ok(0),
+        Ok(Ending::Refused) => return Ok(1),
+        Ok(Ending::WrongUse) => return Ok(2),
+        Err(Failure::Use(text)) => (2, text),
+        Err(Failure::Said(text)) => (3, text),
         Err(Failure::Memory) => {
             eprintln!(rt; "kormaglen: memory was refused")?;
-            3
+            return Ok(3);
         }
-    })
+    };
+    eprintln!(rt; "kormaglen: {text}")?;
+    Ok(status)
 }
 
 // Reads the words and calls the command that they name.

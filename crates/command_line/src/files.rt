@@ -1,8 +1,7 @@
 //! What a command writes: to the standard output, or to a file that is there only once it is whole.
 
-use crate::ending::{Failure, System, failed, write_failed};
+use crate::ending::{Failure, System, of_file, write_failed};
 use either::Either;
-use std::alloc::Global;
 use std::fs;
 use std::fs::Files;
 use std::io::{self, BufWriter, Print, Write};
@@ -28,12 +27,47 @@ pub(crate) type Target<R> = Either<<R as Files>::File, StandardOutput<R>>;
 // This many bytes are written at once.
 const PIECE: usize = 65536;
 
-/// An output that is written: a new file beside the one that is named, or the standard output. It can't be dropped, so each way out ends it by `finish`.
-pub(crate) struct Output<R: System> {
+// The name that an output has when it is finished, and the name of its file until then, where there is one. A file that isn't finished is gone.
+struct Place<R: System> {
     rt: R,
     name: String,
     part: Option<String>,
+}
+
+impl<R: System> Drop for Place<R> {
+    fn drop(self) {
+        let Place { rt, name: _, part } = self;
+        if let Some(part) = part {
+            let _ = fs::remove_file(&rt, part.as_str());
+        }
+    }
+}
+
+impl<R: System> Place<R> {
+    // Gives the file its name, where what was buffered has been written.
+    fn settle(mut self, flushed: io::Result<()>) -> Result<(), Failure> {
+        let (alloc, name) = (self.rt.alloc(), self.name.as_str());
+        let Some(part) = &self.part else {
+            return match flushed {
+                Ok(()) => Ok(()),
+                Err(error) => Err(write_failed(alloc, name, error.kind())),
+            };
+        };
+        let named = match flushed {
+            Ok(()) => fs::rename(&self.rt, part.as_str(), name),
+            failed => failed,
+        };
+        of_file(alloc, name, named)?;
+        self.part = None;
+        Ok(())
+    }
+}
+
+/// An output that is written: a new file beside the one that is named, or the standard output. Where it is dropped, the file is gone.
+#[derive(Drop)]
+pub(crate) struct Output<R: System> {
     sink: WriteSink<BufWriter<Target<R>>>,
+    place: Place<R>,
 }
 
 impl<R: System> Output<R> {
@@ -67,92 +101,38 @@ fn standing<R: System>(rt: &R, name: &str) -> Result<Target<R>, Failure> {
     if name == "-" {
         return Ok(Either::Right(StandardOutput(*rt)));
     }
-    match fs::OpenOptions::new().write(true).open(rt, name) {
-        Ok(file) => Ok(Either::Left(file)),
-        Err(error) => Err(failed(rt.alloc(), name, error)),
-    }
+    let opened = fs::OpenOptions::new().write(true).open(rt, name);
+    Ok(Either::Left(of_file(rt.alloc(), name, opened)?))
 }
 
 /// Begins an output. A file of this name stays as it is until the output is finished; one that has `.part` after the name may not be there. A device or a pipe
 /// is written as it stands.
 pub(crate) fn create<R: System>(rt: &R, name: &str) -> Result<Output<R>, Failure> {
     let alloc = rt.alloc();
-    let named = String::from_str(alloc, name)?;
-    if name == "-" || is_special(rt, name) {
-        let sink = sink_of(rt, standing(rt, name)?)?;
-        return Ok(Output {
-            rt: *rt,
-            name: named,
-            part: None,
-            sink,
-        });
-    }
-    let part = format!(in alloc; "{name}.part")?;
-    let file = match fs::File::create_new(rt, part.as_str()) {
-        Ok(file) => file,
-        Err(error) => return Err(failed(alloc, part.as_str(), error)),
+    let mut place = Place {
+        rt: *rt,
+        name: String::from_str(alloc, name)?,
+        part: None,
     };
-    match sink_of(rt, Either::Left(file)) {
-        Ok(sink) => Ok(Output {
-            rt: *rt,
-            name: named,
-            part: Some(part),
-            sink,
-        }),
-        Err(failure) => {
-            let _ = fs::remove_file(rt, part.as_str());
-            Err(failure)
-        }
-    }
+    let target = if name == "-" || is_special(rt, name) {
+        standing(rt, name)?
+    } else {
+        let part = format!(in alloc; "{name}.part")?;
+        let file = of_file(
+            alloc,
+            part.as_str(),
+            fs::File::create_new(rt, part.as_str()),
+        )?;
+        place.part = Some(part);
+        Either::Left(file)
+    };
+    let sink = sink_of(rt, target)?;
+    Ok(Output { sink, place })
 }
 
-/// Gives up an output. A file that was begun is gone.
-pub(crate) fn discard<R: System>(output: Output<R>) {
-    let Output {
-        rt,
-        name: _,
-        part,
-        sink,
-    } = output;
-    drop(sink);
-    if let Some(part) = part {
-        let _ = fs::remove_file(&rt, part.as_str());
-    }
-}
-
-// Writes what is buffered, and gives the file its name.
-fn complete<R: System>(output: Output<R>) -> Result<(), Failure> {
-    let Output {
-        rt,
-        name,
-        part,
-        sink,
-    } = output;
+/// Ends an output: what is buffered is written, and the file has its name.
+pub(crate) fn finish<R: System>(output: Output<R>) -> Result<(), Failure> {
+    let Output { sink, place } = output;
     let flushed = sink.into_inner().flush();
-    let Some(part) = part else {
-        return flushed.map_err(|error| write_failed(rt.alloc(), name.as_str(), error.kind()));
-    };
-    let named = flushed.and_then(|()| fs::rename(&rt, part.as_str(), name.as_str()));
-    if let Err(error) = named {
-        let _ = fs::remove_file(&rt, part.as_str());
-        return Err(failed(rt.alloc(), name.as_str(), error));
-    }
-    Ok(())
-}
-
-/// Ends an output: where all went well, what is buffered is written and the file has its name, and else the file is gone.
-pub(crate) fn finish<R: System, T: Drop>(
-    output: Output<R>,
-    ended: Result<T, Failure>,
-) -> Result<T, Failure> {
-    match ended {
-        Ok(value) => {
-            complete(output)?;
-            Ok(value)
-        }
-        Err(failure) => {
-            discard(output);
-            Err(failure)
-        }
-    }
+    place.settle(flushed)
 }

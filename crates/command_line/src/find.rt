@@ -6,7 +6,7 @@ use crate::files::{create, finish};
 use crate::inputs::{limits, schema_given, source, text, version};
 use crate::progress::Progress;
 use clap::ArgMatches;
-use std::alloc::Global;
+use std::alloc::{AllocError, Global};
 use std::io::{self, Eprint, Write};
 use tantivy_schema::common::{ByteSink, WriteSink};
 use tantivy_schema::schema::Schema;
@@ -39,17 +39,24 @@ fn line_at(text: &str, place: usize) -> (&str, usize) {
     (text, 0)
 }
 
-// Says why a text is no query: the reason, the line and a caret under the place.
-fn report<R: System>(rt: &R, text: &str, error: &QueryError) -> Result<(), Failure> {
-    let (line, place) = line_at(text, error.place);
-    let mut caret = String::new(rt.alloc());
+// The line of the text in which this place stands, and a caret under the place.
+fn pointed(alloc: Global, text: &str, place: usize) -> Result<String, AllocError> {
+    let (line, place) = line_at(text, place);
+    let mut pointed = format!(in alloc; "{line}\n")?;
     for byte in line.as_bytes().iter().take(place) {
         // each character has one byte that isn't 10xxxxxx
         if *byte & 0xC0 != 0x80 {
-            caret.push(' ')?;
+            pointed.push(' ')?;
         }
     }
-    let _ = eprintln!(rt; "kormaglen: {error}\n{line}\n{caret}^");
+    pointed.push('^')?;
+    Ok(pointed)
+}
+
+// Says why a text is no query: the reason, the line and a caret under the place.
+fn report<R: System>(rt: &R, text: &str, error: &QueryError) -> Result<(), Failure> {
+    let pointed = pointed(rt.alloc(), text, error.place)?;
+    let _ = eprintln!(rt; "kormaglen: {error}\n{pointed}");
     Ok(())
 }
 
@@ -104,9 +111,8 @@ fn print_found<R: System>(
         return print_line(rt, format!(in rt.alloc(); "{}", found.found)?.as_str());
     }
     let mut output = create(rt, "-")?;
-    let ended = find_into(rt, given, schema, query, output.sink());
-    finish(output, ended)?;
-    Ok(())
+    find_into(rt, given, schema, query, output.sink())?;
+    finish(output)
 }
 
 /// Prints the documents of a block that a query matches, or their number.
@@ -118,8 +124,10 @@ pub(crate) fn find<R: System>(rt: &R, given: &ArgMatches<'_>) -> Result<Ending, 
             print_found(rt, given, &schema, &query)?;
             Ok(Ending::Done)
         }
-        Err(error) if error.reason == QueryReason::Memory => Err(Failure::Memory),
         Err(error) => {
+            if matches!(error.reason, QueryReason::Memory) {
+                return Err(Failure::Memory);
+            }
             report(rt, words, &error)?;
             Ok(Ending::WrongUse)
         }

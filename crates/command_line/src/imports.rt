@@ -3,28 +3,22 @@
 ghost use Rattle.std.specs.Prelude.{[]};
 
 use crate::ending::{Ending, Failure, System, failed, write_failed};
-use crate::files::{Output, create, discard, finish};
+use crate::files::{Output, create, finish};
 use crate::inputs::{lines, schema_given, text};
 use crate::progress::{ERASING, Progress};
 use clap::ArgMatches;
-use std::alloc::Global;
+use std::alloc::{AllocError, Global};
 use std::io::Eprint;
-use tantivy_schema::common::BinarySerializable;
+use tantivy_schema::common::{BinarySerializable, WriteError};
 use tantivy_schema::schema::Schema;
 use tantivy_schema::store::WriteVersion;
 use tv_base::write::{write_all, write_u64};
 use tv_command::import::{ImportError, ImportRules, LineError, LineImporter, LineOutcome};
-use tv_command::imports::{ImportLinesError, Imported, import_lines};
+use tv_command::imports::{ImportLinesError, import_lines};
 use tv_command::report::{LineReport, Report};
 
-// What an import has done.
-#[derive(Clone, Copy)]
-struct Counts {
-    lines: Imported,
-    bytes: u64,
-}
-
-// Where the lines of a file are reported, and where documents begin. It has to be ended, as its outputs have.
+// What is told of an import: where lines that are refused are reported, where documents begin, and how many there were of both.
+#[derive(Drop)]
 struct Reports<R: System> {
     rt: R,
     name: String,
@@ -33,13 +27,8 @@ struct Reports<R: System> {
     // Whether a line of progress is erased before a report that goes to the standard error.
     is_erasing: bool,
     bytes: u64,
-}
-
-// Where an import writes, and how many lines it has taken. It has to be ended, as its outputs have.
-struct Importing<R: System> {
-    block: Output<R>,
-    reports: Reports<R>,
-    lines: Imported,
+    stored: u64,
+    refused: u64,
 }
 
 // The rules that the words give.
@@ -61,34 +50,17 @@ fn optional<R: System>(rt: &R, name: Option<&str>) -> Result<Option<Output<R>>, 
     }
 }
 
-// Notes where the document begins that was stored in this number of bytes.
-fn note_stored<R: System>(reports: &mut Reports<R>, size: u64) -> Result<(), Failure> {
-    if let Some(offsets) = &mut reports.offsets {
-        if let Err(error) = write_u64(offsets.sink(), reports.bytes) {
-            return Err(write_failed(reports.rt.alloc(), "offsets", error.0));
-        }
+// What a write to the output of this option is.
+fn written(alloc: Global, option: &str, call: Result<(), WriteError>) -> Result<(), Failure> {
+    match call {
+        Ok(()) => Ok(()),
+        Err(error) => Err(write_failed(alloc, option, error.0)),
     }
-    reports.bytes = reports.bytes.saturating_add(size);
-    Ok(())
 }
 
-// Reports a line that is refused.
-fn note_refused<R: System>(
-    reports: &mut Reports<R>,
-    line: u64,
-    error: &LineError,
-) -> Result<(), Failure> {
-    let alloc = reports.rt.alloc();
-    let said = format!(in alloc; "{}:{line}: {error}\n", reports.name.as_str())?;
-    let Some(errors) = &mut reports.errors else {
-        let erasing = if reports.is_erasing { ERASING } else { "" };
-        let _ = eprint!(reports.rt; "{erasing}{said}");
-        return Ok(());
-    };
-    match write_all(errors.sink(), said.as_bytes()) {
-        Ok(()) => Ok(()),
-        Err(error) => Err(write_failed(alloc, "errors", error.0)),
-    }
+// What is said of a line that is refused.
+fn said(alloc: Global, name: &str, line: u64, error: LineError) -> Result<String, AllocError> {
+    format!(in alloc; "{name}:{line}: {error}\n")
 }
 
 // What a file holds isn't known.
@@ -100,170 +72,157 @@ impl<R: System> Report for Reports<R> {
     ghost told = { λ _. [] };
 
     fn tell(&mut self, line: LineReport) -> Result<(), Failure> {
+        let alloc = self.rt.alloc();
         let LineReport { line, outcome } = line;
         match outcome {
-            LineOutcome::Stored(size) => note_stored(self, size),
-            LineOutcome::Refused(error) => note_refused(self, line, &error),
+            LineOutcome::Stored(size) => {
+                let begin = self.bytes;
+                self.bytes = begin.saturating_add(size);
+                self.stored = self.stored.saturating_add(1);
+                match &mut self.offsets {
+                    Some(output) => written(alloc, "offsets", write_u64(output.sink(), begin)),
+                    None => Ok(()),
+                }
+            }
+            LineOutcome::Refused(error) => {
+                let said = said(alloc, self.name.as_str(), line, error)?;
+                self.refused = self.refused.saturating_add(1);
+                match &mut self.errors {
+                    Some(output) => {
+                        written(alloc, "errors", write_all(output.sink(), said.as_bytes()))
+                    }
+                    None => {
+                        let erasing = if self.is_erasing { ERASING } else { "" };
+                        let _ = eprint!(self.rt; "{erasing}{said}");
+                        Ok(())
+                    }
+                }
+            }
         }
     }
 }
 
 // What broke an import off.
-fn broken<R: System>(
-    rt: &R,
+fn broken(
+    alloc: Global,
     given: &ArgMatches<'_>,
     name: &str,
     error: ImportLinesError<Failure>,
 ) -> Failure {
     match error {
-        ImportLinesError::Import(ImportError::Read(kind)) => failed(rt.alloc(), name, kind),
+        ImportLinesError::Import(ImportError::Read(kind)) => failed(alloc, name, kind),
         ImportLinesError::Import(ImportError::Write(kind)) => {
-            write_failed(rt.alloc(), text(given, "output"), kind)
+            write_failed(alloc, text(given, "output"), kind)
         }
         ImportLinesError::Import(ImportError::Memory) => Failure::Memory,
         ImportLinesError::Report(failure) => failure,
-        ImportLinesError::TooMany => failed(rt.alloc(), name, "it has too many lines"),
+        ImportLinesError::TooMany => failed(alloc, name, "it has too many lines"),
     }
 }
 
 // Imports the lines of a file.
 fn import_file<R: System>(
-    import: &mut Importing<R>,
+    reports: &mut Reports<R>,
     given: &ArgMatches<'_>,
     schema: &Schema,
     importer: &mut LineImporter,
-    name: &str,
+    block: &mut Output<R>,
     progress: &mut Progress<R>,
 ) -> Result<(), Failure> {
-    let rt = import.reports.rt;
-    let mut reader = lines(&rt, name)?;
+    let alloc = reports.rt.alloc();
+    let mut reader = lines(&reports.rt, reports.name.as_str())?;
     progress.begin_input();
-    import.reports.name = String::from_str(rt.alloc(), name)?;
-    let block = import.block.sink();
-    let reports = &mut import.reports;
-    match import_lines(importer, schema, &mut reader, block, reports, progress) {
-        Ok(Imported { stored, refused }) => {
-            import.lines.stored = import.lines.stored.saturating_add(stored);
-            import.lines.refused = import.lines.refused.saturating_add(refused);
-            Ok(())
-        }
-        Err(error) => Err(broken(&rt, given, name, error)),
+    match import_lines(
+        importer,
+        schema,
+        &mut reader,
+        block.sink(),
+        reports,
+        progress,
+    ) {
+        Ok(_) => Ok(()),
+        Err(error) => Err(broken(alloc, given, reports.name.as_str(), error)),
     }
-}
-
-// The files that are named, or the standard input.
-fn names<'a>(alloc: Global, given: &ArgMatches<'a>) -> Result<Vec<&'a str>, Failure> {
-    let mut names = Vec::new(alloc);
-    if let Some(named) = given.get_strs("FILE") {
-        for name in named {
-            names.push(*name)?;
-        }
-    }
-    if names.is_empty() {
-        names.push("-")?;
-    }
-    Ok(names)
 }
 
 // Imports the lines of each of these files.
 fn import_files<R: System>(
-    import: &mut Importing<R>,
+    reports: &mut Reports<R>,
     given: &ArgMatches<'_>,
     schema: &Schema,
     names: &[&str],
+    block: &mut Output<R>,
     progress: &mut Progress<R>,
 ) -> Result<(), Failure> {
-    let mut importer = LineImporter::new(import.reports.rt.alloc(), rules(given));
+    let alloc = reports.rt.alloc();
+    let mut importer = LineImporter::new(alloc, rules(given));
     for name in names {
-        import_file(import, given, schema, &mut importer, name, progress)?;
+        reports.name = String::from_str(alloc, name)?;
+        import_file(reports, given, schema, &mut importer, block, progress)?;
     }
     Ok(())
 }
 
-// Begins the outputs. Those that were begun are ended where another one fails.
-fn begin<R: System>(rt: &R, given: &ArgMatches<'_>) -> Result<Importing<R>, Failure> {
-    let block = create(rt, text(given, "output"))?;
-    let offsets = match optional(rt, given.get_str("offsets")) {
-        Ok(offsets) => offsets,
-        Err(failure) => {
-            discard(block);
-            return Err(failure);
-        }
-    };
-    let errors = match optional(rt, given.get_str("errors")) {
-        Ok(errors) => errors,
-        Err(failure) => {
-            discard_optional(offsets);
-            discard(block);
-            return Err(failure);
-        }
-    };
-    Ok(Importing {
-        block,
-        reports: Reports {
-            rt: *rt,
-            name: String::new(rt.alloc()),
-            offsets,
-            errors,
-            is_erasing: false,
-            bytes: 0,
-        },
-        lines: Imported::default(),
+// Begins to report.
+fn begin<R: System>(rt: &R, given: &ArgMatches<'_>) -> Result<Reports<R>, Failure> {
+    Ok(Reports {
+        rt: *rt,
+        name: String::new(rt.alloc()),
+        offsets: optional(rt, given.get_str("offsets"))?,
+        errors: optional(rt, given.get_str("errors"))?,
+        is_erasing: false,
+        bytes: 0,
+        stored: 0,
+        refused: 0,
     })
 }
 
-// Gives up an output, if it was begun.
-fn discard_optional<R: System>(output: Option<Output<R>>) {
-    if let Some(output) = output {
-        discard(output);
-    }
-}
-
 // Ends an output, if it was begun.
-fn finish_optional<R: System, T: Drop>(
-    output: Option<Output<R>>,
-    ended: Result<T, Failure>,
-) -> Result<T, Failure> {
+fn finish_optional<R: System>(output: Option<Output<R>>) -> Result<(), Failure> {
     match output {
-        Some(output) => finish(output, ended),
-        None => ended,
+        Some(output) => finish(output),
+        None => Ok(()),
     }
 }
 
 // Ends the outputs.
-fn end<R: System>(import: Importing<R>, ended: Result<(), Failure>) -> Result<Counts, Failure> {
-    let Importing {
-        block,
-        reports,
-        lines,
-    } = import;
+fn end<R: System>(reports: Reports<R>, block: Output<R>) -> Result<(), Failure> {
     let Reports {
         rt: _,
         name: _,
         offsets,
         errors,
         is_erasing: _,
-        bytes,
+        bytes: _,
+        stored: _,
+        refused: _,
     } = reports;
-    let ended = finish_optional(errors, ended);
-    let ended = finish_optional(offsets, ended);
-    finish(block, ended)?;
-    Ok(Counts { lines, bytes })
+    finish_optional(errors)?;
+    finish_optional(offsets)?;
+    finish(block)
 }
 
 /// Stores the documents of lines, and reports the others.
 pub(crate) fn import<R: System>(rt: &R, given: &ArgMatches<'_>) -> Result<Ending, Failure> {
     let schema = schema_given(rt, given)?;
-    let names = names(rt.alloc(), given)?;
-    let mut import = begin(rt, given)?;
-    let mut progress = Progress::of(rt, given, names.as_slice());
-    import.reports.is_erasing = progress.is_shown();
-    let ended = import_files(&mut import, given, &schema, names.as_slice(), &mut progress);
+    let named = given.get_strs("FILE").unwrap_or(&[]);
+    let names = if named.is_empty() { &["-"] } else { named };
+    let mut block = create(rt, text(given, "output"))?;
+    let mut reports = begin(rt, given)?;
+    let mut progress = Progress::of(rt, given, names);
+    reports.is_erasing = progress.is_shown();
+    let ended = import_files(
+        &mut reports,
+        given,
+        &schema,
+        names,
+        &mut block,
+        &mut progress,
+    );
     progress.end();
-    let Counts {
-        lines: Imported { stored, refused },
-        bytes,
-    } = end(import, ended)?;
+    ended?;
+    let (stored, refused, bytes) = (reports.stored, reports.refused, reports.bytes);
+    end(reports, block)?;
     if !given.get_flag("quiet") {
         let _ = eprintln!(rt;
             "{stored} documents stored in {bytes} bytes, {refused} lines refused"

@@ -1,6 +1,6 @@
 //! What a command reads: files, the standard input, and schemas.
 
-use crate::ending::{Failure, System, failed};
+use crate::ending::{Failure, System, failed, of_file};
 use clap::ArgMatches;
 use either::Either;
 use std::alloc::Global;
@@ -10,7 +10,6 @@ use std::io::{self, BufReader, Input, Read, Seek, SeekFrom};
 use tantivy_schema::common::BufferedSource;
 use tantivy_schema::schema::Schema;
 use tantivy_schema::store::{DocStoreVersion, ReadLimits};
-use tv_command::documents::{DocumentReader, Wanted};
 
 /// A file, or the standard input.
 pub(crate) type Origin<R> = Either<<R as Files>::File, <R as Input>::Reader>;
@@ -26,10 +25,7 @@ pub(crate) fn open<R: System>(rt: &R, name: &str) -> Result<Origin<R>, Failure> 
     if name == "-" {
         return Ok(Either::Right(rt.reader()));
     }
-    match fs::open(rt, name) {
-        Ok(file) => Ok(Either::Left(file)),
-        Err(error) => Err(failed(rt.alloc(), name, error)),
-    }
+    Ok(Either::Left(of_file(rt.alloc(), name, fs::open(rt, name))?))
 }
 
 /// A reader of lines of a file.
@@ -47,46 +43,46 @@ pub(crate) fn source<R: System>(rt: &R, name: &str) -> Result<BufferedSource<Ori
     Ok(BufferedSource::with_capacity(rt.alloc(), PIECE, origin)?)
 }
 
-/// A source of the bytes of a file from this byte on. A file that has no byte there is refused.
+// Moves a file to this byte, which it has to have.
+fn seek_to<F: Seek>(alloc: Global, name: &str, file: &mut F, start: u64) -> Result<(), Failure> {
+    let length = file.seek(SeekFrom::End(0)).unwrap_or(0);
+    if start >= length {
+        let what = format!(in alloc; "it has {length} bytes, and none at {start}")?;
+        return Err(failed(alloc, name, what));
+    }
+    of_file(alloc, name, file.seek(SeekFrom::Start(start)))?;
+    Ok(())
+}
+
+/// A source of the bytes of a file from this byte on. A file that has no byte there is refused, unless that is its first.
 pub(crate) fn source_from<R: System>(
     rt: &R,
     name: &str,
     start: u64,
 ) -> Result<BufferedSource<Origin<R>>, Failure> {
     let mut origin = open(rt, name)?;
-    if let Either::Left(file) = &mut origin {
-        let length = file.seek(SeekFrom::End(0)).unwrap_or(0);
-        if start >= length {
-            return Err(failed(
-                rt.alloc(),
-                name,
-                format!(in rt.alloc(); "it has {length} bytes, and none at {start}")?,
-            ));
-        }
-        if let Err(error) = file.seek(SeekFrom::Start(start)) {
-            return Err(failed(rt.alloc(), name, error));
+    if start > 0 {
+        if let Either::Left(file) = &mut origin {
+            seek_to(rt.alloc(), name, file, start)?;
         }
     }
     Ok(BufferedSource::with_capacity(rt.alloc(), PIECE, origin)?)
 }
 
-// The text of a file, which has at most 16 MiB.
-fn text_of<R: System>(rt: &R, name: &str) -> Result<String, Failure> {
-    let mut origin = open(rt, name)?.take(MOST_TEXT + 1);
-    let mut text = String::new(rt.alloc());
-    match origin.read_to_string(&mut text) {
-        Ok(len) if len as u64 > MOST_TEXT => {
-            Err(failed(rt.alloc(), name, "it is longer than 16 MiB"))
-        }
-        Ok(_) => Ok(text),
-        Err(error) => Err(failed(rt.alloc(), name, error)),
+// The text that a reader gives, which has at most 16 MiB.
+fn text_in<F: Read + Drop>(alloc: Global, name: &str, reader: F) -> Result<String, Failure> {
+    let mut text = String::new(alloc);
+    let read = reader.take(MOST_TEXT + 1).read_to_string(&mut text);
+    if of_file(alloc, name, read)? as u64 > MOST_TEXT {
+        return Err(failed(alloc, name, "it is longer than 16 MiB"));
     }
+    Ok(text)
 }
 
 /// The schema of a file.
 pub(crate) fn schema_of<R: System>(rt: &R, name: &str) -> Result<Schema, Failure> {
     let alloc = rt.alloc();
-    let text = text_of(rt, name)?;
+    let text = text_in(alloc, name, open(rt, name)?)?;
     let json = match serde_json::Value::from_str(alloc, text.as_str()) {
         Ok(json) => json,
         Err(error) => return Err(failed(alloc, name, error)),
@@ -121,13 +117,9 @@ pub(crate) fn limits(given: &ArgMatches<'_>) -> ReadLimits {
     ReadLimits {
         bytes: given.get_one::<u64>("limit-bytes"),
         heap_bytes: None,
-        depth: given
-            .get_one::<u64>("limit-depth")
-            .map(|depth| u32::try_from(depth).unwrap_or(u32::MAX)),
+        depth: match given.get_one::<u64>("limit-depth") {
+            Some(depth) => Some(u32::try_from(depth).unwrap_or(u32::MAX)),
+            None => None,
+        },
     }
-}
-
-/// A reader of the whole documents of the block that the words name, within their limits.
-pub(crate) fn documents(alloc: Global, given: &ArgMatches<'_>) -> DocumentReader {
-    DocumentReader::new(alloc, version(given, "version"), Wanted::All(limits(given)))
 }

@@ -18,8 +18,9 @@ mod runs;
 mod schema_words;
 mod schemas;
 mod starts;
+mod stat;
 mod term_counts;
 mod terms;
-mod words;
+mod visits;
 
 pub use ending::{System, Terminals, run};

@@ -5,15 +5,16 @@ use crate::files::{create, finish};
 use crate::inputs::{source, text, version};
 use crate::progress::Progress;
 use clap::ArgMatches;
+use std::alloc::Global;
 use tantivy_schema::store::WriteVersion;
 use tv_command::migrate::{MigrationError, migrate_block};
 
 // What broke a migration off.
-fn broken<R: System>(rt: &R, given: &ArgMatches<'_>, error: MigrationError) -> Failure {
+fn broken(alloc: Global, given: &ArgMatches<'_>, error: MigrationError) -> Failure {
     match error {
-        MigrationError::Write(kind) => write_failed(rt.alloc(), text(given, "output"), kind),
+        MigrationError::Write(kind) => write_failed(alloc, text(given, "output"), kind),
         MigrationError::Memory => Failure::Memory,
-        other => failed(rt.alloc(), text(given, "BLOCK"), other),
+        other => failed(alloc, text(given, "BLOCK"), other),
     }
 }
 
@@ -30,10 +31,9 @@ pub(crate) fn migrate<R: System>(rt: &R, given: &ArgMatches<'_>) -> Result<Endin
     let mut progress = Progress::of(rt, given, &[text(given, "BLOCK")]);
     let migrated = migrate_block(alloc, &mut source, from, output.sink(), to, &mut progress);
     progress.end();
-    let ended = match migrated {
-        Ok(_) => Ok(()),
-        Err(error) => Err(broken(rt, given, error)),
-    };
-    finish(output, ended)?;
+    match migrated {
+        Ok(_) => finish(output)?,
+        Err(error) => return Err(broken(alloc, given, error)),
+    }
     Ok(Ending::Done)
 }

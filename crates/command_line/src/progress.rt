@@ -35,35 +35,35 @@ struct Work {
     documents: u64,
 }
 
-// A number with a comma between each three digits.
-fn grouped(alloc: Global, number: u64) -> Result<String, AllocError> {
-    let digits = format!(in alloc; "{number}")?;
-    let mut text = String::new(alloc);
-    for (place, digit) in digits.as_str().chars().enumerate() {
-        if place > 0 && digits.len().saturating_sub(place) % 3 == 0 {
-            text.push(',')?;
+// Appends a number with a comma between each three digits.
+fn write_grouped(line: &mut String, digits: &str) -> Result<(), AllocError> {
+    let mut left = digits.len();
+    for digit in digits.as_bytes() {
+        if left < digits.len() && left % 3 == 0 {
+            line.push(',')?;
         }
-        text.push(digit)?;
+        line.push(*digit as char)?;
+        left = left.saturating_sub(1);
     }
-    Ok(text)
+    Ok(())
 }
 
-// A time of this many milliseconds in words: of its greatest unit alone, rounded up.
-fn duration_text(alloc: Global, millis: u64) -> Result<String, AllocError> {
+// A time of this many milliseconds in its greatest unit alone, rounded up.
+fn in_units(millis: u64) -> (u64, &'static str) {
     let seconds = millis.div_ceil(1000);
-    if seconds < 100 {
-        return format!(in alloc; "{seconds} s");
-    }
     let minutes = seconds.div_ceil(60);
-    if minutes < 100 {
-        return format!(in alloc; "{minutes} min");
+    if seconds < 100 {
+        (seconds, "s")
+    } else if minutes < 100 {
+        (minutes, "min")
+    } else {
+        (minutes.div_ceil(60), "h")
     }
-    format!(in alloc; "{} h", minutes.div_ceil(60))
 }
 
-// Megabytes with one digit after the point.
-fn megabytes(alloc: Global, bytes: u64) -> Result<String, AllocError> {
-    format!(in alloc; "{}.{}", bytes / 1_000_000, bytes / 100_000 % 10)
+// Megabytes, and tenths of them.
+fn megabytes(bytes: u64) -> (u64, u64) {
+    (bytes / 1_000_000, bytes / 100_000 % 10)
 }
 
 impl Work {
@@ -77,22 +77,31 @@ impl Work {
         left.checked_div(rate)
     }
 
+    // Appends the line after this many milliseconds. The digits are those of the number of documents.
+    fn write(&self, line: &mut String, digits: &str, millis: u64) -> Result<(), AllocError> {
+        let rate = self.bytes() / millis.max(1);
+        let (done, tenths) = megabytes(self.bytes());
+        write!(line, "{done:>4}.{tenths}")?;
+        if let Some(total) = self.total {
+            let (total, tenths) = megabytes(total);
+            write!(line, " of {total}.{tenths}")?;
+        }
+        line.push_str(" MB, ")?;
+        write_grouped(line, digits)?;
+        let (speed, tenths) = megabytes(rate.saturating_mul(1000));
+        write!(line, " documents, {speed}.{tenths} MB/s")?;
+        if let Some(left) = self.left(rate) {
+            let (number, unit) = in_units(left);
+            write!(line, ", {number} {unit} left")?;
+        }
+        Ok(())
+    }
+
     // The line after this many milliseconds.
     fn line(&self, alloc: Global, millis: u64) -> Result<String, AllocError> {
-        let rate = self.bytes() / millis.max(1);
-        let done = megabytes(alloc, self.bytes())?;
-        let mut line = format!(in alloc; "{:>6}", done.as_str())?;
-        if let Some(total) = self.total {
-            line.push_str(" of ")?;
-            line.push_str(megabytes(alloc, total)?.as_str())?;
-        }
-        let documents = grouped(alloc, self.documents)?;
-        let speed = megabytes(alloc, rate.saturating_mul(1000))?;
-        line.push_str(format!(in alloc; " MB, {documents} documents, {speed} MB/s")?.as_str())?;
-        if let Some(left) = self.left(rate) {
-            let left = duration_text(alloc, left)?;
-            line.push_str(format!(in alloc; ", {left} left")?.as_str())?;
-        }
+        let digits = format!(in alloc; "{}", self.documents)?;
+        let mut line = String::new(alloc);
+        self.write(&mut line, digits.as_str(), millis)?;
         Ok(line)
     }
 }

@@ -1,6 +1,6 @@
 //! Runs of terms in temporary files.
 
-use crate::ending::{Failure, System, failed};
+use crate::ending::{Failure, System, failed, of_file};
 use crate::term_counts::TermCounts;
 use std::alloc::Global;
 use std::fs;
@@ -69,9 +69,7 @@ impl<F: Write + Seek + Drop> RunWriter<F> {
     fn finish(self, alloc: Global, merges: u32) -> Result<Run<F>, Failure> {
         let RunWriter { sink, name } = self;
         let mut writer = sink.into_inner();
-        if let Err(error) = writer.seek(SeekFrom::Start(0)) {
-            return Err(failed(alloc, name.as_str(), error));
-        }
+        of_file(alloc, name.as_str(), writer.seek(SeekFrom::Start(0)))?;
         let (file, _) = writer.into_parts();
         Ok(Run { file, name, merges })
     }
@@ -82,19 +80,13 @@ fn create_file<R: System>(rt: &R, folder: &str) -> Result<(<R as Files>::File, S
     let alloc = rt.alloc();
     for number in 0..MOST_NAMES {
         let name = format!(in alloc; "{folder}/kormaglen-{number}.run")?;
-        let made = fs::OpenOptions::new()
-            .read(true)
-            .write(true)
-            .create_new(true)
-            .open(rt, name.as_str());
-        match made {
-            Ok(file) => return Ok((file, name)),
-            Err(error) => {
-                if error.kind() != io::ErrorKind::AlreadyExists {
-                    return Err(failed(alloc, name.as_str(), error));
-                }
+        let made = fs::File::create_new(rt, name.as_str());
+        if let Err(error) = &made {
+            if error.kind() == io::ErrorKind::AlreadyExists {
+                continue;
             }
         }
+        return Ok((of_file(alloc, name.as_str(), made)?, name));
     }
     Err(failed(alloc, folder, "there is no free name for a temporary file"))
 }
@@ -103,9 +95,7 @@ fn create_file<R: System>(rt: &R, folder: &str) -> Result<(<R as Files>::File, S
 fn create_run<R: System>(rt: &R, folder: &str) -> Result<RunWriter<<R as Files>::File>, Failure> {
     let alloc = rt.alloc();
     let (file, name) = create_file(rt, folder)?;
-    if let Err(error) = fs::remove_file(rt, name.as_str()) {
-        return Err(failed(alloc, name.as_str(), error));
-    }
+    of_file(alloc, name.as_str(), fs::remove_file(rt, name.as_str()))?;
     match BufWriter::with_capacity(alloc, PIECE, file) {
         Ok(writer) => Ok(RunWriter {
             sink: WriteSink::new(writer),
@@ -192,15 +182,18 @@ pub(crate) fn merged_all<F: Read + Drop>(
 // How many of the last runs are merged next, which is at least two where there are as many, and how many merges the greatest of them has been through:
 // those that have been through as many as the last but one, or fewer.
 fn to_merge<F>(runs: &[Run<F>]) -> (usize, u32) {
-    let merges = match runs.iter().rev().nth(1) {
-        Some(run) => run.merges,
-        None => 0,
-    };
-    let number = runs
-        .iter()
-        .rev()
-        .take_while(|run| run.merges <= merges)
-        .count();
+    let mut merges = 0;
+    if runs.len() > 1 {
+        if let Some(run) = runs.get(runs.len() - 2) {
+            merges = run.merges;
+        }
+    }
+    let mut number: usize = 0;
+    for run in runs {
+        if run.merges <= merges {
+            number = number.saturating_add(1);
+        }
+    }
     (number, merges)
 }
 

@@ -8,16 +8,23 @@ use tantivy_schema::schema::{
 };
 
 // The options of a field.
-#[derive(Clone, Copy, Default)]
+#[derive(Clone, Copy)]
 struct Flags {
     stored: bool,
     indexed: bool,
     fast: bool,
 }
 
+// Those of a field without a flag.
+const NONE: Flags = Flags {
+    stored: false,
+    indexed: false,
+    fast: false,
+};
+
 // The flags that a word lists, with a comma between each two, or the first that is none.
 fn flags_of(options: &str) -> Result<Flags, &str> {
-    let mut flags = Flags::default();
+    let mut flags = NONE;
     for option in options.split(",") {
         match option {
             "stored" => flags.stored = true,
@@ -55,39 +62,71 @@ fn text_options(
     Ok(options)
 }
 
-// The type of this name with these flags, if there is one.
-fn type_of(alloc: Global, name: &str, flags: Flags) -> Result<Option<FieldType>, AllocError> {
+// The type of texts or JSON of this name with these flags.
+fn text_type(alloc: Global, name: &str, flags: Flags) -> Result<FieldType, AllocError> {
+    if name == "json" {
+        let texts = if flags.indexed {
+            TEXT
+        } else {
+            TextOptions::default()
+        };
+        let texts = text_options(alloc, texts, flags)?;
+        return Ok(FieldType::JsonObject(JsonObjectOptions::from(texts)));
+    }
+    let texts = if name == "text" { TEXT } else { STRING };
+    Ok(FieldType::Str(text_options(alloc, texts, flags)?))
+}
+
+// Another type of this name with these flags, if there is one.
+fn plain_type(name: &str, flags: Flags) -> Option<FieldType> {
     let Flags {
         stored,
         indexed,
         fast,
     } = flags;
-    Ok(Some(match name {
-        "text" => FieldType::Str(text_options(alloc, TEXT, flags)?),
-        "string" => FieldType::Str(text_options(alloc, STRING, flags)?),
+    let seconds = DateTimePrecision::Seconds;
+    Some(match name {
         "u64" => FieldType::U64(numeric(flags)),
         "i64" => FieldType::I64(numeric(flags)),
         "bool" => FieldType::Bool(numeric(flags)),
-        "date" => FieldType::Date(DateOptions::from_parts(
-            indexed,
-            indexed,
-            fast,
-            stored,
-            DateTimePrecision::Seconds,
-        )),
+        "date" => FieldType::Date(DateOptions::from_parts(indexed, indexed, fast, stored, seconds)),
         "ip" => FieldType::IpAddr(IpAddrOptions::from_parts(indexed, indexed, fast, stored)),
         "bytes" => FieldType::Bytes(BytesOptions::from_parts(indexed, indexed, fast, stored)),
         "facet" => FieldType::Facet(FacetOptions::from_parts(stored)),
-        "json" => {
-            let texts = if indexed {
-                TEXT
-            } else {
-                TextOptions::default()
-            };
-            FieldType::JsonObject(JsonObjectOptions::from(text_options(alloc, texts, flags)?))
-        }
-        _ => return Ok(None),
-    }))
+        _ => return None,
+    })
+}
+
+// The type of this name with these flags, if there is one.
+fn type_of(alloc: Global, name: &str, flags: Flags) -> Result<Option<FieldType>, AllocError> {
+    match name {
+        "text" | "string" | "json" => Ok(Some(text_type(alloc, name, flags)?)),
+        _ => Ok(plain_type(name, flags)),
+    }
+}
+
+// A word that names an option or a type that there isn't.
+fn unknown(alloc: Global, word: &str, what: &str, name: &str) -> Failure {
+    match format!(in alloc; "there is no {what} \"{name}\"") {
+        Ok(said) => wrong_use(alloc, word, said),
+        Err(_) => Failure::Memory,
+    }
+}
+
+// The type of a word `NAME:TYPE` or `NAME:TYPE:OPTION,OPTION`, by what comes after its name.
+fn type_given(alloc: Global, word: &str, rest: &str) -> Result<FieldType, Failure> {
+    let (name, options) = match rest.split_once(":") {
+        None => (rest, Ok(NONE)),
+        Some((name, options)) => (name, flags_of(options)),
+    };
+    let flags = match options {
+        Ok(flags) => flags,
+        Err(option) => return Err(unknown(alloc, word, "option", option)),
+    };
+    match type_of(alloc, name, flags)? {
+        Some(field_type) => Ok(field_type),
+        None => Err(unknown(alloc, word, "type", name)),
+    }
 }
 
 /// The field of a word `NAME:TYPE` or `NAME:TYPE:OPTION,OPTION`. A word of another form is a wrong use, and so is a type or an option that there isn't.
@@ -95,21 +134,8 @@ pub(crate) fn entry_of(alloc: Global, word: &str) -> Result<FieldEntry, Failure>
     let Some((name, rest)) = word.split_once(":") else {
         return Err(wrong_use(alloc, word, "a field is NAME:TYPE or NAME:TYPE:OPTION,.."));
     };
-    let (kind, flags) = match rest.split_once(":") {
-        None => (rest, Flags::default()),
-        Some((kind, options)) => match flags_of(options) {
-            Ok(flags) => (kind, flags),
-            Err(option) => {
-                let what = format!(in alloc; "there is no option \"{option}\"")?;
-                return Err(wrong_use(alloc, word, what));
-            }
-        },
-    };
-    let Some(field_type) = type_of(alloc, kind, flags)? else {
-        let what = format!(in alloc; "there is no type \"{kind}\"")?;
-        return Err(wrong_use(alloc, word, what));
-    };
-    match FieldEntry::new(String::from_str(alloc, name)?, field_type) {
+    let name = String::from_str(alloc, name)?;
+    match FieldEntry::new(name, type_given(alloc, word, rest)?) {
         Ok(entry) => Ok(entry),
         Err(error) => Err(wrong_use(alloc, word, error)),
     }

@@ -1,31 +1,33 @@
 //! Where a document of a block begins, by a file of offsets.
 
-use crate::ending::{Failure, System, failed};
-use crate::inputs::{Origin, limits, open, source, source_from, text, version};
+use crate::ending::{Failure, System, failed, of_file};
+use crate::inputs::{open, text};
 use clap::ArgMatches;
 use either::Either;
 use std::alloc::Global;
 use std::io::{Read, Seek, SeekFrom};
-use tantivy_schema::common::BufferedSource;
-use tv_command::documents::{DocumentReader, Wanted};
 
 /// A place in a block, with the number of the documents before it.
-#[derive(Clone, Copy, Debug, Default)]
+#[derive(Clone, Copy)]
 pub(crate) struct Start {
     pub(crate) documents: u64,
     pub(crate) byte: u64,
 }
 
+// The place of the first document.
+const FIRST: Start = Start {
+    documents: 0,
+    byte: 0,
+};
+
 // The number of this index in a file of numbers of eight bytes, if it has as many.
-fn offset<R: System>(rt: &R, name: &str, index: u64) -> Result<Option<u64>, Failure> {
-    let alloc = rt.alloc();
-    let Either::Left(mut file) = open(rt, name)? else {
-        return Err(failed(alloc, name, "offsets are read from a file"));
-    };
-    let length = match file.seek(SeekFrom::End(0)) {
-        Ok(length) => length,
-        Err(error) => return Err(failed(alloc, name, error)),
-    };
+fn offset_in<F: Read + Seek>(
+    alloc: Global,
+    name: &str,
+    file: &mut F,
+    index: u64,
+) -> Result<Option<u64>, Failure> {
+    let length = of_file(alloc, name, file.seek(SeekFrom::End(0)))?;
     if length % 8 != 0 {
         return Err(failed(alloc, name, "its length is no multiple of 8"));
     }
@@ -33,13 +35,16 @@ fn offset<R: System>(rt: &R, name: &str, index: u64) -> Result<Option<u64>, Fail
         return Ok(None);
     }
     let mut bytes = [0u8; 8];
-    let read = match file.seek(SeekFrom::Start(index * 8)) {
-        Ok(_) => file.read_exact(&mut bytes),
-        Err(error) => Err(error),
-    };
-    match read {
-        Ok(()) => Ok(Some(u64::from_le_bytes(bytes))),
-        Err(error) => Err(failed(alloc, name, error)),
+    of_file(alloc, name, file.seek(SeekFrom::Start(index * 8)))?;
+    of_file(alloc, name, file.read_exact(&mut bytes))?;
+    Ok(Some(u64::from_le_bytes(bytes)))
+}
+
+// The same, of the file of this name.
+fn offset<R: System>(rt: &R, name: &str, index: u64) -> Result<Option<u64>, Failure> {
+    match &mut open(rt, name)? {
+        Either::Left(file) => offset_in(rt.alloc(), name, file, index),
+        Either::Right(_) => Err(failed(rt.alloc(), name, "offsets are read from a file")),
     }
 }
 
@@ -50,37 +55,15 @@ pub(crate) fn start_of<R: System>(
     given: &ArgMatches<'_>,
     number: u64,
 ) -> Result<Option<Start>, Failure> {
-    match given.get_str("offsets") {
-        Some(name) if text(given, "BLOCK") != "-" => Ok(offset(rt, name, number)?.map(
-            |byte| Start {
-                documents: number,
-                byte,
-            },
-        )),
-        _ => Ok(Some(Start::default())),
-    }
-}
-
-/// The block that the words name from this place on, and a reader of its documents within their limits.
-pub(crate) fn open_at<R: System>(
-    rt: &R,
-    given: &ArgMatches<'_>,
-    start: Start,
-) -> Result<(BufferedSource<Origin<R>>, DocumentReader), Failure> {
-    let name = text(given, "BLOCK");
-    let source = if start.byte == 0 {
-        source(rt, name)?
-    } else {
-        source_from(rt, name, start.byte)?
+    let Some(name) = given.get_str("offsets") else {
+        return Ok(Some(FIRST));
     };
-    let wanted = Wanted::All(limits(given));
-    let version = version(given, "version");
-    let reader = DocumentReader::starting_at(
-        rt.alloc(),
-        version,
-        wanted,
-        start.documents,
-        start.byte,
-    );
-    Ok((source, reader))
+    if text(given, "BLOCK") == "-" {
+        return Ok(Some(FIRST));
+    }
+    let documents = number;
+    match offset(rt, name, number)? {
+        Some(byte) => Ok(Some(Start { documents, byte })),
+        None => Ok(None),
+    }
 }

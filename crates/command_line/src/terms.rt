@@ -2,15 +2,15 @@
 
 use crate::blocks::print_line;
 use crate::ending::{Ending, Failure, System, failed, wrong_use};
-use crate::inputs::{documents, schema_given, source, text};
-use crate::progress::Progress;
+use crate::inputs::{schema_given, text};
 use crate::runs::{Runs, add_run, merged_all};
 use crate::term_counts::TermCounts;
+use crate::visits::{Visit, visit_block};
 use clap::ArgMatches;
+use std::alloc::Global;
 use std::env;
 use std::fs::Files;
-use tantivy_schema::schema::{Schema, Term, TermList, term_values};
-use tv_command::watch::Watch;
+use tantivy_schema::schema::{Schema, TantivyDocument, Term, TermList, term_values};
 use tv_query::{QueryReason, Selection, Wanted};
 
 // Counts the terms of a document that are wanted.
@@ -28,54 +28,65 @@ fn count_terms(
     Ok(())
 }
 
-// Counts the terms of the documents of a block. Those that are too many for memory go into runs.
-fn count_block<R: System>(
-    rt: &R,
-    given: &ArgMatches<'_>,
-    wanted: &Selection,
-    schema: &Schema,
-    counts: &mut TermCounts,
-    runs: &mut Runs<<R as Files>::File>,
-    progress: &mut Progress<R>,
-) -> Result<(), Failure> {
-    let alloc = rt.alloc();
-    let name = text(given, "BLOCK");
-    let mut source = source(rt, name)?;
-    let mut reader = documents(alloc, given);
-    let mut terms = TermList::new(alloc);
-    for _ in 0..u64::MAX {
-        match reader.advance(&mut source) {
-            Ok(true) => {}
-            Ok(false) => break,
-            Err(error) => return Err(failed(alloc, name, error)),
-        }
-        terms.clear();
-        if let Err(error) = term_values(alloc, schema, reader.document(), &mut terms) {
-            return Err(failed(alloc, name, error));
-        }
-        count_terms(wanted, &mut terms, counts)?;
-        if counts.is_full() {
-            add_run(rt, runs, counts)?;
-        }
-        progress.advance(reader.bytes());
+// Counts the terms of documents that are wanted. Those that are too many for memory go into runs.
+struct Counting<R: System> {
+    rt: R,
+    block: String,
+    schema: Schema,
+    wanted: Selection,
+    terms: TermList,
+    counts: TermCounts,
+    runs: Runs<<R as Files>::File>,
+}
+
+impl<R: System> Drop for Counting<R> {
+    fn drop(self) {
+        let Counting {
+            rt: _,
+            block: _,
+            schema: _,
+            wanted: _,
+            terms: _,
+            counts: _,
+            runs: _,
+        } = self;
     }
-    Ok(())
+}
+
+impl<R: System> Counting<R> {
+    // Puts the terms that are counted in memory into a run.
+    fn put_away(&mut self) -> Result<(), Failure> {
+        add_run(&self.rt, &mut self.runs, &mut self.counts)
+    }
+}
+
+impl<R: System> Visit for Counting<R> {
+    fn visit(&mut self, document: &TantivyDocument, _bytes: u64) -> Result<(), Failure> {
+        let alloc = self.rt.alloc();
+        self.terms.clear();
+        if let Err(error) = term_values(alloc, &self.schema, document, &mut self.terms) {
+            return Err(failed(alloc, self.block.as_str(), error));
+        }
+        count_terms(&self.wanted, &mut self.terms, &mut self.counts)?;
+        if self.counts.is_full() {
+            self.put_away()?;
+        }
+        Ok(())
+    }
 }
 
 // The terms of a field that are asked for: those of a range, those that begin with the term of a text, or all.
-fn wanted<R: System>(
-    rt: &R,
-    given: &ArgMatches<'_>,
-    schema: &Schema,
-) -> Result<Selection, Failure> {
-    let alloc = rt.alloc();
+fn wanted(alloc: Global, given: &ArgMatches<'_>, schema: &Schema) -> Result<Selection, Failure> {
     let path = text(given, "FIELD");
-    let wanted = match (given.get_str("range"), given.get_str("prefix")) {
-        (Some(_), Some(_)) => {
-            return Err(wrong_use(alloc, "--prefix", "it can't stand beside --range"));
+    let range = given.get_str("range");
+    let wanted = match given.get_str("prefix") {
+        Some(prefix) => {
+            if range.is_some() {
+                return Err(wrong_use(alloc, "--prefix", "it can't stand beside --range"));
+            }
+            Wanted::Prefix(prefix)
         }
-        (None, Some(prefix)) => Wanted::Prefix(prefix),
-        (range, None) => Wanted::Range(range.unwrap_or("*")),
+        None => Wanted::Range(range.unwrap_or("*")),
     };
     match Selection::of(alloc, schema, path, wanted) {
         Ok(selection) => Ok(selection),
@@ -86,14 +97,10 @@ fn wanted<R: System>(
 
 // A number of bytes above 0, with K, M or G after it or without.
 fn bytes_of(words: &str) -> Option<u64> {
-    let (digits, unit) = match (
-        words.strip_suffix('K'),
-        words.strip_suffix('M'),
-        words.strip_suffix('G'),
-    ) {
-        (Some(digits), _, _) => (digits, 1 << 10),
-        (_, Some(digits), _) => (digits, 1 << 20),
-        (_, _, Some(digits)) => (digits, 1 << 30),
+    let (digits, unit) = match words.as_bytes().last() {
+        Some(b'K') => (words.strip_suffix('K')?, 1 << 10),
+        Some(b'M') => (words.strip_suffix('M')?, 1 << 20),
+        Some(b'G') => (words.strip_suffix('G')?, 1 << 30),
         _ => (words, 1u64),
     };
     let bytes = digits.parse::<u64>().ok()?.checked_mul(unit)?;
@@ -101,11 +108,11 @@ fn bytes_of(words: &str) -> Option<u64> {
 }
 
 // How many bytes terms may take in memory.
-fn memory<R: System>(rt: &R, given: &ArgMatches<'_>) -> Result<u64, Failure> {
+fn memory(alloc: Global, given: &ArgMatches<'_>) -> Result<u64, Failure> {
     match bytes_of(text(given, "memory")) {
         Some(bytes) => Ok(bytes),
         None => Err(wrong_use(
-            rt.alloc(),
+            alloc,
             "--memory",
             "it wants a number of bytes above 0; K, M or G may follow it",
         )),
@@ -126,17 +133,20 @@ fn folder<R: System>(rt: &R, given: &ArgMatches<'_>) -> Result<String, Failure> 
     }
 }
 
-// Prints a term, with how many documents have it where that is asked for.
-fn print_term<R: System>(rt: &R, bytes: &[u8], count: Option<u64>) -> Result<(), Failure> {
-    let alloc = rt.alloc();
+// The line of a term, with how many documents have it where that is asked for.
+fn line(alloc: Global, bytes: &[u8], count: Option<u64>) -> Result<String, Failure> {
     let Ok(term) = Term::wrap(alloc, bytes) else {
         return Err(Failure::Memory);
     };
-    let line = match count {
+    Ok(match count {
         Some(count) => format!(in alloc; "{count}\t{term:?}")?,
         None => format!(in alloc; "{term:?}")?,
-    };
-    print_line(rt, line.as_str())
+    })
+}
+
+// Prints it.
+fn print_term<R: System>(rt: &R, bytes: &[u8], count: Option<u64>) -> Result<(), Failure> {
+    print_line(rt, line(rt.alloc(), bytes, count)?.as_str())
 }
 
 // Prints the terms that are counted in memory.
@@ -164,31 +174,34 @@ fn print_runs<R: System>(
     Ok(())
 }
 
+// What counts the terms that the words ask for.
+fn begin<R: System>(rt: &R, given: &ArgMatches<'_>) -> Result<Counting<R>, Failure> {
+    let alloc = rt.alloc();
+    let counts = TermCounts::new(alloc, memory(alloc, given)?);
+    let runs = Runs::new(alloc, folder(rt, given)?);
+    let schema = schema_given(rt, given)?;
+    let wanted = wanted(alloc, given, &schema)?;
+    Ok(Counting {
+        rt: *rt,
+        block: String::from_str(alloc, text(given, "BLOCK"))?,
+        schema,
+        wanted,
+        terms: TermList::new(alloc),
+        counts,
+        runs,
+    })
+}
+
 /// Prints the terms of a field in their order. Memory is kept for as many as `--memory` lets it, and for one document.
 pub(crate) fn terms<R: System>(rt: &R, given: &ArgMatches<'_>) -> Result<Ending, Failure> {
-    let alloc = rt.alloc();
-    let mut counts = TermCounts::new(alloc, memory(rt, given)?);
-    let mut runs = Runs::new(alloc, folder(rt, given)?);
-    let schema = schema_given(rt, given)?;
-    let wanted = wanted(rt, given, &schema)?;
-    let mut progress = Progress::of(rt, given, &[text(given, "BLOCK")]);
-    let counting = count_block(
-        rt,
-        given,
-        &wanted,
-        &schema,
-        &mut counts,
-        &mut runs,
-        &mut progress,
-    );
-    progress.end();
-    counting?;
+    let mut counting = begin(rt, given)?;
+    visit_block(rt, given, &mut counting)?;
     let counted = given.get_flag("counts");
-    if runs.is_empty() {
-        print_counts(rt, &counts, counted)?;
+    if counting.runs.is_empty() {
+        print_counts(rt, &counting.counts, counted)?;
     } else {
-        add_run(rt, &mut runs, &mut counts)?;
-        print_runs(rt, &mut runs, counted)?;
+        counting.put_away()?;
+        print_runs(rt, &mut counting.runs, counted)?;
     }
     Ok(Ending::Done)
 }

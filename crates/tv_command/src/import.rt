@@ -166,9 +166,10 @@ pub struct LineImporter {
 }
 
 impl LineImporter {
-    /// An importer by these rules. It takes no memory.
+    /// An importer by these rules, which has read no line. It takes no memory.
     pub fn new(alloc: Global, rules: ImportRules) -> LineImporter
-        ensures { result.rules ≡ rules }
+        ensures rules { result.rules ≡ rules }
+        ensures taken { result.taken ≡ 0 }
     {
         LineImporter {
             alloc,

@@ -58,9 +58,9 @@ fn counted(imported: Imported, outcome: &LineOutcome) -> Imported
 /// line, by its number. Returns how many lines there were of both kinds. See `LineImporter::advance`, of which this calls one after the other.
 /// After each line the watch is told how many bytes all of them took, their line feeds included: 2^64 - 1 where it is more. (Not in tantivy.)
 ///
-/// Errors: `Import` with an error of `LineImporter::advance`; `Report` where a report failed, with its error; `TooMany` after 2^64 - 1 lines. The sink then holds
-/// the documents of the lines before the one at which it broke off, after `Import` maybe also a beginning of its document, and after `Report` all of it.
-/// The report has been told of the lines before it.
+/// Errors: `Import` with an error of `LineImporter::advance`; `Report` where a report failed, with its error; `TooMany` after 2^64 - 1 lines. The sink
+/// then holds the documents of the lines before the one at which it broke off, after `Import` maybe also a beginning of its document, and after
+/// `Report` all of it. The report has been told of the lines before it.
 pub fn import_lines<R: BufRead, K: ByteSink, T: Report, W: Watch>(
     importer: &mut LineImporter,
     schema: &Schema,

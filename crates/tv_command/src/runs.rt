@@ -1,12 +1,12 @@
 //! Runs: pairs of a term and a count, the terms rising, written one after the other and read again; and several of them merged. So terms that are
 //! too many for memory are sorted in parts.
 
-ghost use Rattle.std.specs.Prelude.{◌≡◌, ◌++◌, [], ◌∷◌, List, false, IfOk, OnErr, OnOk, option_copied};
+ghost use Rattle.std.specs.Prelude.{◌≡◌, ◌++◌, [], ◌∷◌, List, false, IfErr, IfOk, OnErr, OnOk, option_copied};
 ghost use Rattle.tv_base.specs.Stop.{Counts};
 ghost use Rattle.tv_base.specs.Take.{TakesBy, read_stop};
 ghost use Rattle.tv_base.specs.Writing.{Writes};
 ghost use Rattle.tv_command.specs.Runs.{CountsMerge, HasLeft, HaveLeft, IsAtMost, IsLeastRead, IsLesser, IsRun};
-ghost use Rattle.tv_command.specs.Runs.{MergesNext, MoreOf, Pair, TakesFrom, TakesFromEach, TakesPair, pair_at, pair_bytes, pair_of};
+ghost use Rattle.tv_command.specs.Runs.{MergesNext, MoreOf, Pair, RefusesPair, TakesFrom, TakesFromEach, TakesPair, pair_at, pair_bytes, pair_of};
 
 use std::alloc::{AllocError, Global};
 use std::cmp::Ordering;
@@ -230,12 +230,15 @@ impl<S: ByteSource + Drop> Merge<S> {
 
     /// Adds the run that this source has left, and reads its first pair.
     ///
-    /// Errors: those of `RunReader::advance`, and `Memory`. The merge is as it was then, and the source is dropped.
+    /// Errors: that of `RunReader::advance`, or `Memory`. The merge is as it was then, and the source is dropped.
     pub fn add(&mut self, alloc: Global, source: S) -> Result<(), ReadError>
         ensures ok { S.is_known source → (pairs : List Pair) → IsRun (S.left source) pairs
             → (runs : List (List Pair)) → HaveLeft S.ByteSource self.old.readers.items runs
             → OnOk result (HaveLeft S.ByteSource self.new.readers.items (runs ++ pairs ∷ [])) }
         ensures err { OnErr result (self.new.readers.items ≡ self.old.readers.items) }
+        ensures errors { S.is_known source → IfErr result (RefusesPair (S.left source)) }
+        ensures term { self.new.term ≡ self.old.term }
+        ensures count { self.new.count ≡ self.old.count }
     {
         let mut reader = RunReader::new(alloc, source);
         reader.advance()?;

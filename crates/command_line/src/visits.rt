@@ -1,0 +1,53 @@
+//! Work on each document of a block.
+
+use crate::ending::{Failure, System, failed};
+use crate::inputs::{limits, source, text, version};
+use crate::progress::Progress;
+use clap::ArgMatches;
+use std::alloc::Global;
+use tantivy_schema::common::ByteSource;
+use tantivy_schema::schema::TantivyDocument;
+use tv_command::documents::{DocumentReader, Wanted};
+use tv_command::watch::Watch;
+
+/// What is done with each document of a block.
+pub(crate) trait Visit {
+    /// Takes the next document, after which this many bytes of the block have been taken.
+    fn visit(&mut self, document: &TantivyDocument, bytes: u64) -> Result<(), Failure>;
+}
+
+// Shows the documents that a source has left to a visitor.
+fn visit_left<S: ByteSource, V: Visit, W: Watch>(
+    alloc: Global,
+    given: &ArgMatches<'_>,
+    source: &mut S,
+    visitor: &mut V,
+    watch: &mut W,
+) -> Result<(), Failure> {
+    let wanted = Wanted::All(limits(given));
+    let mut reader = DocumentReader::new(alloc, version(given, "version"), wanted);
+    for _ in 0..u64::MAX {
+        match reader.advance(source) {
+            Ok(true) => {}
+            Ok(false) => break,
+            Err(error) => return Err(failed(alloc, text(given, "BLOCK"), error)),
+        }
+        visitor.visit(reader.document(), reader.bytes())?;
+        watch.advance(reader.bytes());
+    }
+    Ok(())
+}
+
+/// Shows the documents of the block that the words name to a visitor, each within the limits, and how far that has come.
+pub(crate) fn visit_block<R: System, V: Visit>(
+    rt: &R,
+    given: &ArgMatches<'_>,
+    visitor: &mut V,
+) -> Result<(), Failure> {
+    let name = text(given, "BLOCK");
+    let mut source = source(rt, name)?;
+    let mut progress = Progress::of(rt, given, &[name]);
+    let visited = visit_left(rt.alloc(), given, &mut source, visitor, &mut progress);
+    progress.end();
+    visited
+}
