@@ -1,6 +1,9 @@
 //! The words of a line of a conformance suite, and how answers are written. A text is a JSON string with its quotes, bytes are
 //! hexadecimal digits, and a number is decimal.
 //!
+//! A call is best told by its name alone, and its other words are best taken by the function that makes it: a `match` whose arms have both
+//! takes several times as long to prove.
+//!
 //! A value of many parts, as an `OwnedValue` or a `FieldType`, is best dropped by a call that takes it, as `drop`: that is one step of the
 //! caller, where each place at which it goes out of scope has a step for each part.
 #![tactic(auto)]
@@ -53,6 +56,64 @@ where
 /// The field of a number.
 pub fn field(word: &str) -> Result<Field> {
     Ok(Field::from_field_id(number(word)?))
+}
+
+/// The first word of a call, as its name, and the words after it.
+pub fn first<'a>(call: &'a [&'a str]) -> Result<(&'a str, &'a [&'a str])> {
+    match call {
+        [first, others @ ..] => Ok((*first, others)),
+        [] => Err(anyhow!("a call without words")),
+    }
+}
+
+/// The only word of a call.
+pub fn one<'a>(call: &[&'a str]) -> Result<&'a str> {
+    match call {
+        [one] => Ok(*one),
+        _ => Err(anyhow!("a call of one word")),
+    }
+}
+
+/// The two words of a call.
+pub fn two<'a>(call: &[&'a str]) -> Result<(&'a str, &'a str)> {
+    match call {
+        [first, second] => Ok((*first, *second)),
+        _ => Err(anyhow!("a call of two words")),
+    }
+}
+
+/// The three words of a call.
+pub fn three<'a>(call: &[&'a str]) -> Result<(&'a str, &'a str, &'a str)> {
+    match call {
+        [first, second, third] => Ok((*first, *second, *third)),
+        _ => Err(anyhow!("a call of three words")),
+    }
+}
+
+/// The four words of a call.
+pub fn four<'a>(call: &[&'a str]) -> Result<(&'a str, &'a str, &'a str, &'a str)> {
+    match call {
+        [first, second, third, fourth] => Ok((*first, *second, *third, *fourth)),
+        _ => Err(anyhow!("a call of four words")),
+    }
+}
+
+/// The texts of words, each in quotes.
+pub fn all_texts(alloc: Global, words: &[&str]) -> Result<Vec<String>> {
+    let mut texts = Vec::new(alloc);
+    for word in words {
+        texts.push(text(alloc, word)?)?;
+    }
+    Ok(texts)
+}
+
+/// Texts, lent.
+pub fn lent<'a>(alloc: Global, texts: &'a [String]) -> Result<Vec<&'a str>> {
+    let mut lent = Vec::new(alloc);
+    for text in texts {
+        lent.push(text.as_str())?;
+    }
+    Ok(lent)
 }
 
 /// The texts of a JSON array.

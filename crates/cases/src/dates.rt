@@ -8,19 +8,20 @@ use tv_date::{DATE_TIME_PRECISION_INDEXED, DateTime, DateTimePrecision};
 
 /// What a call about dates returns.
 pub fn answer(alloc: Global, call: &[&str]) -> Result<String> {
-    match call {
-        ["read", text] => read(alloc, text),
-        ["print", nanoseconds] => printed(alloc, leaves::date(nanoseconds)?),
-        ["truncate", precision, nanoseconds] => truncated(alloc, precision, nanoseconds),
-        ["micros", microseconds] => of_microseconds(alloc, words::number(microseconds)?),
-        ["indexed precision"] => Ok(format!(in alloc; "{DATE_TIME_PRECISION_INDEXED:?}")?),
+    let (name, call) = words::first(call)?;
+    match name {
+        "read" => read(alloc, call),
+        "print" => printed(alloc, call),
+        "truncate" => truncated(alloc, call),
+        "micros" => of_microseconds(alloc, call),
+        "indexed precision" => words::debug(alloc, DATE_TIME_PRECISION_INDEXED),
         _ => Err(anyhow!("an unknown call about dates")),
     }
 }
 
 // The date of a text.
-fn read(alloc: Global, word: &str) -> Result<String> {
-    let text = words::text(alloc, word)?;
+fn read(alloc: Global, call: &[&str]) -> Result<String> {
+    let text = words::text(alloc, words::one(call)?)?;
     match DateTime::from_rfc3339(text.as_str()) {
         Ok(date) => words::plain(alloc, &date.into_timestamp_nanos()),
         Err(error) => words::error(alloc, error),
@@ -28,7 +29,8 @@ fn read(alloc: Global, word: &str) -> Result<String> {
 }
 
 // The date this many microseconds after 1970.
-fn of_microseconds(alloc: Global, microseconds: i64) -> Result<String> {
+fn of_microseconds(alloc: Global, call: &[&str]) -> Result<String> {
+    let microseconds = words::number(words::one(call)?)?;
     match DateTime::from_timestamp_micros(microseconds) {
         Some(date) => words::plain(alloc, &date.into_timestamp_nanos()),
         None => words::none(alloc),
@@ -36,7 +38,8 @@ fn of_microseconds(alloc: Global, microseconds: i64) -> Result<String> {
 }
 
 // A date that is cut to a precision, and how the date compares with it.
-fn truncated(alloc: Global, precision: &str, nanoseconds: &str) -> Result<String> {
+fn truncated(alloc: Global, call: &[&str]) -> Result<String> {
+    let (precision, nanoseconds) = words::two(call)?;
     let date = leaves::date(nanoseconds)?;
     let cut = date.truncate(precision_named(precision)?);
     let order = words::compared(alloc, &date, &cut)?;
@@ -45,7 +48,8 @@ fn truncated(alloc: Global, precision: &str, nanoseconds: &str) -> Result<String
 }
 
 // The text of a date. It is the same after another text.
-fn printed(alloc: Global, date: DateTime) -> Result<String> {
+fn printed(alloc: Global, call: &[&str]) -> Result<String> {
+    let date = leaves::date(words::one(call)?)?;
     let text = date.write_rfc3339(alloc)?;
     let mut behind = String::from_str(alloc, "on ")?;
     date.push_rfc3339(&mut behind)?;

@@ -8,32 +8,40 @@ use tv_base::Facet;
 
 /// What a call about facets returns.
 pub fn answer(alloc: Global, call: &[&str]) -> Result<String> {
-    match call {
-        ["root"] => shown(alloc, &Facet::root(alloc)),
-        ["text", text] => of_text(alloc, text),
-        ["steps", steps] => of_steps(alloc, steps),
-        ["encoded", digits] => of_bytes(alloc, digits),
-        ["prefix", upper, lower] => {
-            let (upper, lower) = two(alloc, upper, lower)?;
-            words::plain(alloc, &upper.is_prefix_of(&lower))
-        }
-        ["compare", one, other] => {
-            let (one, other) = two(alloc, one, other)?;
-            words::compared(alloc, &one, &other)
-        }
+    let (name, call) = words::first(call)?;
+    match name {
+        "root" => shown(alloc, &Facet::root(alloc)),
+        "text" => of_text(alloc, call),
+        "steps" => of_steps(alloc, call),
+        "encoded" => of_bytes(alloc, call),
+        "prefix" => is_prefix(alloc, call),
+        "compare" => compared(alloc, call),
         _ => Err(anyhow!("an unknown call about facets")),
     }
 }
 
 // The facets of two texts.
-fn two(alloc: Global, one: &str, other: &str) -> Result<(Facet, Facet)> {
+fn two(alloc: Global, call: &[&str]) -> Result<(Facet, Facet)> {
+    let (one, other) = words::two(call)?;
     let one = facet(alloc, one)?;
     Ok((one, facet(alloc, other)?))
 }
 
+// Whether a facet is a prefix of another one.
+fn is_prefix(alloc: Global, call: &[&str]) -> Result<String> {
+    let (upper, lower) = two(alloc, call)?;
+    words::plain(alloc, &upper.is_prefix_of(&lower))
+}
+
+// How two facets compare.
+fn compared(alloc: Global, call: &[&str]) -> Result<String> {
+    let (one, other) = two(alloc, call)?;
+    words::compared(alloc, &one, &other)
+}
+
 // The facet of a text.
-fn of_text(alloc: Global, word: &str) -> Result<String> {
-    let text = words::text(alloc, word)?;
+fn of_text(alloc: Global, call: &[&str]) -> Result<String> {
+    let text = words::text(alloc, words::one(call)?)?;
     match Facet::from_text(alloc, text.as_str()) {
         Ok(facet) => shown(alloc, &facet),
         Err(error) => words::error(alloc, error),
@@ -41,8 +49,8 @@ fn of_text(alloc: Global, word: &str) -> Result<String> {
 }
 
 // The facet of encoded bytes.
-fn of_bytes(alloc: Global, digits: &str) -> Result<String> {
-    match Facet::from_encoded(words::bytes(alloc, digits)?) {
+fn of_bytes(alloc: Global, call: &[&str]) -> Result<String> {
+    match Facet::from_encoded(words::bytes(alloc, words::one(call)?)?) {
         Ok(facet) => shown(alloc, &facet),
         Err(error) => {
             let refused = words::digits(alloc, &error.into_bytes())?;
@@ -52,9 +60,9 @@ fn of_bytes(alloc: Global, digits: &str) -> Result<String> {
 }
 
 // The facet of a JSON array of steps.
-fn of_steps(alloc: Global, word: &str) -> Result<String> {
-    let texts = words::texts(alloc, word)?;
-    let steps: Vec<&str> = texts.iter().map(|step| step.as_str()).collect(alloc)?;
+fn of_steps(alloc: Global, call: &[&str]) -> Result<String> {
+    let texts = words::texts(alloc, words::one(call)?)?;
+    let steps = words::lent(alloc, texts.as_slice())?;
     shown(alloc, &Facet::from_path(alloc, &steps)?)
 }
 

@@ -15,28 +15,28 @@ use tv_io::{ReadSource, WriteSink};
 
 /// What a call about numbers returns.
 pub fn answer(alloc: Global, call: &[&str]) -> Result<String> {
-    match call {
-        ["read", source, kinds, digits] => {
-            read(alloc, source, kinds, &words::bytes(alloc, digits)?)
-        }
-        ["find", digits] => found(alloc, &words::bytes(alloc, digits)?),
-        ["encode", number] => encoded(alloc, words::number(number)?),
-        ["write", sink, values @ ..] => write(alloc, sink, values),
+    let (name, call) = words::first(call)?;
+    match name {
+        "read" => read(alloc, call),
+        "find" => found(alloc, call),
+        "encode" => encoded(alloc, call),
+        "write" => write(alloc, call),
         _ => Err(anyhow!("an unknown call about numbers")),
     }
 }
 
 // The number that bytes begin with, and how many bytes it has.
-fn found(alloc: Global, bytes: &[u8]) -> Result<String> {
-    match VInt::from_slice(bytes) {
+fn found(alloc: Global, call: &[&str]) -> Result<String> {
+    let bytes = words::bytes(alloc, words::one(call)?)?;
+    match VInt::from_slice(bytes.as_slice()) {
         Some((number, length)) => Ok(format!(in alloc; "{number} {length}")?),
         None => words::none(alloc),
     }
 }
 
 // The bytes of a number.
-fn encoded(alloc: Global, number: u64) -> Result<String> {
-    let (bytes, length) = VInt(number).spelling();
+fn encoded(alloc: Global, call: &[&str]) -> Result<String> {
+    let (bytes, length) = VInt(words::number(words::one(call)?)?).spelling();
     words::digits(alloc, bytes.get(..length).context("ten bytes at most")?)
 }
 
@@ -70,13 +70,15 @@ fn error_kind(word: &str) -> Result<io::ErrorKind> {
     }
 }
 
-// What a source of these bytes reads as values of these kinds, and the bytes that it has left.
-fn read(alloc: Global, source: &str, kinds: &str, bytes: &[u8]) -> Result<String> {
-    let source: Vec<&str> = source.split(' ').collect(alloc)?;
-    match source.as_slice() {
-        ["whole"] => read_whole(alloc, kinds, bytes),
-        ["reader"] => read_through(alloc, kinds, bytes),
-        ["fails", good, kind] => read_failing(alloc, kinds, bytes, good, kind),
+// What a source of bytes reads as values of some kinds, and the bytes that it has left.
+fn read(alloc: Global, call: &[&str]) -> Result<String> {
+    let (source, kinds, digits) = words::three(call)?;
+    let bytes = words::bytes(alloc, digits)?;
+    let (source, failure) = words::parted(source);
+    match source {
+        "whole" => read_whole(alloc, kinds, bytes.as_slice()),
+        "reader" => read_through(alloc, kinds, bytes.as_slice()),
+        "fails" => read_failing(alloc, kinds, bytes.as_slice(), failure),
         _ => Err(anyhow!("an unknown source")),
     }
 }
@@ -95,14 +97,9 @@ fn read_through(alloc: Global, kinds: &str, bytes: &[u8]) -> Result<String> {
     ended(alloc, values.as_str(), reader.into_inner())
 }
 
-// What is read through a reader that gives this many bytes, and then fails.
-fn read_failing(
-    alloc: Global,
-    kinds: &str,
-    bytes: &[u8],
-    good: &str,
-    kind: &str,
-) -> Result<String> {
+// What is read through a reader that gives as many bytes as the failure says, and then fails.
+fn read_failing(alloc: Global, kinds: &str, bytes: &[u8], failure: &str) -> Result<String> {
+    let (good, kind) = words::parted(failure);
     let mut reader = ReadSource::new(FailingReader {
         rest: bytes,
         good: words::number(good)?,
@@ -164,8 +161,9 @@ fn read_bytes<S: ByteSource>(alloc: Global, source: &mut S, kind: &str) -> Resul
     }
 }
 
-// The bytes that a sink holds when these values, each after its kind, are written to it, and why it took no more.
-fn write(alloc: Global, sink: &str, values: &[&str]) -> Result<String> {
+// The bytes that a sink holds when values, each after its kind, are written to it, and why it took no more.
+fn write(alloc: Global, call: &[&str]) -> Result<String> {
+    let (sink, values) = words::first(call)?;
     match sink {
         "memory" => write_to_memory(alloc, values),
         "writer" => write_to_writer(alloc, values),

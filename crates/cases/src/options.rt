@@ -17,17 +17,18 @@ use tv_schema::Schema;
 
 /// What a call about options returns.
 pub fn answer(alloc: Global, call: &[&str]) -> Result<String> {
-    match call {
-        ["of", kind, steps] => of_steps(alloc, kind, steps),
-        ["record", one, other] => compared_records(alloc, one, other),
-        ["record"] => Ok(format!(in alloc; "{:?}", IndexRecordOption::default())?),
-        ["tokenizer", name] => tokenizer(alloc, name),
+    let (name, call) = words::first(call)?;
+    match name {
+        "of" => of_steps(alloc, call),
+        "record" => records(alloc, call),
+        "tokenizer" => tokenizer(alloc, call),
         _ => Err(anyhow!("an unknown call about options")),
     }
 }
 
 // The options of a type of fields after these steps.
-fn of_steps(alloc: Global, kind: &str, steps: &str) -> Result<String> {
+fn of_steps(alloc: Global, call: &[&str]) -> Result<String> {
+    let (kind, steps) = words::two(call)?;
     let mut field_type = unset(kind)?;
     for step in steps.split(' ') {
         field_type = changed(alloc, field_type, step)?;
@@ -37,8 +38,17 @@ fn of_steps(alloc: Global, kind: &str, steps: &str) -> Result<String> {
     answer
 }
 
+// The record option by default, or how two of them compare.
+fn records(alloc: Global, call: &[&str]) -> Result<String> {
+    if call.is_empty() {
+        return words::debug(alloc, IndexRecordOption::default());
+    }
+    compared_records(alloc, call)
+}
+
 // How two record options compare, and the lesser of both.
-fn compared_records(alloc: Global, one: &str, other: &str) -> Result<String> {
+fn compared_records(alloc: Global, call: &[&str]) -> Result<String> {
+    let (one, other) = words::two(call)?;
     let one = record_named(one)?;
     let other = record_named(other)?;
     let (order, least) = (words::compared(alloc, &one, &other)?, one.downgrade(other));
@@ -46,8 +56,9 @@ fn compared_records(alloc: Global, one: &str, other: &str) -> Result<String> {
 }
 
 // The name of a tokenizer, and whether it is the default.
-fn tokenizer(alloc: Global, word: &str) -> Result<String> {
-    let name = TokenizerName::from_name(alloc, words::text(alloc, word)?.as_str())?;
+fn tokenizer(alloc: Global, call: &[&str]) -> Result<String> {
+    let name = words::text(alloc, words::one(call)?)?;
+    let name = TokenizerName::from_name(alloc, name.as_str())?;
     let answer = tokenizer_shown(alloc, &name);
     drop(name);
     answer
@@ -64,15 +75,20 @@ fn tokenizer_shown(alloc: Global, name: &TokenizerName) -> Result<String> {
 
 /// What a call about types returns.
 pub fn answer_types(alloc: Global, call: &[&str]) -> Result<String> {
-    match call {
-        ["all"] => codes(alloc),
-        ["of", code] => type_name(alloc, code),
-        ["compare", one, other] => {
-            let one = words::type_of(one)?;
-            words::compared(alloc, &one, &words::type_of(other)?)
-        }
+    let (name, call) = words::first(call)?;
+    match name {
+        "all" => codes(alloc),
+        "of" => type_name(alloc, call),
+        "compare" => compared_types(alloc, call),
         _ => Err(anyhow!("an unknown call about types")),
     }
+}
+
+// How two types compare.
+fn compared_types(alloc: Global, call: &[&str]) -> Result<String> {
+    let (one, other) = words::two(call)?;
+    let one = words::type_of(one)?;
+    words::compared(alloc, &one, &words::type_of(other)?)
 }
 
 // The codes of all types.
@@ -86,8 +102,8 @@ fn codes(alloc: Global) -> Result<String> {
 }
 
 // The name of the type of a code.
-fn type_name(alloc: Global, code: &str) -> Result<String> {
-    let code = code.bytes().next().context("a code")?;
+fn type_name(alloc: Global, call: &[&str]) -> Result<String> {
+    let code = words::one(call)?.bytes().next().context("a code")?;
     match Type::from_code(code) {
         Some(value_type) => words::plain(alloc, &value_type.name()),
         None => words::none(alloc),

@@ -19,8 +19,9 @@ pub fn answer(alloc: Global, call: &[&str]) -> Result<String> {
     }
 }
 
-/// Those of the terms with these digits, which rise, that are in a range.
-pub fn within(alloc: Global, digits: &str, call: &[&str]) -> Result<String> {
+/// Those of the terms with the digits of the first word, which rise, that are in a range.
+pub fn within(alloc: Global, call: &[&str]) -> Result<String> {
+    let (digits, call) = words::first(call)?;
     let range = range(alloc, call)??;
     let mut terms = Vec::new(alloc);
     for digits in digits.split_whitespace() {
@@ -35,55 +36,63 @@ pub fn within(alloc: Global, digits: &str, call: &[&str]) -> Result<String> {
 
 // The range of a call, or why there is none.
 fn range(alloc: Global, call: &[&str]) -> Result<Result<TermRange, TermError>> {
-    match call {
-        ["bytes", digits] => {
-            let bytes = words::bytes(alloc, digits)?;
-            Ok(Ok(TermRange::of_prefix(alloc, bytes.as_slice())?))
-        }
-        ["field", field] => Ok(Ok(Term::range_of_field(alloc, words::field(field)?)?)),
-        ["type", field, letter] => of_type(alloc, field, letter),
-        ["prefix", field, prefix] => {
-            let text = words::text(alloc, prefix)?;
-            Ok(Term::prefix_range(alloc, words::field(field)?, text.as_str()))
-        }
-        ["path", field, path, dots] => of_path(alloc, field, path, dots),
-        ["below", field, facet] => {
-            let facet = leaves::facet(alloc, facet)?;
-            let range = Term::descendant_range(alloc, words::field(field)?, &facet);
-            drop(facet);
-            Ok(range)
-        }
-        ["values", field, kind, start, end] => of_values(alloc, field, kind, start, end),
-        ["dates", field, start, end] => of_dates(alloc, field, start, end),
+    let (name, call) = words::first(call)?;
+    match name {
+        "bytes" => of_bytes(alloc, call),
+        "field" => of_field(alloc, call),
+        "type" => of_type(alloc, call),
+        "prefix" => of_prefix(alloc, call),
+        "path" => of_path(alloc, call),
+        "below" => below(alloc, call),
+        "values" => of_values(alloc, call),
+        "dates" => of_dates(alloc, call),
         _ => Err(anyhow!("an unknown call about ranges")),
     }
 }
 
+// The terms that begin with bytes.
+fn of_bytes(alloc: Global, call: &[&str]) -> Result<Result<TermRange, TermError>> {
+    let bytes = words::bytes(alloc, words::one(call)?)?;
+    Ok(Ok(TermRange::of_prefix(alloc, bytes.as_slice())?))
+}
+
+// The terms of a field.
+fn of_field(alloc: Global, call: &[&str]) -> Result<Result<TermRange, TermError>> {
+    let field = words::field(words::one(call)?)?;
+    Ok(Ok(Term::range_of_field(alloc, field)?))
+}
+
+// The terms of a field whose values are texts that begin with a text.
+fn of_prefix(alloc: Global, call: &[&str]) -> Result<Result<TermRange, TermError>> {
+    let (field, prefix) = words::two(call)?;
+    let (field, prefix) = (words::field(field)?, words::text(alloc, prefix)?);
+    Ok(Term::prefix_range(alloc, field, prefix.as_str()))
+}
+
+// The terms of a field whose values are facets below a facet.
+fn below(alloc: Global, call: &[&str]) -> Result<Result<TermRange, TermError>> {
+    let (field, facet) = words::two(call)?;
+    let (field, facet) = (words::field(field)?, leaves::facet(alloc, facet)?);
+    Ok(Term::descendant_range(alloc, field, &facet))
+}
+
 // The terms of a field whose values are of the type that has this letter.
-fn of_type(alloc: Global, field: &str, letter: &str) -> Result<Result<TermRange, TermError>> {
+fn of_type(alloc: Global, call: &[&str]) -> Result<Result<TermRange, TermError>> {
+    let (field, letter) = words::two(call)?;
     let value_type = words::type_of(letter)?;
     Ok(Ok(Term::range_of_type(alloc, words::field(field)?, value_type)?))
 }
 
 // The terms of a field whose values stand at a path.
-fn of_path(
-    alloc: Global,
-    field: &str,
-    path: &str,
-    dots: &str,
-) -> Result<Result<TermRange, TermError>> {
+fn of_path(alloc: Global, call: &[&str]) -> Result<Result<TermRange, TermError>> {
+    let (field, path, dots) = words::three(call)?;
     let (field, path) = (words::field(field)?, words::text(alloc, path)?);
     Ok(Term::json_path_range(alloc, field, path.as_str(), dots == "expanded"))
 }
 
-// The terms of a field whose values are of this kind and within bounds.
-fn of_values(
-    alloc: Global,
-    field: &str,
-    kind: &str,
-    start: &str,
-    end: &str,
-) -> Result<Result<TermRange, TermError>> {
+// The terms of a field whose values are of a kind and within bounds.
+fn of_values(alloc: Global, call: &[&str]) -> Result<Result<TermRange, TermError>> {
+    let (field, kind, start, end) = words::four(call)?;
     let field = words::field(field)?;
     match kind {
         "u64" => Ok(between(alloc, field, bound::<u64>(start)?, bound::<u64>(end)?)),
@@ -95,12 +104,8 @@ fn of_values(
 }
 
 // The terms of a field whose values are dates, from the second of one bound to that of the other.
-fn of_dates(
-    alloc: Global,
-    field: &str,
-    start: &str,
-    end: &str,
-) -> Result<Result<TermRange, TermError>> {
+fn of_dates(alloc: Global, call: &[&str]) -> Result<Result<TermRange, TermError>> {
+    let (field, start, end) = words::three(call)?;
     let dates = (date(bound(start)?), date(bound(end)?));
     Ok(Term::range_of_dates_for_search(alloc, words::field(field)?, &dates))
 }

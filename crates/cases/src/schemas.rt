@@ -16,24 +16,22 @@ use tv_value::field::Field;
 
 /// What a call about schemas returns.
 pub fn answer(alloc: Global, call: &[&str]) -> Result<String> {
-    match call {
-        ["json", description] => described(alloc, description),
-        ["fields", description] => fields(alloc, description),
-        ["field", description, name] => field(alloc, description, name),
-        ["find", description, path] => find(alloc, description, path),
-        ["find", description, path, default] => {
-            find_with_default(alloc, description, path, default)
-        }
-        ["add", names @ ..] => add(alloc, names),
-        ["name", name] => name_answer(alloc, name),
-        ["equal", one, other] => equal(alloc, one, other),
+    let (name, call) = words::first(call)?;
+    match name {
+        "json" => described(alloc, call),
+        "fields" => fields(alloc, call),
+        "field" => field(alloc, call),
+        "find" => find(alloc, call),
+        "add" => add(alloc, call),
+        "name" => name_answer(alloc, call),
+        "equal" => equal(alloc, call),
         _ => Err(anyhow!("an unknown call about schemas")),
     }
 }
 
 // The JSON of the schema that a description describes, or the refusal.
-fn described(alloc: Global, word: &str) -> Result<String> {
-    let description = Value::from_str(alloc, description_of(word))?;
+fn described(alloc: Global, call: &[&str]) -> Result<String> {
+    let description = Value::from_str(alloc, description_of(words::one(call)?))?;
     let made = Schema::from_json_value(alloc, &description);
     drop(description);
     match made {
@@ -119,8 +117,8 @@ fn new_entry(name: String, field_type: FieldType) -> Result<FieldEntry, SchemaEr
 }
 
 // How many fields there are, and the number, the name, the type and the queries of each.
-fn fields(alloc: Global, description: &str) -> Result<String> {
-    let schema = schema(alloc, description)?;
+fn fields(alloc: Global, call: &[&str]) -> Result<String> {
+    let schema = schema(alloc, words::one(call)?)?;
     let mut answer = format!(in alloc; "{}", schema.num_fields())?;
     for (field, entry) in schema.fields() {
         push_entry(alloc, &mut answer, field, entry)?;
@@ -169,7 +167,8 @@ fn push_record(answer: &mut String, field_type: &FieldType) -> Result<()> {
 }
 
 // The number of the field with a name, or the name of the field with a number.
-fn field(alloc: Global, description: &str, word: &str) -> Result<String> {
+fn field(alloc: Global, call: &[&str]) -> Result<String> {
+    let (description, word) = words::two(call)?;
     let schema = schema(alloc, description)?;
     if word.starts_with('"') {
         return field_named(alloc, &schema, words::text(alloc, word)?.as_str());
@@ -189,23 +188,24 @@ fn field_named(alloc: Global, schema: &Schema, name: &str) -> Result<String> {
     }
 }
 
-// The field that a path names, and the rest of the path.
-fn find(alloc: Global, description: &str, path: &str) -> Result<String> {
+// The field that a path names, and the rest of the path. There may be a default field.
+fn find(alloc: Global, call: &[&str]) -> Result<String> {
+    let [description, path, default @ ..] = call else {
+        return Err(anyhow!("a schema and a path"));
+    };
     let schema = schema(alloc, description)?;
-    let path = words::text(alloc, path)?;
-    found(alloc, schema.find_field(path.as_str()))
+    let answer = find_in(alloc, &schema, path, default);
+    drop(schema);
+    answer
 }
 
-// The field that a path names, and the rest of the path, where there is a default field.
-fn find_with_default(
-    alloc: Global,
-    description: &str,
-    path: &str,
-    default: &str,
-) -> Result<String> {
-    let schema = schema(alloc, description)?;
+// The same in this schema. The number of the default field is the only word, if there is one.
+fn find_in(alloc: Global, schema: &Schema, path: &str, default: &[&str]) -> Result<String> {
     let path = words::text(alloc, path)?;
-    let default = words::field(default)?;
+    if default.is_empty() {
+        return found(alloc, schema.find_field(path.as_str()));
+    }
+    let default = words::field(words::one(default)?)?;
     ensure!(schema.has_field(default), "an unknown default field");
     found(
         alloc,
@@ -269,8 +269,8 @@ fn added(alloc: Global, builder: &mut SchemaBuilder, word: &str) -> Result<Strin
 }
 
 // Whether a name is valid, and the refusal of an entry of this name.
-fn name_answer(alloc: Global, word: &str) -> Result<String> {
-    let name = words::text(alloc, word)?;
+fn name_answer(alloc: Global, call: &[&str]) -> Result<String> {
+    let name = words::text(alloc, words::one(call)?)?;
     let is_valid = is_valid_field_name(name.as_str());
     let answer = match FieldEntry::new_text(name, TEXT) {
         Ok(entry) => {
@@ -283,7 +283,8 @@ fn name_answer(alloc: Global, word: &str) -> Result<String> {
 }
 
 // Whether two schemas are equal. A copy has to be equal.
-fn equal(alloc: Global, one: &str, other: &str) -> Result<String> {
+fn equal(alloc: Global, call: &[&str]) -> Result<String> {
+    let (one, other) = words::two(call)?;
     let (one, other) = (schema(alloc, one)?, schema(alloc, other)?);
     ensure!(words::is_equal(&one, one.clone()?), "a copy is not equal");
     words::plain(alloc, &(one == other))

@@ -17,32 +17,27 @@ use tv_value::owned_value::OwnedValue;
 
 /// What a call about terms returns.
 pub fn answer(alloc: Global, call: &[&str]) -> Result<String> {
-    match call {
-        ["range", call @ ..] => ranges::answer(alloc, call),
-        ["within", terms, call @ ..] => ranges::within(alloc, terms, call),
-        ["of", field, kind, value] => of_value(alloc, field, kind, value),
-        ["searched date", field, value] => of_searched_date(alloc, field, value),
-        ["json", field, path, dots, appended @ ..] => of_path(alloc, field, path, dots, appended),
-        ["segments", field, segments @ ..] => of_segments(alloc, field, segments),
-        ["wrap", digits] => of_bytes(alloc, digits),
-        ["value", digits] => value_of_bytes(alloc, digits),
-        ["full path", description, digits] => full_path(
-            alloc,
-            description,
-            &wrapped(alloc, digits)?,
-        ),
-        ["compare", one, other] => {
-            let one = wrapped(alloc, one)?;
-            words::compared(alloc, &one, &wrapped(alloc, other)?)
-        }
-        ["edit", start, steps @ ..] => edited(alloc, start, steps),
-        ["fast", kind, one, other] => fast_values(alloc, kind, one, other),
+    let (name, call) = words::first(call)?;
+    match name {
+        "range" => ranges::answer(alloc, call),
+        "within" => ranges::within(alloc, call),
+        "of" => of_value(alloc, call),
+        "searched date" => of_searched_date(alloc, call),
+        "json" => of_path(alloc, call),
+        "segments" => of_segments(alloc, call),
+        "wrap" => of_bytes(alloc, call),
+        "value" => value_of_bytes(alloc, call),
+        "full path" => full_path(alloc, call),
+        "compare" => compared_terms(alloc, call),
+        "edit" => edited(alloc, call),
+        "fast" => fast_values(alloc, call),
         _ => Err(anyhow!("an unknown call about terms")),
     }
 }
 
 // The term of a field and a value.
-fn of_value(alloc: Global, field: &str, kind: &str, value: &str) -> Result<String> {
+fn of_value(alloc: Global, call: &[&str]) -> Result<String> {
+    let (field, kind, value) = words::three(call)?;
     let field = words::field(field)?;
     let value = leaves::leaf(alloc, kind, value)?;
     let term = term_of(alloc, field, &value);
@@ -51,7 +46,8 @@ fn of_value(alloc: Global, field: &str, kind: &str, value: &str) -> Result<Strin
 }
 
 // The term of a date that is searched for.
-fn of_searched_date(alloc: Global, field: &str, value: &str) -> Result<String> {
+fn of_searched_date(alloc: Global, call: &[&str]) -> Result<String> {
+    let (field, value) = words::two(call)?;
     let field = words::field(field)?;
     let date = leaves::date(value)?;
     shown(
@@ -61,32 +57,23 @@ fn of_searched_date(alloc: Global, field: &str, value: &str) -> Result<String> {
 }
 
 // The term of a field and a path, to which a value is appended, if there is one.
-fn of_path(
-    alloc: Global,
-    field: &str,
-    path: &str,
-    dots: &str,
-    appended: &[&str],
-) -> Result<String> {
+fn of_path(alloc: Global, call: &[&str]) -> Result<String> {
+    let [field, path, dots, appended @ ..] = call else {
+        return Err(anyhow!("a field and a path"));
+    };
     let (field, path) = (words::field(field)?, words::text(alloc, path)?);
-    match Term::from_field_json_path(alloc, field, path.as_str(), dots == "expanded") {
+    match Term::from_field_json_path(alloc, field, path.as_str(), *dots == "expanded") {
         Ok(term) => of_appended(alloc, term, appended),
         Err(error) => words::error(alloc, error),
     }
 }
 
 // The term of a field and the segments of a path.
-fn of_segments(alloc: Global, field: &str, segments: &[&str]) -> Result<String> {
-    let field = words::field(field)?;
-    let mut texts = Vec::new(alloc);
-    for segment in segments {
-        texts.push(words::text(alloc, segment)?)?;
-    }
-    let mut lent = Vec::new(alloc);
-    for text in &texts {
-        lent.push(text.as_str())?;
-    }
-    match Term::from_field_json_segments(alloc, field, lent.as_slice()) {
+fn of_segments(alloc: Global, call: &[&str]) -> Result<String> {
+    let (field, segments) = words::first(call)?;
+    let (field, texts) = (words::field(field)?, words::all_texts(alloc, segments)?);
+    let segments = words::lent(alloc, texts.as_slice())?;
+    match Term::from_field_json_segments(alloc, field, segments.as_slice()) {
         Ok(term) => shown(alloc, &term),
         Err(error) => words::error(alloc, error),
     }
@@ -103,8 +90,8 @@ fn of_appended(alloc: Global, mut term: Term, appended: &[&str]) -> Result<Strin
 }
 
 // The term of bytes.
-fn of_bytes(alloc: Global, digits: &str) -> Result<String> {
-    let bytes = words::bytes(alloc, digits)?;
+fn of_bytes(alloc: Global, call: &[&str]) -> Result<String> {
+    let bytes = words::bytes(alloc, words::one(call)?)?;
     match Term::wrap(alloc, &bytes) {
         Ok(term) => shown(alloc, &term),
         Err(error) => words::error(alloc, error),
@@ -112,8 +99,8 @@ fn of_bytes(alloc: Global, digits: &str) -> Result<String> {
 }
 
 // The value of bytes.
-fn value_of_bytes(alloc: Global, digits: &str) -> Result<String> {
-    let bytes = words::bytes(alloc, digits)?;
+fn value_of_bytes(alloc: Global, call: &[&str]) -> Result<String> {
+    let bytes = words::bytes(alloc, words::one(call)?)?;
     match ValueBytes::wrap(&bytes) {
         Ok(value) => shown_value(alloc, &value),
         Err(error) => words::error(alloc, error),
@@ -238,14 +225,24 @@ fn push_path(alloc: Global, answer: &mut String, value: &ValueBytes<'_>) -> Resu
 }
 
 // The name of a term's field in a schema, and the term's path.
-fn full_path(alloc: Global, description: &str, term: &Term) -> Result<String> {
+fn full_path(alloc: Global, call: &[&str]) -> Result<String> {
+    let (description, digits) = words::two(call)?;
+    let term = wrapped(alloc, digits)?;
     let schema = schema(alloc, description)?;
     ensure!(schema.has_field(term.field()), "a field of the schema");
     words::quoted(alloc, term.get_full_path(alloc, &schema)?.as_str())
 }
 
-// What is left of a term after these steps.
-fn edited(alloc: Global, start: &str, steps: &[&str]) -> Result<String> {
+// How two terms compare.
+fn compared_terms(alloc: Global, call: &[&str]) -> Result<String> {
+    let (one, other) = words::two(call)?;
+    let one = wrapped(alloc, one)?;
+    words::compared(alloc, &one, &wrapped(alloc, other)?)
+}
+
+// What is left of a term after steps.
+fn edited(alloc: Global, call: &[&str]) -> Result<String> {
+    let (start, steps) = words::first(call)?;
     let mut term = wrapped(alloc, start)?;
     for step in steps {
         edit(alloc, &mut term, step)??;
@@ -255,28 +252,30 @@ fn edited(alloc: Global, start: &str, steps: &[&str]) -> Result<String> {
 
 /// Changes a term by one step, and returns what the step's call answers.
 pub fn edit(alloc: Global, term: &mut Term, step: &str) -> Result<Result<(), AllocError>> {
-    let step: Vec<&str> = step.split(' ').collect(alloc)?;
-    match step.as_slice() {
-        ["set", digits] => Ok(term.set_bytes(&words::bytes(alloc, digits)?)),
-        ["append", digits] => Ok(term.append_bytes(&words::bytes(alloc, digits)?)),
-        ["field", field, code] => Ok(Ok(set_field(term, field, code)?)),
-        ["fill", start, byte] => Ok(Ok(fill(term, words::number(start)?, words::number(byte)?)?)),
-        ["truncate", length] => Ok(Ok(term.truncate_value_bytes(words::number(length)?))),
-        ["clear", code] => Ok(Ok(term.clear_with_type(words::type_of(code)?))),
-        [kind, value] => append(alloc, term, kind, value),
-        _ => Err(anyhow!("an unknown step")),
+    let (name, content) = words::parted(step);
+    match name {
+        "set" => Ok(term.set_bytes(&words::bytes(alloc, content)?)),
+        "append" => Ok(term.append_bytes(&words::bytes(alloc, content)?)),
+        "field" => Ok(Ok(set_field(term, content)?)),
+        "fill" => Ok(Ok(fill(term, content)?)),
+        "truncate" => Ok(Ok(term.truncate_value_bytes(words::number(content)?))),
+        "clear" => Ok(Ok(term.clear_with_type(words::type_of(content)?))),
+        kind => append(alloc, term, kind, content),
     }
 }
 
 // Gives a term without value bytes another field and type.
-fn set_field(term: &mut Term, field: &str, code: &str) -> Result<()> {
+fn set_field(term: &mut Term, content: &str) -> Result<()> {
+    let (field, code) = words::parted(content);
     ensure!(term.is_empty(), "a term without value bytes");
     term.set_field_and_type(words::field(field)?, words::type_of(code)?);
     Ok(())
 }
 
 // Makes all value bytes from a place on the same.
-fn fill(term: &mut Term, start: usize, byte: u8) -> Result<()> {
+fn fill(term: &mut Term, content: &str) -> Result<()> {
+    let (start, byte) = words::parted(content);
+    let (start, byte): (usize, u8) = (words::number(start)?, words::number(byte)?);
     ensure!(start <= term.len_bytes(), "fewer value bytes");
     for slot in term.value_bytes_mut(start) {
         *slot = byte;
@@ -285,7 +284,8 @@ fn fill(term: &mut Term, start: usize, byte: u8) -> Result<()> {
 }
 
 // The type of two fast values, their numbers, and how the values and the numbers compare.
-fn fast_values(alloc: Global, kind: &str, one: &str, other: &str) -> Result<String> {
+fn fast_values(alloc: Global, call: &[&str]) -> Result<String> {
+    let (kind, one, other) = words::three(call)?;
     let one = leaves::leaf(alloc, kind, one)?;
     let answer = fast_with(alloc, &one, kind, other);
     drop(one);

@@ -11,27 +11,34 @@ use tv_value::value::Value;
 
 /// What a call about values returns.
 pub fn answer(alloc: Global, call: &[&str]) -> Result<String> {
-    match call {
-        ["read", kind, value] => read(alloc, leaf(alloc, kind, value)?),
-        ["same", kind, value, other_kind, other_value] => {
-            let one = leaf(alloc, kind, value)?;
-            let answer = same(alloc, &one, other_kind, other_value);
-            drop(one);
-            answer
-        }
+    let (name, call) = words::first(call)?;
+    match name {
+        "read" => read(alloc, call),
+        "same" => same(alloc, call),
         _ => Err(anyhow!("an unknown call about values")),
     }
 }
 
 // What is read of a value.
-fn read(alloc: Global, value: OwnedValue) -> Result<String> {
+fn read(alloc: Global, call: &[&str]) -> Result<String> {
+    let (kind, value) = words::two(call)?;
+    let value = leaf(alloc, kind, value)?;
     let answer = shown(alloc, &value);
     drop(value);
     answer
 }
 
+// Whether two values are equal, by each call.
+fn same(alloc: Global, call: &[&str]) -> Result<String> {
+    let (kind, value, other_kind, other_value) = words::four(call)?;
+    let one = leaf(alloc, kind, value)?;
+    let answer = same_as(alloc, &one, other_kind, other_value);
+    drop(one);
+    answer
+}
+
 // Whether a value is equal to that of another kind, by each call.
-fn same(alloc: Global, one: &OwnedValue, kind: &str, value: &str) -> Result<String> {
+fn same_as(alloc: Global, one: &OwnedValue, kind: &str, value: &str) -> Result<String> {
     let other = leaf(alloc, kind, value)?;
     let (equal, same) = (*one == other, is_same(&one, &&other));
     drop(other);

@@ -22,17 +22,18 @@ use tv_value::owned_value::OwnedValue;
 
 /// What a call about documents returns.
 pub fn answer(alloc: Global, call: &[&str]) -> Result<String> {
-    match call {
-        ["parse", description, json] => parse(alloc, description, json),
-        ["why", description, json] => why(alloc, description, json),
-        ["strict", description, json] => strict(alloc, description, json),
-        ["print", description, words @ ..] => print(alloc, description, words),
-        ["named", from, to, calls @ ..] => named(alloc, from, to, calls),
-        ["same", calls @ ..] => same(alloc, calls),
-        ["copy", calls @ ..] => copy(alloc, calls),
-        ["get", field, calls @ ..] => get(alloc, field, calls),
-        ["sorted", calls @ ..] => sorted(alloc, calls),
-        ["values", calls @ ..] => values(alloc, calls),
+    let (name, call) = words::first(call)?;
+    match name {
+        "parse" => parse(alloc, call),
+        "why" => why(alloc, call),
+        "strict" => strict(alloc, call),
+        "print" => print(alloc, call),
+        "named" => named(alloc, call),
+        "same" => same(alloc, call),
+        "copy" => copy(alloc, call),
+        "get" => get(alloc, call),
+        "sorted" => sorted(alloc, call),
+        "values" => values(alloc, call),
         _ => Err(anyhow!("an unknown call about documents")),
     }
 }
@@ -68,13 +69,15 @@ fn document_of(alloc: Global, schema: &Schema, words: &[&str]) -> Result<Compact
 }
 
 // The JSON of the document of a JSON object, or of calls.
-fn print(alloc: Global, description: &str, words: &[&str]) -> Result<String> {
+fn print(alloc: Global, call: &[&str]) -> Result<String> {
+    let (description, call) = words::first(call)?;
     let schema = schema(alloc, description)?;
-    Ok(document_of(alloc, &schema, words)?.to_json(alloc, &schema)?)
+    Ok(document_of(alloc, &schema, call)?.to_json(alloc, &schema)?)
 }
 
 // The document of a JSON object, or its refusal.
-fn parse(alloc: Global, description: &str, json: &str) -> Result<String> {
+fn parse(alloc: Global, call: &[&str]) -> Result<String> {
+    let (description, json) = words::two(call)?;
     let schema = schema(alloc, description)?;
     let outcome = CompactDoc::parse_json(alloc, &schema, json);
     drop(schema);
@@ -85,7 +88,8 @@ fn parse(alloc: Global, description: &str, json: &str) -> Result<String> {
 }
 
 // The message about a JSON object that is refused.
-fn why(alloc: Global, description: &str, json: &str) -> Result<String> {
+fn why(alloc: Global, call: &[&str]) -> Result<String> {
+    let (description, json) = words::two(call)?;
     let schema = schema(alloc, description)?;
     let outcome = CompactDoc::parse_json(alloc, &schema, json);
     drop(schema);
@@ -96,7 +100,8 @@ fn why(alloc: Global, description: &str, json: &str) -> Result<String> {
 }
 
 // The document of a JSON object, each of whose keys is to name a field, or the message about its refusal.
-fn strict(alloc: Global, description: &str, json: &str) -> Result<String> {
+fn strict(alloc: Global, call: &[&str]) -> Result<String> {
+    let (description, json) = words::two(call)?;
     let schema = schema(alloc, description)?;
     let outcome = CompactDoc::parse_json_strict(alloc, &schema, json);
     drop(schema);
@@ -163,7 +168,9 @@ fn refused_value(alloc: Global, name: &str, error: &ValueParsingError) -> Result
 }
 
 // The values of a document by the names of one schema, and the document that these names make with another.
-fn named(alloc: Global, from: &str, to: &str, calls: &[&str]) -> Result<String> {
+fn named(alloc: Global, call: &[&str]) -> Result<String> {
+    let (from, call) = words::first(call)?;
+    let (to, calls) = words::first(call)?;
     let from = schema(alloc, from)?;
     let document = builder::document(alloc, calls)?;
     let names = document.to_named_doc(alloc, &from)?;
@@ -229,7 +236,8 @@ fn push_typed(alloc: Global, text: &mut String, value: CompactDocValue<'_>) -> R
 }
 
 // The first value of a field, and all of its values.
-fn get(alloc: Global, field: &str, calls: &[&str]) -> Result<String> {
+fn get(alloc: Global, call: &[&str]) -> Result<String> {
+    let (field, calls) = words::first(call)?;
     let field = words::field(field)?;
     let document = builder::document(alloc, calls)?;
     let mut text = match document.get_first(field) {

@@ -23,15 +23,12 @@ const OPEN: &[u8] = b"\x09\x81";
 
 /// What a call about heaps returns.
 pub fn answer(alloc: Global, call: &[&str]) -> Result<String> {
-    match call {
-        ["encoded", heap, levels, bytes] => {
-            let bytes = words::bytes(alloc, bytes)?;
-            encoded(alloc, heap, words::number(levels)?, bytes.as_slice())
-        }
-        ["json", text, json] => json_value(alloc, text, json),
-        ["leaf", value] => leaf(alloc, value),
-        ["type", "default"] => value_type(alloc, ValueType::default()),
-        ["type", digits] => type_of_bytes(alloc, words::bytes(alloc, digits)?.as_slice()),
+    let (name, call) = words::first(call)?;
+    match name {
+        "encoded" => encoded(alloc, call),
+        "json" => json_value(alloc, call),
+        "leaf" => leaf(alloc, call),
+        "type" => type_of_word(alloc, words::one(call)?),
         _ => Err(anyhow!("an unknown call about heaps")),
     }
 }
@@ -46,10 +43,12 @@ fn nothing(alloc: Global, again: Option<String>) -> Result<String> {
 }
 
 // The heap after which the value that bytes encode is written, its type's code and its address, and the bytes after it.
-fn encoded(alloc: Global, before: &str, levels: u32, bytes: &[u8]) -> Result<String> {
-    match put(alloc, before, levels, bytes)? {
+fn encoded(alloc: Global, call: &[&str]) -> Result<String> {
+    let (before, levels, digits) = words::three(call)?;
+    let (levels, bytes) = (words::number(levels)?, words::bytes(alloc, digits)?);
+    match put(alloc, before, levels, bytes.as_slice())? {
         Some(answer) => Ok(answer),
-        None => nothing(alloc, put(alloc, before, levels, bytes)?),
+        None => nothing(alloc, put(alloc, before, levels, bytes.as_slice())?),
     }
 }
 
@@ -73,7 +72,8 @@ fn put(alloc: Global, before: &str, levels: u32, bytes: &[u8]) -> Result<Option<
 }
 
 // The heap in which a JSON value stands after a text, its type's code and its address.
-fn json_value(alloc: Global, text: &str, json: &str) -> Result<String> {
+fn json_value(alloc: Global, call: &[&str]) -> Result<String> {
+    let (text, json) = words::two(call)?;
     match add_json(alloc, text, json)? {
         Some(answer) => Ok(answer),
         None => nothing(alloc, add_json(alloc, text, json)?),
@@ -113,8 +113,8 @@ fn shown(alloc: Global, heap: &[u8], place: Place) -> Result<String> {
 }
 
 // The type of a value without children in a heap, and how many bytes it takes there.
-fn leaf(alloc: Global, word: &str) -> Result<String> {
-    let value = builder::value(alloc, word)?;
+fn leaf(alloc: Global, call: &[&str]) -> Result<String> {
+    let value = builder::value(alloc, words::one(call)?)?;
     let answer = leaf_shown(alloc, &value);
     drop(value);
     answer
@@ -126,6 +126,14 @@ fn leaf_shown(alloc: Global, value: &OwnedValue) -> Result<String> {
     let value_type = ValueType::from(&leaf);
     let length = leaf_len(&leaf).context("a length")?;
     Ok(format!(in alloc; "{value_type:?} {length}")?)
+}
+
+// The type by default, or the one that is read of a byte's digits.
+fn type_of_word(alloc: Global, word: &str) -> Result<String> {
+    if word == "default" {
+        return value_type(alloc, ValueType::default());
+    }
+    type_of_bytes(alloc, words::bytes(alloc, word)?.as_slice())
 }
 
 // The type that is read of a byte.

@@ -13,27 +13,38 @@ use tv_schema::Schema;
 
 /// What a call about terms returns.
 pub fn answer(alloc: Global, call: &[&str]) -> Result<String> {
-    let [kind, description, call @ ..] = call else {
-        return Err(anyhow!("an unknown call about terms"));
-    };
+    let (name, call) = words::first(call)?;
+    let (description, call) = words::first(call)?;
     let schema = schema(alloc, description)?;
-    let answer = match (*kind, call) {
-        ("document", [json]) => of_document(alloc, &schema, json),
-        ("sorted", [json]) => sorted(alloc, &schema, json),
-        ("text", texts) => of_texts(alloc, &schema, texts),
-        ("printed", [path, text]) => printed(alloc, &schema, path, text),
-        ("bytes", [digits]) => printed_bytes(alloc, digits),
-        ("range", [path, text]) => of_range(alloc, &schema, path, text),
-        ("ranges", [path, text]) => of_ranges(alloc, &schema, path, text),
-        _ => Err(anyhow!("an unknown call about terms")),
-    };
+    let answer = answer_with(alloc, &schema, name, call);
     drop(schema);
     answer
 }
 
+// What the call of this name returns with a schema.
+fn answer_with(alloc: Global, schema: &Schema, name: &str, call: &[&str]) -> Result<String> {
+    match name {
+        "document" => of_document(alloc, schema, call),
+        "sorted" => sorted(alloc, schema, call),
+        "text" => of_texts(alloc, schema, call),
+        "printed" => printed(alloc, schema, call),
+        "bytes" => printed_bytes(alloc, call),
+        "range" => of_range(alloc, schema, call),
+        "ranges" => of_ranges(alloc, schema, call),
+        _ => Err(anyhow!("an unknown call about terms")),
+    }
+}
+
+// A path and a text.
+fn path_and_text(alloc: Global, call: &[&str]) -> Result<(String, String)> {
+    let (path, text) = words::two(call)?;
+    let path = words::text(alloc, path)?;
+    Ok((path, words::text(alloc, text)?))
+}
+
 // The terms of the values of a JSON object's document, or why there are none.
-fn of_document(alloc: Global, schema: &Schema, json: &str) -> Result<String> {
-    let document = CompactDoc::parse_json(alloc, schema, json)?;
+fn of_document(alloc: Global, schema: &Schema, call: &[&str]) -> Result<String> {
+    let document = CompactDoc::parse_json(alloc, schema, words::one(call)?)?;
     let mut terms = TermList::new(alloc);
     match term_values(alloc, schema, &document, &mut terms) {
         Ok(()) => shown(alloc, &terms),
@@ -42,8 +53,8 @@ fn of_document(alloc: Global, schema: &Schema, json: &str) -> Result<String> {
 }
 
 // The terms of the values of a JSON object's document in order, each once.
-fn sorted(alloc: Global, schema: &Schema, json: &str) -> Result<String> {
-    let document = CompactDoc::parse_json(alloc, schema, json)?;
+fn sorted(alloc: Global, schema: &Schema, call: &[&str]) -> Result<String> {
+    let document = CompactDoc::parse_json(alloc, schema, words::one(call)?)?;
     let mut terms = TermList::new(alloc);
     term_values(alloc, schema, &document, &mut terms)?;
     terms.sort_dedup();
@@ -57,8 +68,8 @@ fn sorted(alloc: Global, schema: &Schema, json: &str) -> Result<String> {
 }
 
 // Where the range of a text begins and ends, or why there is none.
-fn of_range(alloc: Global, schema: &Schema, path: &str, text: &str) -> Result<String> {
-    let (path, text) = (words::text(alloc, path)?, words::text(alloc, text)?);
+fn of_range(alloc: Global, schema: &Schema, call: &[&str]) -> Result<String> {
+    let (path, text) = path_and_text(alloc, call)?;
     match range_of_text(alloc, schema, path.as_str(), text.as_str()) {
         Ok(range) => words::ends(alloc, range.start(), range.end()),
         Err(error) => words::error(alloc, error),
@@ -66,8 +77,8 @@ fn of_range(alloc: Global, schema: &Schema, path: &str, text: &str) -> Result<St
 }
 
 // Where the ranges of a text begin and end, or why there are none.
-fn of_ranges(alloc: Global, schema: &Schema, path: &str, text: &str) -> Result<String> {
-    let (path, text) = (words::text(alloc, path)?, words::text(alloc, text)?);
+fn of_ranges(alloc: Global, schema: &Schema, call: &[&str]) -> Result<String> {
+    let (path, text) = path_and_text(alloc, call)?;
     let ranges = match ranges_of_text(alloc, schema, path.as_str(), text.as_str()) {
         Ok(ranges) => ranges,
         Err(error) => return words::error(alloc, error),
@@ -84,10 +95,7 @@ fn of_texts(alloc: Global, schema: &Schema, texts: &[&str]) -> Result<String> {
     let mut terms = TermList::new(alloc);
     let mut answer = String::new(alloc);
     for pair in texts.chunks(2) {
-        let [path, text] = pair else {
-            return Err(anyhow!("a path and a text"));
-        };
-        let (path, text) = (words::text(alloc, path)?, words::text(alloc, text)?);
+        let (path, text) = path_and_text(alloc, pair)?;
         if let Err(error) = terms_of_text(alloc, schema, path.as_str(), text.as_str(), &mut terms) {
             write!(answer, "error {error:?}, ")?;
         }
@@ -97,16 +105,17 @@ fn of_texts(alloc: Global, schema: &Schema, texts: &[&str]) -> Result<String> {
 }
 
 // The text that bytes have as a term, or that they have none.
-fn printed_bytes(alloc: Global, digits: &str) -> Result<String> {
-    match text_of_term(alloc, words::bytes(alloc, digits)?.as_slice())? {
+fn printed_bytes(alloc: Global, call: &[&str]) -> Result<String> {
+    let bytes = words::bytes(alloc, words::one(call)?)?;
+    match text_of_term(alloc, bytes.as_slice())? {
         Some(text) => words::quoted(alloc, text.as_str()),
         None => words::none(alloc),
     }
 }
 
 // The text of each term of a text.
-fn printed(alloc: Global, schema: &Schema, path: &str, text: &str) -> Result<String> {
-    let (path, text) = (words::text(alloc, path)?, words::text(alloc, text)?);
+fn printed(alloc: Global, schema: &Schema, call: &[&str]) -> Result<String> {
+    let (path, text) = path_and_text(alloc, call)?;
     let mut terms = TermList::new(alloc);
     terms_of_text(alloc, schema, path.as_str(), text.as_str(), &mut terms)?;
     let mut texts = Vec::new(alloc);

@@ -11,31 +11,34 @@ use tv_value::tokenizer::PreTokenizedString;
 
 /// What a call about texts with tokens returns.
 pub fn answer(alloc: Global, call: &[&str]) -> Result<String> {
-    match call {
-        ["read", digits] => {
-            let bytes = words::bytes(alloc, digits)?;
-            read(alloc, &bytes)
-        }
-        ["same", kept, encoded] => {
-            let kept = tokenized(alloc, kept)?;
-            let answer = same(alloc, &kept, encoded);
-            drop(kept);
-            answer
-        }
+    let (name, call) = words::first(call)?;
+    match name {
+        "read" => read(alloc, call),
+        "same" => same(alloc, call),
         _ => Err(anyhow!("an unknown call about texts with tokens")),
     }
 }
 
 // The text that bytes encode.
-fn read(alloc: Global, bytes: &[u8]) -> Result<String> {
-    match PreTokenizedStr::from_payload(bytes) {
+fn read(alloc: Global, call: &[&str]) -> Result<String> {
+    let bytes = words::bytes(alloc, words::one(call)?)?;
+    match PreTokenizedStr::from_payload(bytes.as_slice()) {
         Some((text, length)) => shown(alloc, text, length),
         None => words::none(alloc),
     }
 }
 
+// Whether the texts that two words encode are equal, each to the other.
+fn same(alloc: Global, call: &[&str]) -> Result<String> {
+    let (kept, encoded) = words::two(call)?;
+    let kept = tokenized(alloc, kept)?;
+    let answer = same_as(alloc, &kept, encoded);
+    drop(kept);
+    answer
+}
+
 // Whether a text is equal to the one that the bytes encode, and that one to it. Copies of both are equal just then.
-fn same(alloc: Global, kept: &PreTokenizedString, digits: &str) -> Result<String> {
+fn same_as(alloc: Global, kept: &PreTokenizedString, digits: &str) -> Result<String> {
     let bytes = words::bytes(alloc, digits)?;
     let Some((encoded, _)) = PreTokenizedStr::from_payload(&bytes) else {
         return Err(anyhow!("a payload"));
