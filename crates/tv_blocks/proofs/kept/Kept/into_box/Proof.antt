@@ -59,7 +59,7 @@ use seplogic.Ra.Ura.{Ura}
 use types.ByLocal.{lands_last, alloc_all, pass_all, free_all, look_at, get, get_in, sets, env}
 use types.Kit.{fpick, later, some, await, pick, feq_i, given, learn, fsplit, fjoin, rewrite, ‵, raw, ◌⊛◌, ⋆, prop, at_ret, ◌$◌, ◌∵◌, !, qed, by, drop, use0, use1, keep, move, split, join, feq_l, regoal}
 use types.Logic.{Logic}
-use types.Match.{not_failed}
+use types.Match.{live}
 use types.Part.{agg, whole, sub}
 use types.Run.{blocks, enter, of_opd, bin, lit, no_more, and_then, fld, stop, first, branches, skips, exec, returns, returns_within}
 
@@ -113,7 +113,7 @@ module _ {M : Type 1} (𝓤 : Ura M) (𝓛 : Logic 𝓤) (𝓜 : Model 𝓤 𝓛
         first ! $ branches ! (get ! refl)
         (λ yes. sets ! (agg ! (and_then ! (lit ! tt) (no_more !))) refl (tt, (record { fits = lit< tt }, tt)) $
         returns_within ! (post null_ptr None) refl (look_at ! 0 refl) $ free_all ! refl $
-        use0 𝓛 (‵ ((option_row Boxed).own_val None (not_failed 0 (of_list []) ∷ []))) (none_of 𝓛 Boxed) $ by ! (ends null_ptr None _ None refl))
+        use0 𝓛 (‵ ((option_row Boxed).own_val None (live 0 (of_list []) ∷ []))) (none_of 𝓛 Boxed) $ by ! (ends null_ptr None _ None refl))
         (λ no. absurd no))
 
     open_walk : (b o : ℕ) (value : R.Denot) → Testable (block_ptr b o)
@@ -156,7 +156,7 @@ module _ {M : Type 1} (𝓤 : Ura M) (𝓛 : Logic 𝓤) (𝓜 : Model 𝓤 𝓛
         sets ! (of_opd ! (get ! refl)) refl typed.0 $
         sets ! (agg ! (and_then ! (lit ! tt) (and_then ! (get ! refl) (no_more !)))) refl (both _ true typed.0.0 tt, (record { fits = lit< tt }, (typed.0.1, tt))) $
         returns ! (look_at ! 0 refl) $ free_all ! refl $
-        use1 𝓛 (‵ ((option_row Boxed).own_val (Some x) (not_failed 1 (of_list (v ∷ [])) ∷ []))) (Some-of 𝓛 Boxed x v) $ by ! (ends at (Some value) _ (Some x) (ap Some value_is))))))))))
+        use1 𝓛 (‵ ((option_row Boxed).own_val (Some x) (live 1 (of_list (v ∷ [])) ∷ []))) (Some-of 𝓛 Boxed x v) $ by ! (ends at (Some value) _ (Some x) (ap Some value_is))))))))))
 
     abbrev τ : Ty
     τ = raw_type (lone R.mir)
