@@ -168,8 +168,7 @@ fn shown(alloc: Global, term: &Term) -> Result<String> {
     let value = shown_value(alloc, &owned.as_value_bytes())?;
     let mut answer = format!(in alloc; "{bytes} {field} {value}")?;
     if let Some(path) = term.get_json_path(alloc)? {
-        let path = words::quoted(alloc, path.as_str())?;
-        write!(answer, " path {path}")?;
+        push_parts(alloc, &mut answer, &[("path", Part::Text(path.as_str()))])?;
     }
     Ok(answer)
 }
@@ -204,8 +203,7 @@ fn shown_value(alloc: Global, value: &ValueBytes<'_>) -> Result<String> {
 // Appends the encoded text of a facet, if the value is one.
 fn push_facet(alloc: Global, answer: &mut String, value: &ValueBytes<'_>) -> Result<()> {
     if let Some(facet) = value.as_facet(alloc)? {
-        let text = words::quoted(alloc, facet.encoded_str())?;
-        write!(answer, " facet {text}")?;
+        push_parts(alloc, answer, &[("facet", Part::Text(facet.encoded_str()))])?;
     }
     Ok(())
 }
@@ -217,11 +215,11 @@ fn push_path(alloc: Global, answer: &mut String, value: &ValueBytes<'_>) -> Resu
         let rest = words::digits(alloc, rest)?;
         write!(answer, " json {path} {rest}")?;
     }
-    if let Some(value_type) = value.json_path_type() {
-        let name = value_type.name();
-        write!(answer, " of {name}")?;
-    }
-    Ok(())
+    let value_type = match value.json_path_type() {
+        Some(value_type) => Part::Name(value_type.name()),
+        None => Part::Nothing,
+    };
+    push_parts(alloc, answer, &[("of", value_type)])
 }
 
 // The name of a term's field in a schema, and the term's path.

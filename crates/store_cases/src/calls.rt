@@ -1,8 +1,9 @@
 //! The other calls that read documents: chosen fields alone, nothing, within limits, and out of a block.
 
 use crate::over_each::{Ending, Reading, over_each};
-use crate::reads::{Form, shown, version};
+use crate::reads::{Form, shown};
 use anyhow::{Result, anyhow};
+use case_words as words;
 use std::alloc::Global;
 use tantivy_schema::common::ByteSource;
 use tantivy_schema::schema::Field;
@@ -72,7 +73,7 @@ fn skipped<S: ByteSource>(
 ) -> Result<String> {
     match skip_document(alloc, source, version) {
         Ok(()) => Ok(String::from_str(alloc, "skipped")?),
-        Err(error) => Ok(format!(in alloc; "error {error:?}")?),
+        Err(error) => words::error(alloc, error),
     }
 }
 
@@ -84,7 +85,7 @@ fn within<S: ByteSource>(
 ) -> Result<String> {
     match read_document_within(alloc, source, version, ReadLimits::default()) {
         Ok(document) => shown(alloc, Ok(document), Form::Size),
-        Err(error) => Ok(format!(in alloc; "error {error:?}")?),
+        Err(error) => words::error(alloc, error),
     }
 }
 
@@ -94,12 +95,12 @@ fn next<S: ByteSource>(alloc: Global, source: &mut S, version: DocStoreVersion) 
     match reader.advance(source) {
         Ok(true) => shown(alloc, Ok(reader.into_document()), Form::Size),
         Ok(false) => Ok(String::from_str(alloc, "end")?),
-        Err(error) => Ok(format!(in alloc; "error {error:?}")?),
+        Err(error) => words::error(alloc, error),
     }
 }
 
 /// What the call of this name gives of a document of this version.
-pub fn answer(alloc: Global, name: &str, number: &str, bytes: &[u8]) -> Result<String> {
+pub fn answer(alloc: Global, name: &str, version: DocStoreVersion, bytes: &[u8]) -> Result<String> {
     let call = match name {
         "fields" => Call::Fields,
         "skip" => Call::Skip,
@@ -107,9 +108,5 @@ pub fn answer(alloc: Global, name: &str, number: &str, bytes: &[u8]) -> Result<S
         "block" => Call::Block,
         _ => return Err(anyhow!("an unknown call that reads documents")),
     };
-    let reading = CallReading {
-        version: version(number)?,
-        call,
-    };
-    over_each(alloc, bytes, &reading)
+    over_each(alloc, bytes, &CallReading { version, call })
 }

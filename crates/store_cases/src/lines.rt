@@ -1,6 +1,6 @@
 //! Lines of JSON that are answered: by a run over a source and a sink, one of which may fail, and by the program.
 
-use anyhow::{Context, Result, anyhow, ensure};
+use anyhow::{Context, Result, ensure};
 use case_words as words;
 use std::alloc::Global;
 use std::io;
@@ -13,17 +13,19 @@ const ONE_TEXT: &str = r#"[{"name":"t","type":"text","options":{"stored":true}}]
 
 /// How a run over an input ends, and what it has written.
 pub fn answer(alloc: Global, call: &[&str]) -> Result<String> {
-    match call {
-        ["long", count] => long(alloc, words::number(count)?),
-        ["program", end, input] => program(alloc, end, bytes(alloc, input)?.as_slice()),
-        [source, room, input] => over_source(alloc, source, room, bytes(alloc, input)?.as_slice()),
-        _ => Err(anyhow!("an unknown call about lines")),
+    let (name, call) = words::first(call)?;
+    match name {
+        "long" => long(alloc, call),
+        "program" => program(alloc, call),
+        source => over_source(alloc, source, call),
     }
 }
 
 // The run over an input, of which a read may fail.
-fn over_source(alloc: Global, source: &str, room: &str, input: &[u8]) -> Result<String> {
-    let mut whole = SliceSource::new(input);
+fn over_source(alloc: Global, source: &str, call: &[&str]) -> Result<String> {
+    let (room, input) = words::two(call)?;
+    let input = bytes(alloc, input)?;
+    let mut whole = SliceSource::new(input.as_slice());
     let (source, place) = words::parted(source);
     if source == "whole" {
         return ran(alloc, &mut whole, room);
@@ -33,9 +35,10 @@ fn over_source(alloc: Global, source: &str, room: &str, input: &[u8]) -> Result<
     ran(alloc, &mut failing, room)
 }
 
-// How a run over a document with a text of this many letters ends, and the digits of what is stored before these. It is checked that
+// How a run over a document with a text of some letters ends, and the digits of what is stored before these. It is checked that
 // the letters follow, and that they are read back.
-fn long(alloc: Global, count: usize) -> Result<String> {
+fn long(alloc: Global, call: &[&str]) -> Result<String> {
+    let count: usize = words::number(words::one(call)?)?;
     let letters = "a".repeat(alloc, count)?;
     let input = format!(in alloc; "{ONE_TEXT}\n{{\"t\":\"{letters}\"}}\n")?;
     let mut held = VecSink::new(alloc);
@@ -104,13 +107,15 @@ impl<R: Read> Read for FailingReader<R> {
 }
 
 // The exit status of the program, and what it writes. Its input is read whole, or fails at the second read.
-fn program(alloc: Global, end: &str, input: &[u8]) -> Result<String> {
+fn program(alloc: Global, call: &[&str]) -> Result<String> {
+    let (end, input) = words::two(call)?;
+    let input = bytes(alloc, input)?;
     let mut output = Vec::new(alloc);
     let status = if end == "whole" {
-        answer_lines(alloc, input, &mut output)
+        answer_lines(alloc, input.as_slice(), &mut output)
     } else {
         let reader = FailingReader {
-            inner: input,
+            inner: input.as_slice(),
             has_read: false,
         };
         answer_lines(alloc, reader, &mut output)

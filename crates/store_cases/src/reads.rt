@@ -2,7 +2,7 @@
 
 use crate::over_each::{Ending, Reading, once, over_each, where_it_fails};
 use crate::{calls, steps, stored};
-use anyhow::{Context, Result, anyhow};
+use anyhow::{Result, anyhow};
 use case_words as words;
 use std::alloc::Global;
 use std::io;
@@ -55,16 +55,26 @@ pub fn shown(
     answer: Result<TantivyDocument, DeserializeError>,
     form: Form<'_>,
 ) -> Result<String> {
-    match (answer, form) {
-        (Err(error), _) => Ok(format!(in alloc; "error {error:?}")?),
-        (Ok(document), Form::Pairs) => pairs(alloc, &document),
-        (Ok(document), Form::Heap) => heap(alloc, &document),
-        (Ok(document), Form::Size) => {
-            let (pairs, heap) = (document.len(), document.node_data().len());
-            Ok(format!(in alloc; "pairs {pairs}, heap {heap}")?)
-        }
-        (Ok(document), Form::Written(schema)) => stored::written_again(alloc, &document, schema),
+    match answer {
+        Ok(document) => in_form(alloc, &document, form),
+        Err(error) => words::error(alloc, error),
     }
+}
+
+// A document as it is printed.
+fn in_form(alloc: Global, document: &TantivyDocument, form: Form<'_>) -> Result<String> {
+    match form {
+        Form::Pairs => pairs(alloc, document),
+        Form::Heap => heap(alloc, document),
+        Form::Size => size(alloc, document),
+        Form::Written(schema) => stored::written_again(alloc, document, schema),
+    }
+}
+
+// How many pairs a document has, and the length of its heap.
+fn size(alloc: Global, document: &TantivyDocument) -> Result<String> {
+    let (pairs, heap) = (document.len(), document.node_data().len());
+    Ok(format!(in alloc; "pairs {pairs}, heap {heap}")?)
 }
 
 // The pairs of a document, with the types of their values.
@@ -119,12 +129,10 @@ fn prefixes(alloc: Global, version: DocStoreVersion, bytes: &[u8]) -> Result<Str
 }
 
 // What reading a document gives where a read fails.
-fn failing(
-    alloc: Global,
-    kind: io::ErrorKind,
-    version: DocStoreVersion,
-    bytes: &[u8],
-) -> Result<String> {
+fn failing(alloc: Global, call: &[&str]) -> Result<String> {
+    let (name, call) = words::first(call)?;
+    let kind = kind(name)?;
+    let (version, bytes) = version_and_bytes(alloc, call)?;
     let mut answers = Vec::new(alloc);
     for by_steps in [false, true] {
         let reading = DocumentReading {
@@ -132,7 +140,7 @@ fn failing(
             by_steps,
             form: Form::Pairs,
         };
-        answers.push(where_it_fails(alloc, kind, bytes, &reading)?)?;
+        answers.push(where_it_fails(alloc, kind, &bytes, &reading)?)?;
     }
     once(alloc, answers.as_slice())
 }
@@ -171,23 +179,43 @@ pub fn bytes(alloc: Global, word: &str) -> Result<Vec<u8>> {
     Ok(hex::decode(alloc, digits.as_str())?)
 }
 
+/// The version and the bytes of two words.
+pub fn version_and_bytes(alloc: Global, call: &[&str]) -> Result<(DocStoreVersion, Vec<u8>)> {
+    let (number, word) = words::two(call)?;
+    let version = version(number)?;
+    Ok((version, bytes(alloc, word)?))
+}
+
+// The version with a number, or the refusal.
+fn version_shown(alloc: Global, call: &[&str]) -> Result<String> {
+    let number = words::number(words::one(call)?)?;
+    words::shown(alloc, DocStoreVersion::from_u32(number))
+}
+
+// The number of a version.
+fn version_number(alloc: Global, call: &[&str]) -> Result<String> {
+    words::plain(alloc, &version(words::one(call)?)?.to_u32())
+}
+
 /// What a call that reads documents returns. But for a version and its number, the last word has the bytes.
 pub fn answer(alloc: Global, call: &[&str]) -> Result<String> {
-    if let ["version", number] = call {
-        return words::shown(alloc, DocStoreVersion::from_u32(words::number(number)?));
+    let (name, call) = words::first(call)?;
+    match name {
+        "version" => version_shown(alloc, call),
+        "number" => version_number(alloc, call),
+        "failing" => failing(alloc, call),
+        _ => read(alloc, name, call),
     }
-    if let ["number", number] = call {
-        return words::plain(alloc, &version(number)?.to_u32());
-    }
-    let (word, call) = call.split_last().context("bytes")?;
-    let bytes = bytes(alloc, word)?;
-    match call {
-        ["document", number] => document(alloc, version(number)?, Form::Pairs, &bytes),
-        ["heap", number] => document(alloc, version(number)?, Form::Heap, &bytes),
-        ["size", number] => document(alloc, version(number)?, Form::Size, &bytes),
-        ["prefixes", number] => prefixes(alloc, version(number)?, &bytes),
-        ["failing", name, number] => failing(alloc, kind(name)?, version(number)?, &bytes),
-        [name, number] => calls::answer(alloc, name, number, &bytes),
-        _ => Err(anyhow!("an unknown call that reads documents")),
+}
+
+// What reading the bytes as a document gives, by the call of this name.
+fn read(alloc: Global, name: &str, call: &[&str]) -> Result<String> {
+    let (version, bytes) = version_and_bytes(alloc, call)?;
+    match name {
+        "document" => document(alloc, version, Form::Pairs, &bytes),
+        "heap" => document(alloc, version, Form::Heap, &bytes),
+        "size" => document(alloc, version, Form::Size, &bytes),
+        "prefixes" => prefixes(alloc, version, &bytes),
+        _ => calls::answer(alloc, name, version, &bytes),
     }
 }

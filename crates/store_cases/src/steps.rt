@@ -143,9 +143,12 @@ impl Reading for ChangesReading {
     }
 }
 
-// The document of the pairs that are finished after this many steps, and whether the last step says that there is more.
-fn after(alloc: Global, steps: usize, version: DocStoreVersion, bytes: &[u8]) -> Result<String> {
-    let mut source = SliceSource::new(bytes);
+// The document of the pairs that are finished after some steps, and whether the last step says that there is more.
+fn after(alloc: Global, call: &[&str]) -> Result<String> {
+    let (steps, call) = words::first(call)?;
+    let steps: usize = words::number(steps)?;
+    let (version, bytes) = reads::version_and_bytes(alloc, call)?;
+    let mut source = SliceSource::new(bytes.as_slice());
     let mut decoder = DirectDecoder::new(alloc, version);
     let mut is_more = true;
     for _ in 0..steps {
@@ -159,24 +162,23 @@ fn after(alloc: Global, steps: usize, version: DocStoreVersion, bytes: &[u8]) ->
 
 /// What a call that reads step by step returns.
 pub fn answer(alloc: Global, call: &[&str]) -> Result<String> {
-    match call {
-        ["counts", number, word] => {
-            let bytes = reads::bytes(alloc, word)?;
-            over_each(alloc, &bytes, &CountsReading(reads::version(number)?))
-        }
-        ["changes", number, word] => {
-            let bytes = reads::bytes(alloc, word)?;
-            over_each(alloc, &bytes, &ChangesReading(reads::version(number)?))
-        }
-        ["after", steps, number, word] => {
-            let bytes = reads::bytes(alloc, word)?;
-            after(
-                alloc,
-                words::number(steps)?,
-                reads::version(number)?,
-                &bytes,
-            )
-        }
+    let (name, call) = words::first(call)?;
+    match name {
+        "counts" => counted(alloc, call),
+        "changes" => changed(alloc, call),
+        "after" => after(alloc, call),
         _ => Err(anyhow!("an unknown call that reads step by step")),
     }
+}
+
+// What is counted of a document.
+fn counted(alloc: Global, call: &[&str]) -> Result<String> {
+    let (version, bytes) = reads::version_and_bytes(alloc, call)?;
+    over_each(alloc, &bytes, &CountsReading(version))
+}
+
+// Where a decoder's state changes.
+fn changed(alloc: Global, call: &[&str]) -> Result<String> {
+    let (version, bytes) = reads::version_and_bytes(alloc, call)?;
+    over_each(alloc, &bytes, &ChangesReading(version))
 }

@@ -3,6 +3,7 @@
 use crate::reads::{self, Form};
 use anyhow::{Result, anyhow};
 use case_words as words;
+use case_words::schemas::schema;
 use std::alloc::Global;
 use std::collections::BTreeMap;
 use tantivy_schema::common::{SliceSource, VecSink};
@@ -32,12 +33,6 @@ pub fn written_again(alloc: Global, document: &TantivyDocument, schema: &Schema)
     Ok(format!(in alloc; "{json}, {bytes}")?)
 }
 
-// The schema of its JSON.
-fn schema(alloc: Global, word: &str) -> Result<Schema> {
-    let json = serde_json::Value::from_str(alloc, word)?;
-    Ok(Schema::from_json_value(alloc, &json)?)
-}
-
 // The value that the bytes encode, read into a type.
 fn value<V: ValueDeserialize>(alloc: Global, word: &str) -> Result<V> {
     let bytes = reads::bytes(alloc, word)?;
@@ -53,7 +48,8 @@ fn one_field(alloc: Global) -> Result<(Schema, Field)> {
 }
 
 // What is written of a document with this value.
-fn kept(alloc: Global, word: &str) -> Result<String> {
+fn kept(alloc: Global, call: &[&str]) -> Result<String> {
+    let word = words::one(call)?;
     let (schema, field) = one_field(alloc)?;
     let mut document = TantivyDocument::new(alloc);
     document.add_field_value(field, &&value::<OwnedValue>(alloc, word)?)?;
@@ -61,7 +57,8 @@ fn kept(alloc: Global, word: &str) -> Result<String> {
 }
 
 // What is written of a document with the map of an object's entries.
-fn map(alloc: Global, word: &str) -> Result<String> {
+fn map(alloc: Global, call: &[&str]) -> Result<String> {
+    let word = words::one(call)?;
     let (schema, field) = one_field(alloc)?;
     let mut document = TantivyDocument::new(alloc);
     document.add_object(field, &value::<BTreeMap<String, OwnedValue>>(alloc, word)?)?;
@@ -69,18 +66,21 @@ fn map(alloc: Global, word: &str) -> Result<String> {
 }
 
 // What is written of a value alone.
-fn alone(alloc: Global, word: &str) -> Result<String> {
+fn alone(alloc: Global, call: &[&str]) -> Result<String> {
+    let word = words::one(call)?;
     let mut sink = VecSink::new(alloc);
     BinaryValueSerializer::new(&mut sink).serialize_value(&&value::<OwnedValue>(alloc, word)?)?;
     Ok(hex::encode(alloc, sink.as_slice())?)
 }
 
 // What the calls that write an array return, and what is written then.
-fn array(alloc: Global, announced: u64, words: &[&str]) -> Result<String> {
+fn array(alloc: Global, call: &[&str]) -> Result<String> {
+    let (announced, values) = words::first(call)?;
+    let announced = words::number(announced)?;
     let mut sink = VecSink::new(alloc);
     let mut answers = Vec::new(alloc);
     let mut array = BinaryArraySerializer::begin(announced, &mut sink)?;
-    for word in words {
+    for word in values {
         answers.push(array.serialize_value(&&value::<OwnedValue>(alloc, word)?))?;
     }
     answers.push(array.end())?;
@@ -89,12 +89,14 @@ fn array(alloc: Global, announced: u64, words: &[&str]) -> Result<String> {
 }
 
 // What the calls that write an object return, and what is written then.
-fn object(alloc: Global, announced: u64, words: &[&str]) -> Result<String> {
+fn object(alloc: Global, call: &[&str]) -> Result<String> {
+    let (announced, entry) = words::first(call)?;
+    let announced = words::number(announced)?;
     let mut sink = VecSink::new(alloc);
     let mut answers = Vec::new(alloc);
     match BinaryObjectSerializer::begin(announced, &mut sink) {
         Ok(mut object) => {
-            if let [key, word] = words {
+            if let [key, word] = entry {
                 let key = words::text(alloc, key)?;
                 let value = value::<OwnedValue>(alloc, word)?;
                 answers.push(object.serialize_entry(key.as_str(), &&value))?;
@@ -117,7 +119,8 @@ fn written_version(number: &str) -> Result<WriteVersion> {
 }
 
 // What is written of a document that is carried over to another version, or why it isn't, and how many bytes are left.
-fn migrated(alloc: Global, from: &str, to: &str, word: &str) -> Result<String> {
+fn migrated(alloc: Global, call: &[&str]) -> Result<String> {
+    let (from, to, word) = words::three(call)?;
     let bytes = reads::bytes(alloc, word)?;
     let mut source = SliceSource::new(&bytes);
     let mut sink = VecSink::new(alloc);
@@ -131,7 +134,8 @@ fn migrated(alloc: Global, from: &str, to: &str, word: &str) -> Result<String> {
 }
 
 // What is written of a block that is carried over to another version, after the number of its documents, or after which of them isn't.
-fn migrated_block(alloc: Global, from: &str, to: &str, word: &str) -> Result<String> {
+fn migrated_block(alloc: Global, call: &[&str]) -> Result<String> {
+    let (from, to, word) = words::three(call)?;
     let block = reads::bytes(alloc, word)?;
     let mut sink = VecSink::new(alloc);
     let from = reads::version(from)?;
@@ -145,20 +149,30 @@ fn migrated_block(alloc: Global, from: &str, to: &str, word: &str) -> Result<Str
 
 /// What a call that writes returns.
 pub fn answer(alloc: Global, call: &[&str]) -> Result<String> {
-    match call {
-        ["again", word, bytes] => {
-            let schema = schema(alloc, word)?;
-            let bytes = reads::bytes(alloc, bytes)?;
-            reads::document(alloc, DocStoreVersion::V2, Form::Written(&schema), &bytes)
-        }
-        ["migrate", from, to, word] => migrated(alloc, from, to, word),
-        ["block", from, to, word] => migrated_block(alloc, from, to, word),
-        ["number", number] => words::plain(alloc, &written_version(number)?.to_u32()),
-        ["value", word] => alone(alloc, word),
-        ["kept", word] => kept(alloc, word),
-        ["map", word] => map(alloc, word),
-        ["array", announced, words @ ..] => array(alloc, words::number(announced)?, words),
-        ["object", announced, words @ ..] => object(alloc, words::number(announced)?, words),
+    let (name, call) = words::first(call)?;
+    match name {
+        "again" => again(alloc, call),
+        "migrate" => migrated(alloc, call),
+        "block" => migrated_block(alloc, call),
+        "number" => version_number(alloc, call),
+        "value" => alone(alloc, call),
+        "kept" => kept(alloc, call),
+        "map" => map(alloc, call),
+        "array" => array(alloc, call),
+        "object" => object(alloc, call),
         _ => Err(anyhow!("an unknown call that writes")),
     }
+}
+
+// What is written of a document that is read.
+fn again(alloc: Global, call: &[&str]) -> Result<String> {
+    let (description, bytes) = words::two(call)?;
+    let schema = schema(alloc, description)?;
+    let bytes = reads::bytes(alloc, bytes)?;
+    reads::document(alloc, DocStoreVersion::V2, Form::Written(&schema), &bytes)
+}
+
+// The number of a version to write in.
+fn version_number(alloc: Global, call: &[&str]) -> Result<String> {
+    words::plain(alloc, &written_version(words::one(call)?)?.to_u32())
 }

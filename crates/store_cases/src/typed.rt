@@ -2,7 +2,7 @@
 
 use crate::over_each::{Ending, Reading, over_each, where_it_fails};
 use crate::reads::{self, Form};
-use anyhow::{Context, Result, anyhow};
+use anyhow::{Result, anyhow};
 use case_words as words;
 use embedding::{Figures, Point, Score};
 use std::alloc::Global;
@@ -83,6 +83,13 @@ fn typed_by_name(
         "figures" => typed::<Figures>(alloc, version, bytes),
         _ => Err(anyhow!("an unknown type")),
     }
+}
+
+// What reading the bytes into a type gives.
+fn read(alloc: Global, call: &[&str]) -> Result<String> {
+    let (name, call) = words::first(call)?;
+    let (version, bytes) = reads::version_and_bytes(alloc, call)?;
+    typed_by_name(alloc, name, version, &bytes)
 }
 
 // Reads a value of any type, without a reader of a store.
@@ -175,44 +182,68 @@ impl<T: BinarySerializable + Debug + Drop> Reading for PlainReading<T> {
 }
 
 // What reading a value without its code gives.
-fn plain(alloc: Global, name: &str, bytes: &[u8]) -> Result<String> {
+fn plain(alloc: Global, call: &[&str]) -> Result<String> {
+    let (name, word) = words::two(call)?;
+    let bytes = reads::bytes(alloc, word)?;
     match name {
         "bytes" => over_each(
             alloc,
-            bytes,
+            &bytes,
             &PlainReading::<Vec<u8>> { value: PhantomData },
         ),
-        "text" => over_each(alloc, bytes, &PlainReading::<String> { value: PhantomData }),
-        "facet" => over_each(alloc, bytes, &PlainReading::<Facet> { value: PhantomData }),
+        "text" => over_each(
+            alloc,
+            &bytes,
+            &PlainReading::<String> { value: PhantomData },
+        ),
+        "facet" => over_each(alloc, &bytes, &PlainReading::<Facet> { value: PhantomData }),
         _ => Err(anyhow!("an unknown type")),
     }
 }
 
 // What reading the beginning of a value, a key or a document gives.
-fn head(alloc: Global, name: &str, version: DocStoreVersion, bytes: &[u8]) -> Result<String> {
+fn head(alloc: Global, call: &[&str]) -> Result<String> {
+    let (name, call) = words::first(call)?;
+    let (version, bytes) = reads::version_and_bytes(alloc, call)?;
     let part = match name {
         "value" => Part::Value,
         "key" => Part::Key,
         "document" => Part::Document,
         _ => return Err(anyhow!("an unknown part")),
     };
-    over_each(alloc, bytes, &HeadReading { part, version })
+    over_each(alloc, &bytes, &HeadReading { part, version })
+}
+
+// What reading the bytes as a value of any type gives.
+fn tree(alloc: Global, call: &[&str]) -> Result<String> {
+    let (version, bytes) = reads::version_and_bytes(alloc, call)?;
+    over_each(alloc, &bytes, &TreeReading(version))
+}
+
+// The same where a read fails.
+fn failing(alloc: Global, call: &[&str]) -> Result<String> {
+    let (kind, call) = words::first(call)?;
+    let kind = reads::kind(kind)?;
+    let (version, bytes) = reads::version_and_bytes(alloc, call)?;
+    where_it_fails(alloc, kind, &bytes, &TreeReading(version))
+}
+
+// What reading the bytes as the pairs of a document gives.
+fn pairs(alloc: Global, call: &[&str]) -> Result<String> {
+    let (version, bytes) = reads::version_and_bytes(alloc, call)?;
+    over_each(alloc, &bytes, &PairsReading(version))
 }
 
 /// What a call that reads into types returns. The last word has the bytes.
 pub fn answer(alloc: Global, call: &[&str]) -> Result<String> {
-    let (word, call) = call.split_last().context("bytes")?;
-    let bytes = reads::bytes(alloc, word)?;
-    match call {
-        ["read", name, number] => typed_by_name(alloc, name, reads::version(number)?, &bytes),
-        ["tree", number] => over_each(alloc, &bytes, &TreeReading(reads::version(number)?)),
-        ["failing", kind, number] => {
-            let tree = TreeReading(reads::version(number)?);
-            where_it_fails(alloc, reads::kind(kind)?, &bytes, &tree)
-        }
-        ["head", part, number] => head(alloc, part, reads::version(number)?, &bytes),
-        ["pairs", number] => over_each(alloc, &bytes, &PairsReading(reads::version(number)?)),
-        ["plain", name] => plain(alloc, name, &bytes),
+    let (name, call) = words::first(call)?;
+    match name {
+        "read" => read(alloc, call),
+        "tree" => tree(alloc, call),
+        "failing" => failing(alloc, call),
+        "head" => head(alloc, call),
+        "pairs" => pairs(alloc, call),
+        "plain" => plain(alloc, call),
         _ => Err(anyhow!("an unknown call that reads into types")),
     }
 }
