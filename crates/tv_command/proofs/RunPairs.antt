@@ -1,12 +1,12 @@
 -- The bytes of a pair: what is read of them is the pair, and no other.
-use Rattle.std.proofs.Common.{◌≡◌, ◌≢◌, ◌⊎◌, ℕ, zero, suc, ◌+◌, ◌*◌, ◌-◌, ◌/◌, ◌%◌, ◌^◌, ◌<◌, ◌≤◌, Bool, true, false, List, [], ◌∷◌, ◌++◌, length, Option, Some, None, Result, Ok, Err, refl, sym, ap, subst, ◌∙◌, arith, length-append, append-nil, inl, inr}
+use Rattle.std.proofs.Common.{◌≡◌, ◌≢◌, ℕ, zero, suc, ◌+◌, ◌*◌, ◌/◌, ◌%◌, ◌^◌, ◌<◌, true, List, [], ◌∷◌, ◌++◌, length, Some, None, Result, Ok, Err, refl, sym, ap, subst, ◌∙◌, arith, length-append, inl, inr}
 use Rattle.std.proofs.lemmas.List.{append_cancel_left}
 use Rattle.tv_base.specs.ErrorInPart.{ErrorInBytes, InThen}
 use Rattle.tv_base.specs.Number.{Fixed, no_bytes, low_byte, low_bytes, eight_bytes}
 use Rattle.tv_base.specs.Reading.{bytes_at, more_at, u64_at}
 use Rattle.tv_base.specs.Source.{AllBytes, Failures}
 use Rattle.tv_base.specs.Stop.{◌>>=◌, Stops, Takes}
-use Rattle.tv_base.specs.Stop.Stop.{InputError, Uncounted, Failed, Short}
+use Rattle.tv_base.specs.Stop.Stop.{InputError}
 use Rattle.tv_base.specs.Take.{MayStop, MayStopLean, TakesBy, read_stop}
 use Rattle.tv_base.specs.declared.cause.Cause.{Cause}
 use Rattle.tv_base.specs.declared.cause.Cause.TheVariants.{UnexpectedEnd, TooLong}

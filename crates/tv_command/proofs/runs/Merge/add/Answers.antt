@@ -1,5 +1,5 @@
-use Rattle.std.proofs.Common.{◌++◌, [], ◌∷◌, subst, sym}
-use Rattle.tv_command.specs.Runs.{HaveLeft, IsRun}
+use Rattle.std.proofs.Common.{subst, sym}
+use Rattle.tv_command.specs.Runs.{IsRun}
 use Rattle.tv_command.proofs.Merging.{left_more, next_left}
 use Rattle.tv_command.proofs.runs.Merge.add.Goals as goal
 
