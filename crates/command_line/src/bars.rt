@@ -1,7 +1,7 @@
 //! Counts of facets as a table with bars.
 
 use crate::blocks::print_line;
-use crate::ending::{Failure, System};
+use crate::ending::Failure;
 use std::alloc::{AllocError, Global};
 use tantivy_schema::schema::FacetCount;
 
@@ -83,7 +83,7 @@ fn columns_of(alloc: Global, counts: &[FacetCount<'_>]) -> Result<Columns, Alloc
 }
 
 /// Prints counts as a table: each child, a bar as long as its share of the greatest count, and the count. The columns are aligned by characters.
-pub(crate) fn print_table<R: System>(rt: &R, counts: &[FacetCount<'_>]) -> Result<(), Failure> {
+pub(crate) fn print_table(rt: &HostRuntime, counts: &[FacetCount<'_>]) -> Result<(), Failure> {
     let alloc = rt.alloc();
     let columns = columns_of(alloc, counts)?;
     for count in counts {

@@ -1,6 +1,6 @@
 //! `export`, `get` and `check`.
 
-use crate::ending::{Ending, Failure, System, failed, write_failed, wrong_use};
+use crate::ending::{Ending, Failure, failed, write_failed, wrong_use};
 use crate::files::{create, finish};
 use crate::inputs::{limits, schema_given, source, source_from, text, version};
 use crate::pretty::{export_pretty, pretty_text};
@@ -46,8 +46,8 @@ fn wanted(alloc: Global, given: &ArgMatches<'_>, schema: &Schema) -> Result<Want
 }
 
 // Appends what is wanted of the documents of a block to a sink, as lines of JSON.
-fn export_into<R: System, S: ByteSource, K: ByteSink>(
-    rt: &R,
+fn export_into<S: ByteSource, K: ByteSink>(
+    rt: &HostRuntime,
     given: &ArgMatches<'_>,
     schema: &Schema,
     wanted: Wanted,
@@ -66,7 +66,7 @@ fn export_into<R: System, S: ByteSource, K: ByteSink>(
 }
 
 /// Prints the documents of a block as lines of JSON.
-pub(crate) fn export<R: System>(rt: &R, given: &ArgMatches<'_>) -> Result<Ending, Failure> {
+pub(crate) fn export(rt: &HostRuntime, given: &ArgMatches<'_>) -> Result<Ending, Failure> {
     let schema = schema_given(rt, given)?;
     let wanted = wanted(rt.alloc(), given, &schema)?;
     let mut source = source(rt, text(given, "BLOCK"))?;
@@ -79,7 +79,7 @@ pub(crate) fn export<R: System>(rt: &R, given: &ArgMatches<'_>) -> Result<Ending
 }
 
 // Prints a text and a line feed on the standard output.
-pub(crate) fn print_line<R: System>(rt: &R, line: &str) -> Result<(), Failure> {
+pub(crate) fn print_line(rt: &HostRuntime, line: &str) -> Result<(), Failure> {
     match rt.println(line) {
         Ok(()) => Ok(()),
         Err(error) => Err(write_failed(rt.alloc(), "-", error.kind())),
@@ -130,8 +130,8 @@ fn read_document<S: ByteSource>(
 }
 
 // The text of JSON of the document of this number, if the block has it.
-fn document<R: System>(
-    rt: &R,
+fn document(
+    rt: &HostRuntime,
     given: &ArgMatches<'_>,
     schema: &Schema,
     number: u64,
@@ -144,7 +144,7 @@ fn document<R: System>(
 }
 
 // Prints the text of a document, as it stands or over several lines.
-fn print_document<R: System>(rt: &R, given: &ArgMatches<'_>, json: &str) -> Result<(), Failure> {
+fn print_document(rt: &HostRuntime, given: &ArgMatches<'_>, json: &str) -> Result<(), Failure> {
     if given.get_flag("pretty") {
         return print_line(rt, pretty_text(rt.alloc(), json)?.as_str());
     }
@@ -152,8 +152,8 @@ fn print_document<R: System>(rt: &R, given: &ArgMatches<'_>, json: &str) -> Resu
 }
 
 // Prints the document of a number, and says whether there is one.
-fn get_one<R: System>(
-    rt: &R,
+fn get_one(
+    rt: &HostRuntime,
     given: &ArgMatches<'_>,
     schema: &Schema,
     number: u64,
@@ -167,7 +167,7 @@ fn get_one<R: System>(
 }
 
 /// Prints documents by their numbers.
-pub(crate) fn get<R: System>(rt: &R, given: &ArgMatches<'_>) -> Result<Ending, Failure> {
+pub(crate) fn get(rt: &HostRuntime, given: &ArgMatches<'_>) -> Result<Ending, Failure> {
     let schema = schema_given(rt, given)?;
     let is_read_once = text(given, "BLOCK") == "-";
     let mut ending = Ending::Done;
@@ -213,7 +213,7 @@ fn verdict(
 }
 
 /// Tests a block.
-pub(crate) fn check<R: System>(rt: &R, given: &ArgMatches<'_>) -> Result<Ending, Failure> {
+pub(crate) fn check(rt: &HostRuntime, given: &ArgMatches<'_>) -> Result<Ending, Failure> {
     let name = text(given, "BLOCK");
     let mut source = source(rt, name)?;
     let mut progress = Progress::of(rt, given, &[name]);

@@ -4,36 +4,8 @@ use crate::arguments::command;
 use crate::{blocks, facets, find, imports, migrations, schemas, stat, terms};
 use clap::ArgMatches;
 use std::alloc::{AllocError, AllocFailed, Global};
-use std::env::Env;
 use std::fmt::Display;
-use std::fs::Files;
-use std::io::{self, Eprint, Input, IsTerminal, Print};
-use std::time::Clock;
-
-/// Which of the standard streams are terminals.
-pub trait Terminals {
-    /// Whether the standard output is one.
-    fn is_output_terminal(&self) -> bool;
-
-    /// Whether the standard error is one.
-    fn is_error_terminal(&self) -> bool;
-}
-
-impl Terminals for HostRuntime {
-    fn is_output_terminal(&self) -> bool {
-        self.stdout().is_terminal()
-    }
-
-    fn is_error_terminal(&self) -> bool {
-        self.stderr().is_terminal()
-    }
-}
-
-/// What a command needs of the system.
-pub trait System: Files + Env + AllocGlobal + Input + Print + Eprint + Clock + Terminals + Copy {}
-
-impl<R: Files + Env + AllocGlobal + Input + Print + Eprint + Clock + Terminals + Copy> System
-    for R {}
+use std::io::{self, Eprint};
 
 /// How a command that didn't break off ended.
 #[derive(Clone, Copy)]
@@ -108,7 +80,7 @@ pub(crate) fn write_failed(alloc: Global, name: &str, kind: io::ErrorKind) -> Fa
 }
 
 // Calls the command of this name.
-fn call<R: System>(rt: &R, name: &str, given: &ArgMatches<'_>) -> Result<Ending, Failure> {
+fn call(rt: &HostRuntime, name: &str, given: &ArgMatches<'_>) -> Result<Ending, Failure> {
     match name {
         "import" => imports::import(rt, given),
         "export" => blocks::export(rt, given),
@@ -124,7 +96,7 @@ fn call<R: System>(rt: &R, name: &str, given: &ArgMatches<'_>) -> Result<Ending,
 }
 
 // The exit status, and what broke the command off on the standard error.
-fn status<R: System>(rt: &R, ended: Result<Ending, Failure>) -> io::Result<u8> {
+fn status(rt: &HostRuntime, ended: Result<Ending, Failure>) -> io::Result<u8> {
     let (status, text) = match ended {
         Ok(Ending::Done) | Err(Failure::Closed) => return Ok(0),
         Ok(Ending::Refused) => return Ok(1),
@@ -141,7 +113,7 @@ fn status<R: System>(rt: &R, ended: Result<Ending, Failure>) -> io::Result<u8> {
 }
 
 // Reads the words and calls the command that they name.
-fn answer<R: System>(rt: &R, words: &[String]) -> io::Result<u8> {
+fn answer(rt: &HostRuntime, words: &[String]) -> io::Result<u8> {
     let Ok(command) = command(rt.alloc()) else {
         return status(rt, Err(Failure::Memory));
     };
@@ -160,7 +132,7 @@ fn answer<R: System>(rt: &R, words: &[String]) -> io::Result<u8> {
 
 /// Does what the words of a command line say, and gives the exit status: 0 where all was done, 1 where something was refused, 2 for a wrong use, and 3 where
 /// the command broke off, with the reason on the standard error.
-pub fn run<R: System>(rt: &R, words: &[String]) -> u8 {
+pub fn run(rt: &HostRuntime, words: &[String]) -> u8 {
     match answer(rt, words) {
         Ok(status) => status,
         Err(_) => 3,

@@ -2,12 +2,13 @@
 
 use crate::bars::print_table;
 use crate::blocks::print_line;
-use crate::ending::{Ending, Failure, System, failed};
+use crate::ending::{Ending, Failure, failed};
 use crate::inputs::{schema_given, text};
 use crate::term_counts::TermCounts;
 use crate::visits::{Visit, visit_block};
 use clap::ArgMatches;
 use std::alloc::{AllocError, Global};
+use std::io::IsTerminal;
 use tantivy_schema::schema::document::Document;
 use tantivy_schema::schema::{
     DocumentFacet, Facet, FacetCount, Field, Schema, TantivyDocument, Value, count_child_documents,
@@ -52,12 +53,12 @@ impl Visit for Counting {
 }
 
 // Prints the counts: as a table with bars on a terminal and where the words ask for it, and else a line for each.
-fn print_counts<R: System>(
-    rt: &R,
+fn print_counts(
+    rt: &HostRuntime,
     given: &ArgMatches<'_>,
     counts: &[FacetCount<'_>],
 ) -> Result<(), Failure> {
-    if given.get_flag("bars") || rt.is_output_terminal() {
+    if given.get_flag("bars") || rt.stdout().is_terminal() {
         return print_table(rt, counts);
     }
     for count in counts {
@@ -67,7 +68,7 @@ fn print_counts<R: System>(
 }
 
 // What counts the documents by the children of the facet that the words name.
-fn begin<R: System>(rt: &R, given: &ArgMatches<'_>, schema: &Schema) -> Result<Counting, Failure> {
+fn begin(rt: &HostRuntime, given: &ArgMatches<'_>, schema: &Schema) -> Result<Counting, Failure> {
     let alloc = rt.alloc();
     let field = match schema.get_field(text(given, "FIELD")) {
         Ok(field) => field,
@@ -95,7 +96,7 @@ fn entries<'c>(alloc: Global, counts: &'c TermCounts) -> Result<Vec<FacetCount<'
 }
 
 /// Counts documents by the children of a facet. Memory is kept for the children that are found, and for one document.
-pub(crate) fn facets<R: System>(rt: &R, given: &ArgMatches<'_>) -> Result<Ending, Failure> {
+pub(crate) fn facets(rt: &HostRuntime, given: &ArgMatches<'_>) -> Result<Ending, Failure> {
     let schema = schema_given(rt, given)?;
     let mut counting = begin(rt, given, &schema)?;
     visit_block(rt, given, &mut counting)?;

@@ -1,17 +1,16 @@
 //! What a command writes: to the standard output, or to a file that is there only once it is whole.
 
-use crate::ending::{Failure, System, of_file, write_failed};
+use crate::ending::{Failure, of_file, write_failed};
 use either::Either;
-use std::fs;
-use std::fs::Files;
+use std::fs::{self, File};
 use std::io::{self, BufWriter, Print, Write};
 use tantivy_schema::common::WriteSink;
 
 /// The standard output, as a writer.
 #[derive(Drop)]
-pub(crate) struct StandardOutput<R: Print>(R);
+pub(crate) struct StandardOutput(HostRuntime);
 
-impl<R: Print> Write for StandardOutput<R> {
+impl Write for StandardOutput {
     fn write(&mut self, buf: &[u8]) -> io::Result<usize> {
         self.0.write_some(buf)
     }
@@ -22,19 +21,19 @@ impl<R: Print> Write for StandardOutput<R> {
 }
 
 /// A file, or the standard output.
-pub(crate) type Target<R> = Either<<R as Files>::File, StandardOutput<R>>;
+pub(crate) type Target = Either<File, StandardOutput>;
 
 // This many bytes are written at once.
 const PIECE: usize = 65536;
 
 // The name that an output has when it is finished, and the name of its file until then, where there is one. A file that isn't finished is gone.
-struct Place<R: System> {
-    rt: R,
+struct Place {
+    rt: HostRuntime,
     name: String,
     part: Option<String>,
 }
 
-impl<R: System> Drop for Place<R> {
+impl Drop for Place {
     fn drop(self) {
         let Place { rt, name: _, part } = self;
         if let Some(part) = part {
@@ -43,7 +42,7 @@ impl<R: System> Drop for Place<R> {
     }
 }
 
-impl<R: System> Place<R> {
+impl Place {
     // Gives the file its name, where what was buffered has been written.
     fn settle(mut self, flushed: io::Result<()>) -> Result<(), Failure> {
         let (alloc, name) = (self.rt.alloc(), self.name.as_str());
@@ -65,23 +64,20 @@ impl<R: System> Place<R> {
 
 /// An output that is written: a new file beside the one that is named, or the standard output. Where it is dropped, the file is gone.
 #[derive(Drop)]
-pub(crate) struct Output<R: System> {
-    sink: WriteSink<BufWriter<Target<R>>>,
-    place: Place<R>,
+pub(crate) struct Output {
+    sink: WriteSink<BufWriter<Target>>,
+    place: Place,
 }
 
-impl<R: System> Output<R> {
+impl Output {
     /// Where results are appended.
-    pub(crate) fn sink(&mut self) -> &mut WriteSink<BufWriter<Target<R>>> {
+    pub(crate) fn sink(&mut self) -> &mut WriteSink<BufWriter<Target>> {
         &mut self.sink
     }
 }
 
 // A sink over this target.
-fn sink_of<R: System>(
-    rt: &R,
-    target: Target<R>,
-) -> Result<WriteSink<BufWriter<Target<R>>>, Failure> {
+fn sink_of(rt: &HostRuntime, target: Target) -> Result<WriteSink<BufWriter<Target>>, Failure> {
     match BufWriter::with_capacity(rt.alloc(), PIECE, target) {
         Ok(writer) => Ok(WriteSink::new(writer)),
         Err(_) => Err(Failure::Memory),
@@ -89,7 +85,7 @@ fn sink_of<R: System>(
 }
 
 // Whether something stands there that is no file, as a device or a pipe.
-fn is_special<R: System>(rt: &R, name: &str) -> bool {
+fn is_special(rt: &HostRuntime, name: &str) -> bool {
     match fs::metadata(rt, name) {
         Ok(found) => !found.is_file(),
         Err(_) => false,
@@ -97,7 +93,7 @@ fn is_special<R: System>(rt: &R, name: &str) -> bool {
 }
 
 // The standard output, or what is no file: both are written as they stand.
-fn standing<R: System>(rt: &R, name: &str) -> Result<Target<R>, Failure> {
+fn standing(rt: &HostRuntime, name: &str) -> Result<Target, Failure> {
     if name == "-" {
         return Ok(Either::Right(StandardOutput(*rt)));
     }
@@ -107,7 +103,7 @@ fn standing<R: System>(rt: &R, name: &str) -> Result<Target<R>, Failure> {
 
 /// Begins an output. A file of this name stays as it is until the output is finished; one that has `.part` after the name may not be there. A device or a pipe
 /// is written as it stands.
-pub(crate) fn create<R: System>(rt: &R, name: &str) -> Result<Output<R>, Failure> {
+pub(crate) fn create(rt: &HostRuntime, name: &str) -> Result<Output, Failure> {
     let alloc = rt.alloc();
     let mut place = Place {
         rt: *rt,
@@ -131,7 +127,7 @@ pub(crate) fn create<R: System>(rt: &R, name: &str) -> Result<Output<R>, Failure
 }
 
 /// Ends an output: what is buffered is written, and the file has its name.
-pub(crate) fn finish<R: System>(output: Output<R>) -> Result<(), Failure> {
+pub(crate) fn finish(output: Output) -> Result<(), Failure> {
     let Output { sink, place } = output;
     let flushed = sink.into_inner().flush();
     place.settle(flushed)

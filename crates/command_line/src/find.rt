@@ -1,7 +1,7 @@
 //! `find`.
 
 use crate::blocks::print_line;
-use crate::ending::{Ending, Failure, System, failed, write_failed};
+use crate::ending::{Ending, Failure, failed, write_failed};
 use crate::files::{create, finish};
 use crate::inputs::{limits, schema_given, source, text, version};
 use crate::progress::Progress;
@@ -54,7 +54,7 @@ fn pointed(alloc: Global, text: &str, place: usize) -> Result<String, AllocError
 }
 
 // Says why a text is no query: the reason, the line and a caret under the place.
-fn report<R: System>(rt: &R, text: &str, error: &QueryError) -> Result<(), Failure> {
+fn report(rt: &HostRuntime, text: &str, error: &QueryError) -> Result<(), Failure> {
     let pointed = pointed(rt.alloc(), text, error.place)?;
     let _ = eprintln!(rt; "kormaglen: {error}\n{pointed}");
     Ok(())
@@ -70,8 +70,8 @@ fn broken(alloc: Global, name: &str, error: FindError) -> Failure {
 }
 
 // Appends the lines of the documents that the query matches.
-fn find_into<R: System, K: ByteSink>(
-    rt: &R,
+fn find_into<K: ByteSink>(
+    rt: &HostRuntime,
     given: &ArgMatches<'_>,
     schema: &Schema,
     query: &Query,
@@ -99,8 +99,8 @@ fn find_into<R: System, K: ByteSink>(
 }
 
 // Prints the documents that the query matches, or their number.
-fn print_found<R: System>(
-    rt: &R,
+fn print_found(
+    rt: &HostRuntime,
     given: &ArgMatches<'_>,
     schema: &Schema,
     query: &Query,
@@ -116,7 +116,7 @@ fn print_found<R: System>(
 }
 
 /// Prints the documents of a block that a query matches, or their number.
-pub(crate) fn find<R: System>(rt: &R, given: &ArgMatches<'_>) -> Result<Ending, Failure> {
+pub(crate) fn find(rt: &HostRuntime, given: &ArgMatches<'_>) -> Result<Ending, Failure> {
     let schema = schema_given(rt, given)?;
     let words = text(given, "QUERY");
     match Query::parse(rt.alloc(), &schema, words) {

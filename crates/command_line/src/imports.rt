@@ -2,7 +2,7 @@
 
 ghost use Rattle.std.specs.Prelude.{[]};
 
-use crate::ending::{Ending, Failure, System, failed, write_failed};
+use crate::ending::{Ending, Failure, failed, write_failed};
 use crate::files::{Output, create, finish};
 use crate::inputs::{lines, schema_given, text};
 use crate::progress::{ERASING, Progress};
@@ -19,11 +19,11 @@ use tv_command::report::{LineReport, Report};
 
 // What is told of an import: where lines that are refused are reported, where documents begin, and how many there were of both.
 #[derive(Drop)]
-struct Reports<R: System> {
-    rt: R,
+struct Reports {
+    rt: HostRuntime,
     name: String,
-    offsets: Option<Output<R>>,
-    errors: Option<Output<R>>,
+    offsets: Option<Output>,
+    errors: Option<Output>,
     // Whether a line of progress is erased before a report that goes to the standard error.
     is_erasing: bool,
     bytes: u64,
@@ -43,7 +43,7 @@ fn rules(given: &ArgMatches<'_>) -> ImportRules {
 }
 
 // Begins an output, if its name is given.
-fn optional<R: System>(rt: &R, name: Option<&str>) -> Result<Option<Output<R>>, Failure> {
+fn optional(rt: &HostRuntime, name: Option<&str>) -> Result<Option<Output>, Failure> {
     match name {
         Some(name) => Ok(Some(create(rt, name)?)),
         None => Ok(None),
@@ -64,7 +64,7 @@ fn said(alloc: Global, name: &str, line: u64, error: LineError) -> Result<String
 }
 
 // What a file holds isn't known.
-impl<R: System> Report for Reports<R> {
+impl Report for Reports {
     type Error = Failure;
 
     ghost is_known = { λ _. ⊥ };
@@ -121,13 +121,13 @@ fn broken(
 }
 
 // Imports the lines of a file.
-fn import_file<R: System>(
-    reports: &mut Reports<R>,
+fn import_file(
+    reports: &mut Reports,
     given: &ArgMatches<'_>,
     schema: &Schema,
     importer: &mut LineImporter,
-    block: &mut Output<R>,
-    progress: &mut Progress<R>,
+    block: &mut Output,
+    progress: &mut Progress,
 ) -> Result<(), Failure> {
     let alloc = reports.rt.alloc();
     let mut reader = lines(&reports.rt, reports.name.as_str())?;
@@ -146,13 +146,13 @@ fn import_file<R: System>(
 }
 
 // Imports the lines of each of these files.
-fn import_files<R: System>(
-    reports: &mut Reports<R>,
+fn import_files(
+    reports: &mut Reports,
     given: &ArgMatches<'_>,
     schema: &Schema,
     names: &[&str],
-    block: &mut Output<R>,
-    progress: &mut Progress<R>,
+    block: &mut Output,
+    progress: &mut Progress,
 ) -> Result<(), Failure> {
     let alloc = reports.rt.alloc();
     let mut importer = LineImporter::new(alloc, rules(given));
@@ -164,7 +164,7 @@ fn import_files<R: System>(
 }
 
 // Begins to report.
-fn begin<R: System>(rt: &R, given: &ArgMatches<'_>) -> Result<Reports<R>, Failure> {
+fn begin(rt: &HostRuntime, given: &ArgMatches<'_>) -> Result<Reports, Failure> {
     Ok(Reports {
         rt: *rt,
         name: String::new(rt.alloc()),
@@ -178,7 +178,7 @@ fn begin<R: System>(rt: &R, given: &ArgMatches<'_>) -> Result<Reports<R>, Failur
 }
 
 // Ends an output, if it was begun.
-fn finish_optional<R: System>(output: Option<Output<R>>) -> Result<(), Failure> {
+fn finish_optional(output: Option<Output>) -> Result<(), Failure> {
     match output {
         Some(output) => finish(output),
         None => Ok(()),
@@ -186,7 +186,7 @@ fn finish_optional<R: System>(output: Option<Output<R>>) -> Result<(), Failure> 
 }
 
 // Ends the outputs.
-fn end<R: System>(reports: Reports<R>, block: Output<R>) -> Result<(), Failure> {
+fn end(reports: Reports, block: Output) -> Result<(), Failure> {
     let Reports {
         rt: _,
         name: _,
@@ -203,7 +203,7 @@ fn end<R: System>(reports: Reports<R>, block: Output<R>) -> Result<(), Failure> 
 }
 
 /// Stores the documents of lines, and reports the others.
-pub(crate) fn import<R: System>(rt: &R, given: &ArgMatches<'_>) -> Result<Ending, Failure> {
+pub(crate) fn import(rt: &HostRuntime, given: &ArgMatches<'_>) -> Result<Ending, Failure> {
     let schema = schema_given(rt, given)?;
     let named = given.get_strs("FILE").unwrap_or(&[]);
     let names = if named.is_empty() { &["-"] } else { named };

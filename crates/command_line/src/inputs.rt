@@ -1,18 +1,17 @@
 //! What a command reads: files, the standard input, and schemas.
 
-use crate::ending::{Failure, System, failed, of_file};
+use crate::ending::{Failure, failed, of_file};
 use clap::ArgMatches;
 use either::Either;
 use std::alloc::Global;
-use std::fs;
-use std::fs::Files;
+use std::fs::{self, File};
 use std::io::{self, BufReader, Input, Read, Seek, SeekFrom};
 use tantivy_schema::common::BufferedSource;
 use tantivy_schema::schema::Schema;
 use tantivy_schema::store::{DocStoreVersion, ReadLimits};
 
 /// A file, or the standard input.
-pub(crate) type Origin<R> = Either<<R as Files>::File, <R as Input>::Reader>;
+pub(crate) type Origin = Either<File, <HostRuntime as Input>::Reader>;
 
 // This many bytes are read at once.
 const PIECE: usize = 65536;
@@ -21,7 +20,7 @@ const PIECE: usize = 65536;
 const MOST_TEXT: u64 = 16 << 20;
 
 /// Opens a file to be read; `-` is the standard input.
-pub(crate) fn open<R: System>(rt: &R, name: &str) -> Result<Origin<R>, Failure> {
+pub(crate) fn open(rt: &HostRuntime, name: &str) -> Result<Origin, Failure> {
     if name == "-" {
         return Ok(Either::Right(rt.reader()));
     }
@@ -29,7 +28,7 @@ pub(crate) fn open<R: System>(rt: &R, name: &str) -> Result<Origin<R>, Failure> 
 }
 
 /// A reader of lines of a file.
-pub(crate) fn lines<R: System>(rt: &R, name: &str) -> Result<BufReader<Origin<R>>, Failure> {
+pub(crate) fn lines(rt: &HostRuntime, name: &str) -> Result<BufReader<Origin>, Failure> {
     let origin = open(rt, name)?;
     match BufReader::with_capacity(rt.alloc(), PIECE, origin) {
         Ok(reader) => Ok(reader),
@@ -38,7 +37,7 @@ pub(crate) fn lines<R: System>(rt: &R, name: &str) -> Result<BufReader<Origin<R>
 }
 
 /// A source of the bytes of a file.
-pub(crate) fn source<R: System>(rt: &R, name: &str) -> Result<BufferedSource<Origin<R>>, Failure> {
+pub(crate) fn source(rt: &HostRuntime, name: &str) -> Result<BufferedSource<Origin>, Failure> {
     let origin = open(rt, name)?;
     Ok(BufferedSource::with_capacity(rt.alloc(), PIECE, origin)?)
 }
@@ -55,11 +54,11 @@ fn seek_to<F: Seek>(alloc: Global, name: &str, file: &mut F, start: u64) -> Resu
 }
 
 /// A source of the bytes of a file from this byte on. A file that has no byte there is refused, unless that is its first.
-pub(crate) fn source_from<R: System>(
-    rt: &R,
+pub(crate) fn source_from(
+    rt: &HostRuntime,
     name: &str,
     start: u64,
-) -> Result<BufferedSource<Origin<R>>, Failure> {
+) -> Result<BufferedSource<Origin>, Failure> {
     let mut origin = open(rt, name)?;
     if start > 0 {
         if let Either::Left(file) = &mut origin {
@@ -80,7 +79,7 @@ fn text_in<F: Read + Drop>(alloc: Global, name: &str, reader: F) -> Result<Strin
 }
 
 /// The schema of a file.
-pub(crate) fn schema_of<R: System>(rt: &R, name: &str) -> Result<Schema, Failure> {
+pub(crate) fn schema_of(rt: &HostRuntime, name: &str) -> Result<Schema, Failure> {
     let alloc = rt.alloc();
     let text = text_in(alloc, name, open(rt, name)?)?;
     let json = match serde_json::Value::from_str(alloc, text.as_str()) {
@@ -94,7 +93,7 @@ pub(crate) fn schema_of<R: System>(rt: &R, name: &str) -> Result<Schema, Failure
 }
 
 /// The schema that the words name.
-pub(crate) fn schema_given<R: System>(rt: &R, given: &ArgMatches<'_>) -> Result<Schema, Failure> {
+pub(crate) fn schema_given(rt: &HostRuntime, given: &ArgMatches<'_>) -> Result<Schema, Failure> {
     schema_of(rt, text(given, "schema"))
 }
 

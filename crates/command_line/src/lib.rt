@@ -23,4 +23,4 @@ mod term_counts;
 mod terms;
 mod visits;
 
-pub use ending::{System, Terminals, run};
+pub use ending::run;

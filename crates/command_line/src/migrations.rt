@@ -1,6 +1,6 @@
 //! `migrate`.
 
-use crate::ending::{Ending, Failure, System, failed, write_failed};
+use crate::ending::{Ending, Failure, failed, write_failed};
 use crate::files::{create, finish};
 use crate::inputs::{source, text, version};
 use crate::progress::Progress;
@@ -19,7 +19,7 @@ fn broken(alloc: Global, given: &ArgMatches<'_>, error: MigrationError) -> Failu
 }
 
 /// Writes the documents of a block in another version.
-pub(crate) fn migrate<R: System>(rt: &R, given: &ArgMatches<'_>) -> Result<Ending, Failure> {
+pub(crate) fn migrate(rt: &HostRuntime, given: &ArgMatches<'_>) -> Result<Ending, Failure> {
     let alloc = rt.alloc();
     let mut source = source(rt, text(given, "BLOCK"))?;
     let mut output = create(rt, text(given, "output"))?;

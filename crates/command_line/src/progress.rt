@@ -1,12 +1,11 @@
 //! How far the work on the inputs has come, on the standard error.
 
 use crate::bars::push_times;
-use crate::ending::System;
 use crate::inputs::text;
 use clap::ArgMatches;
 use std::alloc::{AllocError, Global};
 use std::fs;
-use std::io::Eprint;
+use std::io::{Eprint, IsTerminal};
 use std::time::{Duration, Instant};
 use tv_command::watch::Watch;
 
@@ -112,8 +111,8 @@ impl Work {
 /// It is told of each document or line as a `Watch`. It has to be ended before results are printed after the work, and the line is erased before
 /// anything else goes to the standard error.
 #[derive(Drop)]
-pub(crate) struct Progress<R: System> {
-    rt: R,
+pub(crate) struct Progress {
+    rt: HostRuntime,
     // When the work began. `None` where nothing is shown.
     begun: Option<Instant>,
     work: Work,
@@ -129,7 +128,7 @@ pub(crate) struct Progress<R: System> {
 }
 
 // How many bytes these inputs have in all. `None` where one of them is no file, and where none is named.
-fn size_of<R: System>(rt: &R, names: &[&str]) -> Option<u64> {
+fn size_of(rt: &HostRuntime, names: &[&str]) -> Option<u64> {
     if names.is_empty() {
         return None;
     }
@@ -147,11 +146,13 @@ fn size_of<R: System>(rt: &R, names: &[&str]) -> Option<u64> {
 }
 
 // Whether progress is shown: where the words say so, and else where the standard error is a terminal, unless results go to a terminal at the same time.
-fn is_shown<R: System>(rt: &R, given: &ArgMatches<'_>, is_printing: bool) -> bool {
+fn is_shown(rt: &HostRuntime, given: &ArgMatches<'_>, is_printing: bool) -> bool {
     if given.get_flag("progress") {
         return true;
     }
-    !given.get_flag("quiet") && rt.is_error_terminal() && !(is_printing && rt.is_output_terminal())
+    !given.get_flag("quiet")
+        && rt.stderr().is_terminal()
+        && !(is_printing && rt.stdout().is_terminal())
 }
 
 // How many documents are to be done until the next look at the clock, where these took this many milliseconds: a look costs nothing beside them, and
@@ -168,20 +169,20 @@ fn millis_of(time: Duration) -> u64 {
     u64::try_from(time.as_millis()).unwrap_or(u64::MAX)
 }
 
-impl<R: System> Progress<R> {
+impl Progress {
     /// Begins to show the work on the inputs of these names, as the words ask for it. `-` is the standard input. The command's results are those of its
     /// `--output`, or are printed after the work.
-    pub(crate) fn of(rt: &R, given: &ArgMatches<'_>, names: &[&str]) -> Progress<R> {
+    pub(crate) fn of(rt: &HostRuntime, given: &ArgMatches<'_>, names: &[&str]) -> Progress {
         Progress::beside(rt, given, names, text(given, "output") == "-")
     }
 
     /// The same, for a command that says itself whether it prints results on the standard output during the work.
     pub(crate) fn beside(
-        rt: &R,
+        rt: &HostRuntime,
         given: &ArgMatches<'_>,
         names: &[&str],
         is_printing: bool,
-    ) -> Progress<R> {
+    ) -> Progress {
         let begun = if is_shown(rt, given, is_printing) {
             Instant::now(rt).ok()
         } else {
@@ -264,7 +265,7 @@ impl<R: System> Progress<R> {
     }
 }
 
-impl<R: System> Watch for Progress<R> {
+impl Watch for Progress {
     fn advance(&mut self, bytes: u64) {
         self.work.taken = bytes;
         self.work.documents = self.work.documents.saturating_add(1);

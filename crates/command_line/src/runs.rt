@@ -1,11 +1,10 @@
 //! Runs of terms in temporary files.
 
-use crate::ending::{Failure, System, failed, of_file};
+use crate::ending::{Failure, failed, of_file};
 use crate::term_counts::TermCounts;
 use std::alloc::Global;
-use std::fs;
-use std::fs::Files;
-use std::io::{self, BufWriter, Read, Seek, SeekFrom, Write};
+use std::fs::{self, File};
+use std::io::{self, BufWriter, Seek, SeekFrom};
 use tantivy_schema::common::{BufferedSource, WriteSink};
 use tv_command::runs::{Merge, MergeError, write_pair};
 
@@ -20,8 +19,8 @@ const MOST_NAMES: u64 = 1 << 20;
 
 /// A run in a file that has no name in its folder any more: so it is gone with the command, however that ends.
 #[derive(Drop)]
-struct Run<F> {
-    file: F,
+struct Run {
+    file: File,
     name: String,
     // how many merges its pairs have been through
     merges: u32,
@@ -29,14 +28,14 @@ struct Run<F> {
 
 /// Runs, of which none was merged more often than one before it.
 #[derive(Drop)]
-pub(crate) struct Runs<F> {
+pub(crate) struct Runs {
     folder: String,
-    runs: Vec<Run<F>>,
+    runs: Vec<Run>,
 }
 
-impl<F> Runs<F> {
+impl Runs {
     /// No runs; their files will be made in this folder.
-    pub(crate) fn new(alloc: Global, folder: String) -> Runs<F> {
+    pub(crate) fn new(alloc: Global, folder: String) -> Runs {
         Runs {
             folder,
             runs: Vec::new(alloc),
@@ -51,12 +50,12 @@ impl<F> Runs<F> {
 
 // A run that is written.
 #[derive(Drop)]
-struct RunWriter<F: Write + Drop> {
-    sink: WriteSink<BufWriter<F>>,
+struct RunWriter {
+    sink: WriteSink<BufWriter<File>>,
     name: String,
 }
 
-impl<F: Write + Seek + Drop> RunWriter<F> {
+impl RunWriter {
     // Appends a term and its count.
     fn write(&mut self, alloc: Global, term: &[u8], count: u64) -> Result<(), Failure> {
         match write_pair(&mut self.sink, term, count) {
@@ -66,7 +65,7 @@ impl<F: Write + Seek + Drop> RunWriter<F> {
     }
 
     // Ends the run, to be read from its beginning.
-    fn finish(self, alloc: Global, merges: u32) -> Result<Run<F>, Failure> {
+    fn finish(self, alloc: Global, merges: u32) -> Result<Run, Failure> {
         let RunWriter { sink, name } = self;
         let mut writer = sink.into_inner();
         of_file(alloc, name.as_str(), writer.seek(SeekFrom::Start(0)))?;
@@ -76,7 +75,7 @@ impl<F: Write + Seek + Drop> RunWriter<F> {
 }
 
 // Makes a file of a name that isn't there.
-fn create_file<R: System>(rt: &R, folder: &str) -> Result<(<R as Files>::File, String), Failure> {
+fn create_file(rt: &HostRuntime, folder: &str) -> Result<(File, String), Failure> {
     let alloc = rt.alloc();
     for number in 0..MOST_NAMES {
         let name = format!(in alloc; "{folder}/kormaglen-{number}.run")?;
@@ -92,7 +91,7 @@ fn create_file<R: System>(rt: &R, folder: &str) -> Result<(<R as Files>::File, S
 }
 
 // Begins a run in a temporary file.
-fn create_run<R: System>(rt: &R, folder: &str) -> Result<RunWriter<<R as Files>::File>, Failure> {
+fn create_run(rt: &HostRuntime, folder: &str) -> Result<RunWriter, Failure> {
     let alloc = rt.alloc();
     let (file, name) = create_file(rt, folder)?;
     of_file(alloc, name.as_str(), fs::remove_file(rt, name.as_str()))?;
@@ -107,14 +106,14 @@ fn create_run<R: System>(rt: &R, folder: &str) -> Result<RunWriter<<R as Files>:
 
 /// Several runs, read as one.
 #[derive(Drop)]
-pub(crate) struct MergedRuns<F: Read> {
-    merge: Merge<BufferedSource<F>>,
+pub(crate) struct MergedRuns {
+    merge: Merge<BufferedSource<File>>,
     names: Vec<String>,
 }
 
-impl<F: Read + Drop> MergedRuns<F> {
+impl MergedRuns {
     // Adds a run.
-    fn add(&mut self, alloc: Global, run: Run<F>) -> Result<(), Failure> {
+    fn add(&mut self, alloc: Global, run: Run) -> Result<(), Failure> {
         let Run {
             file,
             name,
@@ -152,11 +151,7 @@ impl<F: Read + Drop> MergedRuns<F> {
 }
 
 // Takes this many of the runs, the last first, to be read as one.
-fn merged<F: Read + Drop>(
-    alloc: Global,
-    runs: &mut Runs<F>,
-    number: usize,
-) -> Result<MergedRuns<F>, Failure> {
+fn merged(alloc: Global, runs: &mut Runs, number: usize) -> Result<MergedRuns, Failure> {
     let mut merged = MergedRuns {
         merge: Merge::new(alloc),
         names: Vec::new(alloc),
@@ -171,17 +166,14 @@ fn merged<F: Read + Drop>(
 }
 
 /// Takes all runs, to be read as one.
-pub(crate) fn merged_all<F: Read + Drop>(
-    alloc: Global,
-    runs: &mut Runs<F>,
-) -> Result<MergedRuns<F>, Failure> {
+pub(crate) fn merged_all(alloc: Global, runs: &mut Runs) -> Result<MergedRuns, Failure> {
     let number = runs.runs.len();
     merged(alloc, runs, number)
 }
 
 // How many of the last runs are merged next, which is at least two where there are as many, and how many merges the greatest of them has been through:
 // those that have been through as many as the last but one, or fewer.
-fn to_merge<F>(runs: &[Run<F>]) -> (usize, u32) {
+fn to_merge(runs: &[Run]) -> (usize, u32) {
     let mut merges = 0;
     if runs.len() > 1 {
         if let Some(run) = runs.get(runs.len() - 2) {
@@ -198,7 +190,7 @@ fn to_merge<F>(runs: &[Run<F>]) -> (usize, u32) {
 }
 
 // Merges some of the last runs into one.
-fn merge_last<R: System>(rt: &R, runs: &mut Runs<<R as Files>::File>) -> Result<(), Failure> {
+fn merge_last(rt: &HostRuntime, runs: &mut Runs) -> Result<(), Failure> {
     let alloc = rt.alloc();
     let (number, merges) = to_merge(runs.runs.as_slice());
     let mut merged = merged(alloc, runs, number)?;
@@ -215,9 +207,9 @@ fn merge_last<R: System>(rt: &R, runs: &mut Runs<<R as Files>::File>) -> Result<
 }
 
 /// Writes the terms that are counted as a run, and forgets them.
-pub(crate) fn add_run<R: System>(
-    rt: &R,
-    runs: &mut Runs<<R as Files>::File>,
+pub(crate) fn add_run(
+    rt: &HostRuntime,
+    runs: &mut Runs,
     counts: &mut TermCounts,
 ) -> Result<(), Failure> {
     let alloc = rt.alloc();

@@ -1,7 +1,7 @@
 //! `schema show` and `schema new`.
 
 use crate::blocks::print_line;
-use crate::ending::{Ending, Failure, System, wrong_use};
+use crate::ending::{Ending, Failure, wrong_use};
 use crate::inputs::{schema_of, text};
 use crate::schema_words::entry_of;
 use clap::ArgMatches;
@@ -17,7 +17,7 @@ fn options(entry: &FieldEntry) -> [&'static str; 3] {
 }
 
 // Prints a line for each field: its number, name, type and options.
-fn show<R: System>(rt: &R, schema: &Schema) -> Result<(), Failure> {
+fn show(rt: &HostRuntime, schema: &Schema) -> Result<(), Failure> {
     for (field, entry) in schema.fields() {
         let [stored, indexed, fast] = options(entry);
         let (number, kind) = (field.field_id(), entry.field_type().value_type());
@@ -31,7 +31,7 @@ fn show<R: System>(rt: &R, schema: &Schema) -> Result<(), Failure> {
 }
 
 // Prints the JSON of a schema with the fields that are given.
-fn create<R: System>(rt: &R, words: &[&str]) -> Result<(), Failure> {
+fn create(rt: &HostRuntime, words: &[&str]) -> Result<(), Failure> {
     let alloc = rt.alloc();
     let mut builder = Schema::builder(alloc);
     for word in words {
@@ -44,7 +44,7 @@ fn create<R: System>(rt: &R, words: &[&str]) -> Result<(), Failure> {
 }
 
 /// Shows a schema, or makes one.
-pub(crate) fn schema<R: System>(rt: &R, given: &ArgMatches<'_>) -> Result<Ending, Failure> {
+pub(crate) fn schema(rt: &HostRuntime, given: &ArgMatches<'_>) -> Result<Ending, Failure> {
     match given.subcommand() {
         Some(("new", given)) => create(rt, given.get_strs("FIELD").unwrap_or(&[]))?,
         Some((_, given)) => show(rt, &schema_of(rt, text(given, "FILE"))?)?,

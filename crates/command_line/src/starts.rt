@@ -1,6 +1,6 @@
 //! Where a document of a block begins, by a file of offsets.
 
-use crate::ending::{Failure, System, failed, of_file};
+use crate::ending::{Failure, failed, of_file};
 use crate::inputs::{open, text};
 use clap::ArgMatches;
 use either::Either;
@@ -41,7 +41,7 @@ fn offset_in<F: Read + Seek>(
 }
 
 // The same, of the file of this name.
-fn offset<R: System>(rt: &R, name: &str, index: u64) -> Result<Option<u64>, Failure> {
+fn offset(rt: &HostRuntime, name: &str, index: u64) -> Result<Option<u64>, Failure> {
     match &mut open(rt, name)? {
         Either::Left(file) => offset_in(rt.alloc(), name, file, index),
         Either::Right(_) => Err(failed(rt.alloc(), name, "offsets are read from a file")),
@@ -50,8 +50,8 @@ fn offset<R: System>(rt: &R, name: &str, index: u64) -> Result<Option<u64>, Fail
 
 /// Where reading begins for the document of this number: at it where there are offsets, else at the first. `None` where there is no such document. The
 /// standard input is read from the first on, also where there are offsets.
-pub(crate) fn start_of<R: System>(
-    rt: &R,
+pub(crate) fn start_of(
+    rt: &HostRuntime,
     given: &ArgMatches<'_>,
     number: u64,
 ) -> Result<Option<Start>, Failure> {

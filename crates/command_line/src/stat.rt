@@ -2,7 +2,7 @@
 
 use crate::blocks::print_line;
 use crate::depth::deepest_of;
-use crate::ending::{Ending, Failure, System};
+use crate::ending::{Ending, Failure};
 use crate::inputs::schema_given;
 use crate::visits::{Visit, visit_block};
 use clap::ArgMatches;
@@ -46,12 +46,12 @@ impl Visit for Counts {
 }
 
 // Prints a line for a number.
-fn print_number<R: System>(rt: &R, number: u64, what: &str) -> Result<(), Failure> {
+fn print_number(rt: &HostRuntime, number: u64, what: &str) -> Result<(), Failure> {
     print_line(rt, format!(in rt.alloc(); "{number:>12}  {what}")?.as_str())
 }
 
 // Prints the counts of a block.
-fn print_counts<R: System>(rt: &R, counts: &Counts) -> Result<(), Failure> {
+fn print_counts(rt: &HostRuntime, counts: &Counts) -> Result<(), Failure> {
     print_number(rt, counts.documents, "documents")?;
     print_number(rt, counts.bytes, "bytes")?;
     print_number(rt, counts.largest, "bytes of the largest document")?;
@@ -65,7 +65,7 @@ fn print_counts<R: System>(rt: &R, counts: &Counts) -> Result<(), Failure> {
 }
 
 // Prints how many values each field has.
-fn print_fields<R: System>(rt: &R, schema: &Schema, by_field: &[u64]) -> Result<(), Failure> {
+fn print_fields(rt: &HostRuntime, schema: &Schema, by_field: &[u64]) -> Result<(), Failure> {
     for (field, entry) in schema.fields() {
         let number = field.field_id();
         let values = by_field.get(number as usize).copied().unwrap_or(0);
@@ -77,7 +77,7 @@ fn print_fields<R: System>(rt: &R, schema: &Schema, by_field: &[u64]) -> Result<
 }
 
 /// Counts the documents, bytes and values of a block.
-pub(crate) fn stat<R: System>(rt: &R, given: &ArgMatches<'_>) -> Result<Ending, Failure> {
+pub(crate) fn stat(rt: &HostRuntime, given: &ArgMatches<'_>) -> Result<Ending, Failure> {
     let schema = schema_given(rt, given)?;
     let mut counts = Counts {
         alloc: rt.alloc(),

@@ -1,7 +1,7 @@
 //! `terms`.
 
 use crate::blocks::print_line;
-use crate::ending::{Ending, Failure, System, failed, wrong_use};
+use crate::ending::{Ending, Failure, failed, wrong_use};
 use crate::inputs::{schema_given, text};
 use crate::runs::{Runs, add_run, merged_all};
 use crate::term_counts::TermCounts;
@@ -9,7 +9,6 @@ use crate::visits::{Visit, visit_block};
 use clap::ArgMatches;
 use std::alloc::Global;
 use std::env;
-use std::fs::Files;
 use tantivy_schema::schema::{Schema, TantivyDocument, Term, TermList, term_values};
 use tv_query::{QueryReason, Selection, Wanted};
 
@@ -29,17 +28,17 @@ fn count_terms(
 }
 
 // Counts the terms of documents that are wanted. Those that are too many for memory go into runs.
-struct Counting<R: System> {
-    rt: R,
+struct Counting {
+    rt: HostRuntime,
     block: String,
     schema: Schema,
     wanted: Selection,
     terms: TermList,
     counts: TermCounts,
-    runs: Runs<<R as Files>::File>,
+    runs: Runs,
 }
 
-impl<R: System> Drop for Counting<R> {
+impl Drop for Counting {
     fn drop(self) {
         let Counting {
             rt: _,
@@ -53,14 +52,14 @@ impl<R: System> Drop for Counting<R> {
     }
 }
 
-impl<R: System> Counting<R> {
+impl Counting {
     // Puts the terms that are counted in memory into a run.
     fn put_away(&mut self) -> Result<(), Failure> {
         add_run(&self.rt, &mut self.runs, &mut self.counts)
     }
 }
 
-impl<R: System> Visit for Counting<R> {
+impl Visit for Counting {
     fn visit(&mut self, document: &TantivyDocument, _bytes: u64) -> Result<(), Failure> {
         let alloc = self.rt.alloc();
         self.terms.clear();
@@ -120,7 +119,7 @@ fn memory(alloc: Global, given: &ArgMatches<'_>) -> Result<u64, Failure> {
 }
 
 // The folder of temporary files: the one that the words name, or that of `TMPDIR`, or `/tmp`.
-fn folder<R: System>(rt: &R, given: &ArgMatches<'_>) -> Result<String, Failure> {
+fn folder(rt: &HostRuntime, given: &ArgMatches<'_>) -> Result<String, Failure> {
     let alloc = rt.alloc();
     let named = text(given, "temporary");
     if !named.is_empty() {
@@ -145,12 +144,12 @@ fn line(alloc: Global, bytes: &[u8], count: Option<u64>) -> Result<String, Failu
 }
 
 // Prints it.
-fn print_term<R: System>(rt: &R, bytes: &[u8], count: Option<u64>) -> Result<(), Failure> {
+fn print_term(rt: &HostRuntime, bytes: &[u8], count: Option<u64>) -> Result<(), Failure> {
     print_line(rt, line(rt.alloc(), bytes, count)?.as_str())
 }
 
 // Prints the terms that are counted in memory.
-fn print_counts<R: System>(rt: &R, counts: &TermCounts, counted: bool) -> Result<(), Failure> {
+fn print_counts(rt: &HostRuntime, counts: &TermCounts, counted: bool) -> Result<(), Failure> {
     for (term, count) in counts.as_map().iter() {
         print_term(rt, term.as_slice(), counted.then_some(*count))?;
     }
@@ -158,11 +157,7 @@ fn print_counts<R: System>(rt: &R, counts: &TermCounts, counted: bool) -> Result
 }
 
 // Prints the terms of runs.
-fn print_runs<R: System>(
-    rt: &R,
-    runs: &mut Runs<<R as Files>::File>,
-    counted: bool,
-) -> Result<(), Failure> {
+fn print_runs(rt: &HostRuntime, runs: &mut Runs, counted: bool) -> Result<(), Failure> {
     let alloc = rt.alloc();
     let mut merged = merged_all(alloc, runs)?;
     for _ in 0..u64::MAX {
@@ -175,7 +170,7 @@ fn print_runs<R: System>(
 }
 
 // What counts the terms that the words ask for.
-fn begin<R: System>(rt: &R, given: &ArgMatches<'_>) -> Result<Counting<R>, Failure> {
+fn begin(rt: &HostRuntime, given: &ArgMatches<'_>) -> Result<Counting, Failure> {
     let alloc = rt.alloc();
     let counts = TermCounts::new(alloc, memory(alloc, given)?);
     let runs = Runs::new(alloc, folder(rt, given)?);
@@ -193,7 +188,7 @@ fn begin<R: System>(rt: &R, given: &ArgMatches<'_>) -> Result<Counting<R>, Failu
 }
 
 /// Prints the terms of a field in their order. Memory is kept for as many as `--memory` lets it, and for one document.
-pub(crate) fn terms<R: System>(rt: &R, given: &ArgMatches<'_>) -> Result<Ending, Failure> {
+pub(crate) fn terms(rt: &HostRuntime, given: &ArgMatches<'_>) -> Result<Ending, Failure> {
     let mut counting = begin(rt, given)?;
     visit_block(rt, given, &mut counting)?;
     let counted = given.get_flag("counts");

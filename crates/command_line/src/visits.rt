@@ -1,6 +1,6 @@
 //! Work on each document of a block.
 
-use crate::ending::{Failure, System, failed};
+use crate::ending::{Failure, failed};
 use crate::inputs::{limits, source, text, version};
 use crate::progress::Progress;
 use clap::ArgMatches;
@@ -39,8 +39,8 @@ fn visit_left<S: ByteSource, V: Visit, W: Watch>(
 }
 
 /// Shows the documents of the block that the words name to a visitor, each within the limits, and how far that has come.
-pub(crate) fn visit_block<R: System, V: Visit>(
-    rt: &R,
+pub(crate) fn visit_block<V: Visit>(
+    rt: &HostRuntime,
     given: &ArgMatches<'_>,
     visitor: &mut V,
 ) -> Result<(), Failure> {

@@ -6,7 +6,7 @@ use std::process::ExitCode;
 use std::{env, io};
 
 // The words of the command line, under the command's own name.
-fn words(rt: &(impl env::Env + AllocGlobal)) -> io::Result<Vec<String>> {
+fn words(rt: &HostRuntime) -> io::Result<Vec<String>> {
     let mut words = Vec::new(rt.alloc());
     words.push(String::from_str(rt.alloc(), "kormaglen")?)?;
     for word in env::args(rt)?.skip(1) {
