@@ -17,8 +17,11 @@ pub use Rattle.tv_heap.specs.declared.place.Place
 pub use Rattle.tv_doc.specs.declared.builder.TreeBuilder
 pub use Rattle.tv_builder.specs.declared.add_error.AddError
 pub use Rattle.tv_doc.specs.declared.doc_parsing_error.DocParsingError
-pub use Rattle.tv_doc.specs.declared.json_fault.JsonFault
-pub use Rattle.tv_doc.specs.declared.json_fault.JsonFaultKind
+pub use Rattle.tv_json.specs.declared.json_expected.JsonExpected
+pub use Rattle.tv_json.specs.declared.json_expected.JsonWord
+pub use Rattle.tv_json.specs.declared.json_expected.LowSurrogatePart
+pub use Rattle.tv_json.specs.declared.json_fault.JsonFault
+pub use Rattle.tv_json.specs.declared.json_fault.JsonFaultKind
 pub use Rattle.tv_doc.specs.declared.strict_parsing_error.StrictParsingError
 pub use Rattle.tv_field.specs.declared.json_value.JsonRefusal
 pub use Rattle.tv_field.specs.declared.schema_error.SchemaError

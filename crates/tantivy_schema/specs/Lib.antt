@@ -41,6 +41,9 @@ pub use Rattle.tv_value.specs.JsonTree
 pub use Rattle.tv_format.specs.Size
 pub use Rattle.tv_json.specs.JsonOf
 pub use Rattle.tv_json.specs.Named as NamedJson
+pub use Rattle.tv_json.specs.Syntax as JsonSyntax
+pub use Rattle.tv_json.specs.Faults as JsonFaults
+pub use Rattle.tv_json.specs.LargeNumber as LargeJsonNumber
 pub use Rattle.tv_value.specs.Lent
 pub use Rattle.tv_value.specs.Nesting
 pub use Rattle.tv_value.specs.Owned
@@ -112,6 +115,7 @@ pub use Rattle.tv_doc.specs.Grouped
 pub use Rattle.tv_heap.specs.Encoded as EncodedInHeap
 pub use Rattle.tv_heap.specs.Held
 pub use Rattle.tv_doc.specs.JsonObject
+pub use Rattle.tv_doc.specs.TextFault
 pub use Rattle.tv_doc.specs.StrictJson
 pub use Rattle.tv_doc.specs.MapValue
 pub use Rattle.tv_doc.specs.Named

@@ -39,6 +39,9 @@ pub use tv_format::laws::{
 };
 pub use tv_heap::laws::places_read_as_one_tree;
 pub use tv_indexing::laws::{terms_of_texts_are_of_no_other_value, texts_of_values_are_read_back};
+pub use tv_json::laws::{
+    no_text_goes_on_from_a_fault, syntax_faults_are_unique, texts_that_are_read_have_the_syntax,
+};
 /// The laws of legacy objects, and of values and documents that have them.
 pub use tv_legacy::laws as legacy;
 pub use tv_options::laws::{

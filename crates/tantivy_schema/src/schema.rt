@@ -19,6 +19,7 @@ pub use tv_base::{FACET_SEP_BYTE, FACET_SEP_CHAR, Facet, FacetParseError};
 pub use tv_doc::doc_parsing_error::DocParsingError;
 pub use tv_doc::document::{CompactDoc, CompactDoc as TantivyDocument};
 pub use tv_doc::document_trait::Document;
+pub use tv_doc::json_expected::{JsonExpected, JsonWord, LowSurrogatePart};
 pub use tv_doc::json_fault::{JsonFault, JsonFaultKind};
 pub use tv_doc::named::NamedFieldDocument;
 pub use tv_doc::strict_parsing_error::StrictParsingError;

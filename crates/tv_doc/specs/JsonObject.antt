@@ -7,7 +7,7 @@
 -- `belongs`: each of its pairs has a field of the schema.
 -- `ParsesInto`: the same in the place of a document. `parses` and `belongs`: where the call returns no error, what is left in the place is the
 -- document of the text. `none`: where it returns an error, no pair is left in the place.
-use Rattle.std.specs.Prelude.{◌≡◌, ◌≢◌, ◌≤◌, ◌↔◌, length, IsSome, ℕ, List, [], ◌∷◌, ◌++◌, Option, Some, None, Result, Ok, Err, IfOk, OnOk, OnErr, slice_get, string_bytes}
+use Rattle.std.specs.Prelude.{◌≡◌, ◌≢◌, ℕ, List, [], ◌∷◌, ◌++◌, Option, Some, None, Result, Ok, Err, IfOk, OnOk, OnErr, slice_get, string_bytes}
 use Rattle.std.specs.Fmt.{take_chars}
 use Rattle.serde_json.specs.Data as json
 use Rattle.serde_json.specs.Data.{Data, Items, Members}
@@ -23,13 +23,13 @@ use Rattle.tv_doc.specs.Additions.{AddsEach, IsEmpty, IsMade}
 use Rattle.tv_doc.specs.Belongs.{Belongs}
 use Rattle.tv_doc.specs.Document.{document_of, RefusesAddition}
 use Rattle.tv_doc.specs.InPlace.{in_place}
+use Rattle.tv_doc.specs.TextFault.{IsFault}
+use Rattle.tv_json.specs.declared.json_fault.JsonFault.{JsonFault}
 use Rattle.tv_builder.specs.declared.add_error.AddError.{AddError}
 use Rattle.tv_builder.specs.declared.add_error.AddError.TheVariants as add_error
 use Rattle.tv_doc.specs.declared.doc_parsing_error.DocParsingError.{DocParsingError}
 use Rattle.tv_doc.specs.declared.doc_parsing_error.DocParsingError.TheVariants as error
 use Rattle.tv_doc.specs.declared.document.CompactDoc.{CompactDoc}
-use Rattle.tv_doc.specs.declared.json_fault.JsonFault.{JsonFault}
-use Rattle.tv_doc.specs.declared.json_fault.JsonFaultKind.TheVariants.{NoObject}
 use Rattle.tv_doc.specs.declared.named_field.NamedField.{NamedField}
 
 -- a JSON value for a field, with the field's name, number and type
@@ -142,10 +142,6 @@ abbrev pub IsInvalidJson : List ℕ → JsonFault → DocParsingError → Type 0
 IsInvalidJson text fault (error.InvalidJson start told) = (string_bytes start ≡ take_chars 20 text) × (told ≡ fault)
 IsInvalidJson text fault error.Memory = Unit {0}
 IsInvalidJson text fault e = ⊥
-
--- the place lies within the text, and that there is no object is said exactly where the text is JSON
-abbrev pub IsFault : List ℕ → JsonFault → Type 0
-IsFault text fault = (fault.offset ≤ length text) × ((fault.kind ≡ NoObject) ↔ IsSome (read text))
 
 -- the text is no JSON object
 abbrev pub IsNoObject : List ℕ → Type 0

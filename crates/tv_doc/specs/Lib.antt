@@ -14,3 +14,4 @@ pub mod Named
 pub mod NamedPairs
 pub mod SameTexts
 pub mod InPlace
+pub mod TextFault

@@ -13,11 +13,11 @@ ghost use Rattle.tv_format.specs.Tree.{leaf};
 
 use crate::doc_parsing_error::DocParsingError;
 use crate::document::CompactDoc;
-use crate::json_fault::IS_NO_OBJECT;
 use crate::json_object::{add_value, invalid_json};
 use crate::lent_borrowed::LentBorrowed;
 use crate::named_field::NamedField;
 use crate::parse_buffers::{Adding, ParseBuffers};
+use crate::text_refusal::IS_NO_OBJECT;
 use std::alloc::Global;
 use tv_field::FieldType;
 use tv_field::json_value::{

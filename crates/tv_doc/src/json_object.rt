@@ -12,9 +12,10 @@ ghost use Rattle.tv_doc.specs.InPlace.{in_place};
 use crate::add_error::AddError;
 use crate::doc_parsing_error::DocParsingError;
 use crate::document::CompactDoc;
-use crate::json_fault::{IS_NO_OBJECT, JsonFault, fault_of};
+use crate::json_fault::JsonFault;
 use crate::named_field::NamedField;
 use crate::parse_buffers::{Adding, ParseBuffers};
+use crate::text_refusal::{IS_NO_OBJECT, fault_of};
 use serde_json::{Map, Value};
 use std::alloc::Global;
 use tv_base::text_start::text_start;
@@ -161,14 +162,14 @@ fn parse_value(
             if error.is_memory() {
                 return Err(DocParsingError::Memory);
             }
-            Err(invalid_json(alloc, text, fault_of(&error, text)))
+            Err(invalid_json(alloc, text, fault_of(text)))
         }
     }
 }
 
 impl CompactDoc {
     /// The document of the JSON object that the text encodes, see `from_json_object`. Errors: `InvalidJson` with the text's first 20
-    /// characters and the place where it is refused, where it isn't JSON or no object, or lists in it nest deeper than 127; else those of
+    /// characters, and where and why it is refused, where it isn't JSON or no object, or lists in it nest deeper than 127; else those of
     /// `from_json_object`.
     ///
     /// ```

@@ -9,7 +9,6 @@ pub mod document;
 pub mod document_trait;
 pub mod field_values;
 mod grouped;
-pub mod json_fault;
 pub mod json_object;
 pub mod laws;
 pub mod lent_borrowed;
@@ -23,5 +22,7 @@ mod recent_fields;
 mod same;
 pub mod strict_json;
 pub mod strict_parsing_error;
+mod text_refusal;
 
 pub use tv_builder::add_error;
+pub use tv_json::{json_expected, json_fault};

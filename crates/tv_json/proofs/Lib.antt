@@ -10,3 +10,14 @@ mod Rising
 mod Mapped
 mod Turns
 pub mod Floats
+mod ListKinds
+mod Faults
+mod LargeNumbers
+mod FaultLaws
+pub mod FaultKinds
+mod Accepted
+mod AcceptedWords
+mod AcceptedTokens
+mod AcceptedStrings
+mod AcceptedTurns
+mod AcceptedValues

@@ -7,3 +7,7 @@ pub mod RisingMembers
 pub mod Found
 pub mod Notes
 pub mod Begun
+pub mod Syntax
+pub mod ListKinds
+pub mod Faults
+pub mod LargeNumber

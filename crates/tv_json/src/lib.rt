@@ -4,8 +4,15 @@
 mod begun;
 pub mod borrowed;
 pub mod compact;
+pub mod json_expected;
+pub mod json_fault;
+mod json_place;
+pub mod json_scan;
 pub mod json_value;
+pub mod large_number;
+pub mod laws;
 mod leaf_text;
+mod list_stack;
 mod member_order;
 mod members;
 pub mod named;

@@ -7,7 +7,6 @@ ghost use Rattle.tv_json.specs.Rising.{Below, KeysRise, entries_of, listed_json,
 ghost use Rattle.tv_format.specs.Tree.{entries};
 ghost use Rattle.tv_value.specs.Lent.{nested_tree};
 
-use crate::order::compare;
 use std::alloc::{AllocError, Global};
 use std::cmp::Ordering;
 use std::collections::BTreeMap;
@@ -21,7 +20,7 @@ fn is_below(key: &str, other: &str) -> bool
 {
     match (key.as_bytes().first(), other.as_bytes().first()) {
         (Some(one), Some(two)) if one != two => one < two,
-        _ => compare(key, other) == Ordering::Less,
+        _ => key.cmp(other) == Ordering::Less,
     }
 }
 

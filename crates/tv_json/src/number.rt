@@ -17,7 +17,16 @@ pub(crate) fn read_number<'a>(text: &str, met_float: &mut bool) -> Option<Borrow
     ensures floats { IfSome result
         (λ v. Notes met_float.old met_float.new (has_float (data_of v))) }
 {
-    let bytes = text.as_bytes();
+    read_numeral(text.as_bytes(), met_float)
+}
+
+// The same of its bytes.
+#[inline(always)]
+pub(crate) fn read_numeral<'a>(bytes: &[u8], met_float: &mut bool) -> Option<BorrowedJson<'a>>
+    ensures found { option_map data_of result ≡ option_map number (number_of bytes.now) }
+    ensures floats { IfSome result
+        (λ v. Notes met_float.old met_float.new (has_float (data_of v))) }
+{
     if has_minus(bytes) {
         negative_number(&Numeral::scan(&bytes[1..]), met_float)
     } else {

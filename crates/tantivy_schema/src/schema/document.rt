@@ -36,6 +36,7 @@ pub use tv_doc::doc_parsing_error::DocParsingError;
 pub use tv_doc::document::{CompactDoc, CompactDoc as TantivyDocument};
 pub use tv_doc::document_trait::Document;
 pub use tv_doc::field_values::{FieldValueIterRef, GetAllIter};
+pub use tv_doc::json_expected::{JsonExpected, JsonWord, LowSurrogatePart};
 pub use tv_doc::json_fault::{JsonFault, JsonFaultKind};
 pub use tv_doc::named::{FieldNames, NamedFieldDocument};
 pub use tv_doc::named_back_error::NamedBackError;

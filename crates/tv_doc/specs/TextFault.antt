@@ -1,0 +1,27 @@
+-- Where and why a text is no JSON object.
+--
+-- The words of the public contracts:
+-- `IsFault`: `place`: the text goes wrong at the offset by the syntax of JSON, for this reason, and not before (`IsFaultOf` of `tv_json`); or it is JSON by its
+-- syntax, with the first number there that is too large for a float; or it is JSON. `object`: that there is no object is said exactly where the text is JSON.
+use Rattle.std.specs.Prelude.{◌≡◌, ◌⊎◌, ◌↔◌, ℕ, List, length, IsSome}
+use Rattle.serde_json.specs.Read.{read}
+use Rattle.tv_json.specs.Faults.{IsSyntax, IsFaultOf}
+use Rattle.tv_json.specs.LargeNumber.{IsFirstLargeNumber, NoLargeNumber}
+use Rattle.tv_json.specs.declared.json_fault.JsonFault.{JsonFault}
+use Rattle.tv_json.specs.declared.json_fault.JsonFaultKind.{JsonFaultKind}
+use Rattle.tv_json.specs.declared.json_fault.JsonFaultKind.TheVariants as kind
+
+-- The first number that is too large for a float begins there. Where no number is, the place is the end of the text.
+abbrev pub IsNumberPlace : List ℕ → ℕ → Type 0
+IsNumberPlace text offset = IsSyntax text × (IsFirstLargeNumber text offset ⊎ (NoLargeNumber text × (offset ≡ length text)))
+
+abbrev pub IsPlace : List ℕ → JsonFault → JsonFaultKind → Type 0
+IsPlace text fault (kind.EndsEarly expected) = IsFaultOf text fault
+IsPlace text fault (kind.Unexpected expected) = IsFaultOf text fault
+IsPlace text fault kind.TooDeep = IsFaultOf text fault
+IsPlace text fault kind.NumberTooLarge = IsNumberPlace text fault.offset
+IsPlace text fault kind.NoObject = fault.offset ≡ 0
+
+pub record IsFault (text : List ℕ) (fault : JsonFault) : Type 0 where
+  pub place : IsPlace text fault fault.kind
+  pub object : (fault.kind ≡ kind.NoObject) ↔ IsSome (read text)
