@@ -207,11 +207,17 @@ fn arg<'a>(alloc: Global, word: &Word) -> Result<Arg<'a>, AllocError> {
     }
 }
 
+// Adds the argument of a key.
+fn push_arg<'a>(alloc: Global, args: &mut Vec<Arg<'a>>, key: &str) -> Result<(), AllocError> {
+    args.push(arg(alloc, &word_of(line_of(key)))?)?;
+    Ok(())
+}
+
 // The arguments of these keys.
 fn args<'a>(alloc: Global, keys: &'static str) -> Result<Vec<Arg<'a>>, AllocError> {
     let mut args = Vec::new(alloc);
     for key in keys.split(' ') {
-        args.push(arg(alloc, &word_of(line_of(key)))?)?;
+        push_arg(alloc, &mut args, key)?;
     }
     Ok(args)
 }
@@ -228,6 +234,15 @@ fn command_of<'a>(alloc: Global, text: &'static str) -> Result<Command<'a>, Allo
         .args(args)
 }
 
+// Adds a command that may not have been made.
+fn push_command<'a>(
+    commands: &mut Vec<Command<'a>>,
+    command: Result<Command<'a>, AllocError>,
+) -> Result<(), AllocError> {
+    commands.push(command?)?;
+    Ok(())
+}
+
 // Adds the commands of texts to commands.
 fn push_commands<'a>(
     alloc: Global,
@@ -235,7 +250,7 @@ fn push_commands<'a>(
     texts: &[&'static str],
 ) -> Result<(), AllocError> {
     for text in texts {
-        commands.push(command_of(alloc, *text)?)?;
+        push_command(commands, command_of(alloc, *text))?;
     }
     Ok(())
 }
@@ -266,7 +281,7 @@ fn schema<'a>(alloc: Global) -> Result<Command<'a>, AllocError> {
 /// The command with its words.
 pub(crate) fn command<'a>(alloc: Global) -> Result<Command<'a>, AllocError> {
     let mut below = Vec::new(alloc);
-    below.push(schema(alloc)?)?;
+    push_command(&mut below, schema(alloc))?;
     push_commands(alloc, &mut below, &COMMANDS)?;
     let command = Command::new(alloc, "kormaglen").version("0.1.0");
     with_commands(

@@ -112,21 +112,28 @@ fn status(rt: &HostRuntime, ended: Result<Ending, Failure>) -> io::Result<u8> {
     Ok(status)
 }
 
+// Calls the command that the words name, as they were read.
+fn answer_words(rt: &HostRuntime, words: &ArgMatches<'_>) -> io::Result<u8> {
+    match words.subcommand() {
+        Some((name, given)) => status(rt, call(rt, name, given)),
+        None => Ok(2),
+    }
+}
+
+// Says why the words are wrong, or prints the help that they ask for.
+fn answer_wrong(rt: &HostRuntime, error: &clap::Error) -> io::Result<u8> {
+    error.print(rt)?;
+    Ok(if error.use_stderr() { 2 } else { 0 })
+}
+
 // Reads the words and calls the command that they name.
 fn answer(rt: &HostRuntime, words: &[String]) -> io::Result<u8> {
     let Ok(command) = command(rt.alloc()) else {
         return status(rt, Err(Failure::Memory));
     };
-    let matches = match command.try_get_matches_from(words) {
-        Ok(matches) => matches,
-        Err(error) => {
-            error.print(rt)?;
-            return Ok(if error.use_stderr() { 2 } else { 0 });
-        }
-    };
-    match matches.subcommand() {
-        Some((name, given)) => status(rt, call(rt, name, given)),
-        None => Ok(2),
+    match command.try_get_matches_from(words) {
+        Ok(matches) => answer_words(rt, &matches),
+        Err(error) => answer_wrong(rt, &error),
     }
 }
 

@@ -16,12 +16,22 @@ use tantivy_schema::schema::{
 };
 
 // Counts, for each child of a facet, how many documents have a facet of a field at or below it, by the child's encoded text.
-#[derive(Drop)]
 struct Counting {
     alloc: Global,
     field: Field,
     ancestor: Facet,
     counts: TermCounts,
+}
+
+impl Drop for Counting {
+    fn drop(self) {
+        let Counting {
+            alloc: _,
+            field: _,
+            ancestor: _,
+            counts: _,
+        } = self;
+    }
 }
 
 impl Counting {
@@ -95,18 +105,28 @@ fn entries<'c>(alloc: Global, counts: &'c TermCounts) -> Result<Vec<FacetCount<'
     Ok(entries)
 }
 
+// Prints the counts that the words ask for: all, or this number of the greatest.
+fn print_wanted(
+    rt: &HostRuntime,
+    given: &ArgMatches<'_>,
+    counts: &[FacetCount<'_>],
+) -> Result<(), Failure> {
+    let Some(top) = given.get_one::<u64>("top") else {
+        return print_counts(rt, given, counts);
+    };
+    let most = usize::try_from(top).unwrap_or(usize::MAX);
+    print_counts(rt, given, &greatest_counts(rt.alloc(), counts, most)?)
+}
+
+// Prints the children that were counted.
+fn print_all(rt: &HostRuntime, given: &ArgMatches<'_>, counts: &TermCounts) -> Result<(), Failure> {
+    print_wanted(rt, given, &entries(rt.alloc(), counts)?)
+}
+
 /// Counts documents by the children of a facet. Memory is kept for the children that are found, and for one document.
 pub(crate) fn facets(rt: &HostRuntime, given: &ArgMatches<'_>) -> Result<Ending, Failure> {
-    let schema = schema_given(rt, given)?;
-    let mut counting = begin(rt, given, &schema)?;
+    let mut counting = begin(rt, given, &schema_given(rt, given)?)?;
     visit_block(rt, given, &mut counting)?;
-    let entries = entries(rt.alloc(), &counting.counts)?;
-    match given.get_one::<u64>("top") {
-        Some(top) => {
-            let most = usize::try_from(top).unwrap_or(usize::MAX);
-            print_counts(rt, given, &greatest_counts(rt.alloc(), &entries, most)?)?;
-        }
-        None => print_counts(rt, given, &entries)?,
-    }
+    print_all(rt, given, &counting.counts)?;
     Ok(Ending::Done)
 }

@@ -62,22 +62,25 @@ impl Place {
     }
 }
 
+/// Where results are appended.
+pub(crate) type OutputSink = WriteSink<BufWriter<Target>>;
+
 /// An output that is written: a new file beside the one that is named, or the standard output. Where it is dropped, the file is gone.
 #[derive(Drop)]
 pub(crate) struct Output {
-    sink: WriteSink<BufWriter<Target>>,
+    sink: OutputSink,
     place: Place,
 }
 
 impl Output {
     /// Where results are appended.
-    pub(crate) fn sink(&mut self) -> &mut WriteSink<BufWriter<Target>> {
+    pub(crate) fn sink(&mut self) -> &mut OutputSink {
         &mut self.sink
     }
 }
 
 // A sink over this target.
-fn sink_of(rt: &HostRuntime, target: Target) -> Result<WriteSink<BufWriter<Target>>, Failure> {
+fn sink_of(rt: &HostRuntime, target: Target) -> Result<OutputSink, Failure> {
     match BufWriter::with_capacity(rt.alloc(), PIECE, target) {
         Ok(writer) => Ok(WriteSink::new(writer)),
         Err(_) => Err(Failure::Memory),

@@ -1,16 +1,17 @@
 //! `find`.
 
-use crate::blocks::print_line;
-use crate::ending::{Ending, Failure, failed, write_failed};
+use crate::blocks::{broken, print_line};
+use crate::ending::{Ending, Failure};
 use crate::files::{create, finish};
-use crate::inputs::{limits, schema_given, source, text, version};
+use crate::inputs::{BlockSource, limits, schema_given, source, text, version};
 use crate::progress::Progress;
 use clap::ArgMatches;
 use std::alloc::{AllocError, Global};
 use std::io::{self, Eprint, Write};
 use tantivy_schema::common::{ByteSink, WriteSink};
 use tantivy_schema::schema::Schema;
-use tv_command::find::{FindError, Found, find_in_block};
+use tv_command::find::{Found, find_in_block};
+use tv_command::work_error::WorkError;
 use tv_query::{Query, QueryError, QueryReason};
 
 // Takes what is written, and keeps nothing.
@@ -60,16 +61,33 @@ fn report(rt: &HostRuntime, text: &str, error: &QueryError) -> Result<(), Failur
     Ok(())
 }
 
-// What broke a search off.
-fn broken(alloc: Global, name: &str, error: FindError) -> Failure {
-    match error {
-        FindError::Write(kind) => write_failed(alloc, "-", kind),
-        FindError::Memory => Failure::Memory,
-        other => failed(alloc, name, other),
-    }
+// Appends the lines of the documents of a source that the query matches.
+fn find_from<K: ByteSink>(
+    rt: &HostRuntime,
+    given: &ArgMatches<'_>,
+    schema: &Schema,
+    query: &Query,
+    source: &mut BlockSource,
+    sink: &mut K,
+) -> Result<Found, WorkError> {
+    let (version, limits) = (version(given, "version"), limits(given));
+    let names = [text(given, "BLOCK")];
+    let mut progress = Progress::beside(rt, given, &names, !given.get_flag("count"));
+    let found = find_in_block(
+        rt.alloc(),
+        schema,
+        version,
+        limits,
+        query,
+        source,
+        sink,
+        &mut progress,
+    );
+    progress.end();
+    found
 }
 
-// Appends the lines of the documents that the query matches.
+// Appends the lines of the documents of the block that the query matches.
 fn find_into<K: ByteSink>(
     rt: &HostRuntime,
     given: &ArgMatches<'_>,
@@ -77,25 +95,23 @@ fn find_into<K: ByteSink>(
     query: &Query,
     sink: &mut K,
 ) -> Result<Found, Failure> {
-    let name = text(given, "BLOCK");
-    let mut source = source(rt, name)?;
-    let (version, limits) = (version(given, "version"), limits(given));
-    let mut progress = Progress::beside(rt, given, &[name], !given.get_flag("count"));
-    let found = find_in_block(
-        rt.alloc(),
-        schema,
-        version,
-        limits,
-        query,
-        &mut source,
-        sink,
-        &mut progress,
-    );
-    progress.end();
-    match found {
+    let mut source = source(rt, text(given, "BLOCK"))?;
+    match find_from(rt, given, schema, query, &mut source, sink) {
         Ok(found) => Ok(found),
-        Err(error) => Err(broken(rt.alloc(), name, error)),
+        Err(error) => Err(broken(rt.alloc(), given, "-", error)),
     }
+}
+
+// Prints the number of the documents that the query matches.
+fn print_number(
+    rt: &HostRuntime,
+    given: &ArgMatches<'_>,
+    schema: &Schema,
+    query: &Query,
+) -> Result<(), Failure> {
+    let mut sink = WriteSink::new(Unprinted);
+    let found = find_into(rt, given, schema, query, &mut sink)?.found;
+    print_line(rt, format!(in rt.alloc(); "{found}")?.as_str())
 }
 
 // Prints the documents that the query matches, or their number.
@@ -106,13 +122,20 @@ fn print_found(
     query: &Query,
 ) -> Result<(), Failure> {
     if given.get_flag("count") {
-        let mut sink = WriteSink::new(Unprinted);
-        let found = find_into(rt, given, schema, query, &mut sink)?;
-        return print_line(rt, format!(in rt.alloc(); "{}", found.found)?.as_str());
+        return print_number(rt, given, schema, query);
     }
     let mut output = create(rt, "-")?;
     find_into(rt, given, schema, query, output.sink())?;
     finish(output)
+}
+
+// What a wrong query ends in: it is reported.
+fn refused(rt: &HostRuntime, words: &str, error: &QueryError) -> Result<Ending, Failure> {
+    if matches!(error.reason, QueryReason::Memory) {
+        return Err(Failure::Memory);
+    }
+    report(rt, words, error)?;
+    Ok(Ending::WrongUse)
 }
 
 /// Prints the documents of a block that a query matches, or their number.
@@ -120,16 +143,8 @@ pub(crate) fn find(rt: &HostRuntime, given: &ArgMatches<'_>) -> Result<Ending, F
     let schema = schema_given(rt, given)?;
     let words = text(given, "QUERY");
     match Query::parse(rt.alloc(), &schema, words) {
-        Ok(query) => {
-            print_found(rt, given, &schema, &query)?;
-            Ok(Ending::Done)
-        }
-        Err(error) => {
-            if matches!(error.reason, QueryReason::Memory) {
-                return Err(Failure::Memory);
-            }
-            report(rt, words, &error)?;
-            Ok(Ending::WrongUse)
-        }
+        Ok(query) => print_found(rt, given, &schema, &query)?,
+        Err(error) => return refused(rt, words, &error),
     }
+    Ok(Ending::Done)
 }

@@ -4,20 +4,19 @@ ghost use Rattle.std.specs.Prelude.{[]};
 
 use crate::ending::{Ending, Failure, failed, write_failed};
 use crate::files::{Output, create, finish};
-use crate::inputs::{lines, schema_given, text};
+use crate::inputs::{lines, schema_given, text, written_version};
 use crate::progress::{ERASING, Progress};
 use clap::ArgMatches;
 use std::alloc::{AllocError, Global};
 use std::io::Eprint;
 use tantivy_schema::common::{BinarySerializable, WriteError};
 use tantivy_schema::schema::Schema;
-use tantivy_schema::store::WriteVersion;
 use tv_base::write::{write_all, write_u64};
 use tv_command::import::{ImportError, ImportRules, LineError, LineImporter, LineOutcome};
 use tv_command::imports::{ImportLinesError, import_lines};
 use tv_command::report::{LineReport, Report};
 
-// What is told of an import: where lines that are refused are reported, where documents begin, and how many there were of both.
+// The report of an import: where lines that are refused are reported, where documents begin, and how many there were of both.
 #[derive(Drop)]
 struct Reports {
     rt: HostRuntime,
@@ -34,10 +33,7 @@ struct Reports {
 // The rules that the words give.
 fn rules(given: &ArgMatches<'_>) -> ImportRules {
     ImportRules {
-        version: match text(given, "store-version") {
-            "3" => WriteVersion::V3,
-            _ => WriteVersion::V2,
-        },
+        version: written_version(given, "store-version"),
         strict: given.get_flag("strict"),
     }
 }
@@ -72,33 +68,39 @@ impl Report for Reports {
     ghost told = { λ _. [] };
 
     fn tell(&mut self, line: LineReport) -> Result<(), Failure> {
-        let alloc = self.rt.alloc();
         let LineReport { line, outcome } = line;
         match outcome {
-            LineOutcome::Stored(size) => {
-                let begin = self.bytes;
-                self.bytes = begin.saturating_add(size);
-                self.stored = self.stored.saturating_add(1);
-                match &mut self.offsets {
-                    Some(output) => written(alloc, "offsets", write_u64(output.sink(), begin)),
-                    None => Ok(()),
-                }
-            }
+            LineOutcome::Stored(size) => self.tell_stored(size),
             LineOutcome::Refused(error) => {
-                let said = said(alloc, self.name.as_str(), line, error)?;
-                self.refused = self.refused.saturating_add(1);
-                match &mut self.errors {
-                    Some(output) => {
-                        written(alloc, "errors", write_all(output.sink(), said.as_bytes()))
-                    }
-                    None => {
-                        let erasing = if self.is_erasing { ERASING } else { "" };
-                        let _ = eprint!(self.rt; "{erasing}{said}");
-                        Ok(())
-                    }
-                }
+                let said = said(self.rt.alloc(), self.name.as_str(), line, error)?;
+                self.tell_refused(said.as_str())
             }
         }
+    }
+}
+
+impl Reports {
+    // Counts a document of this size, and writes where it begins if that is asked for.
+    fn tell_stored(&mut self, size: u64) -> Result<(), Failure> {
+        let begin = self.bytes;
+        self.bytes = begin.saturating_add(size);
+        self.stored = self.stored.saturating_add(1);
+        match &mut self.offsets {
+            Some(output) => { written(self.rt.alloc(), "offsets", write_u64(output.sink(), begin)) }
+            None => Ok(()),
+        }
+    }
+
+    // Counts a line that is refused, and writes what is said of it.
+    fn tell_refused(&mut self, said: &str) -> Result<(), Failure> {
+        self.refused = self.refused.saturating_add(1);
+        if let Some(output) = &mut self.errors {
+            let call = write_all(output.sink(), said.as_bytes());
+            return written(self.rt.alloc(), "errors", call);
+        }
+        let erasing = if self.is_erasing { ERASING } else { "" };
+        let _ = eprint!(self.rt; "{erasing}{said}");
+        Ok(())
     }
 }
 
@@ -145,8 +147,8 @@ fn import_file(
     }
 }
 
-// Imports the lines of each of these files.
-fn import_files(
+// Imports the lines of these files one after the other.
+fn import_each(
     reports: &mut Reports,
     given: &ArgMatches<'_>,
     schema: &Schema,
@@ -161,6 +163,21 @@ fn import_files(
         import_file(reports, given, schema, &mut importer, block, progress)?;
     }
     Ok(())
+}
+
+// Imports the lines of these files, and shows how far that has come.
+fn import_files(
+    reports: &mut Reports,
+    given: &ArgMatches<'_>,
+    schema: &Schema,
+    names: &[&str],
+    block: &mut Output,
+) -> Result<(), Failure> {
+    let mut progress = Progress::of(&reports.rt, given, names);
+    reports.is_erasing = progress.is_shown();
+    let ended = import_each(reports, given, schema, names, block, &mut progress);
+    progress.end();
+    ended
 }
 
 // Begins to report.
@@ -185,44 +202,21 @@ fn finish_optional(output: Option<Output>) -> Result<(), Failure> {
     }
 }
 
-// Ends the outputs.
-fn end(reports: Reports, block: Output) -> Result<(), Failure> {
+// Ends the outputs, and says how many lines were stored and refused unless the words ask for quiet.
+fn end(given: &ArgMatches<'_>, reports: Reports, block: Output) -> Result<Ending, Failure> {
     let Reports {
-        rt: _,
+        rt,
         name: _,
         offsets,
         errors,
         is_erasing: _,
-        bytes: _,
-        stored: _,
-        refused: _,
+        bytes,
+        stored,
+        refused,
     } = reports;
     finish_optional(errors)?;
     finish_optional(offsets)?;
-    finish(block)
-}
-
-/// Stores the documents of lines, and reports the others.
-pub(crate) fn import(rt: &HostRuntime, given: &ArgMatches<'_>) -> Result<Ending, Failure> {
-    let schema = schema_given(rt, given)?;
-    let named = given.get_strs("FILE").unwrap_or(&[]);
-    let names = if named.is_empty() { &["-"] } else { named };
-    let mut block = create(rt, text(given, "output"))?;
-    let mut reports = begin(rt, given)?;
-    let mut progress = Progress::of(rt, given, names);
-    reports.is_erasing = progress.is_shown();
-    let ended = import_files(
-        &mut reports,
-        given,
-        &schema,
-        names,
-        &mut block,
-        &mut progress,
-    );
-    progress.end();
-    ended?;
-    let (stored, refused, bytes) = (reports.stored, reports.refused, reports.bytes);
-    end(reports, block)?;
+    finish(block)?;
     if !given.get_flag("quiet") {
         let _ = eprintln!(rt;
             "{stored} documents stored in {bytes} bytes, {refused} lines refused"
@@ -233,4 +227,15 @@ pub(crate) fn import(rt: &HostRuntime, given: &ArgMatches<'_>) -> Result<Ending,
     } else {
         Ending::Done
     })
+}
+
+/// Stores the documents of lines, and reports the others.
+pub(crate) fn import(rt: &HostRuntime, given: &ArgMatches<'_>) -> Result<Ending, Failure> {
+    let schema = schema_given(rt, given)?;
+    let mut block = create(rt, text(given, "output"))?;
+    let mut reports = begin(rt, given)?;
+    let named = given.get_strs("FILE").unwrap_or(&[]);
+    let names = if named.is_empty() { &["-"] } else { named };
+    import_files(&mut reports, given, &schema, names, &mut block)?;
+    end(given, reports, block)
 }

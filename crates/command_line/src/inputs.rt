@@ -8,10 +8,13 @@ use std::fs::{self, File};
 use std::io::{self, BufReader, Input, Read, Seek, SeekFrom};
 use tantivy_schema::common::BufferedSource;
 use tantivy_schema::schema::Schema;
-use tantivy_schema::store::{DocStoreVersion, ReadLimits};
+use tantivy_schema::store::{DocStoreVersion, ReadLimits, WriteVersion};
 
 /// A file, or the standard input.
 pub(crate) type Origin = Either<File, <HostRuntime as Input>::Reader>;
+
+/// A source of the bytes of a block.
+pub(crate) type BlockSource = BufferedSource<Origin>;
 
 // This many bytes are read at once.
 const PIECE: usize = 65536;
@@ -37,7 +40,7 @@ pub(crate) fn lines(rt: &HostRuntime, name: &str) -> Result<BufReader<Origin>, F
 }
 
 /// A source of the bytes of a file.
-pub(crate) fn source(rt: &HostRuntime, name: &str) -> Result<BufferedSource<Origin>, Failure> {
+pub(crate) fn source(rt: &HostRuntime, name: &str) -> Result<BlockSource, Failure> {
     let origin = open(rt, name)?;
     Ok(BufferedSource::with_capacity(rt.alloc(), PIECE, origin)?)
 }
@@ -58,7 +61,7 @@ pub(crate) fn source_from(
     rt: &HostRuntime,
     name: &str,
     start: u64,
-) -> Result<BufferedSource<Origin>, Failure> {
+) -> Result<BlockSource, Failure> {
     let mut origin = open(rt, name)?;
     if start > 0 {
         if let Either::Left(file) = &mut origin {
@@ -108,6 +111,14 @@ pub(crate) fn version(given: &ArgMatches<'_>, name: &str) -> DocStoreVersion {
         "1" => DocStoreVersion::V1,
         "3" => DocStoreVersion::V3,
         _ => DocStoreVersion::V2,
+    }
+}
+
+/// The version that an option names to be written: 2 where it names none.
+pub(crate) fn written_version(given: &ArgMatches<'_>, name: &str) -> WriteVersion {
+    match text(given, name) {
+        "3" => WriteVersion::V3,
+        _ => WriteVersion::V2,
     }
 }
 

@@ -1,14 +1,16 @@
 //! Documents over several lines.
 
+use crate::files::OutputSink;
+use crate::inputs::BlockSource;
+use crate::progress::Progress;
 use serde_json::Value;
 use std::alloc::{AllocError, Global};
-use tantivy_schema::common::{ByteSink, ByteSource};
 use tantivy_schema::schema::{Document, Schema};
 use tantivy_schema::store::DocStoreVersion;
 use tv_base::write::write_all;
 use tv_command::documents::{DocumentReader, Wanted};
-use tv_command::export::ExportError;
 use tv_command::watch::Watch;
+use tv_command::work_error::WorkError;
 
 /// A text of JSON, over several lines. What isn't JSON stays as it is.
 pub(crate) fn pretty_text(alloc: Global, json: &str) -> Result<String, AllocError> {
@@ -19,25 +21,25 @@ pub(crate) fn pretty_text(alloc: Global, json: &str) -> Result<String, AllocErro
 }
 
 // Appends a document over several lines to the sink.
-fn write_pretty<K: ByteSink>(alloc: Global, json: &str, sink: &mut K) -> Result<(), ExportError> {
+fn write_pretty(alloc: Global, json: &str, sink: &mut OutputSink) -> Result<(), WorkError> {
     let mut text = pretty_text(alloc, json)?;
     text.push('\n')?;
     match write_all(sink, text.as_bytes()) {
         Ok(()) => Ok(()),
-        Err(error) => Err(ExportError::Write(error.0)),
+        Err(error) => Err(WorkError::Write(error.0)),
     }
 }
 
-/// Appends what is wanted of the documents of a block to a sink, as `export_block` does, but over several lines. `watch` is told the same.
-pub(crate) fn export_pretty<S: ByteSource, K: ByteSink, W: Watch>(
+/// Appends what is wanted of the documents of a block to a sink, as `export_block` does, but over several lines. `progress` is advanced after the same documents.
+pub(crate) fn export_pretty(
     alloc: Global,
     schema: &Schema,
     version: DocStoreVersion,
     wanted: Wanted,
-    source: &mut S,
-    sink: &mut K,
-    watch: &mut W,
-) -> Result<u64, ExportError> {
+    source: &mut BlockSource,
+    sink: &mut OutputSink,
+    progress: &mut Progress,
+) -> Result<u64, WorkError> {
     let mut reader = DocumentReader::new(alloc, version, wanted);
     for documents in 0..u64::MAX {
         match reader.advance(source) {
@@ -47,11 +49,11 @@ pub(crate) fn export_pretty<S: ByteSource, K: ByteSink, W: Watch>(
                     reader.document().to_json(alloc, schema)?.as_str(),
                     sink,
                 )?;
-                watch.advance(reader.bytes());
+                progress.advance(reader.bytes());
             }
             Ok(false) => return Ok(documents),
-            Err(error) => return Err(ExportError::Read(error)),
+            Err(error) => return Err(WorkError::Read(error)),
         }
     }
-    Err(ExportError::TooMany)
+    Err(WorkError::TooMany)
 }

@@ -108,7 +108,7 @@ impl Work {
 /// Shows on the standard error how far the work on some inputs has come: bytes, documents, rate, and the time that is left. It is one line, which
 /// is written over the last one. The first comes after half a second, and then at most five come in a second.
 ///
-/// It is told of each document or line as a `Watch`. It has to be ended before results are printed after the work, and the line is erased before
+/// It is advanced after each document or line as a `Watch`. It has to be ended before results are printed after the work, and the line is erased before
 /// anything else goes to the standard error.
 #[derive(Drop)]
 pub(crate) struct Progress {
@@ -215,7 +215,7 @@ impl Progress {
         self.begun.is_some()
     }
 
-    /// Begins the next input: the bytes that are told from here on are counted from its beginning. It may be called before the first input too.
+    /// Begins the next input: the bytes given to `advance` from here on are counted from its beginning. It may be called before the first input too.
     pub(crate) fn begin_input(&mut self) {
         self.work.before = self.work.bytes();
         self.work.taken = 0;

@@ -14,7 +14,7 @@ const PIECE: usize = 16384;
 // At most this many temporary files are open at once, of which one may be written.
 const MOST_FILES: usize = 64;
 
-// So many names are tried for a temporary file.
+// This many names are tried for a temporary file.
 const MOST_NAMES: u64 = 1 << 20;
 
 /// A run in a file that has no name in its folder any more: so it is gone with the command, however that ends.
@@ -27,10 +27,15 @@ struct Run {
 }
 
 /// Runs, of which none was merged more often than one before it.
-#[derive(Drop)]
 pub(crate) struct Runs {
     folder: String,
     runs: Vec<Run>,
+}
+
+impl Drop for Runs {
+    fn drop(self) {
+        let Runs { folder: _, runs: _ } = self;
+    }
 }
 
 impl Runs {
@@ -45,6 +50,12 @@ impl Runs {
     /// Whether there are none.
     pub(crate) fn is_empty(&self) -> bool {
         self.runs.is_empty()
+    }
+
+    // Adds a run that has been written, whose pairs have been through this many merges.
+    fn push(&mut self, alloc: Global, run: RunWriter, merges: u32) -> Result<(), Failure> {
+        self.runs.push(run.finish(alloc, merges)?)?;
+        Ok(())
     }
 }
 
@@ -105,10 +116,15 @@ fn create_run(rt: &HostRuntime, folder: &str) -> Result<RunWriter, Failure> {
 }
 
 /// Several runs, read as one.
-#[derive(Drop)]
 pub(crate) struct MergedRuns {
     merge: Merge<BufferedSource<File>>,
     names: Vec<String>,
+}
+
+impl Drop for MergedRuns {
+    fn drop(self) {
+        let MergedRuns { merge: _, names: _ } = self;
+    }
 }
 
 impl MergedRuns {
@@ -189,20 +205,36 @@ fn to_merge(runs: &[Run]) -> (usize, u32) {
     (number, merges)
 }
 
-// Merges some of the last runs into one.
-fn merge_last(rt: &HostRuntime, runs: &mut Runs) -> Result<(), Failure> {
-    let alloc = rt.alloc();
-    let (number, merges) = to_merge(runs.runs.as_slice());
-    let mut merged = merged(alloc, runs, number)?;
-    let mut writer = create_run(rt, runs.folder.as_str())?;
+// Writes the terms of runs.
+fn write_merged(
+    alloc: Global,
+    merged: &mut MergedRuns,
+    writer: &mut RunWriter,
+) -> Result<(), Failure> {
     for _ in 0..u64::MAX {
         if !merged.advance(alloc)? {
             break;
         }
         writer.write(alloc, merged.term(), merged.count())?;
     }
-    runs.runs
-        .push(writer.finish(alloc, merges.saturating_add(1))?)?;
+    Ok(())
+}
+
+// Merges some of the last runs into one.
+fn merge_last(rt: &HostRuntime, runs: &mut Runs) -> Result<(), Failure> {
+    let alloc = rt.alloc();
+    let (number, merges) = to_merge(runs.runs.as_slice());
+    let mut merged = merged(alloc, runs, number)?;
+    let mut writer = create_run(rt, runs.folder.as_str())?;
+    write_merged(alloc, &mut merged, &mut writer)?;
+    runs.push(alloc, writer, merges.saturating_add(1))
+}
+
+// Writes the terms of counts.
+fn write_counts(alloc: Global, counts: &TermCounts, writer: &mut RunWriter) -> Result<(), Failure> {
+    for (term, count) in counts.as_map().iter() {
+        writer.write(alloc, term.as_slice(), *count)?;
+    }
     Ok(())
 }
 
@@ -217,10 +249,7 @@ pub(crate) fn add_run(
         merge_last(rt, runs)?;
     }
     let mut writer = create_run(rt, runs.folder.as_str())?;
-    for (term, count) in counts.as_map().iter() {
-        writer.write(alloc, term.as_slice(), *count)?;
-    }
+    write_counts(alloc, counts, &mut writer)?;
     counts.clear();
-    runs.runs.push(writer.finish(alloc, 0)?)?;
-    Ok(())
+    runs.push(alloc, writer, 0)
 }

@@ -5,7 +5,8 @@ use crate::ending::{Ending, Failure, wrong_use};
 use crate::inputs::{schema_of, text};
 use crate::schema_words::entry_of;
 use clap::ArgMatches;
-use tantivy_schema::schema::{FieldEntry, Schema};
+use std::alloc::{AllocError, Global};
+use tantivy_schema::schema::{FieldEntry, Schema, SchemaBuilder};
 
 // What a field is: `stored`, `indexed` and `fast`, as far as it is so.
 fn options(entry: &FieldEntry) -> [&'static str; 3] {
@@ -16,39 +17,67 @@ fn options(entry: &FieldEntry) -> [&'static str; 3] {
     ]
 }
 
-// Prints a line for each field: its number, name, type and options.
+// The line of a field: its number, name, type and options.
+fn line(alloc: Global, number: u32, entry: &FieldEntry) -> Result<String, AllocError> {
+    let [stored, indexed, fast] = options(entry);
+    let (name, kind) = (entry.name(), entry.field_type().value_type());
+    format!(in alloc; "{number:>5}  {name:<24} {kind:?} {stored} {indexed} {fast}")
+}
+
+// Prints a line for each field.
 fn show(rt: &HostRuntime, schema: &Schema) -> Result<(), Failure> {
     for (field, entry) in schema.fields() {
-        let [stored, indexed, fast] = options(entry);
-        let (number, kind) = (field.field_id(), entry.field_type().value_type());
-        let line = format!(in rt.alloc();
-            "{number:>5}  {:<24} {kind:?} {stored} {indexed} {fast}",
-            entry.name()
+        print_line(
+            rt,
+            line(rt.alloc(), field.field_id(), entry)?
+                .as_str()
+                .trim_end(),
         )?;
-        print_line(rt, line.as_str().trim_end())?;
     }
     Ok(())
+}
+
+// Adds the field of a word to a schema.
+fn add_field(alloc: Global, builder: &mut SchemaBuilder, word: &str) -> Result<(), Failure> {
+    match builder.add_field(entry_of(alloc, word)?) {
+        Ok(_) => Ok(()),
+        Err(error) => Err(wrong_use(alloc, word, error)),
+    }
+}
+
+// The schema with the fields that are given.
+fn schema_with(alloc: Global, words: &[&str]) -> Result<Schema, Failure> {
+    let mut builder = Schema::builder(alloc);
+    for word in words {
+        add_field(alloc, &mut builder, word)?;
+    }
+    Ok(builder.build()?)
+}
+
+// The JSON of a schema.
+fn json_of(alloc: Global, schema: &Schema) -> Result<String, AllocError> {
+    schema.to_json_value(alloc)?.to_string(alloc)
 }
 
 // Prints the JSON of a schema with the fields that are given.
 fn create(rt: &HostRuntime, words: &[&str]) -> Result<(), Failure> {
     let alloc = rt.alloc();
-    let mut builder = Schema::builder(alloc);
-    for word in words {
-        if let Err(error) = builder.add_field(entry_of(alloc, word)?) {
-            return Err(wrong_use(alloc, word, error));
-        }
+    let schema = schema_with(alloc, words)?;
+    print_line(rt, json_of(alloc, &schema)?.as_str())
+}
+
+// Shows a schema, or makes one, as the words below `schema` say.
+fn answer(rt: &HostRuntime, name: &str, given: &ArgMatches<'_>) -> Result<(), Failure> {
+    if name == "new" {
+        return create(rt, given.get_strs("FIELD").unwrap_or(&[]));
     }
-    let json = builder.build()?.to_json_value(alloc)?;
-    print_line(rt, json.to_string(alloc)?.as_str())
+    show(rt, &schema_of(rt, text(given, "FILE"))?)
 }
 
 /// Shows a schema, or makes one.
 pub(crate) fn schema(rt: &HostRuntime, given: &ArgMatches<'_>) -> Result<Ending, Failure> {
-    match given.subcommand() {
-        Some(("new", given)) => create(rt, given.get_strs("FIELD").unwrap_or(&[]))?,
-        Some((_, given)) => show(rt, &schema_of(rt, text(given, "FILE"))?)?,
-        None => {}
+    if let Some((name, given)) = given.subcommand() {
+        answer(rt, name, given)?;
     }
     Ok(Ending::Done)
 }

@@ -6,11 +6,10 @@ use crate::ending::{Ending, Failure};
 use crate::inputs::schema_given;
 use crate::visits::{Visit, visit_block};
 use clap::ArgMatches;
-use std::alloc::Global;
+use std::alloc::{AllocError, Global};
 use tantivy_schema::schema::{Document, Schema, TantivyDocument};
 
 // What is counted of a block.
-#[derive(Drop)]
 struct Counts {
     alloc: Global,
     documents: u64,
@@ -20,6 +19,21 @@ struct Counts {
     most_values: u64,
     depth: u64,
     by_field: Vec<u64>,
+}
+
+impl Drop for Counts {
+    fn drop(self) {
+        let Counts {
+            alloc: _,
+            documents: _,
+            bytes: _,
+            largest: _,
+            values: _,
+            most_values: _,
+            depth: _,
+            by_field: _,
+        } = self;
+    }
 }
 
 // Counts the values of a document by their fields.
@@ -76,19 +90,24 @@ fn print_fields(rt: &HostRuntime, schema: &Schema, by_field: &[u64]) -> Result<(
     Ok(())
 }
 
-/// Counts the documents, bytes and values of a block.
-pub(crate) fn stat(rt: &HostRuntime, given: &ArgMatches<'_>) -> Result<Ending, Failure> {
-    let schema = schema_given(rt, given)?;
-    let mut counts = Counts {
-        alloc: rt.alloc(),
+// No counts yet, for a schema of this many fields.
+fn begin(alloc: Global, fields: usize) -> Result<Counts, AllocError> {
+    Ok(Counts {
+        alloc,
         documents: 0,
         bytes: 0,
         largest: 0,
         values: 0,
         most_values: 0,
         depth: 0,
-        by_field: vec![in rt.alloc(); 0; schema.num_fields()]?,
-    };
+        by_field: vec![in alloc; 0; fields]?,
+    })
+}
+
+/// Counts the documents, bytes and values of a block.
+pub(crate) fn stat(rt: &HostRuntime, given: &ArgMatches<'_>) -> Result<Ending, Failure> {
+    let schema = schema_given(rt, given)?;
+    let mut counts = begin(rt.alloc(), schema.num_fields())?;
     visit_block(rt, given, &mut counts)?;
     print_counts(rt, &counts)?;
     print_fields(rt, &schema, counts.by_field.as_slice())?;

@@ -9,12 +9,22 @@ use std::collections::BTreeMap;
 const BYTES_PER_TERM: u64 = 80;
 
 /// The terms of documents, with how many documents have each.
-#[derive(Drop)]
 pub(crate) struct TermCounts {
     alloc: Global,
     counts: BTreeMap<Vec<u8>, u64>,
     bytes: u64,
     most: u64,
+}
+
+impl Drop for TermCounts {
+    fn drop(self) {
+        let TermCounts {
+            alloc: _,
+            counts: _,
+            bytes: _,
+            most: _,
+        } = self;
+    }
 }
 
 impl TermCounts {

@@ -1,11 +1,10 @@
 //! Work on each document of a block.
 
 use crate::ending::{Failure, failed};
-use crate::inputs::{limits, source, text, version};
+use crate::inputs::{BlockSource, limits, source, text, version};
 use crate::progress::Progress;
 use clap::ArgMatches;
 use std::alloc::Global;
-use tantivy_schema::common::ByteSource;
 use tantivy_schema::schema::TantivyDocument;
 use tv_command::documents::{DocumentReader, Wanted};
 use tv_command::watch::Watch;
@@ -17,12 +16,12 @@ pub(crate) trait Visit {
 }
 
 // Shows the documents that a source has left to a visitor.
-fn visit_left<S: ByteSource, V: Visit, W: Watch>(
+fn visit_left<V: Visit>(
     alloc: Global,
     given: &ArgMatches<'_>,
-    source: &mut S,
+    source: &mut BlockSource,
     visitor: &mut V,
-    watch: &mut W,
+    progress: &mut Progress,
 ) -> Result<(), Failure> {
     let wanted = Wanted::All(limits(given));
     let mut reader = DocumentReader::new(alloc, version(given, "version"), wanted);
@@ -33,7 +32,7 @@ fn visit_left<S: ByteSource, V: Visit, W: Watch>(
             Err(error) => return Err(failed(alloc, text(given, "BLOCK"), error)),
         }
         visitor.visit(reader.document(), reader.bytes())?;
-        watch.advance(reader.bytes());
+        progress.advance(reader.bytes());
     }
     Ok(())
 }

@@ -29,9 +29,6 @@ pub decides_as : {most : ℕ} {A B C D : Type 0} {R : List ℕ → A → Type 0}
     → ((b : List ℕ) (x : A) → R b x → S b (to x)) → ((b : List ℕ) (c : C) → F b c → G b (tell c)) → Decides most R F → Decides most S G
 decides_as S G to tell encode refuse d = record { decides = λ bytes small le. decided_as to tell encode refuse bytes (d.decides bytes small le) }
 
-pub fewer : {most less : ℕ} {A C : Type 0} {R : List ℕ → A → Type 0} {F : List ℕ → C → Type 0} → less ≤ most → Decides most R F → Decides less R F
-fewer le d = record { decides = λ bytes small h. d.decides bytes small (omega arith) }
-
 -- after a code
 pub behind_code : {most : ℕ} {A B C D : Type 0} {R : List ℕ → A → Type 0} {F : List ℕ → C → Type 0} (S : List ℕ → B → Type 0) (G : List ℕ → D → Type 0) (to : A → B) (tell : C → D) (code : ℕ)
     → ((b : List ℕ) (x : A) → R b x → S (code ∷ b) (to x)) → ((b : List ℕ) (c : C) → F b c → G (code ∷ b) (tell c))

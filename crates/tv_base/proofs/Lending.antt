@@ -19,10 +19,6 @@ prefix_lent : (old new lent : List ℕ) (n : ℕ) → IsPrefix lent old → n �
 prefix_lent old new lent n lend within p =
     sym (take_at p.0 new n p.2) ∙ ap (take n) (sym p.1 ∙ lend.1) ∙ take-append-le n lent lend.0 within
 
-pub filled : (old new lent buf : List ℕ) (n : ℕ) (taken : Bool) → IsPrefix lent old → n ≤ length lent → buf ≡ take n lent → Passes old new n taken → TakesContent old new buf taken
-filled old new lent buf n true lend within is p = p.1 ∙ ap (λ (l : List ℕ). l ++ new) (prefix_lent old new lent n lend within p ∙ sym is)
-filled old new lent buf n false lend within is p = p
-
 -- a buffer that is full is what reading gives
 pub full : (old new buf : List ℕ) (n : ℕ) (taken : List ℕ) → n ≡ length buf → TakesContent old new buf true → old ≡ taken ++ new → (behind : List ℕ) → bytes_at n (taken ++ behind) ≡ Ok (buf, behind)
 full old new buf n taken len e joined behind =

@@ -29,9 +29,6 @@ pub printed-is : (encoded : List ℕ) → printed encoded ≡ 47 ∷ flat_map pr
 printed-is [] = refl
 printed-is (b ∷ bs) = printed_case (eqb b 0) b (path bs) (flat_map printed_or_slash bs) (printed-is bs)
 
-decoded_zero : (b : ℕ) (slash other : Bool) (rest : List ℕ) → b ≡ 0 → rewritten_from decoded_byte true (47 ∷ rest) ≡ b ∷ rewritten_from decoded_byte true rest
-decoded_zero b slash other rest e = rw e refl
-
 decoded_plain : (b : ℕ) (rest : List ℕ) → eqb b 47 ≡ false → eqb b 92 ≡ false → rewritten_from decoded_byte true (b ∷ rest) ≡ b ∷ rewritten_from decoded_byte true rest
 decoded_plain b rest e f = rw (f, e) refl
 

@@ -73,9 +73,6 @@ said_for (values.InvalidBase64 text) why is = ap (λ w. Some (refused_for w)) (s
 said_for (values.FloatNumber json) why is = ap (λ w. Some (refused_for w)) (same_Some _ _ is)
 said_for values.Memory why is = absurd cc
 
-pub no_text : (schema : List Entry) (line : List ℕ) → ¬ IsUtf8 line → IsUnparsed schema line (blocks.BadLine lines.InvalidJson)
-no_text schema line none = no_object (λ members h. none h.0) refl
-
 error_unparsed : (schema : List Entry) (line : List ℕ) (e : DocParsingError) → IsUtf8 line → Parses schema line (Err e) → IsUnparsed schema line (line_error schema e)
 error_unparsed schema line (errors.InvalidJson start fault) utf8 h = no_object (λ members is. h.0 members is.1) refl
 error_unparsed schema line (errors.ValueError name e) utf8 h =
@@ -98,6 +95,3 @@ pub unparsed : (schema : List Entry) (line : List ℕ) (e : DocParsingError) (sa
 unparsed schema line e said utf8 h is = subst (IsUnparsed schema line) (sym is) (error_unparsed schema line e utf8 h)
 
 -- ---- lines of which there is a document
-
-pub parsed : (schema : List Entry) (line : List ℕ) (made : CompactDoc) → IsUtf8 line → Parses schema line (Ok made) → IsLineDocument schema line (document_of made)
-parsed schema line made utf8 h = record { members = h.0; json = (utf8, h.1); made = h.2.0 }

@@ -76,9 +76,6 @@ state_least base (in_bytes ls kind n bs) h = omega (arith, lists_least base ls, 
 below : (new most : ℕ) → (most < 4294967296 → new ≤ most) → new ≤ 4294967295 → new ≤ most
 below new most f h = elim (cases_lt most 4294967296) [ inl p ↦ f p | inr p ↦ omega (arith, h, p) ]
 
-pub tree_within : (heap : List ℕ) (t : Tree) → length (tree_heap heap t) ≤ 4294967295 → length (tree_heap heap t) ≤ length heap + tree_weight t
-tree_within heap t h = below _ _ (tree_least heap t) h
-
 pub state_within : (base : List ℕ) (s : State) → length (state_heap base s) ≤ 4294967295 → length (state_heap base s) ≤ length base + written s
 state_within base s h = below _ _ (state_least base s) h
 

@@ -4,16 +4,13 @@ use Rattle.tv_base.specs.Parts.{Begins}
 use Rattle.tv_base.specs.Source.{Failures}
 use Rattle.tv_base.specs.Stop.{CountsStop}
 use Rattle.tv_command.proofs.Checks.{ReadSoFar, read_more, read_none, whole_before}
-use Rattle.tv_command.specs.Exporting.{AppendsBegun, IsOfWriting}
-use Rattle.tv_command.specs.Exporting.{sink_stop as export_sink_stop}
-use Rattle.tv_command.specs.Finding.{Finds, FindsAll, FindsEach, IsOfDocument, IsUnwritten, LeavesDocument, LeavesNext, RefusesTerms, StopsFinding, another, none, one_more, sink_stop, source_stop}
+use Rattle.tv_command.specs.Finding.{Finds, FindsAll, FindsEach, LeavesDocument, LeavesNext, StopsFinding, another, none, one_more}
+use Rattle.tv_command.specs.WorkErrors.{IsOfDocument, sink_stop, source_stop}
 use Rattle.tv_command.specs.Reading.{EncodesBlockWithin, EncodesWithin, ReadsOne, kept}
 use Rattle.tv_command.specs.declared.documents.Wanted.{Wanted}
 use Rattle.tv_command.specs.declared.documents.Wanted.TheVariants.{All}
-use Rattle.tv_command.specs.declared.export.ExportError.{ExportError}
-use Rattle.tv_command.specs.declared.export.ExportError.TheVariants as exports
-use Rattle.tv_command.specs.declared.find.FindError.{FindError}
-use Rattle.tv_command.specs.declared.find.FindError.TheVariants as errors
+use Rattle.tv_command.specs.declared.work_error.WorkError.{WorkError}
+use Rattle.tv_command.specs.declared.work_error.WorkError.TheVariants as errors
 use Rattle.tv_command.specs.declared.find.Found.{Found}
 use Rattle.tv_field.specs.Entry.{Entry}
 use Rattle.tv_format.specs.Tree.{Document}
@@ -25,7 +22,7 @@ use Rattle.tv_store.specs.Documents.{BeginsWithDocument}
 use Rattle.tv_store.specs.declared.limits.ReadLimits.{ReadLimits}
 
 -- what is left of a document is left of the one that comes next
-pub leaves_next : (schema : List Entry) (v : Version) (limits : ReadLimits) (tree : Tree) (bytes left rest : List ℕ) (number start : ℕ) (old new : List ℕ) (d : Document) (e : FindError) → BeginsWithDocument v bytes rest d → LeavesDocument schema tree d old new e
+pub leaves_next : (schema : List Entry) (v : Version) (limits : ReadLimits) (tree : Tree) (bytes left rest : List ℕ) (number start : ℕ) (old new : List ℕ) (d : Document) (e : WorkError) → BeginsWithDocument v bytes rest d → LeavesDocument schema tree d old new e
     → LeavesNext schema v limits tree bytes left number start old new e
 leaves_next schema v limits tree bytes left rest number start old new d (errors.Terms why) begins leaves = (d, rest, begins, leaves)
 leaves_next schema v limits tree bytes left rest number start old new d (errors.Write kind) begins leaves = (d, rest, begins, leaves)
@@ -57,7 +54,7 @@ module _ {schema : List Entry} {v : Version} {limits : ReadLimits} {tree : Tree}
       found_more one.0 matches count one.1 fewer placed (subst (λ (d : Document). Finds schema tree d now after matches) one.2 finds) is
 
   -- it was read, and not gone over to the end
-  pub found_left : {left : List ℕ} (after : List ℕ) {same_v : Version} {same_wanted : Wanted} (shown : Document) (e : FindError) → same_v ≡ v → same_wanted ≡ All limits → ReadsOne same_v same_wanted (λ d. shown ≡ kept same_wanted d) rest left (Ok true)
+  pub found_left : {left : List ℕ} (after : List ℕ) {same_v : Version} {same_wanted : Wanted} (shown : Document) (e : WorkError) → same_v ≡ v → same_wanted ≡ All limits → ReadsOne same_v same_wanted (λ d. shown ≡ kept same_wanted d) rest left (Ok true)
       → LeavesDocument schema tree shown now after e → LeavesNext schema v limits tree rest left (length m.read.documents) (length m.read.before) now after e
   found_left {left} after {same_v} {same_wanted} shown e version same read leaves =
       let one = subst (λ (w : Wanted). ReadsOne v w (λ d. shown ≡ kept w d) rest left (Ok true)) same (subst (λ (u : Version). ReadsOne u same_wanted (λ d. shown ≡ kept same_wanted d) rest left (Ok true)) version read) in
@@ -72,70 +69,23 @@ module _ {schema : List Entry} {v : Version} {limits : ReadLimits} {tree : Tree}
     documents_are ∙ m.read.counted,
   )
 
-  pub found_stops : {left after : List ℕ} (e : FindError) → LeavesNext schema v limits tree rest left (length m.read.documents) (length m.read.before) now after e → StopsFinding schema v limits tree block left old after e
+  pub found_stops : {left after : List ℕ} (e : WorkError) → LeavesNext schema v limits tree rest left (length m.read.documents) (length m.read.before) now after e → StopsFinding schema v limits tree block left old after e
   found_stops e next = record { before = m.read.before; after = rest; joined = m.read.joined; documents = m.read.documents; encoded = m.read.encoded; middle = now; number = found; found = m.each; next = next }
 
 -- ---- failures
 
 -- what was before the step is what was at the beginning
-pub counts_found : (e : FindError) {begun old : Failures} (new : Failures) → old ≡ begun → CountsStop (sink_stop e) old new → CountsStop (sink_stop e) begun new
+pub counts_found : (e : WorkError) {begun old : Failures} (new : Failures) → old ≡ begun → CountsStop (sink_stop e) old new → CountsStop (sink_stop e) begun new
 counts_found e new same counts = subst (λ (f : Failures). CountsStop (sink_stop e) f new) same counts
 
-pub not_of_source : (e : FindError) {begun now : Failures} → IsOfDocument e → now ≡ begun → CountsStop (source_stop e) begun now
+pub not_of_source : (e : WorkError) {begun now : Failures} → IsOfDocument e → now ≡ begun → CountsStop (source_stop e) begun now
 not_of_source (errors.Terms why) is same = same
 not_of_source (errors.Write kind) is same = same
 not_of_source errors.Memory is same = same
 not_of_source (errors.Read e) is same = absurd is
 not_of_source errors.TooMany is same = absurd is
 
--- a line that wasn't written, and a document without terms
-pub counts_unwritten : (error : ExportError) (e : FindError) (old new : Failures) → IsOfWriting error → IsUnwritten error e → CountsStop (export_sink_stop error) old new → CountsStop (sink_stop e) old new
-counts_unwritten (exports.Write kind) e old new is told counts = subst (λ (x : FindError). CountsStop (sink_stop x) old new) (sym told) counts
-counts_unwritten exports.Memory e old new is told counts = subst (λ (x : FindError). CountsStop (sink_stop x) old new) (sym told) counts
-counts_unwritten (exports.Read x) e old new is told counts = absurd is
-counts_unwritten exports.TooMany e old new is told counts = absurd is
-
-pub of_unwritten : (error : ExportError) (e : FindError) → IsOfWriting error → IsUnwritten error e → IsOfDocument e
-of_unwritten (exports.Write kind) e is told = subst IsOfDocument (sym told) tt
-of_unwritten exports.Memory e is told = subst IsOfDocument (sym told) tt
-of_unwritten (exports.Read x) e is told = absurd is
-of_unwritten exports.TooMany e is told = absurd is
-
-pub counts_unmade : (answer : Terms) (e : FindError) (failures : Failures) → RefusesTerms answer e → CountsStop (sink_stop e) failures failures
-counts_unmade answer (errors.Terms why) failures is = refl
-counts_unmade answer errors.Memory failures is = refl
-counts_unmade answer (errors.Write kind) failures is = absurd is
-counts_unmade answer (errors.Read e) failures is = absurd is
-counts_unmade answer errors.TooMany failures is = absurd is
-
-pub of_unmade : (answer : Terms) (e : FindError) → RefusesTerms answer e → IsOfDocument e
-of_unmade answer (errors.Terms why) is = tt
-of_unmade answer errors.Memory is = tt
-of_unmade answer (errors.Write kind) is = absurd is
-of_unmade answer (errors.Read e) is = absurd is
-of_unmade answer errors.TooMany is = absurd is
-
 -- ---- one document
-
-pub appended_to_none : (answer : Terms) (old new : List (List ℕ)) → AreAppended old new answer → old ≡ [] → answer ≡ Ok new
-appended_to_none (Ok made) old new is empty = ap Ok (sym (is ∙ ap (λ (l : List (List ℕ)). l ++ made) empty))
-appended_to_none (Err e) old new is empty = absurd is
-
--- a document whose terms weren't taken
-pub leaves_terms : (schema : List Entry) (tree : Tree) (d : Document) (old new : List ℕ) (e : FindError) → RefusesTerms (document_terms schema d) e → new ≡ old → LeavesDocument schema tree d old new e
-leaves_terms schema tree d old new (errors.Terms why) is same = (is, same)
-leaves_terms schema tree d old new errors.Memory is same = inl same
-leaves_terms schema tree d old new (errors.Write kind) is same = absurd is
-leaves_terms schema tree d old new (errors.Read e) is same = absurd is
-leaves_terms schema tree d old new errors.TooMany is same = absurd is
-
--- a document whose line wasn't written
-pub leaves_line : (schema : List Entry) (tree : Tree) (d : Document) (old new : List ℕ) (terms : List (List ℕ)) (error : ExportError) (e : FindError) → IsOfWriting error → IsUnwritten error e → document_terms schema d ≡ Ok terms → Matches terms tree
-    → AppendsBegun schema d old new → LeavesDocument schema tree d old new e
-leaves_line schema tree d old new terms (exports.Write kind) e is told made matches begun = subst (LeavesDocument schema tree d old new) (sym told) (terms, made, matches, begun)
-leaves_line schema tree d old new terms exports.Memory e is told made matches begun = subst (LeavesDocument schema tree d old new) (sym told) begun
-leaves_line schema tree d old new terms (exports.Read x) e is told made matches begun = absurd is
-leaves_line schema tree d old new terms exports.TooMany e is told made matches begun = absurd is
 
 pub few_found : (found number count : ℕ) (matches : Bool) → found ≤ number → count ≡ (if matches then found + 1 else found) → count ≤ number + 1
 few_found found number count true few is = omega (arith, few, is)

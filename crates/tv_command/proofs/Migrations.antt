@@ -14,13 +14,14 @@ use Rattle.tv_builder.specs.Parts.{Part, number}
 use Rattle.tv_builder.specs.Prefix.{Encoded}
 use Rattle.tv_command.proofs.Checks.{is_refused}
 use Rattle.tv_command.proofs.NextDocuments.{reason_of}
-use Rattle.tv_command.specs.Migrating.{BreaksOff, IsUnmigrated, Stops, sink_stop, source_stop}
+use Rattle.tv_command.specs.Migrating.{BreaksOff, IsUnmigrated, Stops}
+use Rattle.tv_command.specs.WorkErrors.{sink_stop, source_stop}
 use Rattle.tv_command.specs.Reading.{IsReason, no_limits}
 use Rattle.tv_command.specs.Refusals.{IsRefused}
 use Rattle.tv_command.specs.declared.documents.BlockError.{BlockError}
 use Rattle.tv_command.specs.declared.documents.Wanted.TheVariants.{All}
-use Rattle.tv_command.specs.declared.migrate.MigrationError.{MigrationError}
-use Rattle.tv_command.specs.declared.migrate.MigrationError.TheVariants as stops
+use Rattle.tv_command.specs.declared.work_error.WorkError.{WorkError}
+use Rattle.tv_command.specs.declared.work_error.WorkError.TheVariants as stops
 use Rattle.tv_doc.specs.Document.{document_of}
 use Rattle.tv_doc.specs.declared.document.CompactDoc.{CompactDoc}
 use Rattle.tv_format.specs.InputError.{Refusal, corrupt, corrupted}
@@ -193,7 +194,7 @@ module _ {K : Type 0} {from to : Version} {block rest : List ℕ} {number : ℕ}
       }
 
   -- it couldn't be written
-  breaks_unwritten : (error : MigrationError) (text : List ℕ) → (sink.is_known now → AppendsPrefix (sink.held now) (sink.held after) text) → ((documents size : ℕ) → IsUnmigrated from to rest left documents size text error) → BreaksOff from to block left sink begun after error
+  breaks_unwritten : (error : WorkError) (text : List ℕ) → (sink.is_known now → AppendsPrefix (sink.held now) (sink.held after) text) → ((documents size : ℕ) → IsUnmigrated from to rest left documents size text error) → BreaksOff from to block left sink begun after error
   breaks_unwritten error text begins unmigrated = record {
     before = m.before;
     behind = rest;
@@ -207,7 +208,7 @@ module _ {K : Type 0} {from to : Version} {block rest : List ℕ} {number : ℕ}
 
 module _ {S K : Type 0} {from to : Version} {source : Source S} {old new : S} {sink : Sink K} {now after : K} (number start place : ℕ) where
   -- nothing is left, and all was carried over
-  pub ends_ok : {block : List ℕ} {begun : K} (error : MigrateError) (result : Result ℕ MigrationError) → Stops error number start place result → Migrates from to source old new sink now after (Err error) → MigratedSoFar from to block (source.left old) number sink begun now → source.is_known old
+  pub ends_ok : {block : List ℕ} {begun : K} (error : MigrateError) (result : Result ℕ WorkError) → Stops error number start place result → Migrates from to source old new sink now after (Err error) → MigratedSoFar from to block (source.left old) number sink begun now → source.is_known old
       → start + length (source.left old) ≡ length block → place + length (source.left new) ≡ length block → IfOk result (MigratesAll from to block sink begun after)
   ends_ok (Read e) (Err f) s g m known begins placed = tt
   ends_ok {block} {begun} (Read e) (Ok n) s g m known begins placed =
@@ -219,7 +220,7 @@ module _ {S K : Type 0} {from to : Version} {source : Source S} {old new : S} {s
   ends_ok (Write _) (Ok n) s g m known begins placed = absurd (cc)
   ends_ok (Write _) (Err f) s g m known begins placed = tt
 
-  pub ends_all : (error : MigrateError) (result : Result ℕ MigrationError) → Stops error number start place result → Migrates from to source old new sink now after (Err error) → source.is_known old
+  pub ends_all : (error : MigrateError) (result : Result ℕ WorkError) → Stops error number start place result → Migrates from to source old new sink now after (Err error) → source.is_known old
       → start + length (source.left old) ≡ place + length (source.left new) → OnOk result (source.left new ≡ [])
   ends_all (Read e) (Err f) s g known sum = tt
   ends_all (Read e) (Ok n) s g known sum = (none_left (unread g e refl) known s.0 (omega (arith, s.1, sum))).1
@@ -228,7 +229,7 @@ module _ {S K : Type 0} {from to : Version} {source : Source S} {old new : S} {s
   ends_all (Write _) (Ok n) s g known sum = absurd (cc)
   ends_all (Write _) (Err f) s g known sum = tt
 
-  pub ends_err : {block : List ℕ} {begun : K} (error : MigrateError) (result : Result ℕ MigrationError) → Stops error number start place result → Migrates from to source old new sink now after (Err error) → MigratedSoFar from to block (source.left old) number sink begun now → source.is_known old
+  pub ends_err : {block : List ℕ} {begun : K} (error : MigrateError) (result : Result ℕ WorkError) → Stops error number start place result → Migrates from to source old new sink now after (Err error) → MigratedSoFar from to block (source.left old) number sink begun now → source.is_known old
       → start + length (source.left old) ≡ length block → place + length (source.left new) ≡ length block → IfErr result (BreaksOff from to block (source.left new) sink begun after)
   ends_err (Read e) (Ok n) s g m known begins placed = tt
   ends_err {block} {begun} (Read e) (Err (stops.Read told)) s g m known begins placed =
@@ -238,16 +239,16 @@ module _ {S K : Type 0} {from to : Version} {source : Source S} {old new : S} {s
   ends_err (Read e) (Err _) s g m known begins placed = absurd s
   ends_err {block} {begun} (Write (writes.Io kind)) result s g m known begins placed =
       let u = unwritten g (writes.Io kind) refl in
-      subst (λ (r : Result ℕ MigrationError). IfErr r (BreaksOff from to block (source.left new) sink begun after)) (sym s) (breaks_unwritten m (source.left new) (stops.Write kind) u.text u.held (λ documents size. (source.left new, u.transcribed known)))
+      subst (λ (r : Result ℕ WorkError). IfErr r (BreaksOff from to block (source.left new) sink begun after)) (sym s) (breaks_unwritten m (source.left new) (stops.Write kind) u.text u.held (λ documents size. (source.left new, u.transcribed known)))
   ends_err {block} {begun} (Write writes.Memory) result s g m known begins placed =
       let u = unwritten g writes.Memory refl in
-      subst (λ (r : Result ℕ MigrationError). IfErr r (BreaksOff from to block (source.left new) sink begun after)) (sym s) (breaks_unwritten m (source.left new) stops.Memory u.text u.held (λ documents size. (source.left new, u.transcribed known)))
+      subst (λ (r : Result ℕ WorkError). IfErr r (BreaksOff from to block (source.left new) sink begun after)) (sym s) (breaks_unwritten m (source.left new) stops.Memory u.text u.held (λ documents size. (source.left new, u.transcribed known)))
   ends_err (Write _) result s g m known begins placed = absurd ((unwritten g _ refl).may)
 
   -- ---- failures
 
   -- what was before the step is what was at the beginning
-  pub ends_source : {first : Failures} (error : MigrateError) (result : Result ℕ MigrationError) → Stops error number start place result → Migrates from to source old new sink now after (Err error) → source.failures old ≡ first → Counts source_stop result first (source.failures new)
+  pub ends_source : {first : Failures} (error : MigrateError) (result : Result ℕ WorkError) → Stops error number start place result → Migrates from to source old new sink now after (Err error) → source.failures old ≡ first → Counts source_stop result first (source.failures new)
   ends_source (Read e) (Ok n) s g same =
       subst (λ (z : DeserializeError). CountsStop (store_stop z) (source.failures old) (source.failures new)) s.0 (unread g e refl).reads.failures ∙ same
   ends_source {first} (Read e) (Err (stops.Read told)) s g same =
@@ -255,17 +256,17 @@ module _ {S K : Type 0} {from to : Version} {source : Source S} {old new : S} {s
       (subst (λ (f : Failures). CountsStop (store_stop e) f (source.failures new)) same (unread g e refl).reads.failures)
   ends_source (Read e) (Err _) s g same = absurd s
   ends_source {first} (Write (writes.Io kind)) result s g same =
-      subst (λ (r : Result ℕ MigrationError). Counts source_stop r first (source.failures new)) (sym s) ((unwritten g (writes.Io kind) refl).read_well ∙ same)
+      subst (λ (r : Result ℕ WorkError). Counts source_stop r first (source.failures new)) (sym s) ((unwritten g (writes.Io kind) refl).read_well ∙ same)
   ends_source {first} (Write _) result s g same =
-      subst (λ (r : Result ℕ MigrationError). Counts source_stop r first (source.failures new)) (sym s) ((unwritten g _ refl).read_well ∙ same)
+      subst (λ (r : Result ℕ WorkError). Counts source_stop r first (source.failures new)) (sym s) ((unwritten g _ refl).read_well ∙ same)
 
-  pub ends_sink : {first : Failures} (error : MigrateError) (result : Result ℕ MigrationError) → Stops error number start place result → Migrates from to source old new sink now after (Err error) → sink.failures now ≡ first → Counts sink_stop result first (sink.failures after)
+  pub ends_sink : {first : Failures} (error : MigrateError) (result : Result ℕ WorkError) → Stops error number start place result → Migrates from to source old new sink now after (Err error) → sink.failures now ≡ first → Counts sink_stop result first (sink.failures after)
   ends_sink (Read e) (Ok n) s g same = ap sink.failures (unread g e refl).same ∙ same
   ends_sink (Read e) (Err (stops.Read told)) s g same = ap sink.failures (unread g e refl).same ∙ same
   ends_sink (Read e) (Err _) s g same = absurd s
   ends_sink {first} (Write (writes.Io kind)) result s g same =
-      subst (λ (r : Result ℕ MigrationError). Counts sink_stop r first (sink.failures after)) (sym s)
+      subst (λ (r : Result ℕ WorkError). Counts sink_stop r first (sink.failures after)) (sym s)
       (subst (λ (f : Failures). CountsStop (write_stop (writes.Io kind)) f (sink.failures after)) same (unwritten g (writes.Io kind) refl).counts)
   ends_sink {first} (Write writes.Memory) result s g same =
-      subst (λ (r : Result ℕ MigrationError). Counts sink_stop r first (sink.failures after)) (sym s) ((unwritten g writes.Memory refl).counts ∙ same)
+      subst (λ (r : Result ℕ WorkError). Counts sink_stop r first (sink.failures after)) (sym s) ((unwritten g writes.Memory refl).counts ∙ same)
   ends_sink (Write _) result s g same = absurd ((unwritten g _ refl).may)

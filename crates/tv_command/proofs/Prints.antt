@@ -6,11 +6,12 @@ use Rattle.tv_base.specs.Stop.{CountsStop}
 use Rattle.tv_blocks.specs.Blocks.{AppendsLine, ArePrintedLines}
 use Rattle.tv_blocks.specs.Blocks.ArePrintedLines.{no_lines, next_line}
 use Rattle.tv_command.proofs.Checks.{ReadSoFar, read_more, read_none, whole_before}
-use Rattle.tv_command.specs.Exporting.{AppendsBegun, BreaksOff, ExportsAll, IsOfWriting, LeavesNext, sink_stop, source_stop}
+use Rattle.tv_command.specs.Exporting.{AppendsBegun, BreaksOff, ExportsAll, LeavesNext}
+use Rattle.tv_command.specs.WorkErrors.{IsOfWriting, sink_stop, source_stop}
 use Rattle.tv_command.specs.Reading.{EncodesBlockWithin, EncodesWithin, ReadsOne, kept, limits_of}
 use Rattle.tv_command.specs.declared.documents.Wanted.{Wanted}
-use Rattle.tv_command.specs.declared.export.ExportError.TheVariants as errors
-use Rattle.tv_command.specs.declared.export.ExportError.{ExportError}
+use Rattle.tv_command.specs.declared.work_error.WorkError.{WorkError}
+use Rattle.tv_command.specs.declared.work_error.WorkError.TheVariants as errors
 use Rattle.tv_field.specs.Entry.{Entry}
 use Rattle.tv_format.specs.Tree.{Document}
 use Rattle.tv_format.specs.Version.{Version}
@@ -28,12 +29,13 @@ map-snoc f [] x = refl
 map-snoc {B = B} f (y ∷ ys) x = ap (λ (l : List B). f y ∷ l) (map-snoc f ys x)
 
 -- what a write leaves of the next document
-pub leaves_line : (entries : List Entry) (v : Version) (wanted : Wanted) (bytes left rest : List ℕ) (number start : ℕ) (old new : List ℕ) (d : Document) (e : ExportError) → IsOfWriting e → BeginsWithDocument v bytes rest d
+pub leaves_line : (entries : List Entry) (v : Version) (wanted : Wanted) (bytes left rest : List ℕ) (number start : ℕ) (old new : List ℕ) (d : Document) (e : WorkError) → IsOfWriting e → BeginsWithDocument v bytes rest d
     → AppendsBegun entries (kept wanted d) old new → LeavesNext entries v wanted bytes left number start old new e
 leaves_line entries v wanted bytes left rest number start old new d (errors.Write kind) is begins leaves = (d, rest, begins, leaves)
 leaves_line entries v wanted bytes left rest number start old new d errors.Memory is begins leaves = (d, rest, begins, leaves)
 leaves_line entries v wanted bytes left rest number start old new d (errors.Read e) is begins leaves = absurd is
 leaves_line entries v wanted bytes left rest number start old new d errors.TooMany is begins leaves = absurd is
+leaves_line entries v wanted bytes left rest number start old new d (errors.Terms why) is begins leaves = absurd is
 
 -- the documents before the rest, of this number, and their lines
 pub record PrintedSoFar (entries : List Entry) (v : Version) (wanted : Wanted) (block rest old now : List ℕ) (number start : ℕ) : Type 0 where
@@ -65,7 +67,7 @@ module _ {entries : List Entry} {v : Version} {wanted : Wanted} {block rest old 
       printed_more one.0 one.1 fewer placed (subst (λ (d : Document). AppendsLine entries d now after) one.2 line)
 
   -- it was read, and its line wasn't appended, or not whole
-  pub printed_begun : {left after : List ℕ} {same_v : Version} {same_wanted : Wanted} (shown : Document) (e : ExportError) → same_v ≡ v → same_wanted ≡ wanted → ReadsOne same_v same_wanted (λ d. shown ≡ kept same_wanted d) rest left (Ok true) → IsOfWriting e
+  pub printed_begun : {left after : List ℕ} {same_v : Version} {same_wanted : Wanted} (shown : Document) (e : WorkError) → same_v ≡ v → same_wanted ≡ wanted → ReadsOne same_v same_wanted (λ d. shown ≡ kept same_wanted d) rest left (Ok true) → IsOfWriting e
       → AppendsBegun entries shown now after → LeavesNext entries v wanted rest left (length m.read.documents) (length m.read.before) now after e
   printed_begun {left} {after} {same_v} {same_wanted} shown e version same read is line =
       let one = subst (λ (w : Wanted). ReadsOne v w (λ d. shown ≡ kept w d) rest left (Ok true)) same (subst (λ (u : Version). ReadsOne u same_wanted (λ d. shown ≡ kept same_wanted d) rest left (Ok true)) version read) in
@@ -84,7 +86,7 @@ module _ {entries : List Entry} {v : Version} {wanted : Wanted} {block rest old 
     m.read.counted,
   )
 
-  pub printed_stops : {left after : List ℕ} (e : ExportError) → LeavesNext entries v wanted rest left (length m.read.documents) (length m.read.before) now after e → BreaksOff entries v wanted block left old after e
+  pub printed_stops : {left after : List ℕ} (e : WorkError) → LeavesNext entries v wanted rest left (length m.read.documents) (length m.read.before) now after e → BreaksOff entries v wanted block left old after e
   printed_stops e next = record {
     before = m.read.before;
     behind = rest;
@@ -98,12 +100,13 @@ module _ {entries : List Entry} {v : Version} {wanted : Wanted} {block rest old 
 -- ---- failures
 
 -- what was before the step is what was at the beginning
-pub counts_sink : (e : ExportError) {begun old : Failures} (new : Failures) → old ≡ begun → CountsStop (sink_stop e) old new → CountsStop (sink_stop e) begun new
+pub counts_sink : (e : WorkError) {begun old : Failures} (new : Failures) → old ≡ begun → CountsStop (sink_stop e) old new → CountsStop (sink_stop e) begun new
 counts_sink e new same counts = subst (λ (f : Failures). CountsStop (sink_stop e) f new) same counts
 
 -- an error of writing says nothing of the source
-pub not_source : (e : ExportError) {begun now : Failures} → IsOfWriting e → now ≡ begun → CountsStop (source_stop e) begun now
+pub not_source : (e : WorkError) {begun now : Failures} → IsOfWriting e → now ≡ begun → CountsStop (source_stop e) begun now
 not_source (errors.Write kind) is same = same
 not_source errors.Memory is same = same
 not_source (errors.Read e) is same = absurd is
 not_source errors.TooMany is same = absurd is
+not_source (errors.Terms why) is same = absurd is

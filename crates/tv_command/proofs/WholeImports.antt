@@ -47,9 +47,6 @@ as_many schema rules [] [] (_ ∷ _) h = elim h [ ]
 as_many schema rules [] (_ ∷ _) outcomes h = elim h [ ]
 as_many schema rules (line ∷ lines) block outcomes (next_outcome {block = others} {outcomes = rest} text is more) = omega (arith, as_many schema rules lines others rest more)
 
-report_of : ℕ → LineOutcome → LineReport
-report_of n said = record { line = n; outcome = said }
-
 numbered-snoc : (first : ℕ) (outcomes : List LineOutcome) (said : LineOutcome) (line : LineReport) → line.line ≡ first + length outcomes → line.outcome ≡ said → numbered first (outcomes ++ said ∷ []) ≡ numbered first outcomes ++ line ∷ []
 numbered-snoc first [] said line is same =
     let at : first ≡ line.line = omega (arith, is) in
@@ -190,7 +187,3 @@ module _ {schema : List Entry} {rules : ImportRules} {input : List ℕ} {left : 
   }
 
 -- ---- failures
-
--- what was before the step is what was at the beginning
-pub counts_lines : (e : ImportError) {begun old : Failures} (new : Failures) → old ≡ begun → CountsStop (import_stop e) old new → CountsStop (import_stop e) begun new
-counts_lines e new same counts = subst (λ (f : Failures). CountsStop (import_stop e) f new) same counts

@@ -1,16 +1,13 @@
 -- A block of documents, printed as lines of JSON.
 use Rattle.std.specs.Prelude.{◌≡◌, ◌⊎◌, ◌-◌, ◌^◌, ℕ, List, [], ◌++◌, length, map}
 use Rattle.tv_base.specs.Sink.{AppendsPrefix}
-use Rattle.tv_base.specs.Stop.{Stop}
-use Rattle.tv_base.specs.Stop.Stop.{Failed, Short}
 use Rattle.tv_blocks.specs.Blocks.{AppendsLine, ArePrintedLines}
 use Rattle.tv_command.specs.Checking.{IsRefusedAt}
-use Rattle.tv_command.specs.Reading.{EncodesBlockWithin, block_stop, kept, limits_of}
+use Rattle.tv_command.specs.Reading.{EncodesBlockWithin, kept, limits_of}
 use Rattle.tv_command.specs.declared.documents.Wanted.{Wanted}
-use Rattle.tv_command.specs.declared.export.ExportError.{ExportError}
-use Rattle.tv_command.specs.declared.export.ExportError.TheVariants as errors
+use Rattle.tv_command.specs.declared.work_error.WorkError.{WorkError}
+use Rattle.tv_command.specs.declared.work_error.WorkError.TheVariants as errors
 use Rattle.tv_field.specs.Entry.{Entry}
-use Rattle.tv_format.specs.InputError.{Refusal}
 use Rattle.tv_format.specs.Tree.{Document}
 use Rattle.tv_format.specs.Version.{Version}
 use Rattle.tv_store.specs.Documents.{BeginsWithDocument}
@@ -32,13 +29,14 @@ AppendsBegun schema d old new = (new ≡ old) ⊎ ((line : List ℕ) × AppendsL
 
 -- What was appended of the document with which these bytes begin, and why no more: nothing where it can't be read, or isn't. Before it come this many
 -- documents, in this number of bytes.
-abbrev pub LeavesNext : List Entry → Version → Wanted → List ℕ → List ℕ → ℕ → ℕ → List ℕ → List ℕ → ExportError → Type 0
+abbrev pub LeavesNext : List Entry → Version → Wanted → List ℕ → List ℕ → ℕ → ℕ → List ℕ → List ℕ → WorkError → Type 0
 LeavesNext schema v wanted bytes left number start old new (errors.Read e) = (new ≡ old) × (e.documents ≡ number) × IsRefusedAt v wanted bytes left start e
 LeavesNext schema v wanted bytes left number start old new errors.TooMany = (new ≡ old) × (number ≡ 2 ^ 64 - 1)
+LeavesNext schema v wanted bytes left number start old new (errors.Terms why) = ⊥
 LeavesNext schema v wanted bytes left number start old new e = (d : Document) × (rest : List ℕ) × BeginsWithDocument v bytes rest d × AppendsBegun schema (kept wanted d) old new
 
 -- The documents before were printed, and the one with which the rest of the block begins was not, or not whole. `left` is what was left of the block.
-pub record BreaksOff (schema : List Entry) (v : Version) (wanted : Wanted) (block left old new : List ℕ) (error : ExportError) : Type 0 where
+pub record BreaksOff (schema : List Entry) (v : Version) (wanted : Wanted) (block left old new : List ℕ) (error : WorkError) : Type 0 where
   pub before : List ℕ
   pub behind : List ℕ
   pub joined : block ≡ before ++ behind
@@ -46,20 +44,3 @@ pub record BreaksOff (schema : List Entry) (v : Version) (wanted : Wanted) (bloc
   pub middle : List ℕ
   pub exported : Exported schema v wanted before old middle documents
   pub next : LeavesNext schema v wanted behind left (length documents) (length before) middle new error
-
--- why an export broke off, as its source sees it, and as its sink does
-abbrev pub source_stop : ExportError → Stop Refusal
-source_stop (errors.Read e) = block_stop e
-source_stop _ = Short
-
-abbrev pub sink_stop : ExportError → Stop Refusal
-sink_stop (errors.Write kind) = Failed kind
-sink_stop _ = Short
-
--- ---- for private clauses
-
--- a write failed, or memory was refused
-abbrev pub IsOfWriting : ExportError → Type 0
-IsOfWriting (errors.Write kind) = Unit {0}
-IsOfWriting errors.Memory = Unit {0}
-IsOfWriting _ = ⊥

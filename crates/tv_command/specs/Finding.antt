@@ -1,19 +1,14 @@
 -- The documents of a block that a query wants, printed as lines of JSON.
 use Rattle.std.specs.Prelude.{◌≡◌, ◌-◌, ◌^◌, ◌+◌, ℕ, List, [], ◌∷◌, ◌++◌, Bool, true, false, Ok, Err, length}
-use Rattle.tv_base.specs.Stop.{Stop}
-use Rattle.tv_base.specs.Stop.Stop.{Failed, Short}
 use Rattle.tv_blocks.specs.Blocks.{AppendsLine}
 use Rattle.tv_command.specs.Checking.{IsRefusedAt}
 use Rattle.tv_command.specs.Exporting.{AppendsBegun}
-use Rattle.tv_command.specs.Reading.{EncodesBlockWithin, block_stop}
+use Rattle.tv_command.specs.Reading.{EncodesBlockWithin}
 use Rattle.tv_command.specs.declared.documents.Wanted.TheVariants.{All}
-use Rattle.tv_command.specs.declared.export.ExportError.{ExportError}
-use Rattle.tv_command.specs.declared.export.ExportError.TheVariants as exports
-use Rattle.tv_command.specs.declared.find.FindError.{FindError}
-use Rattle.tv_command.specs.declared.find.FindError.TheVariants as errors
 use Rattle.tv_command.specs.declared.find.Found.{Found}
+use Rattle.tv_command.specs.declared.work_error.WorkError.{WorkError}
+use Rattle.tv_command.specs.declared.work_error.WorkError.TheVariants as errors
 use Rattle.tv_field.specs.Entry.{Entry}
-use Rattle.tv_format.specs.InputError.{Refusal}
 use Rattle.tv_format.specs.Tree.{Document}
 use Rattle.tv_format.specs.Version.{Version}
 use Rattle.tv_indexing.specs.DocumentTerms.{Terms, document_terms}
@@ -41,7 +36,7 @@ FindsAll schema v limits tree block old new found =
     (documents : List Document) × EncodesBlockWithin v limits block documents × FindsEach schema tree old documents new found.found × (found.documents ≡ length documents)
 
 -- what was appended of a document, and why no more
-abbrev pub LeavesDocument : List Entry → Tree → Document → List ℕ → List ℕ → FindError → Type 0
+abbrev pub LeavesDocument : List Entry → Tree → Document → List ℕ → List ℕ → WorkError → Type 0
 LeavesDocument schema tree d old new (errors.Terms why) = (document_terms schema d ≡ Err why) × (new ≡ old)
 LeavesDocument schema tree d old new (errors.Write kind) = (terms : List (List ℕ)) × (document_terms schema d ≡ Ok terms) × Matches terms tree × AppendsBegun schema d old new
 LeavesDocument schema tree d old new errors.Memory = AppendsBegun schema d old new
@@ -49,14 +44,14 @@ LeavesDocument schema tree d old new e = ⊥
 
 -- The same of the document with which these bytes begin: nothing where it can't be read, or isn't. Before it come this many documents, in this number of
 -- bytes.
-abbrev pub LeavesNext : List Entry → Version → ReadLimits → Tree → List ℕ → List ℕ → ℕ → ℕ → List ℕ → List ℕ → FindError → Type 0
+abbrev pub LeavesNext : List Entry → Version → ReadLimits → Tree → List ℕ → List ℕ → ℕ → ℕ → List ℕ → List ℕ → WorkError → Type 0
 LeavesNext schema v limits tree bytes left number start old new (errors.Read e) = (new ≡ old) × (e.documents ≡ number) × IsRefusedAt v (All limits) bytes left start e
 LeavesNext schema v limits tree bytes left number start old new errors.TooMany = (new ≡ old) × (number ≡ 2 ^ 64 - 1)
 LeavesNext schema v limits tree bytes left number start old new e = (d : Document) × (rest : List ℕ) × BeginsWithDocument v bytes rest d × LeavesDocument schema tree d old new e
 
 -- The documents before were gone over, and the one with which the rest of the block begins was not, or not to the end. `left` is what was left of the
 -- block.
-pub record StopsFinding (schema : List Entry) (v : Version) (limits : ReadLimits) (tree : Tree) (block left old new : List ℕ) (error : FindError) : Type 0 where
+pub record StopsFinding (schema : List Entry) (v : Version) (limits : ReadLimits) (tree : Tree) (block left old new : List ℕ) (error : WorkError) : Type 0 where
   pub before : List ℕ
   pub after : List ℕ
   pub joined : block ≡ before ++ after
@@ -67,31 +62,10 @@ pub record StopsFinding (schema : List Entry) (v : Version) (limits : ReadLimits
   pub found : FindsEach schema tree old documents middle number
   pub next : LeavesNext schema v limits tree after left (length documents) (length before) middle new error
 
--- why a search broke off, as its source sees it, and as its sink does
-abbrev pub source_stop : FindError → Stop Refusal
-source_stop (errors.Read e) = block_stop e
-source_stop _ = Short
-
-abbrev pub sink_stop : FindError → Stop Refusal
-sink_stop (errors.Write kind) = Failed kind
-sink_stop _ = Short
-
 -- ---- for private clauses
 
--- a document has no terms, a write failed, or memory was refused
-abbrev pub IsOfDocument : FindError → Type 0
-IsOfDocument (errors.Terms why) = Unit {0}
-IsOfDocument (errors.Write kind) = Unit {0}
-IsOfDocument errors.Memory = Unit {0}
-IsOfDocument _ = ⊥
-
--- why a line wasn't written
-abbrev pub IsUnwritten : ExportError → FindError → Type 0
-IsUnwritten (exports.Write kind) e = e ≡ errors.Write kind
-IsUnwritten error e = e ≡ errors.Memory
-
 -- why a document's terms weren't taken
-abbrev pub RefusesTerms : Terms → FindError → Type 0
+abbrev pub RefusesTerms : Terms → WorkError → Type 0
 RefusesTerms answer (errors.Terms why) = answer ≡ Err why
 RefusesTerms answer errors.Memory = Unit {0}
 RefusesTerms answer e = ⊥

@@ -4,6 +4,7 @@ pub mod WholeImports
 pub mod Refusals
 pub mod Reading
 pub mod Checking
+pub mod WorkErrors
 pub mod Exporting
 pub mod Finding
 pub mod Runs

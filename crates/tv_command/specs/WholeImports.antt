@@ -24,7 +24,7 @@ pub data Outcomes (schema : List Entry) (rules : ImportRules) : List (List ℕ) 
   next_outcome : {line block : List ℕ} {said : LineOutcome} {lines : List (List ℕ)} {outcomes : List LineOutcome} (text : List ℕ)
       → IsOutcome schema rules line text said → Outcomes schema rules lines block outcomes → Outcomes schema rules (line ∷ lines) (text ++ block) (said ∷ outcomes)
 
--- what is told of lines with these outcomes: each with its number, of which this is the first
+-- the reports of lines with these outcomes: each with its number, of which this is the first
 abbrev pub numbered : ℕ → List LineOutcome → List LineReport
 numbered first [] = []
 numbered first (said ∷ more) = record { line = first; outcome = said } ∷ numbered (first + 1) more

@@ -14,8 +14,8 @@ use tantivy_schema::schema::document::DeserializeError;
 use tantivy_schema::store::{DocStoreVersion, LimitedReadError, ReadLimits};
 
 /// Tests that what a source has left is a block of documents of this version, each within the limits, one after the other and nothing else, and returns
-/// how many documents there are. Without limits nothing is kept of them, whatever they hold and however deep that nests. `watch` is told of each
-/// document that passes, with the bytes from the first on. (Not in tantivy.)
+/// how many documents there are. Without limits nothing is kept of them, whatever they hold and however deep that nests. `watch` is advanced after
+/// each document that passes, with the bytes from the first on. (Not in tantivy.)
 ///
 /// Errors: `BlockError` for the first document that is refused, with the error of `skip_document`, or within limits of `read_document_within`;
 /// `TooLong` after 2^64 - 1 documents or bytes.

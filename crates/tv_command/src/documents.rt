@@ -15,7 +15,7 @@ use tantivy_schema::store::{BlockReader, DocStoreVersion, LimitedReadError, Read
 use thiserror::Error;
 
 /// What is kept of each document of a block. (Not in tantivy.)
-#[derive(Debug, PartialEq, Drop)]
+#[derive(Debug, Drop)]
 pub enum Wanted {
     /// All of it. A document that passes one of these limits is refused.
     All(ReadLimits),
@@ -24,7 +24,7 @@ pub enum Wanted {
 }
 
 /// Why the next document of a block can't be read. (Not in tantivy.)
-#[derive(Debug, PartialEq, Drop, Error)]
+#[derive(Debug, Drop, Error)]
 #[error("document {documents}, which begins at byte {start}, is refused at byte {place}: {error}")]
 pub struct BlockError {
     /// How many documents come before it.
@@ -110,12 +110,22 @@ fn pass_next<S: ByteSource>(
 }
 
 /// Reads the documents of a block one after the other, each in place of the one before, and counts them and their bytes. (Not in tantivy.)
-#[derive(Drop)]
 pub struct DocumentReader {
     reader: BlockReader,
     wanted: Wanted,
     documents: u64,
     start: u64,
+}
+
+impl Drop for DocumentReader {
+    fn drop(self) {
+        let DocumentReader {
+            reader: _,
+            wanted: _,
+            documents: _,
+            start: _,
+        } = self;
+    }
 }
 
 impl DocumentReader {

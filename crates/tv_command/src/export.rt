@@ -4,47 +4,20 @@ ghost use Rattle.std.specs.Prelude.{◌≡◌, ◌++◌, [], IfErr, IfOk, OnErr,
 ghost use Rattle.tv_base.specs.Sink.{AppendsPrefix};
 ghost use Rattle.tv_base.specs.Stop.{Counts};
 ghost use Rattle.tv_blocks.specs.Blocks.{AppendsLine};
-ghost use Rattle.tv_command.specs.Exporting.{AppendsBegun, BreaksOff, ExportsAll, IsOfWriting, sink_stop, source_stop};
+ghost use Rattle.tv_command.specs.Exporting.{AppendsBegun, BreaksOff, ExportsAll};
+ghost use Rattle.tv_command.specs.WorkErrors.{IsNotOfTerms, IsOfWriting, sink_stop, source_stop};
 ghost use Rattle.tv_doc.specs.Document.{document_of};
 ghost use Rattle.tv_reader.specs.Version.{version_of};
 
-use crate::documents::{BlockError, DocumentReader, Wanted};
+use crate::documents::{DocumentReader, Wanted};
 use crate::watch::Watch;
-use std::alloc::{AllocError, Global};
-use std::io;
+use crate::work_error::WorkError;
+use std::alloc::Global;
 use tantivy_schema::common::{ByteSink, ByteSource};
 use tantivy_schema::schema::{Document, Schema, TantivyDocument};
 use tantivy_schema::store::DocStoreVersion;
-use thiserror::Error;
 use tv_base::write::write_all;
 use tv_blocks::export::append_line;
-
-/// Why an export breaks off.
-#[derive(Debug, PartialEq, Drop, Error)]
-pub enum ExportError {
-    /// The next document can't be read, or passes a limit.
-    #[error("{0}")]
-    Read(BlockError),
-    /// A write failed, with this kind.
-    #[error("writing failed: {0}")]
-    Write(io::ErrorKind),
-    /// Memory was refused for the document's text.
-    #[error("memory was refused")]
-    Memory,
-    /// 2^64 - 1 documents were printed, and no more are counted.
-    #[error("there are more documents than are counted")]
-    TooMany,
-}
-
-impl From<AllocError> for ExportError {
-    ghost use Rattle.tv_command.specs.declared.export.ExportError.TheVariants.{Memory};
-
-    ghost from_gives = { λ _ error. error ≡ Memory };
-
-    fn from(_error: AllocError) -> ExportError {
-        ExportError::Memory
-    }
-}
 
 // Appends the document's line to the sink. `text` is for the line.
 pub(crate) fn write_line<K: ByteSink>(
@@ -53,7 +26,7 @@ pub(crate) fn write_line<K: ByteSink>(
     document: &TantivyDocument,
     text: &mut String,
     sink: &mut K,
-) -> Result<(), ExportError>
+) -> Result<(), WorkError>
     ensures ok { K.is_known sink.old
         → OnOk result
         (AppendsLine schema.now (document_of document.now) (K.held sink.old) (K.held sink.new)) }
@@ -68,13 +41,13 @@ pub(crate) fn write_line<K: ByteSink>(
     append_line(alloc, schema, document, text)?;
     match write_all(sink, text.as_bytes()) {
         Ok(()) => Ok(()),
-        Err(failed) => Err(ExportError::Write(failed.0)),
+        Err(failed) => Err(WorkError::Write(failed.0)),
     }
 }
 
 /// Appends what is wanted of the documents of a block that a source has left, one after the other in this version, to a sink: a line of JSON for each,
-/// by the names of the schema's fields, as `Document::to_json` prints it. Returns how many documents there are. `watch` is told of each document whose
-/// line is appended, with the bytes from the first on. (Not in tantivy.)
+/// by the names of the schema's fields, as `Document::to_json` prints it. Returns how many documents there are. `watch` is advanced after each document
+/// whose line is appended, with the bytes from the first on. (Not in tantivy.)
 ///
 /// Errors: `Read` for the first document that can't be read or passes a limit, with its number and place; `Write` where a write failed; `Memory`;
 /// `TooMany` after 2^64 - 1 documents. The sink then holds the lines of the documents before that one, and after `Write` and `Memory` also a
@@ -87,7 +60,7 @@ pub fn export_block<S: ByteSource, K: ByteSink, W: Watch>(
     source: &mut S,
     sink: &mut K,
     watch: &mut W,
-) -> Result<u64, ExportError>
+) -> Result<u64, WorkError>
     ensures ok { S.is_known source.old → K.is_known sink.old
         → IfOk result
         (ExportsAll schema.now (version_of version) wanted (S.left source.old) (K.held sink.old)
@@ -96,6 +69,7 @@ pub fn export_block<S: ByteSource, K: ByteSink, W: Watch>(
         → IfErr result
         (BreaksOff schema.now (version_of version) wanted (S.left source.old) (S.left source.new)
         (K.held sink.old) (K.held sink.new)) }
+    ensures errors { IfErr result IsNotOfTerms }
     ensures all { S.is_known source.old → OnOk result (S.left source.new ≡ []) }
     ensures source_failures { Counts source_stop result (S.failures source.old)
         (S.failures source.new) }
@@ -114,8 +88,8 @@ pub fn export_block<S: ByteSource, K: ByteSink, W: Watch>(
                 watch.advance(reader.bytes());
             }
             Ok(false) => return Ok(documents),
-            Err(error) => return Err(ExportError::Read(error)),
+            Err(error) => return Err(WorkError::Read(error)),
         }
     }
-    Err(ExportError::TooMany)
+    Err(WorkError::TooMany)
 }

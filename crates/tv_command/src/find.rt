@@ -3,45 +3,23 @@
 ghost use Rattle.std.specs.Prelude.{◌≡◌, ◌+◌, ◌-◌, ◌<◌, ◌^◌, [], if◌then◌else◌};
 ghost use Rattle.std.specs.Prelude.{IfErr, IfOk, Ok, OnOk};
 ghost use Rattle.tv_base.specs.Stop.{Counts};
-ghost use Rattle.tv_command.specs.Finding.{Finds, FindsAll, IsOfDocument, IsUnwritten};
-ghost use Rattle.tv_command.specs.Finding.{LeavesDocument};
-ghost use Rattle.tv_command.specs.Finding.{RefusesTerms, StopsFinding, sink_stop, source_stop};
+ghost use Rattle.tv_command.specs.Finding.{Finds, FindsAll, LeavesDocument, RefusesTerms, StopsFinding};
+ghost use Rattle.tv_command.specs.WorkErrors.{IsOfDocument, sink_stop, source_stop};
 ghost use Rattle.tv_doc.specs.Document.{document_of};
 ghost use Rattle.tv_indexing.specs.DocumentTerms.{document_terms};
 ghost use Rattle.tv_query.specs.Grammar.{Tree, steps_of};
 ghost use Rattle.tv_reader.specs.Version.{version_of};
 
-use crate::documents::{BlockError, DocumentReader, Wanted};
-use crate::export::{ExportError, write_line};
+use crate::documents::{DocumentReader, Wanted};
+use crate::export::write_line;
 use crate::watch::Watch;
+use crate::work_error::WorkError;
 use std::alloc::Global;
-use std::io;
 use tantivy_schema::common::{ByteSink, ByteSource};
 use tantivy_schema::schema::{Schema, TantivyDocument};
 use tantivy_schema::store::{DocStoreVersion, ReadLimits};
-use thiserror::Error;
 use tv_indexing::{TermList, TermValuesError, term_values};
 use tv_query::{Query, QueryStack};
-
-/// Why a search breaks off.
-#[derive(Debug, PartialEq, Drop, Error)]
-pub enum FindError {
-    /// The next document can't be read, or passes a limit.
-    #[error("{0}")]
-    Read(BlockError),
-    /// The document has no terms by the schema.
-    #[error("{0}")]
-    Terms(TermValuesError),
-    /// A write failed, with this kind.
-    #[error("writing failed: {0}")]
-    Write(io::ErrorKind),
-    /// Memory was refused.
-    #[error("memory was refused")]
-    Memory,
-    /// 2^64 - 1 documents were gone over, and no more are counted.
-    #[error("there are more documents than are counted")]
-    TooMany,
-}
 
 /// What was found in a block.
 #[derive(Clone, Copy, Debug, PartialEq, Eq)]
@@ -53,20 +31,19 @@ pub struct Found {
 }
 
 // The memory that serves one document after the other.
-#[derive(Drop)]
 struct FindBuffers {
     terms: TermList,
     stack: QueryStack,
     text: String,
 }
 
-// Why a line wasn't written.
-fn unwritten(error: ExportError) -> FindError
-    ensures { IsUnwritten error result }
-{
-    match error {
-        ExportError::Write(kind) => FindError::Write(kind),
-        _ => FindError::Memory,
+impl Drop for FindBuffers {
+    fn drop(self) {
+        let FindBuffers {
+            terms: _,
+            stack: _,
+            text: _,
+        } = self;
     }
 }
 
@@ -76,7 +53,7 @@ fn put_terms(
     schema: &Schema,
     document: &TantivyDocument,
     terms: &mut TermList,
-) -> Result<(), FindError>
+) -> Result<(), WorkError>
     ensures made { OnOk result
         (document_terms schema.now (document_of document.now) ≡ Ok terms.new) }
     ensures refused { IfErr result
@@ -85,8 +62,8 @@ fn put_terms(
     terms.clear();
     match term_values(alloc, schema, document, terms) {
         Ok(()) => Ok(()),
-        Err(TermValuesError::Memory) => Err(FindError::Memory),
-        Err(error) => Err(FindError::Terms(error)),
+        Err(TermValuesError::Memory) => Err(WorkError::Memory),
+        Err(error) => Err(WorkError::Terms(error)),
     }
 }
 
@@ -98,7 +75,7 @@ fn find_in_document<K: ByteSink>(
     document: &TantivyDocument,
     buffers: &mut FindBuffers,
     sink: &mut K,
-) -> Result<bool, FindError>
+) -> Result<bool, WorkError>
     ensures ok { K.is_known sink.old → (tree : Tree) → query.now.steps.items ≡ steps_of tree
         → IfOk result (Finds schema.now tree (document_of document.now) (K.held sink.old)
         (K.held sink.new)) }
@@ -111,12 +88,12 @@ fn find_in_document<K: ByteSink>(
 {
     put_terms(alloc, schema, document, &mut buffers.terms)?;
     match query.matches(&buffers.terms, &mut buffers.stack) {
-        Ok(true) => match write_line(alloc, schema, document, &mut buffers.text, sink) {
-            Ok(()) => Ok(true),
-            Err(error) => Err(unwritten(error)),
-        },
+        Ok(true) => {
+            write_line(alloc, schema, document, &mut buffers.text, sink)?;
+            Ok(true)
+        }
         Ok(false) => Ok(false),
-        Err(_) => Err(FindError::Memory),
+        Err(_) => Err(WorkError::Memory),
     }
 }
 
@@ -129,7 +106,7 @@ fn counted(found: u64, matches: bool) -> u64
 }
 
 /// Appends the lines of those documents of a block that the query matches, in order, as `export_block` prints them, and returns how many
-/// documents there are and how many match. `watch` is told of each document that was gone over, with the bytes from the first on. (Not in tantivy.)
+/// documents there are and how many match. `watch` is advanced after each document that was gone over, with the bytes from the first on. (Not in tantivy.)
 ///
 /// A document matches by its terms, as `term_values` gives them. Errors: `Read` for the first document that can't be read or passes a limit, with its
 /// number and place; `Terms` for the first that has no terms by the schema; `Write` where a write failed; `Memory`; `TooMany` after 2^64 - 1
@@ -144,7 +121,7 @@ pub fn find_in_block<S: ByteSource, K: ByteSink, W: Watch>(
     source: &mut S,
     sink: &mut K,
     watch: &mut W,
-) -> Result<Found, FindError>
+) -> Result<Found, WorkError>
     ensures ok { S.is_known source.old → K.is_known sink.old → (tree : Tree)
         → query.now.steps.items ≡ steps_of tree → IfOk result
         (FindsAll schema.now (version_of version) limits tree (S.left source.old)
@@ -178,8 +155,8 @@ pub fn find_in_block<S: ByteSource, K: ByteSink, W: Watch>(
                 watch.advance(reader.bytes());
             }
             Ok(false) => return Ok(Found { documents, found }),
-            Err(error) => return Err(FindError::Read(error)),
+            Err(error) => return Err(WorkError::Read(error)),
         }
     }
-    Err(FindError::TooMany)
+    Err(WorkError::TooMany)
 }

@@ -23,7 +23,7 @@ use thiserror::Error;
 use tv_base::write::write_all;
 
 /// Why a line makes no document.
-#[derive(Debug, PartialEq, Drop, Error)]
+#[derive(Debug, Drop, Error)]
 pub enum LineError {
     /// The line is not UTF-8.
     #[error("it is not UTF-8")]
@@ -34,7 +34,7 @@ pub enum LineError {
 }
 
 /// What becomes of a line.
-#[derive(Debug, PartialEq, Drop)]
+#[derive(Debug, Drop)]
 pub enum LineOutcome {
     /// Its document is stored, in this number of bytes.
     Stored(u64),
@@ -43,7 +43,7 @@ pub enum LineOutcome {
 }
 
 /// Why an import breaks off.
-#[derive(Clone, Copy, Debug, PartialEq, Eq, Drop, Error)]
+#[derive(Clone, Copy, Debug, Drop, Error)]
 pub enum ImportError {
     /// A read failed, with this kind.
     #[error("reading failed: {0}")]
@@ -154,7 +154,6 @@ fn append<K: ByteSink>(sink: &mut K, bytes: &[u8]) -> Result<u64, ImportError>
 /// Reads lines of JSON one by one, and stores the document of each. The memory of a line and of its document serves the next. (Not in tantivy.)
 ///
 /// A line ends at a line feed, and the last may lack it.
-#[derive(Drop)]
 pub struct LineImporter {
     alloc: Global,
     rules: ImportRules,
@@ -163,6 +162,20 @@ pub struct LineImporter {
     document: TantivyDocument,
     buffers: ParseBuffers,
     stored: VecSink,
+}
+
+impl Drop for LineImporter {
+    fn drop(self) {
+        let LineImporter {
+            alloc: _,
+            rules: _,
+            taken: _,
+            line: _,
+            document: _,
+            buffers: _,
+            stored: _,
+        } = self;
+    }
 }
 
 impl LineImporter {

@@ -23,7 +23,7 @@ pub struct Imported {
 }
 
 /// Why an import of lines breaks off.
-#[derive(Debug, PartialEq, Drop, Error)]
+#[derive(Debug, Drop, Error)]
 #[error_bound(E: Display)]
 pub enum ImportLinesError<E> {
     /// The next line can't be read, or its document can't be stored.
@@ -56,11 +56,11 @@ fn counted(imported: Imported, outcome: &LineOutcome) -> Imported
 
 /// Reads the lines of JSON that a reader has left, appends the stored pairs of the document of each to the sink, and tells the report what became of each
 /// line, by its number. Returns how many lines there were of both kinds. See `LineImporter::advance`, of which this calls one after the other.
-/// After each line the watch is told how many bytes all of them took, their line feeds included: 2^64 - 1 where it is more. (Not in tantivy.)
+/// After each line the watch is advanced to the bytes that all of them took, their line feeds included: 2^64 - 1 where it is more. (Not in tantivy.)
 ///
 /// Errors: `Import` with an error of `LineImporter::advance`; `Report` where a report failed, with its error; `TooMany` after 2^64 - 1 lines. The sink
 /// then holds the documents of the lines before the one at which it broke off, after `Import` maybe also a beginning of its document, and after
-/// `Report` all of it. The report has been told of the lines before it.
+/// `Report` all of it. The report then has the lines before it.
 pub fn import_lines<R: BufRead, K: ByteSink, T: Report, W: Watch>(
     importer: &mut LineImporter,
     schema: &Schema,

@@ -14,3 +14,4 @@ pub mod migrate;
 pub mod report;
 pub mod runs;
 pub mod watch;
+pub mod work_error;

@@ -3,7 +3,8 @@
 ghost use Rattle.std.specs.Prelude.{◌≡◌, ◌-◌, ◌^◌, ◌<◌, [], IfErr, IfOk, OnOk, length};
 ghost use Rattle.tv_base.specs.Stop.{Counts};
 ghost use Rattle.tv_command.specs.Counting.{CountsAll};
-ghost use Rattle.tv_command.specs.Migrating.{BreaksOff, Stops, sink_stop, source_stop};
+ghost use Rattle.tv_command.specs.Migrating.{BreaksOff, Stops};
+ghost use Rattle.tv_command.specs.WorkErrors.{IsNotOfTerms, sink_stop, source_stop};
 ghost use Rattle.tv_format.specs.WriteVersion.{written_version};
 ghost use Rattle.tv_reader.specs.Version.{version_of};
 ghost use Rattle.tv_store.specs.BlockMigration.{MigratesAll};
@@ -11,54 +12,31 @@ ghost use Rattle.tv_store.specs.BlockMigration.{MigratesAll};
 use crate::counted::{CountedSource, Input};
 use crate::documents::BlockError;
 use crate::watch::Watch;
+use crate::work_error::WorkError;
 use std::alloc::Global;
-use std::io;
 use std::marker::{Brand, PhantomData};
 use tantivy_schema::common::{ByteSink, ByteSource, Cause};
 use tantivy_schema::schema::document::{DeserializeError, SerializeError};
 use tantivy_schema::store::{
     DocStoreVersion, LimitedReadError, MigrateError, WriteVersion, migrate,
 };
-use thiserror::Error;
-
-/// Why a migration breaks off.
-#[derive(Debug, PartialEq, Drop, Error)]
-pub enum MigrationError {
-    /// The next document can't be read.
-    #[error("{0}")]
-    Read(BlockError),
-    /// A write failed, with this kind.
-    #[error("writing failed: {0}")]
-    Write(io::ErrorKind),
-    /// Memory was refused for a value that nests deeper than `MAX_DEPTH` levels.
-    #[error("memory was refused")]
-    Memory,
-    /// 2^64 - 1 documents were carried over, and no more are counted.
-    #[error("there are more documents than are counted")]
-    TooMany,
-}
 
 // What a migration returns that stops with this error after this many documents, where the next one begins at one place, and was taken up to another. It
 // is at the end where nothing was taken.
-fn stopped(
-    error: MigrateError,
-    documents: u64,
-    start: u64,
-    place: u64,
-) -> Result<u64, MigrationError>
+fn stopped(error: MigrateError, documents: u64, start: u64, place: u64) -> Result<u64, WorkError>
     ensures { Stops error documents start place result }
 {
     match error {
         MigrateError::Read(DeserializeError::CorruptedValue(Cause::UnexpectedEnd))
             if place == start => Ok(documents),
-        MigrateError::Read(error) => Err(MigrationError::Read(BlockError {
+        MigrateError::Read(error) => Err(WorkError::Read(BlockError {
             documents,
             start,
             place,
             error: LimitedReadError::Read(error),
         })),
-        MigrateError::Write(SerializeError::Io(kind)) => Err(MigrationError::Write(kind)),
-        MigrateError::Write(_) => Err(MigrationError::Memory),
+        MigrateError::Write(SerializeError::Io(kind)) => Err(WorkError::Write(kind)),
+        MigrateError::Write(_) => Err(WorkError::Memory),
     }
 }
 
@@ -70,7 +48,7 @@ fn migrate_each<S: ByteSource, K: ByteSink, W: Watch, I: Input>(
     sink: &mut K,
     to: WriteVersion,
     watch: &mut W,
-) -> Result<u64, MigrationError>
+) -> Result<u64, WorkError>
     requires { source.old.taken ≡ 0 }
     ensures ok { CountsAll (S.is_known source.old.source.now) (S.left source.old.source.now)
         source.old.taken source.old.source.ghost_name I.name I.total
@@ -83,6 +61,7 @@ fn migrate_each<S: ByteSource, K: ByteSink, W: Watch, I: Input>(
     ensures all { CountsAll (S.is_known source.old.source.now) (S.left source.old.source.now)
         source.old.taken source.old.source.ghost_name I.name I.total
         → OnOk result (S.left source.new.source.now ≡ []) }
+    ensures errors { IfErr result IsNotOfTerms }
     ensures source_is_known { CountsAll (S.is_known source.old.source.now)
         (S.left source.old.source.now) source.old.taken source.old.source.ghost_name I.name I.total
         → CountsAll (S.is_known source.new.source.now) (S.left source.new.source.now)
@@ -99,11 +78,11 @@ fn migrate_each<S: ByteSource, K: ByteSink, W: Watch, I: Input>(
             Err(error) => return stopped(error, documents, start, source.taken),
         }
     }
-    Err(MigrationError::TooMany)
+    Err(WorkError::TooMany)
 }
 
 /// Reads the documents that a source has left, which stand one after the other in one version of the store, and appends each to the sink in the shortest
-/// encoding of the other, as `tv_store::migrate` does. Returns how many there were. After each document the watch is told how many bytes were taken.
+/// encoding of the other, as `tv_store::migrate` does. Returns how many there were. After each document the watch is advanced to the bytes that were taken.
 /// (Not in tantivy.)
 ///
 /// Errors: `Read` for the first document that can't be read, with its number and place; `Write` where a write failed; `Memory`; `TooMany` after 2^64 - 1
@@ -115,7 +94,7 @@ pub fn migrate_block<S: ByteSource, K: ByteSink, W: Watch>(
     sink: &mut K,
     to: WriteVersion,
     watch: &mut W,
-) -> Result<u64, MigrationError>
+) -> Result<u64, WorkError>
     ensures ok { S.is_known source.old → length (S.left source.old) < 2 ^ 64 - 1
         → IfOk result (MigratesAll (version_of from) (written_version to) (S.left source.old)
         K.ByteSink sink.old sink.new) }
@@ -127,6 +106,7 @@ pub fn migrate_block<S: ByteSource, K: ByteSink, W: Watch>(
     ensures source_failures { S.is_known source.old → length (S.left source.old) < 2 ^ 64 - 1
         → Counts source_stop result (S.failures source.old) (S.failures source.new) }
     ensures sink_failures { Counts sink_stop result (K.failures sink.old) (K.failures sink.new) }
+    ensures errors { IfErr result IsNotOfTerms }
     ensures source_is_known { S.is_known source.old → length (S.left source.old) < 2 ^ 64 - 1
         → S.is_known source.new }
     ensures sink_is_known { K.is_known sink.old → K.is_known sink.new }

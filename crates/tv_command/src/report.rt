@@ -1,4 +1,4 @@
-//! What is told of the lines of an import.
+//! Reports of the lines of an import.
 
 ghost use Rattle.std.specs.Prelude.{◌≡◌, ◌∷◌, ◌++◌, [], List, OnErr, OnOk};
 ghost use Rattle.tv_command.specs.declared.report.LineReport.{LineReport};
@@ -6,7 +6,7 @@ ghost use Rattle.tv_command.specs.declared.report.LineReport.{LineReport};
 use crate::import::LineOutcome;
 
 /// What became of a line of an input.
-#[derive(Debug, PartialEq, Drop)]
+#[derive(Debug, Drop)]
 pub struct LineReport {
     /// The number of the line, counted from 1.
     pub line: u64,
@@ -14,18 +14,18 @@ pub struct LineReport {
     pub outcome: LineOutcome,
 }
 
-/// What is told of each line of an import, in order: a list of those that are refused, say, or of where each document begins. (Not in tantivy.)
+/// A report of each line of an import, in order: a list of those that are refused, say, or of where each document begins. (Not in tantivy.)
 pub trait Report {
-    /// Why a line can't be told.
+    /// Why a line can't be reported.
     type Error: Drop;
 
-    /// That what was told is known.
+    /// That the content of the report is known.
     ghost is_known: { Self → Type 0 };
 
-    /// Where it is known, all that was told so far.
+    /// Where it is known, all that was reported so far.
     ghost told: { Self → List LineReport };
 
-    /// Is told what became of the next line. After an `Err` it has not been told.
+    /// Reports what became of the next line. After an `Err` the report is as before.
     fn tell(&mut self, line: LineReport) -> Result<(), Self::Error>
         ensures told { is_known self.old
             → OnOk result (told self.new ≡ told self.old ++ line ∷ []) }

@@ -54,12 +54,22 @@ fn more_of(read: Result<u64, ReadError>, taken: u64) -> Result<Option<u64>, Read
 }
 
 /// Reads the pairs of a run one after the other, each in place of the one before and in its memory. (Not in tantivy.)
-#[derive(Drop)]
 pub struct RunReader<S> {
     source: S,
     term: Vec<u8>,
     count: u64,
     has_pair: bool,
+}
+
+impl<S: Drop> Drop for RunReader<S> {
+    fn drop(self) {
+        let RunReader {
+            source: _,
+            term: _,
+            count: _,
+            has_pair: _,
+        } = self;
+    }
 }
 
 impl<S: ByteSource> RunReader<S> {
@@ -136,7 +146,7 @@ impl<S: ByteSource> RunReader<S> {
 }
 
 /// Why the next term of several runs can't be given.
-#[derive(Debug, PartialEq, Drop, Error)]
+#[derive(Debug, Drop, Error)]
 pub enum MergeError {
     /// The run of this number, counted from 0, can't be read.
     #[error("run {0}: {1}")]
@@ -209,11 +219,20 @@ fn take_term<S: ByteSource>(readers: &mut [RunReader<S>], term: &[u8]) -> Result
 
 /// Merges runs: gives each term that one of them has, in the terms' order, with the sum of its counts. It keeps one term of each run. (Not in
 /// tantivy.)
-#[derive(Drop)]
 pub struct Merge<S> {
     readers: Vec<RunReader<S>>,
     term: Vec<u8>,
     count: u64,
+}
+
+impl<S: Drop> Drop for Merge<S> {
+    fn drop(self) {
+        let Merge {
+            readers: _,
+            term: _,
+            count: _,
+        } = self;
+    }
 }
 
 impl<S: ByteSource + Drop> Merge<S> {

@@ -1,6 +1,6 @@
 //! How far the work on an input has come.
 
-/// What is told how far the work on an input has come: a display of progress, say. (Not in tantivy.)
+/// An observer of how far the work on an input has come: a display of progress, say. (Not in tantivy.)
 pub trait Watch {
     /// One more document, or line, has been done, and this many bytes of the input have been taken from its beginning on.
     fn advance(&mut self, bytes: u64);

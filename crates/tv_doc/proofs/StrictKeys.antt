@@ -50,9 +50,6 @@ marked_by (b ∷ bs) (suc i) (suc k) e = ⊎_elim (λ same. inl (ap suc same)) (
 
 -- ---- the keys so far
 
-pub none_noted : (schema : List Entry) (noted : List Bool) → All (λ b. b ≡ false) noted → length noted ≡ length schema → AreNoted schema [] noted
-none_noted schema noted h long = record { each = λ k d lt. absurd (omega arith); only = λ field e. absurd (none_marked noted field h e); as_many = long }
-
 pub no_keys : (schema : List Entry) → NameFieldsOnce schema []
 no_keys schema = record { named = λ k d lt. absurd (omega arith); once = λ i j d lt within. absurd (omega arith) }
 

@@ -51,9 +51,6 @@ within-towards ancestor f c d is_child above =
     (λ h. (let e : d ≡ c = same-child ancestor d c c is_child above.is_child h (within-itself c) in ap (λ x. is_within x f) e ∙ above.is_above))
     (λ h. (let e : d ≡ c = same-child ancestor d c f is_child above.is_child h above.is_above in ap (λ x. is_within x c) e ∙ within-itself c))
 
-pub pairs-start : (ancestor : List ℕ) → ArePairs ancestor [] []
-pairs-start ancestor = record { children = tt; documents = λ child is_child. refl }
-
 one-document : (d f : List ℕ) (n : ℕ) → documents_within d ((f, n) ∷ []) ≡ cond (is_within d f) (n ∷ []) []
 one-document d f n = by (is_within d f)
   where

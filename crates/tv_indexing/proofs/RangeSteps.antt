@@ -72,14 +72,6 @@ plain_typed field (types.JsonObject options) start end answer not_json h = absur
 
 -- ---- the bounds that a text writes
 
-pub no_start : (s : List ℕ) → LacksTextAt (codes "[") s 0 → LacksTextAt (codes "{") s 0 → (start : Bound (List ℕ)) → ¬ IsStartBound s start
-no_start s h k start (true, inner, is, bound) = h inner is
-no_start s h k start (false, inner, is, bound) = k inner is
-
-pub no_end : (s : List ℕ) → ((front : List ℕ) → s ≢ front ++ codes "]") → ((front : List ℕ) → s ≢ front ++ codes "}") → (end : Bound (List ℕ)) → ¬ IsEndBound s end
-no_end s h k end (true, inner, is, bound) = h inner is
-no_end s h k end (false, inner, is, bound) = k inner is
-
 -- parted at the first ` TO `
 abbrev pub IsParted : List ℕ → List ℕ → List ℕ → Type 0
 IsParted text before behind = (text ≡ before ++ (codes " TO " ++ behind)) × ((i : ℕ) → i < length before → LacksTextAt (codes " TO ") text i)

@@ -11,15 +11,6 @@ data_of-Null = search (rules, the_lemmas)
 pub data_of-Bool : (b : Bool) → data_of (borrowed.Bool b) ≡ boolean b
 data_of-Bool b = search (rules, the_lemmas)
 
-pub data_of-Unsigned : (n : ℕ) → data_of (borrowed.Unsigned n) ≡ number (unsigned n)
-data_of-Unsigned n = search (rules, the_lemmas)
-
-pub data_of-Negative : (z : ℤ) → data_of (borrowed.Negative z) ≡ number (negative z)
-data_of-Negative z = search (rules, the_lemmas)
-
-pub data_of-Float : (x : Float) → data_of (borrowed.Float x) ≡ number (float x)
-data_of-Float x = search (rules, the_lemmas)
-
 pub data_of-String : (s : Bor (List ℕ)) → data_of (borrowed.String s) ≡ string s.now
 data_of-String s = search (rules, the_lemmas)
 

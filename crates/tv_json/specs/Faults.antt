@@ -1,4 +1,4 @@
--- Where a text goes wrong as JSON: JSON can begin with the bytes before that place, and not with the next one too, or no byte follows and more has to come.
+-- Where a text goes wrong as JSON: by the table of the syntax all bytes before that place can come, and the next one can't, or the text ends too early.
 use Rattle.std.specs.Prelude.{◌≡◌, ◌≤◌, ℕ, List, [], ◌∷◌, length, take, drop, nat_lt, if◌then◌else◌, Option, Some, None, Result, Ok, Err}
 use Rattle.serde_json.specs.Read.{max_depth}
 use Rattle.tv_json.specs.ListKinds.{innermost}

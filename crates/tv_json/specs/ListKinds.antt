@@ -7,7 +7,7 @@ abbrev pub innermost : List ListKind → Option ListKind
 innermost [] = None
 innermost (kind ∷ outer) = Some kind
 
--- so many lists, of which the lowest bit says what the innermost is
+-- this many lists, of which the lowest bit says what the innermost is
 unfoldable pub kinds : ℕ → ℕ → List ListKind
 kinds zero objects = []
 kinds (suc depth) objects = (if objects % 2 == 1 then Object else Array) ∷ kinds depth (objects / 2)

@@ -1,4 +1,4 @@
-//! What can come next in a text of JSON, for whoever is told where a text goes wrong.
+//! What can come next in a text of JSON, as said where a text goes wrong.
 
 ghost use Rattle.std.specs.Prelude.{◌≡◌};
 ghost use Rattle.tv_json.specs.Syntax.{word_text};

@@ -12,7 +12,7 @@ pub enum JsonFaultKind {
     Unexpected(JsonExpected),
     /// The list that begins there lies within 127 others.
     TooDeep,
-    /// The text is JSON by its syntax, and a number in it is too large for a float.
+    /// The text is JSON by its syntax, and it isn't read: a number in it is too large for a float.
     NumberTooLarge,
     /// The text is JSON, and no object.
     NoObject,
@@ -22,8 +22,8 @@ pub enum JsonFaultKind {
 #[derive(Clone, Copy, Debug, PartialEq, Eq, Drop)]
 pub struct JsonFault {
     /// How many bytes of the text come before the place where it is refused. Where it goes wrong, that is the first byte that can't come after those
-    /// before it, or the bracket of the list that nests too deep; where a number is too large, its first byte. It is the text's length where
-    /// the text ends early, and 0 where it is no object.
+    /// before it, or the bracket of the list that nests too deep; where a number is too large, the first byte of the first one. It is the text's
+    /// length where the text ends early and where no number is found that is too large, and 0 where it is no object.
     pub offset: usize,
     /// Why it is refused there.
     pub kind: JsonFaultKind,

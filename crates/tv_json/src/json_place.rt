@@ -85,7 +85,7 @@ pub(crate) enum Place {
     InEscape(StringRole, EscapePart),
     // A number has begun.
     InNumber(NumberPart),
-    // So many letters of a word have come.
+    // This many letters of a word have come.
     InWord(JsonWord, usize),
 }
 
@@ -341,7 +341,7 @@ fn in_escape(role: StringRole, part: EscapePart, byte: u8) -> Option<Place>
     }
 }
 
-// Where a byte leads after so many letters of a word.
+// Where a byte leads after this many letters of a word.
 fn in_word(word: JsonWord, letters: usize, byte: u8) -> Option<Place>
     ensures { result ≡ in_word word letters byte }
 {

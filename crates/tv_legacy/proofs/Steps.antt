@@ -53,11 +53,6 @@ is_open prefix depth h positive bytes =
     let e : is_even prefix ≡ false = ne_eqb (closed prefix) (opened prefix) (λ same. omega (arith, h, same)) in
     rw e refl
 
-pub is_done : (prefix : List ℕ) (depth : ℕ) → IsDepth depth prefix → depth ≡ 0 → (bytes : List ℕ) → rest_from prefix bytes ≡ Ok (prefix, bytes)
-is_done prefix depth h none bytes =
-    let e : is_even prefix ≡ true = eq-eqb (closed prefix) (opened prefix) (omega (arith, h, none)) in
-    rw e refl
-
 -- after the first brace
 pub first_brace : (prefix : List ℕ) → prefix ≡ 123 ∷ [] → (bytes : List ℕ) → rest_at prefix bytes ≡ rest_from prefix bytes
 first_brace prefix e bytes = ap (λ l. rest_at l bytes) e ∙ ap (λ (l : List ℕ). rest_from l bytes) (sym e)

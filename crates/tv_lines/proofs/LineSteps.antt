@@ -16,10 +16,6 @@ unbroken-append (x ∷ xs) ys g h = (g.0, unbroken-append xs ys g.1 h)
 pub cut-more : (input line line' unread left unread' left' : List ℕ) → input ≡ line ++ (unread ++ left) → line' ≡ line ++ unread → left ≡ unread' ++ left' → input ≡ line' ++ (unread' ++ left')
 cut-more input line line' unread left unread' left' cut moved filled = cut ∙ ap (λ (l : List ℕ). line ++ (unread ++ l)) filled ∙ sym (append_assoc line unread (unread' ++ left')) ∙ ap (λ (l : List ℕ). l ++ (unread' ++ left')) (sym moved)
 
-not_empty : (prefix rest : List ℕ) (b : ℕ) → prefix ++ b ∷ rest ≢ []
-not_empty [] rest b = λ e. cc
-not_empty (x ∷ prefix) rest b = λ e. cc
-
 -- the first line, whether there is one or not
 pub first_of : (input line rest : List ℕ) (more : Bool) → TakesLine input line rest more → FirstLine input line rest
 first_of input line rest true takes = takes.1

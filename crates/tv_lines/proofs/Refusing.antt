@@ -26,9 +26,6 @@ use Rattle.tv_field.specs.declared.value_parsing_error.ValueParsingError.TheVari
 use Rattle.tv_store.specs.Stored.{stored}
 use Rattle.tv_format.specs.Tree.{Tree, Document}
 
-pub no_text : (schema : List Entry) (line : List ℕ) → ¬ IsUtf8 line → Answer schema line (codes "error InvalidJson")
-no_text schema line none = answered (no_object (λ members h. none h.0) refl)
-
 -- ---- refusals of values
 
 named_by : (e : ValueParsingError) (refusal : TableRefusal) → error_of e ≡ Some refusal → value_error_text e ≡ codes "error ValueError " ++ refusal_name refusal

@@ -174,9 +174,6 @@ module _ {schema : List Entry} {text : List ℕ} {parser : Parser} {rest : List 
     reason = reason;
   }
 
-  pub read_all : rest ≡ [] → WritesTokens text r.tokens
-  read_all none = (r.space, subst (BeginsWithTokens text r.tokens) (ap (λ (l : List ℕ). r.space ++ l) none ∙ append-nil r.space) r.begins, r.is_space)
-
 -- ---- each token takes a byte or more
 
 longer_by : (whole word rest : List ℕ) → whole ≡ word ++ rest → word ≢ [] → length rest < length whole

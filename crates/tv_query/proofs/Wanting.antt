@@ -29,20 +29,8 @@ any_left P whole left next x cut fails same = (
   λ n. same.1 (subst (Any P) (sym cut) (any_rest P x next n)),
 )
 
-pub any_here : {X : Type 0} (P : X → Type 0) (whole left next : List X) (x : X) → left ≡ x ∷ next → P x → Any P whole ↔ Any P left → Any P whole
-any_here P whole left next x cut p same = same.1 (subst (Any P) (sym cut) (any_first P x next p))
-
-pub none_left : {X : Type 0} (P : X → Type 0) (whole left : List X) → left ≡ [] → Any P whole ↔ Any P left → Any P whole → ⊥
-none_left P whole left none same a = let n = subst (Any P) none (same.0 a) in omega (arith, n.2)
-
-pub contains_any : {X : Type 0} (xs : List X) (x : X) → Contains xs x → Any (λ y. y ≡ x) xs
-contains_any xs x c = (c.0, x, c.1, c.2, refl)
-
 at_same : {X : Type 0} (xs : List X) (k : ℕ) (x y : X) → k < length xs → get_or xs k y ≡ y → y ≡ x → get_or xs k x ≡ x
 at_same xs k x y lt is same = subst (λ z. get_or xs k z ≡ z) same is
-
-pub any_contains : {X : Type 0} (xs : List X) (x : X) → Any (λ y. y ≡ x) xs → Contains xs x
-any_contains xs x a = (a.0, a.2, at_same xs a.0 x a.1 a.2 a.3 a.4)
 
 pub found_in : {X : Type 0} (P : X → Type 0) (xs ys : List X) (k : ℕ) (x : X) → ys ≡ xs → k < length ys → x ≡ get_or ys k x → P x → Any P xs
 found_in P xs ys k x same lt is p = subst (Any P) same (k, x, lt, sym is, p)

@@ -12,14 +12,6 @@ use Rattle.tv_query.specs.declared.query_error.QueryReason.TheVariants.{NoText}
 use Rattle.tv_query.specs.declared.token.Stop.{Stop}
 use Rattle.tv_query.specs.declared.token.Stop.TheVariants as stop
 
-pub first_is : (s : List ℕ) (b : ℕ) → slice_get s 0 ≡ Some b → get_or s 0 0 ≡ b
-first_is [] b is = absurd (cc)
-first_is (x ∷ xs) b is = cc
-
-pub begins_without : (p : ℕ → Bool) (s : List ℕ) → (0 < length s → p (get_or s 0 0) ≡ false) → BeginsWithout p s
-begins_without p [] fails = tt
-begins_without p (x ∷ xs) fails = fails (omega arith)
-
 none_before : (p : ℕ → Bool) (s : List ℕ) (n : ℕ) → ((k : ℕ) → k < n → p (get_or s k 0) ≡ false) → NonePass p (take n s)
 none_before p s zero each = tt
 none_before p [] (suc n) each = tt

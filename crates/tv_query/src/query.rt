@@ -28,9 +28,14 @@ pub enum Step {
 }
 
 /// Which documents are wanted, by their terms. (Not in tantivy, whose queries search an index.)
-#[derive(Drop)]
 pub struct Query {
     pub(crate) steps: Vec<Step>,
+}
+
+impl Drop for Query {
+    fn drop(self) {
+        let Query { steps: _ } = self;
+    }
 }
 
 // Takes the token with which the text begins, and returns the rest.

@@ -26,10 +26,18 @@ use tv_term::{Term, TermRange};
 use tv_value::field::Field;
 
 /// The terms that a clause of a query wants: some terms, and ranges of them. (Not in tantivy.)
-#[derive(Drop)]
 pub struct Selection {
     exact: TermList,
     ranges: Vec<TermRange>,
+}
+
+impl Drop for Selection {
+    fn drop(self) {
+        let Selection {
+            exact: _,
+            ranges: _,
+        } = self;
+    }
 }
 
 // The reason for a clause that the schema refuses.

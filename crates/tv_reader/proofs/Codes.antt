@@ -35,9 +35,5 @@ no_type code h =
 other : (code : ℕ) → code ≢ 8 → code ≢ 12 → code ≢ 13 → value_type_with code ≡ option_map of_leaf (leaf_codes.type_with code)
 other code a b c = rw (differs code 8 a, differs code 12 b, differs code 13 c) refl
 
--- codes of leaves, and all others
-pub leaf_found : (code : ℕ) (t : LeafType) → code ≢ 8 → code ≢ 12 → code ≢ 13 → store_code t ≡ code → Some (of_leaf t) ≡ value_type_with code
-leaf_found code t a b c is = sym (other code a b c ∙ ap (option_map of_leaf) (subst (λ n. leaf_codes.type_with n ≡ Some t) is (coded_leaf t)))
-
 pub none_found : (code : ℕ) → code ≢ 8 → code ≢ 12 → code ≢ 13 → ((t : LeafType) → store_code t ≢ code) → None ≡ value_type_with code
 none_found code a b c none = sym (other code a b c ∙ ap (option_map of_leaf) (no_coded_leaf code none))

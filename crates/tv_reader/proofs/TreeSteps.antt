@@ -376,7 +376,3 @@ members_fail {m = m} {n = n} {members = members} version less p q =
     p (finds_fails (λ b z. ⊥) (NoMember (version_of version)) (λ w c f. f) q)
 
 -- ---- a list that is one too many
-
-pub too_deep : {S X : Type 0} (is_known : S → Type 0) (left : S → List ℕ) (failures : S → Failures) (p : S) (i : ℕ) (B : List ℕ → X → Type 0) (Q : List ℕ → Refusal → Type 0) → FindsDeepBy is_known left failures p i p i (Err errors.TooDeep) B Q
-too_deep is_known left failures p i B Q =
-    finds_short {May0 = StoreMayStopDeep} errors.TooDeep B Q refl (inr refl) (finds_nothing tree_stop end is_known left failures p i refl (λ w (x : i ≡ i). Unit {0}) (λ w r. Unit {0}) tt)

@@ -74,9 +74,6 @@ items_passed v kind all n whole rest a within p is =
 
 -- ---- at the start of bytes
 
-pub no_items : (v : Version) (kind : ItemKind) (bytes : List ℕ) → BeginsItems v kind 0 bytes bytes
-no_items v kind bytes = begins_nothing bytes refl
-
 pub one_more : (v : Version) (kind : ItemKind) (n : ℕ) (bytes rest value behind : List ℕ) → BeginsItems v kind n bytes rest → Begins (Before v kind) rest value → Begins (IsValueEncoding v) value behind → BeginsItems v kind (n + 1) bytes behind
 one_more v kind n bytes rest value behind p before is =
     let item : Begins (IsItem v kind) rest behind = begins_then rest value behind before is in

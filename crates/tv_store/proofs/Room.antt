@@ -16,6 +16,3 @@ told_is result d e p q = cc
 heap_is_full : (e : AddError) (doc : CompactDoc) (t : Tree) → errors.HeapFull ≡ add_error e → RefusesAddition doc t e → IsFull doc t
 heap_is_full adds.HeapFull doc t p h = h
 heap_is_full adds.Memory doc t p h = absurd (cc)
-
-pub is_full : {T : Type 0} (result : Result T DeserializeError) (d : DeserializeError) (e : AddError) (doc : CompactDoc) (t : Tree) → result ≡ Err d → d ≡ add_error e → IsErrOf result errors.HeapFull → RefusesAddition doc t e → IsFull doc t
-is_full result d e doc t p q full h = heap_is_full e doc t (told_is result d errors.HeapFull p full ∙ q) h

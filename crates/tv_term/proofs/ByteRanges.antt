@@ -225,17 +225,6 @@ before-upto (y ∷ b) [] = last_below y b
     last_below y b = let none = no_below b in grind (arith, nat_tests)
 before-upto (y ∷ b) (x ∷ p) = ap (λ t. cond (eqb y x) t (ltb y x)) (before-upto b p)
 
-pub from-shorter : (p s b : List ℕ) → IsFrom (p ++ s) b → IsFrom p b
-from-shorter p s b h =
-    is_upto p b (slice_cmp nat_cmp p b) refl ∙ shorter-upto p s b (sym (is_upto (p ++ s) b (slice_cmp nat_cmp (p ++ s) b) refl) ∙ h)
-
-pub prefix-between : (p s b : List ℕ) → IsFrom p b → IsTrue (is_lt (slice_cmp nat_cmp b (p ++ s))) → IsPrefix p b
-prefix-between p s b h k =
-    prefix-begins p b (between-begins p s b (sym (is_upto p b (slice_cmp nat_cmp p b) refl) ∙ h) (sym (is_below b (p ++ s) (slice_cmp nat_cmp b (p ++ s)) refl) ∙ k))
-
-pub from-prefix : (p b : List ℕ) → IsPrefix p b → IsFrom p b
-from-prefix p b h = is_upto p b (slice_cmp nat_cmp p b) refl ∙ begins-upto p b (begins-prefix p b h)
-
 pub next-test : (p b : List ℕ) → is_le (slice_cmp nat_cmp (p ++ 0 ∷ []) b) ≡ is_lt (slice_cmp nat_cmp p b)
 next-test p b =
     is_upto (p ++ 0 ∷ []) b (slice_cmp nat_cmp (p ++ 0 ∷ []) b) refl ∙ next-upto p b ∙ sym (is_below p b (slice_cmp nat_cmp p b) refl)

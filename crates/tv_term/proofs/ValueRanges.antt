@@ -45,20 +45,6 @@ ends_behind all left most next is leaves bytes =
     let same = ap (λ z. is_lt (slice_cmp nat_cmp bytes z)) is ∙ before-test bytes most in
     let w = leaves bytes in ((λ i. let b = w.0 i in (b.0, sym same ∙ b.1)), (λ h. w.1 (h.0, same ∙ h.1)))
 
-pub unbounded_start : (all : TermRange) → LeavesFrom all Unbounded all
-unbounded_start all bytes = ((λ i. (i, tt)), (λ h. h.0))
-
-pub unbounded_end : (all : TermRange) → LeavesTo all Unbounded all
-unbounded_end all bytes = ((λ i. (i, tt)), (λ h. h.0))
-
-pub both_bounds : (all from left : TermRange) (start end : Bound (List ℕ)) → LeavesFrom all start from → LeavesTo from end left → LeavesBetween all start end left
-both_bounds all from left start end s e bytes =
-    let w = s bytes in
-    let v = e bytes in (
-      (λ i. let b = v.0 i in let a = w.0 b.0 in (a.0, a.1, b.1)),
-      (λ h. v.1 (w.1 (h.0, h.1), h.2)),
-    )
-
 -- ---- the terms between two bounds of values
 
 from_bound : (id : ℕ) (lo : Bound TermValue) (start : Bound (List ℕ)) (bytes : List ℕ) (value : TermValue) → AreTermsOf id lo start → IsTerm bytes id value → IsFromBytes start bytes ↔ IsFromBound lo value

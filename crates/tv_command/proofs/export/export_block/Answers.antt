@@ -3,7 +3,7 @@ use Rattle.tv_blocks.specs.Blocks.{AppendsLine}
 use Rattle.tv_command.specs.Exporting.{AppendsBegun}
 use Rattle.tv_command.proofs.Checks.{counts_source, refused_at}
 use Rattle.tv_command.proofs.Prints.{counts_sink, not_source, printed_all, printed_begun, printed_next, printed_none, printed_stops}
-use Rattle.tv_command.specs.declared.export.ExportError.TheVariants as errors
+use Rattle.tv_command.specs.declared.work_error.WorkError.TheVariants as errors
 use Rattle.tv_doc.specs.Document.{document_of}
 use Rattle.tv_reader.specs.Version.{version_of}
 use Rattle.tv_command.proofs.export.export_block.Goals as goal

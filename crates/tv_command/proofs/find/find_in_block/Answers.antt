@@ -2,7 +2,7 @@ use Rattle.std.proofs.Common.{refl, subst, ap, ◌∙◌, arith}
 use Rattle.tv_command.specs.Finding.{Finds, LeavesDocument}
 use Rattle.tv_command.proofs.Checks.{counts_source, refused_at}
 use Rattle.tv_command.proofs.Finds.{counts_found, few_found, found_all, found_left, found_next, found_none, found_stops, not_of_source}
-use Rattle.tv_command.specs.declared.find.FindError.TheVariants as errors
+use Rattle.tv_command.specs.declared.work_error.WorkError.TheVariants as errors
 use Rattle.tv_doc.specs.Document.{document_of}
 use Rattle.tv_reader.specs.Version.{version_of}
 use Rattle.tv_command.proofs.find.find_in_block.Goals as goal

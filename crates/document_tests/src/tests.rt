@@ -1,5 +1,0 @@
-mod long;
-mod memory;
-mod parsed;
-mod printed;
-mod repeated;

@@ -1,0 +1,13 @@
+//! Sources and sinks, values and terms; documents with values of a type of the test's own, very many lists, and memory that is refused.
+
+mod buffered;
+mod bytes;
+mod failing_calls;
+mod laws;
+mod long;
+mod memory;
+mod owned_values;
+mod parsed;
+mod printed;
+mod repeated;
+mod terms;

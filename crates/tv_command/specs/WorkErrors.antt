@@ -1,0 +1,35 @@
+-- Why the work on the documents of a block breaks off.
+use Rattle.tv_base.specs.Stop.{Stop}
+use Rattle.tv_base.specs.Stop.Stop.{Failed, Short}
+use Rattle.tv_command.specs.Reading.{block_stop}
+use Rattle.tv_command.specs.declared.work_error.WorkError.{WorkError}
+use Rattle.tv_command.specs.declared.work_error.WorkError.TheVariants as errors
+use Rattle.tv_format.specs.InputError.{Refusal}
+
+-- as its source sees it
+abbrev pub source_stop : WorkError → Stop Refusal
+source_stop (errors.Read e) = block_stop e
+source_stop _ = Short
+
+-- and as its sink does
+abbrev pub sink_stop : WorkError → Stop Refusal
+sink_stop (errors.Write kind) = Failed kind
+sink_stop _ = Short
+
+-- for another reason than that a document has no terms
+abbrev pub IsNotOfTerms : WorkError → Type 0
+IsNotOfTerms (errors.Terms why) = ⊥
+IsNotOfTerms _ = Unit {0}
+
+-- ---- for private clauses
+
+-- a write failed, or memory was refused
+abbrev pub IsOfWriting : WorkError → Type 0
+IsOfWriting (errors.Write kind) = Unit {0}
+IsOfWriting errors.Memory = Unit {0}
+IsOfWriting _ = ⊥
+
+-- the same, or a document has no terms
+abbrev pub IsOfDocument : WorkError → Type 0
+IsOfDocument (errors.Terms why) = Unit {0}
+IsOfDocument e = IsOfWriting e
