@@ -1,6 +1,6 @@
 -- A borrowed value's data, a level at a time.
-use Rattle.std.proofs.Common.{◌≡◌, ℕ, ℤ, List, Bool, Float, Bor, Vec, Global, rules}
-use Rattle.serde_json.specs.Data.{null, boolean, number, unsigned, negative, float, string, array, object}
+use Rattle.std.proofs.Common.{◌≡◌, ℕ, List, Bool, Bor, Vec, Global, rules}
+use Rattle.serde_json.specs.Data.{null, boolean, string, array, object}
 use Rattle.tv_json.specs.BorrowedData.{data_of, items_data, members_data}
 use Rattle.tv_json.specs.declared.borrowed.BorrowedJson as borrowed
 use Rattle.tv_json.specs.declared.borrowed.BorrowedJson.{BorrowedJson, the_lemmas}
@@ -10,15 +10,6 @@ data_of-Null = search (rules, the_lemmas)
 
 pub data_of-Bool : (b : Bool) → data_of (borrowed.Bool b) ≡ boolean b
 data_of-Bool b = search (rules, the_lemmas)
-
-pub data_of-Unsigned : (n : ℕ) → data_of (borrowed.Unsigned n) ≡ number (unsigned n)
-data_of-Unsigned n = search (rules, the_lemmas)
-
-pub data_of-Negative : (z : ℤ) → data_of (borrowed.Negative z) ≡ number (negative z)
-data_of-Negative z = search (rules, the_lemmas)
-
-pub data_of-Float : (x : Float) → data_of (borrowed.Float x) ≡ number (float x)
-data_of-Float x = search (rules, the_lemmas)
 
 pub data_of-String : (s : Bor (List ℕ)) → data_of (borrowed.String s) ≡ string s.now
 data_of-String s = search (rules, the_lemmas)
