@@ -28,9 +28,6 @@ unread_first v bytes e refused full may = tt
 
 -- ---- fields of a schema
 
-pub none_so_far : (schema : List Entry) (document left : Document) → left ≡ document → BelongsSoFar schema document left
-none_so_far schema document left all = record { before = []; joined = sym all; belongs = tt }
-
 belongs-snoc : (schema : List Entry) (d : Document) (field : ℕ) (value : Tree) → Belongs schema d → field < length schema → Belongs schema (d ++ (field, value) ∷ [])
 belongs-snoc schema [] field value h within = (within, tt)
 belongs-snoc schema (p ∷ ps) field value h within = (h.0, belongs-snoc schema ps field value h.1 within)
