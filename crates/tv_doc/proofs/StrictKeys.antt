@@ -1,6 +1,6 @@
 -- Keys that name fields, each once, and the fields that they named.
 use Rattle.std.proofs.Common.{◌≡◌, ◌≢◌, ℕ, zero, suc, Bool, true, false, List, [], ◌∷◌, ◌++◌, length, get_or, set, Option, Some, None, refl, sym, ap, ◌∙◌, subst, arith, inl, inr, ⊎_elim}
-use Rattle.std.specs.Prelude.{◌⊎◌, All, Contains, IsSome, IsSomeAnd, slice_get}
+use Rattle.std.specs.Prelude.{◌⊎◌, Contains, IsSome, IsSomeAnd, slice_get}
 use Rattle.std.proofs.lemmas.List.{length-set}
 use Rattle.std.proofs.lemmas.List.Elements.{All-push, Contains-append_left, Contains-push}
 use Rattle.std.proofs.lemmas.List.Quantifiers.{all_pairs_push}
@@ -24,11 +24,6 @@ one_field schema a b m n same h k = let both : Some m ≡ Some n = sym h ∙ ap 
 
 -- ---- marks
 
-none_marked : (noted : List Bool) (k : ℕ) → All (λ b. b ≡ false) noted → slice_get noted k ≡ Some true → ⊥
-none_marked [] k h e = absurd (cc)
-none_marked (b ∷ bs) zero h e = let no : b ≡ false = h 0 b (omega arith) in absurd (cc)
-none_marked (b ∷ bs) (suc k) h e = none_marked bs k (λ i d lt. h (suc i) d (omega arith)) e
-
 marked : (noted : List Bool) (i : ℕ) → slice_get noted i ≡ Some false → slice_get (set noted i true) i ≡ Some true
 marked [] i e = absurd (cc)
 marked (b ∷ bs) zero e = refl
@@ -49,9 +44,6 @@ marked_by (b ∷ bs) (suc i) zero e = inr e
 marked_by (b ∷ bs) (suc i) (suc k) e = ⊎_elim (λ same. inl (ap suc same)) (λ before. inr before) (marked_by bs i k e)
 
 -- ---- the keys so far
-
-pub none_noted : (schema : List Entry) (noted : List Bool) → All (λ b. b ≡ false) noted → length noted ≡ length schema → AreNoted schema [] noted
-none_noted schema noted h long = record { each = λ k d lt. absurd (omega arith); only = λ field e. absurd (none_marked noted field h e); as_many = long }
 
 pub no_keys : (schema : List Entry) → NameFieldsOnce schema []
 no_keys schema = record { named = λ k d lt. absurd (omega arith); once = λ i j d lt within. absurd (omega arith) }
