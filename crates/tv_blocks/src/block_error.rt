@@ -27,6 +27,7 @@ pub enum DocumentRefusal {
     HeapFull,
 }
 
+/// As `a key is no text`.
 impl fmt::Display for DocumentRefusal {
     fn fmt<W: fmt::Write>(&self, f: &mut fmt::Formatter<W>) -> fmt::Result {
         let text = match self {
@@ -128,6 +129,7 @@ fn write_entry<W: fmt::Write, R: fmt::Display>(
     write!(f, "at entry {entry} of the schema: {error}")
 }
 
+/// As `memory was refused`, or `the document at byte 7: a key is no text`.
 impl fmt::Display for BlockError {
     fn fmt<W: fmt::Write>(&self, f: &mut fmt::Formatter<W>) -> fmt::Result {
         let text = match self {

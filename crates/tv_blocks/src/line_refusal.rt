@@ -21,6 +21,7 @@ pub enum ValueRefusal {
     FloatNumber,
 }
 
+/// As `the number doesn't fit`.
 impl fmt::Display for ValueRefusal {
     fn fmt<W: fmt::Write>(&self, f: &mut fmt::Formatter<W>) -> fmt::Result {
         f.write_str(match self {

@@ -21,6 +21,7 @@ pub enum TermsRefusal {
     NoTerm,
 }
 
+/// As `a key has U+0000`.
 impl fmt::Display for TermsRefusal {
     fn fmt<W: fmt::Write>(&self, f: &mut fmt::Formatter<W>) -> fmt::Result {
         f.write_str(match self {
