@@ -50,9 +50,6 @@ extends_on a b c h k = (h.0 ++ k.0, k.1 ∙ ap (λ l. l ++ k.0) h.1 ∙ append_a
 
 -- ---- so far: the whole is what was appended, and then what is left
 
-pub begun : (old : List (List ℕ)) (wanted : Terms) → followed_by (Ok old) wanted ≡ followed_by (Ok old) wanted
-begun old wanted = refl
-
 pub more_appended : (whole first left : Terms) (old new : List (List ℕ)) → whole ≡ followed_by (Ok old) (followed_by first left) → AreAppended old new first → whole ≡ followed_by (Ok new) left
 more_appended whole first left old new so_far h =
     so_far ∙ sym (regrouped (Ok old) first left) ∙ ap (λ t. followed_by t left) (put_behind old new first h)

@@ -1,5 +1,5 @@
 -- Ranges between texts of queries.
-use Rattle.std.proofs.Common.{◌≡◌, ◌≢◌, ℕ, ◌<◌, ◌≤◌, List, ◌++◌, true, false, length, take, drop, Option, Some, None, codes, refl, sym, ap, subst, ◌∙◌, arith, length-append}
+use Rattle.std.proofs.Common.{◌≡◌, ◌≢◌, ℕ, ◌<◌, ◌≤◌, List, ◌++◌, true, length, take, drop, Option, Some, None, codes, refl, sym, ap, subst, ◌∙◌, arith, length-append}
 use Rattle.std.proofs.Math.Seq.{take-append_seam}
 use Rattle.std.proofs.lemmas.List.{drop_at, take-append-drop}
 use Rattle.std.specs.Borrow.{Bor}
@@ -71,14 +71,6 @@ plain_typed field (types.IpAddr options) start end answer not_json h = h
 plain_typed field (types.JsonObject options) start end answer not_json h = absurd (not_json options refl)
 
 -- ---- the bounds that a text writes
-
-pub no_start : (s : List ℕ) → LacksTextAt (codes "[") s 0 → LacksTextAt (codes "{") s 0 → (start : Bound (List ℕ)) → ¬ IsStartBound s start
-no_start s h k start (true, inner, is, bound) = h inner is
-no_start s h k start (false, inner, is, bound) = k inner is
-
-pub no_end : (s : List ℕ) → ((front : List ℕ) → s ≢ front ++ codes "]") → ((front : List ℕ) → s ≢ front ++ codes "}") → (end : Bound (List ℕ)) → ¬ IsEndBound s end
-no_end s h k end (true, inner, is, bound) = h inner is
-no_end s h k end (false, inner, is, bound) = k inner is
 
 -- parted at the first ` TO `
 abbrev pub IsParted : List ℕ → List ℕ → List ℕ → Type 0
