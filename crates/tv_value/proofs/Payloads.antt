@@ -20,11 +20,6 @@ begins_fewer whole rest p few = omega (arith, begins_length whole rest p)
 text_short : (b content : List ℕ) → Text b content → length b < 2 ^ 63 → IsText content
 text_short b content p few = record { size = omega (arith, ap length p.sized.joined, length-append p.sized.size content); utf8 = p.utf8 }
 
-pub text_valid : (whole rest content : List ℕ) → Begins (λ b. Text b content) whole rest → length whole < 2 ^ 63 → IsText content
-text_valid whole rest content p few =
-    let fewer : length p.prefix < 2 ^ 63 = omega (arith, ap length p.joined, length-append p.prefix rest) in
-    text_short p.prefix content p.encoded fewer
-
 -- the two parts take the bytes of the whole
 lengths : {P Q : List ℕ → Type 0} (whole : List ℕ) (p : Then P Q whole) → length whole ≡ length p.prefix + length p.rest
 lengths whole p = ap length p.joined ∙ length-append p.prefix p.rest
