@@ -1,4 +1,5 @@
 use Rattle.std.proofs.Common.{◌≡◌, ◌<◌, ◌∙◌, ◌∷◌, ◌++◌, ℕ, List, [], String, Global, string_bytes, map, ap, refl, sym, arith, rules}
+use Rattle.std.proofs.lemmas.Result.{IfOk-weaker}
 use Rattle.std.specs.Prelude.{Some, None}
 use Rattle.tv_value.specs.Lent.{nested_tree}
 use Rattle.tv_value.specs.Owned.{owned_tree, owned_entries}
@@ -110,3 +111,17 @@ owned_object-returns g t c =
     let whole = all_made (owned_entries c.loop-key.owned.items) (g.N.Nested.object_rest c.loop-key.key-iterator) (g.N.Nested.object_rest c.args.members) c.loop-key.invariant.members none in
     let level : owned_tree (owned.Object c.loop-key.owned) ≡ object (entries (owned_entries c.loop-key.owned.items)) = search (rules, the_lemmas) in
     level ∙ ap (λ z. object (entries z)) whole
+
+-- ---- values
+
+pub owned_of-returns-in-Leaf : goal.owned_of-returns-in-Leaf
+owned_of-returns-in-Leaf g t c =
+    IfOk-weaker c.from_leaf.result _ _ (λ made is. is ∙ ap (nested_tree g.N.Nested.array_rest g.N.Nested.object_rest) (sym c.in-Leaf.is)) c.from_leaf.ensures
+
+pub owned_of-returns-in-Array : goal.owned_of-returns-in-Array
+owned_of-returns-in-Array g t c =
+    IfOk-weaker c.owned_array.result _ _ (λ made is. is ∙ ap (nested_tree g.N.Nested.array_rest g.N.Nested.object_rest) (sym c.in-Array.is)) c.owned_array.ensures
+
+pub owned_of-returns-in-Object : goal.owned_of-returns-in-Object
+owned_of-returns-in-Object g t c =
+    IfOk-weaker c.owned_object.result _ _ (λ made is. is ∙ ap (nested_tree g.N.Nested.array_rest g.N.Nested.object_rest) (sym c.in-Object.is)) c.owned_object.ensures
