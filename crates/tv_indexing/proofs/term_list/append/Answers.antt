@@ -1,4 +1,4 @@
-use Rattle.std.proofs.Common.{◌≡◌, ◌++◌, length, take, take_all, ap, ◌∙◌}
+use Rattle.std.proofs.Common.{◌++◌, length, take, take_all, ap, ◌∙◌}
 use Rattle.std.proofs.Math.Seq.{take-append_seam}
 use Rattle.tv_indexing.specs.TermPlaces.{joined_parts}
 use Rattle.tv_indexing.proofs.term_list.append.Goals as goal
