@@ -236,9 +236,3 @@ module _ {K : Type 0} {from to : Version} {block rest : List ℕ} {number : ℕ}
     unmigrated = u.unmigrated;
     held = λ told. subst (λ (l : List ℕ). AppendsPrefix l (sink.held after) u.next) (m.held told) (u.held (m.stays_known told));
   }
-
--- some bytes of the rest were taken
-pub fewer_left : {K : Type 0} {from to : Version} {rest left : List ℕ} {sink : Sink K} {now after : K} → Carried from to rest left sink now after → length left < length rest
-fewer_left {from = from} {rest = rest} {left = left} c =
-    let r = c.transcribed.read in
-    omega (arith, ap length r.joined, length-append r.prefix left, some_bytes from r.prefix c.transcribed.document r.encoded)

@@ -61,9 +61,6 @@ pub was_open : {X T : Type 0} (has_failed : Bool) (x : X) → (has_failed ≡ tr
 was_open false x closed = refl
 was_open true x closed = let e = (closed refl).0 in absurd cc
 
-pub both : false ≡ true → ⊥
-both e = absurd cc
-
 -- a refusal of a pair is one of the document
 pub document_counts : (e : DeserializeError) (old new : Failures) → CountsStop (typed_stop e) old new → CountsStop (document_stop e) old new
 document_counts (errors.CorruptedValue c) old new h = h
