@@ -1,21 +1,17 @@
 -- Documents of lines, and why there is none.
-use Rattle.std.proofs.Common.{◌≡◌, ℕ, List, [], ◌∷◌, ◌++◌, Option, Some, None, Ok, Err, refl, sym, ap, subst, ◌∙◌, append_assoc}
+use Rattle.std.proofs.Common.{◌≡◌, ℕ, List, [], ◌∷◌, ◌++◌, Option, Some, None, Err, refl, sym, ap, subst, ◌∙◌, append_assoc}
 use Rattle.tv_lines.proofs.Refusing.{pairs-snoc, full_room}
 use Rattle.std.specs.List.{AllByRecursion}
 use Rattle.std.specs.Prelude.{IsUtf8, slice_get, string_bytes}
 use Rattle.std.proofs.lemmas.Option.{same_Some}
 use Rattle.serde_json.specs.Data as json
 use Rattle.serde_json.specs.Data.{Data, Items, Members}
-use Rattle.tv_blocks.specs.LineRefusals.{IsLineDocument, IsUnparsed, bad_value_of, line_error, refused_for, value_refusal}
+use Rattle.tv_blocks.specs.LineRefusals.{IsUnparsed, bad_value_of, line_error, refused_for, value_refusal}
 use Rattle.tv_blocks.specs.LineRefusals.RefusesLine.{bad_value, no_object, no_room}
 use Rattle.tv_blocks.specs.declared.block_error.BlockError.{BlockError}
-use Rattle.tv_blocks.specs.declared.block_error.BlockError.TheVariants as blocks
-use Rattle.tv_blocks.specs.declared.line_refusal.LineRefusal.TheVariants as lines
-use Rattle.tv_doc.specs.Document.{document_of}
 use Rattle.tv_doc.specs.JsonObject.{FieldJson, Parses, item_values, object_values, values_at, values_for, values_of_entry}
 use Rattle.tv_doc.specs.declared.doc_parsing_error.DocParsingError.{DocParsingError}
 use Rattle.tv_doc.specs.declared.doc_parsing_error.DocParsingError.TheVariants as errors
-use Rattle.tv_doc.specs.declared.document.CompactDoc.{CompactDoc}
 use Rattle.tv_field.specs.Entry.{Entry}
 use Rattle.tv_field.specs.JsonAnswer.{error_of}
 use Rattle.tv_field.specs.JsonTable.{TableRefusal}
@@ -93,5 +89,3 @@ error_unparsed schema line errors.Memory utf8 h = tt
 
 pub unparsed : (schema : List Entry) (line : List ℕ) (e : DocParsingError) (said : BlockError) → IsUtf8 line → Parses schema line (Err e) → said ≡ line_error schema e → IsUnparsed schema line said
 unparsed schema line e said utf8 h is = subst (IsUnparsed schema line) (sym is) (error_unparsed schema line e utf8 h)
-
--- ---- lines of which there is a document

@@ -8,7 +8,8 @@ use crate::line_refusal::LineRefusal;
 use crate::query_refusal::QueryRefusal;
 use crate::terms_refusal::TermsRefusal;
 use std::alloc::AllocError;
-use thiserror::Error;
+use std::error::Error;
+use std::fmt;
 use tv_base::Cause;
 use tv_field::SchemaError;
 use tv_schema::SchemaKey;
@@ -16,24 +17,34 @@ use tv_store::DeserializeError;
 use tv_term::TermError;
 
 /// Why a document of a block can't be read. (Not in tantivy.)
-#[derive(Clone, Copy, Debug, PartialEq, Eq, Drop, Error)]
+#[derive(Clone, Copy, Debug, PartialEq, Eq, Drop)]
 pub enum DocumentRefusal {
     /// The bytes encode no document.
-    #[error("{0}")]
     Corrupted(Cause),
     /// In a key's place stands a value that isn't a text.
-    #[error("a key is no text")]
     KeyIsNoText,
     /// The document needs more room than 4294967295 bytes.
-    #[error("the document needs more room than 4294967295 bytes")]
     HeapFull,
 }
 
+/// As `a key is no text`.
+impl fmt::Display for DocumentRefusal {
+    fn fmt<W: fmt::Write>(&self, f: &mut fmt::Formatter<W>) -> fmt::Result {
+        let text = match self {
+            DocumentRefusal::Corrupted(cause) => return write!(f, "{cause}"),
+            DocumentRefusal::KeyIsNoText => "a key is no text",
+            DocumentRefusal::HeapFull => "the document needs more room than 4294967295 bytes",
+        };
+        f.write_str(text)
+    }
+}
+
+impl Error for DocumentRefusal {}
+
 /// Why a call wrote nothing. (Not in tantivy.)
-#[derive(Clone, Copy, Debug, PartialEq, Eq, Drop, Error)]
+#[derive(Clone, Copy, Debug, PartialEq, Eq, Drop)]
 pub enum BlockError {
     /// A buffer is too small.
-    #[error("{bytes} bytes and {lines} answers are to be written")]
     TooSmall {
         /// How many bytes are to be written.
         bytes: u64,
@@ -41,22 +52,16 @@ pub enum BlockError {
         lines: u64,
     },
     /// Memory was refused.
-    #[error("memory was refused")]
     Memory,
     /// A text isn't UTF-8.
-    #[error("a text is not UTF-8")]
     NotUtf8,
     /// A text names no facet, as it doesn't begin with `/`.
-    #[error("a facet begins with /")]
     NotFacet,
     /// The schema's text isn't JSON.
-    #[error("the schema is not JSON")]
     InvalidJson,
     /// The JSON describes no schema: the whole is no array, an entry is no object, or it has the type `f64`.
-    #[error("{0}")]
     BadSchema(SchemaError),
     /// The JSON describes no schema: an entry is refused as a field, for its name or because there are too many.
-    #[error("at entry {entry} of the schema: {error}")]
     BadSchemaEntry {
         /// The place of the entry, from 0.
         entry: usize,
@@ -64,7 +69,6 @@ pub enum BlockError {
         error: SchemaError,
     },
     /// The JSON describes no schema: a key's value in an entry is not as it has to be, or is missing.
-    #[error("at entry {entry} of the schema: {key}")]
     BadSchemaKey {
         /// The place of the entry, from 0.
         entry: usize,
@@ -72,13 +76,10 @@ pub enum BlockError {
         key: SchemaKey,
     },
     /// The path names no field of the schema.
-    #[error("the path names no field")]
     NoField,
     /// No byte string is above all that begin with the prefix.
-    #[error("the prefix has no end")]
     NoEnd,
     /// A document of the block can't be read.
-    #[error("the document at byte {start}: {refusal}")]
     BadDocument {
         /// Where in the block the document begins.
         start: u64,
@@ -86,19 +87,15 @@ pub enum BlockError {
         refusal: DocumentRefusal,
     },
     /// There is no document of a line.
-    #[error("{0}")]
     BadLine(LineRefusal),
     /// A document has a field that the schema doesn't have.
-    #[error("the schema has no field {field}")]
     ForeignField {
         /// The field's number.
         field: u32,
     },
     /// A text of a query has no terms, or no ranges of them.
-    #[error("{0}")]
     BadQuery(QueryRefusal),
     /// A document of the block can be read, but its values have no terms by the schema.
-    #[error("the document at byte {start}: {refusal}")]
     NoTerms {
         /// Where in the block the document begins.
         start: u64,
@@ -106,15 +103,70 @@ pub enum BlockError {
         refusal: TermsRefusal,
     },
     /// The record of a document and a facet is cut short, or the facet isn't UTF-8.
-    #[error("the pair at byte {start} is cut short, or its facet is not UTF-8")]
     BadPair {
         /// Where among the records it begins.
         start: u64,
     },
     /// The bytes are no term, or are one of a text or a facet that isn't UTF-8.
-    #[error("the bytes are no term")]
     NotTerm,
 }
+
+// Writes why a document of a block is refused, and where it begins.
+fn write_document<W: fmt::Write, R: fmt::Display>(
+    f: &mut fmt::Formatter<W>,
+    start: u64,
+    refusal: &R,
+) -> fmt::Result {
+    write!(f, "the document at byte {start}: {refusal}")
+}
+
+// Writes what is wrong with an entry of a schema.
+fn write_entry<W: fmt::Write, R: fmt::Display>(
+    f: &mut fmt::Formatter<W>,
+    entry: usize,
+    error: &R,
+) -> fmt::Result {
+    write!(f, "at entry {entry} of the schema: {error}")
+}
+
+/// As `memory was refused`, or `the document at byte 7: a key is no text`.
+impl fmt::Display for BlockError {
+    fn fmt<W: fmt::Write>(&self, f: &mut fmt::Formatter<W>) -> fmt::Result {
+        let text = match self {
+            BlockError::TooSmall { bytes, lines } => {
+                return write!(f, "{bytes} bytes and {lines} answers are to be written");
+            }
+            BlockError::Memory => "memory was refused",
+            BlockError::NotUtf8 => "a text is not UTF-8",
+            BlockError::NotFacet => "a facet begins with /",
+            BlockError::InvalidJson => "the schema is not JSON",
+            BlockError::BadSchema(error) => return write!(f, "{error}"),
+            BlockError::BadSchemaEntry { entry, error } => return write_entry(f, *entry, error),
+            BlockError::BadSchemaKey { entry, key } => return write_entry(f, *entry, key),
+            BlockError::NoField => "the path names no field",
+            BlockError::NoEnd => "the prefix has no end",
+            BlockError::BadDocument { start, refusal } => {
+                return write_document(f, *start, refusal);
+            }
+            BlockError::BadLine(refusal) => return write!(f, "{refusal}"),
+            BlockError::ForeignField { field } => {
+                return write!(f, "the schema has no field {field}");
+            }
+            BlockError::BadQuery(refusal) => return write!(f, "{refusal}"),
+            BlockError::NoTerms { start, refusal } => return write_document(f, *start, refusal),
+            BlockError::BadPair { start } => {
+                return write!(
+                    f,
+                    "the pair at byte {start} is cut short, or its facet is not UTF-8"
+                );
+            }
+            BlockError::NotTerm => "the bytes are no term",
+        };
+        f.write_str(text)
+    }
+}
+
+impl Error for BlockError {}
 
 impl From<TermError> for BlockError {
     ghost from_gives = { λ _ error. error ≡ Memory };

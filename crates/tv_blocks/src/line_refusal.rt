@@ -3,27 +3,38 @@
 ghost use Rattle.std.specs.Prelude.{◌≡◌};
 ghost use Rattle.tv_blocks.specs.LineRefusals.{line_field, line_number, value_number};
 
+use std::fmt;
 use thiserror::Error;
 
 /// Why a field's type refuses a value of a line. (Not in tantivy.)
-#[derive(Clone, Copy, Debug, PartialEq, Eq, Drop, Error)]
+#[derive(Clone, Copy, Debug, PartialEq, Eq, Drop)]
 pub enum ValueRefusal {
     /// A number doesn't fit the field's type.
-    #[error("the number doesn't fit")]
     Overflow,
     /// The value is of another kind than the field's.
-    #[error("the value is of another kind")]
     WrongType,
     /// The text can't be read as the field's type wants it.
-    #[error("the text can't be read")]
     BadText,
     /// The text isn't the standard base64 of any bytes.
-    #[error("the text isn't base64")]
     BadBase64,
     /// The number isn't whole, or doesn't fit 64 bits.
-    #[error("the number isn't whole")]
     FloatNumber,
 }
+
+/// As `the number doesn't fit`.
+impl fmt::Display for ValueRefusal {
+    fn fmt<W: fmt::Write>(&self, f: &mut fmt::Formatter<W>) -> fmt::Result {
+        f.write_str(match self {
+            ValueRefusal::Overflow => "the number doesn't fit",
+            ValueRefusal::WrongType => "the value is of another kind",
+            ValueRefusal::BadText => "the text can't be read",
+            ValueRefusal::BadBase64 => "the text isn't base64",
+            ValueRefusal::FloatNumber => "the number isn't whole",
+        })
+    }
+}
+
+impl std::error::Error for ValueRefusal {}
 
 impl ValueRefusal {
     /// Its number, from 2, in the order of the variants.

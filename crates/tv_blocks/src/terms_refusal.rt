@@ -4,25 +4,36 @@ ghost use Rattle.std.specs.Prelude.{◌≡◌};
 ghost use Rattle.tv_blocks.specs.TermsRefusals.{terms_error, terms_number};
 
 use crate::block_error::BlockError;
-use thiserror::Error;
+use std::error::Error;
+use std::fmt;
 use tv_indexing::TermValuesError;
 
 /// Why the values of a document have no terms by a schema. (Not in tantivy.)
-#[derive(Clone, Copy, Debug, PartialEq, Eq, Drop, Error)]
+#[derive(Clone, Copy, Debug, PartialEq, Eq, Drop)]
 pub enum TermsRefusal {
     /// The document has a field that the schema doesn't have.
-    #[error("the schema has no such field")]
     ForeignField,
     /// A value isn't of its field's type.
-    #[error("a value is not of its field's type")]
     WrongType,
     /// A key in a value of a field of JSON objects has U+0000.
-    #[error("a key has U+0000")]
     NulInKey,
     /// In a value of a field of JSON objects stands a facet, bytes, an IP address or a text with tokens.
-    #[error("a value that has no term stands in a JSON value")]
     NoTerm,
 }
+
+/// As `a key has U+0000`.
+impl fmt::Display for TermsRefusal {
+    fn fmt<W: fmt::Write>(&self, f: &mut fmt::Formatter<W>) -> fmt::Result {
+        f.write_str(match self {
+            TermsRefusal::ForeignField => "the schema has no such field",
+            TermsRefusal::WrongType => "a value is not of its field's type",
+            TermsRefusal::NulInKey => "a key has U+0000",
+            TermsRefusal::NoTerm => "a value that has no term stands in a JSON value",
+        })
+    }
+}
+
+impl Error for TermsRefusal {}
 
 impl TermsRefusal {
     /// The number of the refusal, as `Answer::detail` has it.

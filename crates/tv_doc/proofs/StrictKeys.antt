@@ -1,6 +1,6 @@
 -- Keys that name fields, each once, and the fields that they named.
 use Rattle.std.proofs.Common.{◌≡◌, ◌≢◌, ℕ, zero, suc, Bool, true, false, List, [], ◌∷◌, ◌++◌, length, get_or, set, Option, Some, None, refl, sym, ap, ◌∙◌, subst, arith, inl, inr, ⊎_elim}
-use Rattle.std.specs.Prelude.{◌⊎◌, All, Contains, IsSome, IsSomeAnd, slice_get}
+use Rattle.std.specs.Prelude.{◌⊎◌, Contains, IsSome, IsSomeAnd, slice_get}
 use Rattle.std.proofs.lemmas.List.{length-set}
 use Rattle.std.proofs.lemmas.List.Elements.{All-push, Contains-append_left, Contains-push}
 use Rattle.std.proofs.lemmas.List.Quantifiers.{all_pairs_push}
@@ -23,11 +23,6 @@ one_field : (schema : List Entry) (a b : List ℕ) (m n : ℕ) → a ≡ b → f
 one_field schema a b m n same h k = let both : Some m ≡ Some n = sym h ∙ ap (field_named schema) same ∙ k in cc
 
 -- ---- marks
-
-none_marked : (noted : List Bool) (k : ℕ) → All (λ b. b ≡ false) noted → slice_get noted k ≡ Some true → ⊥
-none_marked [] k h e = absurd (cc)
-none_marked (b ∷ bs) zero h e = let no : b ≡ false = h 0 b (omega arith) in absurd (cc)
-none_marked (b ∷ bs) (suc k) h e = none_marked bs k (λ i d lt. h (suc i) d (omega arith)) e
 
 marked : (noted : List Bool) (i : ℕ) → slice_get noted i ≡ Some false → slice_get (set noted i true) i ≡ Some true
 marked [] i e = absurd (cc)

@@ -1,19 +1,14 @@
 -- What each step of the walk through a JSON value leaves to be done.
-use Rattle.std.proofs.Common.{◌≡◌, ℕ, suc, ◌<◌, Bool, true, List, [], ◌∷◌, ◌++◌, length, take, Option, Some, Ok, Err, refl, sym, ap, subst, ◌∙◌, arith}
+use Rattle.std.proofs.Common.{◌≡◌, ℕ, Bool, List, [], ◌∷◌, ◌++◌, length, take, Option, Ok, sym, ap, subst, ◌∙◌}
 use Rattle.tv_heap.specs.Value.{HeldList, held_children}
 use Rattle.std.specs.Prelude.{reverse}
-use Rattle.tv_format.specs.Size.{size}
 use Rattle.tv_format.specs.Tree.{Tree}
-use Rattle.tv_indexing.proofs.Following.{all_appended, is_refused, more_appended, first_refused, nothing_before, nothing_behind, regrouped, reverse-snoc}
-use Rattle.tv_indexing.specs.DocumentTerms.{AreAppended, Terms, followed_by, has_zero}
-use Rattle.tv_indexing.specs.JsonWalk.{child_terms, children_terms, open_size, open_terms}
+use Rattle.tv_indexing.proofs.Following.{more_appended, regrouped, reverse-snoc}
+use Rattle.tv_indexing.specs.DocumentTerms.{AreAppended, Terms, followed_by}
+use Rattle.tv_indexing.specs.JsonWalk.{child_terms, children_terms, open_terms}
 use Rattle.tv_indexing.specs.declared.json.OpenList.{OpenList}
-use Rattle.tv_indexing.specs.declared.term_values_error.TermValuesError.{TermValuesError}
-use Rattle.tv_indexing.specs.declared.term_values_error.TermValuesError.TheVariants.{NulInPath}
-use Rattle.tv_value.specs.Children.{Child, children_size}
+use Rattle.tv_value.specs.Children.{Child}
 use Rattle.tv_value.specs.declared.field.Field.{Field}
-
--- ---- below a key
 
 -- ---- the walk
 
@@ -49,5 +44,3 @@ module _ (field : Field) (expand_dots : Bool) where
       taken whole done path list (held_children more) key t (reverse around) cut so_far ∙ ap (λ u. followed_by (Ok done) (followed_by u (open_terms field expand_dots path (rest ∷ reverse around)))) is
       ∙ ap (λ u. followed_by (Ok done) (followed_by (children_terms field expand_dots below (held_children inner)) u)) open_now
       ∙ ap (λ d. followed_by (Ok d) (open_terms field expand_dots below (record { children = inner; path_len = len } ∷ reverse deeper))) (sym same)
-
--- ---- what is left becomes less

@@ -7,44 +7,60 @@ ghost use Rattle.tv_indexing.specs.TextTerms.{IsWrongRange, IsWrongText};
 ghost use Rattle.tv_indexing.specs.declared.text_terms_error.TextTermsError.TheVariants.{Memory};
 
 use std::alloc::{AllocError, Global};
-use thiserror::Error;
+use std::error::Error;
+use std::fmt;
 use tv_base::text_start::text_start;
 use tv_field::json_value::JsonRefusal;
 use tv_options::Type;
 use tv_value::field::Field;
 
 /// Why a text of a query has no terms, or no range of them. (Not in tantivy.)
-#[derive(Debug, PartialEq, Drop, Error)]
+#[derive(Debug, PartialEq, Drop)]
 pub enum TextTermsError {
     /// The path names no field, or something below a field that isn't of JSON objects. These are its first 40 characters.
-    #[error("the path {0:?} names no field")]
     UnknownPath(String),
     /// The field isn't indexed, so it has no terms.
-    #[error("the field isn't indexed")]
     NotIndexed(Field),
     /// The path names a field of JSON objects, and nothing below it.
-    #[error("the path ends at a field of JSON objects")]
     PathEnds(Field),
     /// The path into JSON objects has U+0000, which ends the path in a term.
-    #[error("the path has U+0000")]
     NulInPath(Field),
     /// The text is no value of the field's type, which is given, and why. The last are its first 40 characters.
-    #[error("the text {3:?} is no value of its field's type, {1:?}")]
     WrongText(Field, Type, JsonRefusal, String),
     /// The text bounds no range: it is neither `*` nor two bounds with ` TO ` between them, in brackets. These are its first 40 characters.
-    #[error("the text {0:?} is no range")]
     WrongRange(String),
     /// The bounds of the range run backwards.
-    #[error("the bounds of the range run backwards")]
     Backwards(Field),
     /// The field is of JSON objects, whose values have terms of several types, so no one range has those between two bounds, but several:
     /// `ranges_of_text`.
-    #[error("a field of JSON objects has no single range")]
     NoRange(Field),
     /// Memory was refused.
-    #[error("memory was refused")]
     Memory,
 }
+
+/// As `the field isn't indexed`, or `the path "a" names no field`.
+impl fmt::Display for TextTermsError {
+    fn fmt<W: fmt::Write>(&self, f: &mut fmt::Formatter<W>) -> fmt::Result {
+        let text = match self {
+            TextTermsError::UnknownPath(path) => {
+                return write!(f, "the path {path:?} names no field");
+            }
+            TextTermsError::NotIndexed(_) => "the field isn't indexed",
+            TextTermsError::PathEnds(_) => "the path ends at a field of JSON objects",
+            TextTermsError::NulInPath(_) => "the path has U+0000",
+            TextTermsError::WrongText(_, wanted, _, text) => {
+                return write!(f, "the text {text:?} is no value of its field's type, {wanted:?}");
+            }
+            TextTermsError::WrongRange(text) => return write!(f, "the text {text:?} is no range"),
+            TextTermsError::Backwards(_) => "the bounds of the range run backwards",
+            TextTermsError::NoRange(_) => "a field of JSON objects has no single range",
+            TextTermsError::Memory => "memory was refused",
+        };
+        f.write_str(text)
+    }
+}
+
+impl Error for TextTermsError {}
 
 impl From<AllocError> for TextTermsError {
     ghost use Rattle.tv_indexing.specs.declared.text_terms_error.TextTermsError.TheVariants.{Memory};

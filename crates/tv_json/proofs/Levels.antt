@@ -1,6 +1,6 @@
 -- A borrowed value's data, a level at a time.
-use Rattle.std.proofs.Common.{◌≡◌, ℕ, ℤ, List, Bool, Float, Bor, Vec, Global, rules}
-use Rattle.serde_json.specs.Data.{null, boolean, number, unsigned, negative, float, string, array, object}
+use Rattle.std.proofs.Common.{◌≡◌, ℕ, List, Bool, Bor, Vec, Global, rules}
+use Rattle.serde_json.specs.Data.{null, boolean, string, array, object}
 use Rattle.tv_json.specs.BorrowedData.{data_of, items_data, members_data}
 use Rattle.tv_json.specs.declared.borrowed.BorrowedJson as borrowed
 use Rattle.tv_json.specs.declared.borrowed.BorrowedJson.{BorrowedJson, the_lemmas}

@@ -83,24 +83,25 @@ pub enum JsonExpected {
 /// As `a value`, `a comma or "]"`, or `the rest of null`.
 impl fmt::Display for JsonExpected {
     fn fmt<W: fmt::Write>(&self, f: &mut fmt::Formatter<W>) -> fmt::Result {
-        match self {
-            JsonExpected::Value => f.write_str("a value"),
-            JsonExpected::ValueOrArrayEnd => f.write_str("a value or \"]\""),
-            JsonExpected::Key => f.write_str("a key"),
-            JsonExpected::KeyOrObjectEnd => f.write_str("a key or \"}\""),
-            JsonExpected::Colon => f.write_str("a colon"),
-            JsonExpected::CommaOrArrayEnd => f.write_str("a comma or \"]\""),
-            JsonExpected::CommaOrObjectEnd => f.write_str("a comma or \"}\""),
-            JsonExpected::TextEnd => f.write_str("the end of the text"),
-            JsonExpected::StringCharacter => f.write_str("a character or the closing quote"),
-            JsonExpected::Escape => f.write_str("one of \"\\/bfnrtu"),
-            JsonExpected::HexadecimalDigit => f.write_str("a hexadecimal digit"),
-            JsonExpected::HexadecimalDigitBelowC => f.write_str("a hexadecimal digit below c"),
-            JsonExpected::LowSurrogate(part) => write!(f, "{part} of a low surrogate"),
-            JsonExpected::Digit => f.write_str("a digit"),
-            JsonExpected::DigitOrSign => f.write_str("a digit or a sign"),
-            JsonExpected::Word(word) => write!(f, "the rest of {}", word.text()),
-        }
+        let text = match self {
+            JsonExpected::Value => "a value",
+            JsonExpected::ValueOrArrayEnd => "a value or \"]\"",
+            JsonExpected::Key => "a key",
+            JsonExpected::KeyOrObjectEnd => "a key or \"}\"",
+            JsonExpected::Colon => "a colon",
+            JsonExpected::CommaOrArrayEnd => "a comma or \"]\"",
+            JsonExpected::CommaOrObjectEnd => "a comma or \"}\"",
+            JsonExpected::TextEnd => "the end of the text",
+            JsonExpected::StringCharacter => "a character or the closing quote",
+            JsonExpected::Escape => "one of \"\\/bfnrtu",
+            JsonExpected::HexadecimalDigit => "a hexadecimal digit",
+            JsonExpected::HexadecimalDigitBelowC => "a hexadecimal digit below c",
+            JsonExpected::LowSurrogate(part) => return write!(f, "{part} of a low surrogate"),
+            JsonExpected::Digit => "a digit",
+            JsonExpected::DigitOrSign => "a digit or a sign",
+            JsonExpected::Word(word) => return write!(f, "the rest of {}", word.text()),
+        };
+        f.write_str(text)
     }
 }
 

@@ -1,4 +1,3 @@
-pub mod Room
 pub mod GivenSteps
 pub mod Promises
 pub mod Resuming

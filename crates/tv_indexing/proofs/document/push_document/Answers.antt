@@ -1,10 +1,21 @@
-use Rattle.std.proofs.Common.{◌≡◌, ◌∷◌, Ok, ap, ◌∙◌, rules}
+use Rattle.std.proofs.Common.{◌≡◌, [], ◌∷◌, Ok, ap, refl, sym, ◌∙◌, rules}
 use Rattle.tv_doc.specs.Document.{document_of}
 use Rattle.tv_doc.specs.FieldValues.{pairs_left}
 use Rattle.tv_heap.specs.Value.{tree_of}
-use Rattle.tv_indexing.proofs.Following.{extends_by, extends_on, more_appended}
+use Rattle.tv_indexing.proofs.Following.{all_appended, extends_as, extends_by, extends_on, more_appended}
 use Rattle.tv_indexing.specs.DocumentTerms.{document_terms, followed_by, pair_terms}
 use Rattle.tv_indexing.proofs.document.push_document.Goals as goal
+
+pub loop-field-init : goal.loop-field-init
+loop-field-init c =
+    let terms = c.args.terms.now in
+    let all : pairs_left c.into_iter-field-iterator.result ≡ document_of c.args.document.now = search rules in
+    record {
+      can_next = tt;
+      is_finite = tt;
+      so_far = ap (λ pairs. followed_by (Ok terms) (document_terms c.args.schema.now pairs)) (sym all);
+      kept = extends_as terms terms refl;
+    }
 
 pub loop-field-preserved : goal.loop-field-preserved
 loop-field-preserved c =
@@ -19,3 +30,10 @@ loop-field-preserved c =
           l.terms c.push_value.new.terms (l.invariant.so_far ∙ ap (λ pairs. followed_by (Ok l.terms) (document_terms schema pairs)) cut) made;
       kept = extends_on c.args.terms.now l.terms c.push_value.new.terms l.invariant.kept (extends_by l.terms c.push_value.new.terms (pair_terms schema (c.in-Some.field.id, tree_of c.in-Some.value)) made);
     }
+
+pub returns-clause-made : goal.returns-clause-made
+returns-clause-made c =
+    let l = c.loop-field in
+    let schema = c.args.schema.now in
+    let none : pairs_left l.field-iterator ≡ [] = search rules in
+    all_appended c.args.terms.now l.terms (document_terms schema (document_of c.args.document.now)) (l.invariant.so_far ∙ ap (λ pairs. followed_by (Ok l.terms) (document_terms schema pairs)) none)

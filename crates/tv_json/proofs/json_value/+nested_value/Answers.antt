@@ -1,10 +1,13 @@
 use Rattle.std.proofs.Common.{◌≡◌, ◌+◌, ◌<◌, suc, ◌∷◌, [], sym, ap, ◌∙◌, rules, arith}
 use Rattle.std.specs.Prelude.{Some, None}
+use Rattle.std.proofs.lemmas.Result.{IfOk-weaker}
+use Rattle.serde_json.proofs.Views.{view-Array, view-Object}
+use Rattle.serde_json.specs.Data as json
 use Rattle.serde_json.specs.Data.{item, no_members}
 use Rattle.serde_json.specs.View.{view as data_of, members_view}
 use Rattle.tv_format.specs.Size.{size, elements_size, entries_size}
 use Rattle.tv_format.specs.Tree.{array, object, elements, entries}
-use Rattle.tv_json.specs.JsonOf.{elements_json, entries_json}
+use Rattle.tv_json.specs.JsonOf.{json_of, elements_json, entries_json}
 use Rattle.tv_json.proofs.ItemsBefore.{items_before, items_before-no_items, items_push}
 use Rattle.tv_json.proofs.WrittenParts.{member_put}
 use Rattle.tv_json.proofs.json_value.+nested_value.Goals as goal
@@ -65,3 +68,19 @@ nested_value-member_values-requires g t c κs within =
     let sizes = ap size whole in
     let smaller : entries_size (entries (g.N.Nested.object_rest c.in-Object.members)) < size (g.N.Nested.tree c.args.value.now) = omega (arith, sizes) in
     search (rules, smaller)
+
+pub member_values-returns : goal.member_values-returns
+member_values-returns g t c =
+    let none = (g.met.N.Nested.object_steps c.loop-key.key-iterator c.next.new.self None c.in-None.ensures.steps).0 in
+    ap (λ es. entries_json (entries es) (members_view c.loop-key.values.entries)) (sym none) ∙ c.loop-key.invariant.members
+
+pub nested_value-returns-in-Leaf : goal.nested_value-returns-in-Leaf
+nested_value-returns-in-Leaf g t c = IfOk-weaker c.leaf_value.result _ _ (λ made is. is ∙ ap json_of c.in-Leaf.ensures) c.leaf_value.ensures
+
+pub nested_value-returns-in_ok-item_values-in-Array : goal.nested_value-returns-in_ok-item_values-in-Array
+nested_value-returns-in_ok-item_values-in-Array g t c =
+    view-Array c.in_ok-item_values-in-Array.field-0 ∙ ap json.array c.in_ok-item_values-in-Array.ensures ∙ ap json_of c.in-Array.ensures
+
+pub nested_value-returns-in_ok-member_values-in-Object : goal.nested_value-returns-in_ok-member_values-in-Object
+nested_value-returns-in_ok-member_values-in-Object g t c =
+    view-Object c.in_ok-member_values-in-Object.field-0 ∙ ap json.object c.in_ok-member_values-in-Object.ensures ∙ ap json_of c.in-Object.ensures

@@ -1,7 +1,7 @@
 use Rattle.std.proofs.Common.{◌≡◌, ℕ, List, sym, subst, ◌∙◌}
 use Rattle.std.specs.Cmp.Lexicographic.{slice_cmp}
 use Rattle.std.specs.Ordering.{nat_cmp}
-use Rattle.std.specs.Prelude.{Some}
+use Rattle.std.specs.Prelude.{Some, None}
 use Rattle.tv_format.specs.Tree.{entries}
 use Rattle.tv_json.specs.Rising.{Below, KeysRise, RiseFrom}
 use Rattle.tv_json.proofs.member_order.keys_rise.Goals as goal
@@ -21,3 +21,8 @@ loop-key-preserved g c =
     λ h. c.loop-key.invariant
     (subst (λ es. RiseFrom (g.N.Key.AsStr.text c.loop-key.last) (entries es)) (sym first)
     (below c.as_str.result.now c.as_str-in-loop-key.result.now (g.N.Key.AsStr.text c.loop-key.last) (g.N.Key.AsStr.text c.in-Some-2.key) c.as_str.ensures c.as_str-in-loop-key.ensures (c.is_below.ensures.0 c.if-not-is_below.false), h))
+
+pub returns : goal.returns
+returns g c =
+    let none = (g.met.N.Nested.object_steps c.loop-key.key-iterator c.next-in-loop-key.new.self None c.in-None.ensures.steps).0 in
+    λ rises. c.loop-key.invariant (subst (λ es. RiseFrom (g.N.Key.AsStr.text c.loop-key.last) (entries es)) (sym none) tt)

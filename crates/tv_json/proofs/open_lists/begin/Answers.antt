@@ -16,3 +16,24 @@ pub returns-in_ok-push-in-Object-clause-ok : goal.returns-in_ok-push-in-Object-c
 returns-in_ok-push-in-Object-clause-ok g c =
     let left = list_left {K = g.row.N-Key.Denot} g.N.Nested.tree g.N.Nested.array_rest g.N.Nested.object_rest in
     list_opened left _ _ _ begin_object _ _ _ c.in_ok-begin_object-in-Object.ensures.ok c.in_ok-push-in-Object.ensures.items c.in_ok-rest-in-Object.ensures
+
+pub returns-in_err-begin_array-in-Array-clause-before : goal.returns-in_err-begin_array-in-Array-clause-before
+returns-in_err-begin_array-in-Array-clause-before g c = c.begin_array.ensures.room.0
+
+pub returns-in_err-push-in-Array-clause-before : goal.returns-in_err-push-in-Array-clause-before
+returns-in_err-push-in-Array-clause-before g c = c.begin_array.ensures.room.0
+
+pub returns-in_ok-push-in-Array-clause-before : goal.returns-in_ok-push-in-Array-clause-before
+returns-in_ok-push-in-Array-clause-before g c = c.begin_array.ensures.room.0
+
+pub returns-in_err-begin_object-in-Object-clause-before : goal.returns-in_err-begin_object-in-Object-clause-before
+returns-in_err-begin_object-in-Object-clause-before g c = c.begin_object.ensures.room.0
+
+pub returns-in_err-push-in-Object-clause-before : goal.returns-in_err-push-in-Object-clause-before
+returns-in_err-push-in-Object-clause-before g c = c.begin_object.ensures.room.0
+
+pub returns-in_ok-push-in-Object-clause-before : goal.returns-in_ok-push-in-Object-clause-before
+returns-in_ok-push-in-Object-clause-before g c = c.begin_object.ensures.room.0
+
+pub returns-in-Leaf-clause-before : goal.returns-in-Leaf-clause-before
+returns-in-Leaf-clause-before g c = c.write_leaf.ensures.before

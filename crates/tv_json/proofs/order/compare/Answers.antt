@@ -1,4 +1,5 @@
-use Rattle.std.proofs.Common.{◌≡◌, ℕ, zero, suc, ◌<◌, List, [], ◌∷◌, length, get_or, take, Ordering, Less, Equal, Greater, refl, sym, ap, ◌∙◌, arith}
+use Rattle.std.proofs.Common.{◌≡◌, ℕ, zero, suc, ◌<◌, List, [], ◌∷◌, ◌++◌, length, get_or, take, Ordering, Less, Equal, Greater, refl, sym, ap, ◌∙◌, arith}
+use Rattle.std.proofs.lemmas.List.{take_more}
 use Rattle.std.specs.Cmp.{nat_cmp_is}
 use Rattle.std.specs.Cmp.Lexicographic.{slice_cmp}
 use Rattle.std.specs.FinMap.{nat_cmp-IsAntisymmetric}
@@ -29,3 +30,8 @@ returns-then-ones-at c =
     let key = c.args.key.now in
     let other = c.args.other.now in
     c.cmp.ensures ∙ sym (first_other c.as_bytes-ones.result.now c.as_bytes-twos.result.now c.loop-at.at (omega arith) (omega arith) c.loop-at.invariant c.if-ones-at.true) ∙ (λ i. slice_cmp nat_cmp (c.as_bytes-ones.ensures.value i) (c.as_bytes-twos.ensures.value i))
+
+pub loop-at-preserved : goal.loop-at-preserved
+loop-at-preserved c =
+    let at = c.loop-at.at in
+    take_more c.as_bytes-ones.result.now at 0 (omega arith) ∙ (λ i. c.loop-at.invariant i ++ c.if-ones-at.false i ∷ []) ∙ sym (take_more c.as_bytes-twos.result.now at 0 (omega arith))

@@ -7,7 +7,8 @@ use Rattle.serde_json.specs.Data.{item, put}
 use Rattle.serde_json.specs.Read.{of_json, converted}
 use Rattle.tv_json.specs.Begun.{BeginsJson}
 use Rattle.tv_json.specs.Found.{found_data}
-use Rattle.tv_json.specs.BorrowedData.{data_of}
+use Rattle.serde_json.specs.Written.{items_have_float}
+use Rattle.tv_json.specs.BorrowedData.{data_of, items_data}
 use Rattle.tv_json.proofs.Levels.{data_of-Array, data_of-Object}
 use Rattle.tv_json.proofs.Rising.{put_rises}
 use Rattle.tv_json.proofs.Floats.{none_in_last, none_in_put}
@@ -34,6 +35,17 @@ read-returns-in_ok-read_members-in-Object-clause-found t c =
     let first : c.args.reader.now ≡ Token.begin_object ∷ c.begin.new.reader = subst (λ b. BeginsJson b c.args.reader.now c.begin.new.reader) c.in-Object.is c.in_ok-json.ensures.begins in
     ap (λ ts. converted of_json (value c.args.depth ts)) first ∙ object-read c.args.depth c.begin.new.reader c.read_members.new.reader _ c.if-depth-gt0-2.true found
     ∙ ap (λ d. Some (d, c.read_members.new.reader)) (sym (data_of-Object v))
+
+pub read_items-items-init : goal.read_items-items-init
+read_items-items-init t c =
+    let none = c.new-found.ensures.items in
+    record {
+      turns = length c.args.reader.now;
+      enough = omega arith;
+      rest = λ ds r more. more ∙ ap (λ vs. Some (items_before vs ds, r)) (sym none);
+      less = omega arith;
+      floats = λ e. (e, ap (λ vs. items_have_float (items_data vs)) none);
+    }
 
 pub read_items-items-preserved : goal.read_items-items-preserved
 read_items-items-preserved t c =

@@ -1,5 +1,5 @@
 use Rattle.std.proofs.Common.{◌≡◌, ◌<◌, ◌∙◌, ◌∷◌, ◌++◌, ℕ, List, [], String, Global, string_bytes, map, ap, refl, sym, arith, rules}
-use Rattle.std.proofs.lemmas.Grind.{common_steps}
+use Rattle.std.proofs.lemmas.Result.{IfOk-weaker}
 use Rattle.std.specs.Prelude.{Some, None}
 use Rattle.tv_value.specs.Lent.{nested_tree}
 use Rattle.tv_value.specs.Owned.{owned_tree, owned_entries}
@@ -42,7 +42,14 @@ member_made made pushed name v key k lent t rest before whole so_far first push 
 -- ---- arrays
 
 pub owned_array-loop-item-init : goal.owned_array-loop-item-init
-owned_array-loop-item-init g t c = grind (arith, common_steps)
+owned_array-loop-item-init g t c =
+    let rest = g.N.Nested.array_rest in
+    let all = c.into_iter-item-iterator.ensures.into_iter_gives in
+    let sizes = ap (λ s. elements_size (elements (rest s))) all in
+    record {
+      items = ap (λ made. map owned_tree made ++ rest c.into_iter-item-iterator.result) c.new-owned.ensures.items ∙ ap rest all;
+      smaller = omega (arith, sizes);
+    }
 
 pub owned_array-owned_of-requires : goal.owned_array-owned_of-requires
 owned_array-owned_of-requires g t c κs within =
@@ -71,7 +78,14 @@ owned_array-returns g t c =
 -- ---- objects
 
 pub owned_object-loop-key-init : goal.owned_object-loop-key-init
-owned_object-loop-key-init g t c = grind (arith, common_steps)
+owned_object-loop-key-init g t c =
+    let rest = g.N.Nested.object_rest in
+    let all = c.into_iter-key-iterator.ensures.into_iter_gives in
+    let sizes = ap (λ s. entries_size (entries (rest s))) all in
+    record {
+      members = ap (λ made. owned_entries made ++ rest c.into_iter-key-iterator.result) c.new-owned.ensures.items ∙ ap rest all;
+      smaller = omega (arith, sizes);
+    }
 
 pub owned_object-owned_of-requires : goal.owned_object-owned_of-requires
 owned_object-owned_of-requires g t c κs within =
@@ -97,3 +111,17 @@ owned_object-returns g t c =
     let whole = all_made (owned_entries c.loop-key.owned.items) (g.N.Nested.object_rest c.loop-key.key-iterator) (g.N.Nested.object_rest c.args.members) c.loop-key.invariant.members none in
     let level : owned_tree (owned.Object c.loop-key.owned) ≡ object (entries (owned_entries c.loop-key.owned.items)) = search (rules, the_lemmas) in
     level ∙ ap (λ z. object (entries z)) whole
+
+-- ---- values
+
+pub owned_of-returns-in-Leaf : goal.owned_of-returns-in-Leaf
+owned_of-returns-in-Leaf g t c =
+    IfOk-weaker c.from_leaf.result _ _ (λ made is. is ∙ ap (nested_tree g.N.Nested.array_rest g.N.Nested.object_rest) (sym c.in-Leaf.is)) c.from_leaf.ensures
+
+pub owned_of-returns-in-Array : goal.owned_of-returns-in-Array
+owned_of-returns-in-Array g t c =
+    IfOk-weaker c.owned_array.result _ _ (λ made is. is ∙ ap (nested_tree g.N.Nested.array_rest g.N.Nested.object_rest) (sym c.in-Array.is)) c.owned_array.ensures
+
+pub owned_of-returns-in-Object : goal.owned_of-returns-in-Object
+owned_of-returns-in-Object g t c =
+    IfOk-weaker c.owned_object.result _ _ (λ made is. is ∙ ap (nested_tree g.N.Nested.array_rest g.N.Nested.object_rest) (sym c.in-Object.is)) c.owned_object.ensures
