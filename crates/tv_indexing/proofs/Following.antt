@@ -8,10 +8,6 @@ use Rattle.tv_indexing.specs.declared.term_values_error.TermValuesError.{TermVal
 
 -- ---- one after the other
 
-pub nothing_behind : (t : Terms) → followed_by t (Ok []) ≡ t
-nothing_behind (Ok made) = ap Ok (append-nil made)
-nothing_behind (Err e) = refl
-
 pub nothing_before : (t : Terms) → followed_by (Ok []) t ≡ t
 nothing_before (Ok made) = refl
 nothing_before (Err e) = refl
@@ -32,10 +28,6 @@ pub are_appended : (old new : List (List ℕ)) (wanted : Terms) → followed_by 
 are_appended old new (Ok made) h = cc
 are_appended old new (Err e) h = cc
 
-pub is_refused : (old : List (List ℕ)) (wanted : Terms) (e : TermValuesError) → followed_by (Ok old) wanted ≡ Err e → wanted ≡ Err e
-is_refused old (Ok made) e h = cc
-is_refused old (Err f) e h = h
-
 -- ---- the list begins with what it was
 
 pub extends_as : (old new : List (List ℕ)) → new ≡ old → Extends old new
@@ -53,9 +45,6 @@ extends_on a b c h k = (h.0 ++ k.0, k.1 ∙ ap (λ l. l ++ k.0) h.1 ∙ append_a
 pub more_appended : (whole first left : Terms) (old new : List (List ℕ)) → whole ≡ followed_by (Ok old) (followed_by first left) → AreAppended old new first → whole ≡ followed_by (Ok new) left
 more_appended whole first left old new so_far h =
     so_far ∙ sym (regrouped (Ok old) first left) ∙ ap (λ t. followed_by t left) (put_behind old new first h)
-
-pub first_refused : (whole first left : Terms) (old : List (List ℕ)) (e : TermValuesError) → whole ≡ followed_by (Ok old) (followed_by first left) → first ≡ Err e → whole ≡ Err e
-first_refused whole first left old e so_far h = so_far ∙ ap (λ t. followed_by (Ok old) (followed_by t left)) h
 
 pub all_appended : (old new : List (List ℕ)) (wanted : Terms) → followed_by (Ok old) wanted ≡ followed_by (Ok new) (Ok []) → AreAppended old new wanted
 all_appended old new wanted h = are_appended old new wanted (h ∙ ap Ok (append-nil new))

@@ -16,9 +16,6 @@ any_of_cons P x xs (suc k) y lt is p = inr (k, y, omega arith, is, p)
 pub any_cons : {X : Type 0} (P : X → Type 0) (x : X) (xs : List X) → Any P (x ∷ xs) → P x ⊎ Any P xs
 any_cons P x xs a = any_of_cons P x xs a.0 a.1 a.2 a.3 a.4
 
-pub any_first : {X : Type 0} (P : X → Type 0) (x : X) (xs : List X) → P x → Any P (x ∷ xs)
-any_first P x xs p = (0, x, omega arith, refl, p)
-
 pub any_rest : {X : Type 0} (P : X → Type 0) (x : X) (xs : List X) → Any P xs → Any P (x ∷ xs)
 any_rest P x xs a = (suc a.0, a.1, omega (arith, a.2), a.3, a.4)
 
@@ -28,9 +25,6 @@ any_left P whole left next x cut fails same = (
   λ a. elim (any_cons P x next (subst (Any P) cut (same.0 a))) [ inl p ↦ absurd (fails p) | inr n ↦ n ],
   λ n. same.1 (subst (Any P) (sym cut) (any_rest P x next n)),
 )
-
-at_same : {X : Type 0} (xs : List X) (k : ℕ) (x y : X) → k < length xs → get_or xs k y ≡ y → y ≡ x → get_or xs k x ≡ x
-at_same xs k x y lt is same = subst (λ z. get_or xs k z ≡ z) same is
 
 pub found_in : {X : Type 0} (P : X → Type 0) (xs ys : List X) (k : ℕ) (x : X) → ys ≡ xs → k < length ys → x ≡ get_or ys k x → P x → Any P xs
 found_in P xs ys k x same lt is p = subst (Any P) same (k, x, lt, sym is, p)

@@ -15,10 +15,6 @@ differs m n h = elim (eqb_tells m n) [ inl p ↦ absurd (h p.1) | inr p ↦ p.0 
 pub above : (m n : ℕ) → n < m → eqb m n ≡ false
 above m n h = differs m n (λ e. omega (arith, h, e))
 
-coded_leaf : (t : LeafType) → leaf_codes.type_with (store_code t) ≡ Some t
-coded_leaf leaves.Null = refl
-coded_leaf _ = refl
-
 none_among : (code : ℕ) (ts : List LeafType) → ((t : LeafType) → store_code t ≢ code) → first_with code ts ≡ None
 none_among code [] none = refl
 none_among code (t ∷ ts) none = rw (differs (store_code t) code (none t)) (none_among code ts none)

@@ -191,30 +191,6 @@ longer-within p end bytes ends =
 
 -- ---- bounds after a prefix
 
-upto_more : (x y : ℕ) (u v : Bool) → (u ≡ true → v ≡ true) → cond (eqb x y) u (ltb x y) ≡ true → cond (eqb x y) v (ltb x y) ≡ true
-upto_more x y u v more h = grind (arith, nat_tests)
-
-shorter-upto : (p s b : List ℕ) → upto (p ++ s) b ≡ true → upto p b ≡ true
-shorter-upto [] s b h = refl
-shorter-upto (x ∷ p) s [] h = h
-shorter-upto (x ∷ p) s (y ∷ b) h = upto_more x y (upto (p ++ s) b) (upto p b) (shorter-upto p s b) h
-
-between_first : (x y : ℕ) (u l g : Bool) → (u ≡ true → l ≡ true → g ≡ true) → cond (eqb x y) u (ltb x y) ≡ true → cond (eqb y x) l (ltb y x) ≡ true → cond (eqb x y) g false ≡ true
-between_first x y u l g rest h k = grind (arith, nat_tests)
-
-between-begins : (p s b : List ℕ) → upto p b ≡ true → below b (p ++ s) ≡ true → begins p b ≡ true
-between-begins [] s b h k = refl
-between-begins (x ∷ p) s [] h k = h
-between-begins (x ∷ p) s (y ∷ b) h k = between_first x y (upto p b) (below b (p ++ s)) (begins p b) (between-begins p s b) h k
-
-begins_first : (x y : ℕ) (g u : Bool) → (g ≡ true → u ≡ true) → cond (eqb x y) g false ≡ true → cond (eqb x y) u (ltb x y) ≡ true
-begins_first x y g u rest h = grind (arith, nat_tests)
-
-begins-upto : (p b : List ℕ) → begins p b ≡ true → upto p b ≡ true
-begins-upto [] b h = refl
-begins-upto (x ∷ p) [] h = h
-begins-upto (x ∷ p) (y ∷ b) h = begins_first x y (begins p b) (upto p b) (begins-upto p b) h
-
 -- below a byte string with a zero after it are those up to the string
 before-upto : (b p : List ℕ) → below b (p ++ 0 ∷ []) ≡ upto b p
 before-upto [] [] = refl
