@@ -1,5 +1,5 @@
 -- What was found so far.
-use Rattle.std.proofs.Common.{◌≡◌, ℕ, ◌+◌, ◌^◌, ◌<◌, ◌≤◌, List, [], ◌∷◌, ◌++◌, Bool, true, false, if◌then◌else◌, Ok, Err, length, refl, sym, subst, ap, ◌∙◌, arith, inl}
+use Rattle.std.proofs.Common.{◌≡◌, ℕ, ◌+◌, ◌^◌, ◌<◌, ◌≤◌, List, [], ◌∷◌, ◌++◌, Bool, true, false, if◌then◌else◌, Ok, length, sym, subst, ◌∙◌, arith}
 use Rattle.tv_base.specs.Parts.{Begins}
 use Rattle.tv_base.specs.Source.{Failures}
 use Rattle.tv_base.specs.Stop.{CountsStop}
@@ -15,9 +15,8 @@ use Rattle.tv_command.specs.declared.find.Found.{Found}
 use Rattle.tv_field.specs.Entry.{Entry}
 use Rattle.tv_format.specs.Tree.{Document}
 use Rattle.tv_format.specs.Version.{Version}
-use Rattle.tv_indexing.specs.DocumentTerms.{AreAppended, Terms, document_terms}
+use Rattle.tv_indexing.specs.DocumentTerms.{Terms}
 use Rattle.tv_query.specs.Grammar.{Tree}
-use Rattle.tv_query.specs.Matching.{Matches}
 use Rattle.tv_store.specs.Documents.{BeginsWithDocument}
 use Rattle.tv_store.specs.declared.limits.ReadLimits.{ReadLimits}
 

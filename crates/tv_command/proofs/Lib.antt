@@ -7,5 +7,4 @@ mod WholeImports
 mod Finds
 mod RunPairs
 mod Merging
-mod CountedBytes
 mod Migrations

@@ -2,9 +2,7 @@
 use Rattle.std.proofs.Common.{◌≡◌, ◌≢◌, ℕ, ◌+◌, ◌-◌, ◌^◌, List, [], ◌∷◌, ◌++◌, Option, Some, None, IfSome, length, refl, sym, subst, ap, ◌∙◌, arith, append_assoc, append-nil, length-append}
 use Rattle.std.specs.Prelude.{cond, count_by}
 use Rattle.std.proofs.lemmas.List.Sums.{sum_by_push}
-use Rattle.tv_base.specs.Source.{Failures}
-use Rattle.tv_base.specs.Stop.{CountsStop}
-use Rattle.tv_command.specs.Importing.{Imports, IsOutcome, LeavesBegun, import_stop}
+use Rattle.tv_command.specs.Importing.{Imports, IsOutcome, LeavesBegun}
 use Rattle.tv_command.specs.WholeImports.{CountsOutcome, FirstLines, ImportsAll, ImportsEach, Outcomes, StopsImport, is_refused, is_stored, numbered}
 use Rattle.tv_command.specs.WholeImports.FirstLines.{none_first, one_first}
 use Rattle.tv_command.specs.WholeImports.Outcomes.{next_outcome, no_outcomes}
@@ -185,5 +183,3 @@ module _ {schema : List Entry} {rules : ImportRules} {input : List ℕ} {left : 
     imported = m.imported;
     next = (refl, omega (arith, most, m.counted, as_many schema rules m.lines m.imported.block m.imported.outcomes m.imported.each));
   }
-
--- ---- failures

@@ -4,7 +4,6 @@ use Rattle.std.proofs.lemmas.List.{reverse-append}
 use Rattle.std.specs.Prelude.{reverse}
 use Rattle.tv_indexing.specs.DocumentTerms.{AreAppended, Terms, followed_by}
 use Rattle.tv_indexing.specs.JsonWalk.{Extends}
-use Rattle.tv_indexing.specs.declared.term_values_error.TermValuesError.{TermValuesError}
 
 -- ---- one after the other
 

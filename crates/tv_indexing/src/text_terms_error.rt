@@ -49,7 +49,10 @@ impl fmt::Display for TextTermsError {
             TextTermsError::PathEnds(_) => "the path ends at a field of JSON objects",
             TextTermsError::NulInPath(_) => "the path has U+0000",
             TextTermsError::WrongText(_, wanted, _, text) => {
-                return write!(f, "the text {text:?} is no value of its field's type, {wanted:?}");
+                return write!(
+                    f,
+                    "the text {text:?} is no value of its field's type, {wanted:?}"
+                );
             }
             TextTermsError::WrongRange(text) => return write!(f, "the text {text:?} is no range"),
             TextTermsError::Backwards(_) => "the bounds of the range run backwards",

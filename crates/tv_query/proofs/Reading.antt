@@ -1,5 +1,5 @@
 -- How far a text was read.
-use Rattle.std.proofs.Common.{◌≡◌, ◌≢◌, ℕ, zero, suc, ◌+◌, ◌<◌, ◌≤◌, List, [], ◌∷◌, ◌++◌, length, take, drop, get_or, Bool, true, false, MatchBool, if◌then◌else◌, Option, Some, None, option_and_then, refl, sym, subst, ap, ◌∙◌, arith, append-nil, add-one}
+use Rattle.std.proofs.Common.{◌≡◌, ◌≢◌, ℕ, zero, suc, ◌+◌, ◌<◌, ◌≤◌, List, [], ◌∷◌, ◌++◌, length, take, drop, get_or, Bool, true, false, MatchBool, if◌then◌else◌, Option, Some, None, option_and_then, refl, sym, subst, ap, ◌∙◌, arith, add-one}
 use Rattle.std.proofs.lemmas.List.{take-append-drop, length-append}
 use Rattle.std.specs.Char.{is_ascii_whitespace}
 use Rattle.std.specs.List.{AllByRecursion}
@@ -9,7 +9,7 @@ use Rattle.tv_query.specs.Grammar.{Level, State, Tree, Writes, after, after_all,
 use Rattle.tv_query.specs.Grammar.{all_alone, and_of, in_parentheses, not_of, of_clause, one_factor, or_of}
 use Rattle.tv_query.specs.Parsing.{Awaits, Follows, IsAt, after_and, after_not, after_open, after_or, at_start, state_of}
 use Rattle.tv_query.specs.Refusals.{IsTaken, Refuses, RefusesRest}
-use Rattle.tv_query.specs.Tokens.{BeginsWithPath, BeginsWithToken, BeginsWithTokens, BeginsWithWanted, BeginsWithout, IsSpace, QueryToken, WritesTokens, and_word, clause, closed, no_tokens, next_token, not_word, opened, or_word, star}
+use Rattle.tv_query.specs.Tokens.{BeginsWithPath, BeginsWithToken, BeginsWithTokens, BeginsWithWanted, BeginsWithout, IsSpace, QueryToken, and_word, clause, closed, no_tokens, next_token, not_word, opened, or_word, star}
 use Rattle.tv_query.specs.Tokens.{IsOperator, IsQuoted, WantedText, all, bare, bracketed, closes, opens, operates, quoted, quoted_prefix, quoted_text, selects, word_prefix, word_text}
 use Rattle.tv_query.specs.declared.parser.Operator.{Operator}
 use Rattle.tv_query.specs.declared.parser.Parser.{Parser}

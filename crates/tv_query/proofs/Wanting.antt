@@ -1,6 +1,6 @@
 -- Lists gone over, and what a clause wants.
-use Rattle.std.proofs.Common.{◌≡◌, ◌⊎◌, ◌↔◌, ℕ, zero, suc, ◌<◌, List, [], ◌∷◌, length, get_or, true, false, Option, Some, refl, sym, subst, arith, inl, inr, slice_get}
-use Rattle.std.specs.List.{Any, Contains}
+use Rattle.std.proofs.Common.{◌≡◌, ◌⊎◌, ◌↔◌, ℕ, zero, suc, ◌<◌, List, [], ◌∷◌, length, get_or, true, false, Option, Some, sym, subst, arith, inl, inr, slice_get}
+use Rattle.std.specs.List.{Any}
 use Rattle.tv_base.specs.Facet.{parse}
 use Rattle.tv_field.specs.declared.field_type.FieldType.{FieldType}
 use Rattle.tv_query.specs.Selections.{AreBelow, AreOfFirst, is_of_facets}

@@ -46,7 +46,7 @@ use Rattle.tv_reader.specs.declared.version.DocStoreVersion.{DocStoreVersion}
 use Rattle.tv_reader.proofs.AgreeLeaves.{leaf_agrees}
 use Rattle.tv_reader.proofs.BehindKinds.{finds_behind, other_key, leaf_encoded, leaf_refused, value_ended, held_error}
 use Rattle.tv_format.specs.declared.leaf_type.LeafType.TheVariants as leaves
-use Rattle.tv_reader.proofs.Finding.{finds_then, finds_as, finds_fails, finds_short, finds_nothing, finds_ok, finds_part, finds_part_deep, finds_part_fails, raised_roomy, finds_refused, roomy_deep}
+use Rattle.tv_reader.proofs.Finding.{finds_then, finds_as, finds_fails, finds_ok, finds_part, finds_part_deep, finds_part_fails, raised_roomy, finds_refused, roomy_deep}
 
 abbrev end : Refusal
 end = corrupted UnexpectedEnd

@@ -6,7 +6,7 @@ use Rattle.std.specs.Int.{w32, from_le_bytes}
 use Rattle.tv_base.proofs.Widths.{fixed_4}
 use Rattle.tv_base.specs.Number.{VNum}
 use Rattle.tv_base.specs.Parts.{Begins}
-use Rattle.tv_format.proofs.Prefixes.{begins_cut, begins_nothing, begins_then, small_take}
+use Rattle.tv_format.proofs.Prefixes.{begins_cut, begins_then, small_take}
 use Rattle.tv_format.specs.Encoding.{Encodes, NoLegacy}
 use Rattle.tv_format.specs.InputError.{Refusal}
 use Rattle.tv_format.specs.Tree.{Leaf, leaf}
