@@ -5,7 +5,7 @@ use Rattle.tv_base.specs.Source.{Failures}
 use Rattle.tv_base.specs.Stop.{CountsStop}
 use Rattle.tv_command.proofs.Checks.{ReadSoFar, read_more, read_none, whole_before}
 use Rattle.tv_command.specs.Finding.{Finds, FindsAll, FindsEach, LeavesDocument, LeavesNext, StopsFinding, another, none, one_more}
-use Rattle.tv_command.specs.WorkErrors.{IsOfDocument, sink_stop, source_stop}
+use Rattle.tv_command.specs.WorkErrors.{IsOfDocument, source_stop}
 use Rattle.tv_command.specs.Reading.{EncodesBlockWithin, EncodesWithin, ReadsOne, kept}
 use Rattle.tv_command.specs.declared.documents.Wanted.{Wanted}
 use Rattle.tv_command.specs.declared.documents.Wanted.TheVariants.{All}
@@ -73,18 +73,13 @@ module _ {schema : List Entry} {v : Version} {limits : ReadLimits} {tree : Tree}
 
 -- ---- failures
 
--- what was before the step is what was at the beginning
-pub counts_found : (e : WorkError) {begun old : Failures} (new : Failures) → old ≡ begun → CountsStop (sink_stop e) old new → CountsStop (sink_stop e) begun new
-counts_found e new same counts = subst (λ (f : Failures). CountsStop (sink_stop e) f new) same counts
-
+-- an error of a document says nothing of the source
 pub not_of_source : (e : WorkError) {begun now : Failures} → IsOfDocument e → now ≡ begun → CountsStop (source_stop e) begun now
 not_of_source (errors.Terms why) is same = same
 not_of_source (errors.Write kind) is same = same
 not_of_source errors.Memory is same = same
 not_of_source (errors.Read e) is same = absurd is
 not_of_source errors.TooMany is same = absurd is
-
--- ---- one document
 
 pub few_found : (found number count : ℕ) (matches : Bool) → found ≤ number → count ≡ (if matches then found + 1 else found) → count ≤ number + 1
 few_found found number count true few is = omega (arith, few, is)

@@ -1,7 +1,8 @@
 use Rattle.std.proofs.Common.{refl, subst, ap, ◌∙◌, arith}
 use Rattle.tv_command.specs.Finding.{Finds, LeavesDocument}
 use Rattle.tv_command.proofs.Checks.{counts_source, refused_at}
-use Rattle.tv_command.proofs.Finds.{counts_found, few_found, found_all, found_left, found_next, found_none, found_stops, not_of_source}
+use Rattle.tv_command.proofs.Prints.{counts_sink}
+use Rattle.tv_command.proofs.Finds.{few_found, found_all, found_left, found_next, found_none, found_stops, not_of_source}
 use Rattle.tv_command.specs.declared.work_error.WorkError.TheVariants as errors
 use Rattle.tv_doc.specs.Document.{document_of}
 use Rattle.tv_reader.specs.Version.{version_of}
@@ -98,7 +99,7 @@ returns-in-Err-find_in_document-clause-err g c =
 
 pub returns-in-Err-find_in_document-clause-sink_failures : goal.returns-in-Err-find_in_document-clause-sink_failures
 returns-in-Err-find_in_document-clause-sink_failures g c =
-    counts_found c.in-Err-find_in_document.error _ c.loop-documents.invariant.sink_failures c.in-Err-find_in_document.ensures.failures
+    counts_sink c.in-Err-find_in_document.error _ c.loop-documents.invariant.sink_failures c.in-Err-find_in_document.ensures.failures
 
 pub returns-in-Err-find_in_document-clause-source_failures : goal.returns-in-Err-find_in_document-clause-source_failures
 returns-in-Err-find_in_document-clause-source_failures g c =
