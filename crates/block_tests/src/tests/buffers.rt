@@ -65,16 +65,14 @@ fn lines_are_imported(rt: HostRuntime) -> Result<(), Fail> {
         lines: 8,
     };
     assert!(rt; imported == Ok(count));
-    assert!(rt; &block[..21] == BLOCK);
-    assert!(rt; &block[21..] == [KEPT; 3].as_slice());
-    let said = STATUSES.into_iter().zip(FIELDS).zip(SIZES);
-    for (answer, ((status, field), bytes)) in answers.iter().zip(said) {
+    assert!(rt; &block[..21] == BLOCK && &block[21..] == [KEPT; 3].as_slice());
+    for place in 0..8 {
         let line = LineAnswer {
-            status,
-            field,
-            bytes,
+            status: STATUSES[place],
+            field: FIELDS[place],
+            bytes: SIZES[place],
         };
-        assert!(rt; *answer == line);
+        assert!(rt; answers[place] == line);
     }
     assert!(rt; answers[8] == NO_ANSWER);
     Ok(())
@@ -90,14 +88,10 @@ fn nothing_is_imported_where_a_buffer_is_too_small(rt: HostRuntime) -> Result<()
     let mut block = [KEPT; 20];
     let mut answers = [NO_ANSWER; 8];
     let short = import_lines(alloc, SCHEMA, LINES, &mut block, &mut answers);
-    assert!(rt; short == Err(needed));
-    assert!(rt; block == [KEPT; 20]);
-    assert!(rt; answers == [NO_ANSWER; 8]);
+    assert!(rt; short == Err(needed) && block == [KEPT; 20] && answers == [NO_ANSWER; 8]);
     let mut larger = [KEPT; 21];
     let few = import_lines(alloc, SCHEMA, LINES, &mut larger, &mut answers[..7]);
-    assert!(rt; few == Err(needed));
-    assert!(rt; larger == [KEPT; 21]);
-    assert!(rt; answers == [NO_ANSWER; 8]);
+    assert!(rt; few == Err(needed) && larger == [KEPT; 21] && answers == [NO_ANSWER; 8]);
     let none = import_lines(alloc, b"{", LINES, &mut larger, &mut answers);
     assert!(rt; none == Err(BlockError::InvalidJson));
     Ok(())
@@ -108,20 +102,17 @@ fn a_block_is_printed(rt: HostRuntime) -> Result<(), Fail> {
     let alloc = rt.alloc();
     let mut lines = [KEPT; 32];
     let len = export_block(alloc, SCHEMA, DocStoreVersion::V2, BLOCK, &mut lines);
-    assert!(rt; len == Ok(30));
-    assert!(rt; lines.as_slice() == PRINTED);
+    assert!(rt; len == Ok(30) && lines.as_slice() == PRINTED);
     let mut others = [KEPT; 32];
     let later = export_block(alloc, SCHEMA, DocStoreVersion::V3, LATER, &mut others);
-    assert!(rt; later == Ok(30));
-    assert!(rt; others.as_slice() == PRINTED);
+    assert!(rt; later == Ok(30) && others.as_slice() == PRINTED);
     let mut short = [KEPT; 29];
     let needed = BlockError::TooSmall {
         bytes: 30,
         lines: 0,
     };
     let refused = export_block(alloc, SCHEMA, DocStoreVersion::V2, BLOCK, &mut short);
-    assert!(rt; refused == Err(needed));
-    assert!(rt; short == [KEPT; 29]);
+    assert!(rt; refused == Err(needed) && short == [KEPT; 29]);
     let cut = export_block(alloc, SCHEMA, DocStoreVersion::V2, &BLOCK[..20], &mut short);
     let broken = BlockError::BadDocument {
         start: 8,
@@ -137,11 +128,9 @@ fn a_block_is_carried_over(rt: HostRuntime) -> Result<(), Fail> {
     let mut block = [KEPT; 21];
     let (two, three) = (DocStoreVersion::V2, DocStoreVersion::V3);
     let later = migrate_block(alloc, two, BLOCK, WriteVersion::V3, &mut block);
-    assert!(rt; later == Ok(20));
-    assert!(rt; &block[..20] == LATER);
+    assert!(rt; later == Ok(20) && &block[..20] == LATER);
     let back = migrate_block(alloc, three, LATER, WriteVersion::V2, &mut block);
-    assert!(rt; back == Ok(21));
-    assert!(rt; block.as_slice() == BLOCK);
+    assert!(rt; back == Ok(21) && block.as_slice() == BLOCK);
     let key = migrate_block(
         alloc,
         two,
@@ -153,18 +142,19 @@ fn a_block_is_carried_over(rt: HostRuntime) -> Result<(), Fail> {
         start: 1,
         refusal: DocumentRefusal::KeyIsNoText,
     };
-    assert!(rt; key == Err(broken));
-    assert!(rt; block.as_slice() == BLOCK);
+    assert!(rt; key == Err(broken) && block.as_slice() == BLOCK);
     Ok(())
 }
 
 #[test]
 fn a_path_names_a_field(rt: HostRuntime) -> Result<(), Fail> {
     let alloc = rt.alloc();
-    assert!(rt; find_field(alloc, SCHEMA, b"j.a.b") == Ok(FoundField { field: 4, rest: 2 }));
-    assert!(rt; find_field(alloc, SCHEMA, b"u") == Ok(FoundField { field: 1, rest: 1 }));
-    assert!(rt; find_field(alloc, SCHEMA, b"none") == Err(BlockError::NoField));
-    assert!(rt; find_field(alloc, SCHEMA, b"\xff") == Err(BlockError::NotUtf8));
+    assert!(rt;
+        find_field(alloc, SCHEMA, b"j.a.b") == Ok(FoundField { field: 4, rest: 2 })
+            && find_field(alloc, SCHEMA, b"u") == Ok(FoundField { field: 1, rest: 1 })
+            && find_field(alloc, SCHEMA, b"none") == Err(BlockError::NoField)
+            && find_field(alloc, SCHEMA, b"\xff") == Err(BlockError::NotUtf8)
+    );
     Ok(())
 }
 
@@ -172,12 +162,16 @@ fn a_path_names_a_field(rt: HostRuntime) -> Result<(), Fail> {
 fn facets_are_encoded_and_printed(rt: HostRuntime) -> Result<(), Fail> {
     let alloc = rt.alloc();
     let mut bytes = [KEPT; 8];
-    assert!(rt; facet_of_text(alloc, b"/a/b\\/c", &mut bytes) == Ok(5));
-    assert!(rt; &bytes == b"a\0b/c\xa5\xa5\xa5");
-    assert!(rt; text_of_facet(alloc, b"a\0b/c", &mut bytes) == Ok(7));
-    assert!(rt; &bytes == b"/a/b\\/c\xa5");
-    assert!(rt; facet_of_text(alloc, b"a", &mut bytes) == Err(BlockError::NotFacet));
-    assert!(rt; text_of_facet(alloc, b"\xff", &mut bytes) == Err(BlockError::NotUtf8));
+    assert!(rt;
+        facet_of_text(alloc, b"/a/b\\/c", &mut bytes) == Ok(5)
+            && &bytes == b"a\0b/c\xa5\xa5\xa5"
+            && text_of_facet(alloc, b"a\0b/c", &mut bytes) == Ok(7)
+            && &bytes == b"/a/b\\/c\xa5"
+    );
+    assert!(rt;
+        facet_of_text(alloc, b"a", &mut bytes) == Err(BlockError::NotFacet)
+            && text_of_facet(alloc, b"\xff", &mut bytes) == Err(BlockError::NotUtf8)
+    );
     Ok(())
 }
 
@@ -186,15 +180,19 @@ fn terms_have_texts(rt: HostRuntime) -> Result<(), Fail> {
     let alloc = rt.alloc();
     let mut bytes = [KEPT; 8];
     let number = b"\0\0\0\x01u\0\0\0\0\0\0\x01\x02";
-    assert!(rt; text_of_term(alloc, number, &mut bytes) == Ok(3));
-    assert!(rt; &bytes == b"258\xa5\xa5\xa5\xa5\xa5");
-    assert!(rt; text_of_term(alloc, b"\0\0\0\x04ja\x01b\0sx", &mut bytes) == Ok(1));
-    assert!(rt; &bytes == b"x58\xa5\xa5\xa5\xa5\xa5");
+    assert!(rt;
+        text_of_term(alloc, number, &mut bytes) == Ok(3)
+            && &bytes == b"258\xa5\xa5\xa5\xa5\xa5"
+            && text_of_term(alloc, b"\0\0\0\x04ja\x01b\0sx", &mut bytes) == Ok(1)
+            && &bytes == b"x58\xa5\xa5\xa5\xa5\xa5"
+    );
     let short = BlockError::TooSmall { bytes: 3, lines: 0 };
-    assert!(rt; text_of_term(alloc, number, &mut bytes[..2]) == Err(short));
-    assert!(rt; text_of_term(alloc, b"\0\0\0\0s\xff", &mut bytes) == Err(BlockError::NotTerm));
-    assert!(rt; text_of_term(alloc, b"", &mut bytes) == Err(BlockError::NotTerm));
-    assert!(rt; &bytes == b"x58\xa5\xa5\xa5\xa5\xa5");
+    assert!(rt;
+        text_of_term(alloc, number, &mut bytes[..2]) == Err(short)
+            && text_of_term(alloc, b"\0\0\0\0s\xff", &mut bytes) == Err(BlockError::NotTerm)
+            && text_of_term(alloc, b"", &mut bytes) == Err(BlockError::NotTerm)
+            && &bytes == b"x58\xa5\xa5\xa5\xa5\xa5"
+    );
     assert!(rt; error_answer(BlockError::NotTerm).status == 17);
     Ok(())
 }

@@ -30,25 +30,25 @@ const AT_ROOT: &[u8] = b"\
 fn documents_are_counted(rt: HostRuntime) -> Result<(), Fail> {
     let alloc = rt.alloc();
     let mut counts = [KEPT; 40];
-    let below = count_facets(alloc, b"a", PAIRS, &mut counts);
-    assert!(rt; below == Ok(38));
-    assert!(rt; counts.starts_with(BELOW));
-    assert!(rt; counts.ends_with(&[KEPT; 2]));
-    let root = count_facets(alloc, b"", PAIRS, &mut counts);
-    assert!(rt; root == Ok(34));
-    assert!(rt; counts.starts_with(AT_ROOT));
-    let none = count_facets(alloc, b"g", PAIRS, &mut counts);
-    assert!(rt; none == Ok(0));
-    let empty = count_facets(alloc, b"", b"", &mut counts);
-    assert!(rt; empty == Ok(0));
+    assert!(rt;
+        count_facets(alloc, b"a", PAIRS, &mut counts) == Ok(38)
+            && counts.starts_with(BELOW)
+            && counts.ends_with(&[KEPT; 2])
+    );
+    assert!(rt;
+        count_facets(alloc, b"", PAIRS, &mut counts) == Ok(34) && counts.starts_with(AT_ROOT)
+    );
+    assert!(rt;
+        count_facets(alloc, b"g", PAIRS, &mut counts) == Ok(0)
+            && count_facets(alloc, b"", b"", &mut counts) == Ok(0)
+    );
     let mut short = [KEPT; 37];
     let refused = count_facets(alloc, b"a", PAIRS, &mut short);
     let needed = BlockError::TooSmall {
         bytes: 38,
         lines: 0,
     };
-    assert!(rt; refused == Err(needed));
-    assert!(rt; short == [KEPT; 37]);
+    assert!(rt; refused == Err(needed) && short == [KEPT; 37]);
     Ok(())
 }
 
