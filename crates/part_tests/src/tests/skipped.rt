@@ -71,11 +71,14 @@ fn values_are_passed_over(rt: HostRuntime) -> Result<(), Fail> {
             }
         }
     }
-    assert!(rt; passes(alloc, OLDER_OBJECT, DocStoreVersion::V1)?);
-    assert!(rt; passes(alloc, OLDER_OBJECT, DocStoreVersion::V2)?);
-    assert!(rt; passes_buffered(alloc, OLDER_OBJECT, DocStoreVersion::V2, 1)?);
-    assert!(rt; passes(alloc, NEWER_OBJECT, DocStoreVersion::V3)?);
-    assert!(rt; passes_buffered(alloc, NEWER_OBJECT, DocStoreVersion::V3, 1)?);
+    let (one, two, three) = (VERSIONS[0], VERSIONS[1], VERSIONS[2]);
+    assert!(rt;
+        passes(alloc, OLDER_OBJECT, one)?
+            && passes(alloc, OLDER_OBJECT, two)?
+            && passes_buffered(alloc, OLDER_OBJECT, two, 1)?
+            && passes(alloc, NEWER_OBJECT, three)?
+            && passes_buffered(alloc, NEWER_OBJECT, three, 1)?
+    );
     Ok(())
 }
 
@@ -198,26 +201,33 @@ fn deep_documents_are_passed_over(rt: HostRuntime) -> Result<(), Fail> {
 // A document with the number 20 in field 1, one without pairs, and one with null in field 0.
 const BLOCK: &[u8] = b"\x81\x01\0\0\0\x01\x14\0\0\0\0\0\0\0\x80\x81\0\0\0\0\x0b";
 
+// Whether a document is read, and those after it are passed over up to the end.
+fn skips_all(reader: &mut BlockReader, source: &mut SliceSource<'_>) -> bool {
+    reader.advance(source) == Ok(true)
+        && reader.skip(source) == Ok(true)
+        && source.rest().len() == 6
+        && reader.document().len() == 1
+        && reader.skip(source) == Ok(true)
+        && reader.skip(source) == Ok(false)
+        && reader.skip(source) == Ok(false)
+        && reader.document().len() == 1
+}
+
+// Whether a document is refused, and nothing is read after that.
+fn refuses_next(reader: &mut BlockReader, source: &mut SliceSource<'_>) -> bool {
+    reader.skip(source) == Err(corrupt(Cause::FloatCode))
+        && reader.skip(source) == Err(DeserializeError::AlreadyFailed)
+        && reader.advance(source) == Err(DeserializeError::AlreadyFailed)
+        && source.rest().len() == 1
+        && reader.document().len() == 1
+}
+
 #[test]
 fn documents_of_a_block_are_passed_over(rt: HostRuntime) -> Result<(), Fail> {
-    let alloc = rt.alloc();
     let mut source = SliceSource::new(BLOCK);
-    let mut reader = BlockReader::new(alloc, DocStoreVersion::V2);
-    assert!(rt; reader.advance(&mut source) == Ok(true));
-    assert!(rt; reader.skip(&mut source) == Ok(true));
-    assert!(rt; source.rest().len() == 6);
-    assert!(rt; reader.document().len() == 1);
-    assert!(rt; reader.skip(&mut source) == Ok(true));
-    assert!(rt; reader.skip(&mut source) == Ok(false));
-    assert!(rt; reader.skip(&mut source) == Ok(false));
-    assert!(rt; reader.document().len() == 1);
-    // nothing is read after a refusal
+    let mut reader = BlockReader::new(rt.alloc(), DocStoreVersion::V2);
+    assert!(rt; skips_all(&mut reader, &mut source));
     let mut source = SliceSource::new(b"\x81\0\0\0\0\x06\x80");
-    let refused = Err(DeserializeError::CorruptedValue(Cause::FloatCode));
-    assert!(rt; reader.skip(&mut source) == refused);
-    assert!(rt; reader.skip(&mut source) == Err(DeserializeError::AlreadyFailed));
-    assert!(rt; reader.advance(&mut source) == Err(DeserializeError::AlreadyFailed));
-    assert!(rt; source.rest().len() == 1);
-    assert!(rt; reader.document().len() == 1);
+    assert!(rt; refuses_next(&mut reader, &mut source));
     Ok(())
 }

@@ -1,5 +1,6 @@
 //! Documents of a block that are read one after the other within limits.
 
+use std::alloc::Global;
 use std::test::Fail;
 use tantivy_schema::common::{BufferedSource, ByteSource, Cause, SliceSource};
 use tantivy_schema::store::{
@@ -55,29 +56,51 @@ const WIDE: [ReadLimits; 5] = [
     },
 ];
 
+// Whether the reader gives the three documents within the limits, and then the end, twice.
+fn reads_all(reader: &mut BlockReader, source: &mut SliceSource<'_>, limits: ReadLimits) -> bool {
+    reader.advance_within(source, limits) == Ok(true)
+        && reader.document().len() == 1
+        && source.rest().len() == 7
+        && reader.advance_within(source, limits) == Ok(true)
+        && reader.document().len() == 0
+        && reader.advance_within(source, limits) == Ok(true)
+        && reader.document().len() == 1
+        && reader.advance_within(source, limits) == Ok(false)
+        && reader.advance_within(source, limits) == Ok(false)
+        && reader.document().len() == 0
+}
+
 #[test]
 fn each_document_has_the_limits(rt: HostRuntime) -> Result<(), Fail> {
-    let alloc = rt.alloc();
     for limits in WIDE {
         let mut source = SliceSource::new(BLOCK);
-        let mut reader = BlockReader::new(alloc, DocStoreVersion::V2);
-        assert!(rt; reader.advance_within(&mut source, limits) == Ok(true));
-        assert!(rt; reader.document().len() == 1);
-        assert!(rt; source.rest().len() == 7);
-        assert!(rt; reader.advance_within(&mut source, limits) == Ok(true));
-        assert!(rt; reader.document().len() == 0);
-        assert!(rt; reader.advance_within(&mut source, limits) == Ok(true));
-        assert!(rt; reader.document().len() == 1);
-        assert!(rt; reader.advance_within(&mut source, limits) == Ok(false));
-        assert!(rt; reader.advance_within(&mut source, limits) == Ok(false));
-        assert!(rt; reader.document().len() == 0);
+        let mut reader = BlockReader::new(rt.alloc(), DocStoreVersion::V2);
+        assert!(rt; reads_all(&mut reader, &mut source, limits));
     }
     Ok(())
 }
 
+// Whether nothing is read after a refusal.
+fn has_failed(reader: &mut BlockReader, source: &mut SliceSource<'_>) -> bool {
+    let none = within(None, None, None);
+    reader.advance_within(source, none) == refused(DeserializeError::AlreadyFailed)
+        && reader.advance(source) == Err(DeserializeError::AlreadyFailed)
+        && reader.skip(source) == Err(DeserializeError::AlreadyFailed)
+}
+
+// Whether the first document is refused at this limit, and this many bytes are left then and after a second call.
+fn refuses_first(alloc: Global, limits: ReadLimits, limit: ReadLimit, left: usize) -> bool {
+    let mut source = SliceSource::new(BLOCK);
+    let mut reader = BlockReader::new(alloc, DocStoreVersion::V2);
+    reader.advance_within(&mut source, limits) == passed(limit)
+        && source.rest().len() == left
+        && reader.document().len() == 0
+        && has_failed(&mut reader, &mut source)
+        && source.rest().len() == left
+}
+
 #[test]
 fn a_document_past_a_limit_is_refused(rt: HostRuntime) -> Result<(), Fail> {
-    let alloc = rt.alloc();
     let narrow = [
         (within(Some(12), None, None), ReadLimit::Bytes, 8),
         (within(Some(0), None, None), ReadLimit::Bytes, 20),
@@ -85,18 +108,7 @@ fn a_document_past_a_limit_is_refused(rt: HostRuntime) -> Result<(), Fail> {
         (within(None, None, Some(0)), ReadLimit::Depth, 13),
     ];
     for (limits, limit, left) in narrow {
-        let mut source = SliceSource::new(BLOCK);
-        let mut reader = BlockReader::new(alloc, DocStoreVersion::V2);
-        assert!(rt; reader.advance_within(&mut source, limits) == passed(limit));
-        assert!(rt; source.rest().len() == left);
-        assert!(rt; reader.document().len() == 0);
-        // nothing is read after a refusal
-        let none = within(None, None, None);
-        let again = reader.advance_within(&mut source, none);
-        assert!(rt; again == refused(DeserializeError::AlreadyFailed));
-        assert!(rt; reader.advance(&mut source) == Err(DeserializeError::AlreadyFailed));
-        assert!(rt; reader.skip(&mut source) == Err(DeserializeError::AlreadyFailed));
-        assert!(rt; source.rest().len() == left);
+        assert!(rt; refuses_first(rt.alloc(), limits, limit, left));
     }
     Ok(())
 }
@@ -122,6 +134,20 @@ fn a_document_that_is_cut_off_is_corrupted(rt: HostRuntime) -> Result<(), Fail> 
     Ok(())
 }
 
+// Whether the documents are read and passed over up to the last, within the limits where there are any.
+fn reads_or_skips(
+    reader: &mut BlockReader,
+    source: &mut BufferedSource<&[u8]>,
+    limits: ReadLimits,
+) -> bool {
+    reader.advance_within(source, limits) == Ok(true)
+        && reader.document().len() == 1
+        && reader.skip(source) == Ok(true)
+        && reader.advance(source) == Ok(true)
+        && reader.advance_within(source, limits) == Ok(false)
+        && source.next_byte() == Ok(None)
+}
+
 #[test]
 fn limits_hold_over_any_buffer(rt: HostRuntime) -> Result<(), Fail> {
     let alloc = rt.alloc();
@@ -129,12 +155,7 @@ fn limits_hold_over_any_buffer(rt: HostRuntime) -> Result<(), Fail> {
     for capacity in [0, 1, 3, 64] {
         let mut source = BufferedSource::with_capacity(alloc, capacity, BLOCK)?;
         let mut reader = BlockReader::new(alloc, DocStoreVersion::V2);
-        assert!(rt; reader.advance_within(&mut source, limits) == Ok(true));
-        assert!(rt; reader.document().len() == 1);
-        assert!(rt; reader.skip(&mut source) == Ok(true));
-        assert!(rt; reader.advance(&mut source) == Ok(true));
-        assert!(rt; reader.advance_within(&mut source, limits) == Ok(false));
-        assert!(rt; source.next_byte() == Ok(None));
+        assert!(rt; reads_or_skips(&mut reader, &mut source, limits));
     }
     Ok(())
 }
