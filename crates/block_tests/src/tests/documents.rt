@@ -96,34 +96,41 @@ fn nothing_is_written_where_a_buffer_is_too_small(rt: HostRuntime) -> Result<(),
     Ok(())
 }
 
+// Whether a document is read of bytes of version 3, and printed.
+fn is_first_printed(alloc: Global, schema: &Schema, document: &mut TantivyDocument) -> bool {
+    let mut text = [KEPT; 29];
+    read_first_document(alloc, DocStoreVersion::V3, LATER, document) == Ok(19)
+        && print_document(alloc, schema, document, &mut text) == Ok(27)
+        && text.as_slice() == PRINTED
+}
+
+// Whether documents are read one after the other in place of one, and none is left after bytes that are refused.
+fn are_read_in_place(alloc: Global, document: &mut TantivyDocument) -> bool {
+    let two = DocStoreVersion::V2;
+    let broken = BlockError::BadDocument {
+        start: 0,
+        refusal: DocumentRefusal::Corrupted(Cause::UnexpectedEnd),
+    };
+    let no_text = BlockError::BadDocument {
+        start: 0,
+        refusal: DocumentRefusal::KeyIsNoText,
+    };
+    read_first_document(alloc, two, b"\x80\x81", document) == Ok(1)
+        && document.len() == 0
+        && read_first_document(alloc, two, STORED, document) == Ok(20)
+        && document.len() == 2
+        && read_first_document(alloc, two, &STORED[..19], document) == Err(broken)
+        && document.len() == 0
+        && read_first_document(alloc, two, b"\x81\0\0\0\0\x0d\x82\x0b", document) == Err(no_text)
+}
+
 #[test]
 fn bytes_begin_with_a_document(rt: HostRuntime) -> Result<(), Fail> {
     let alloc = rt.alloc();
     let schema = read_schema(alloc, SCHEMA).expect(&rt, "a schema");
     let mut document = TantivyDocument::new(alloc);
-    let (two, three) = (DocStoreVersion::V2, DocStoreVersion::V3);
-    let first = read_first_document(alloc, three, LATER, &mut document);
-    assert!(rt; first == Ok(19));
-    let mut text = [KEPT; 29];
-    let printed = print_document(alloc, &schema, &document, &mut text);
-    assert!(rt; printed == Ok(27));
-    assert!(rt; text.as_slice() == PRINTED);
-    let shorter = read_first_document(alloc, two, b"\x80\x81", &mut document);
-    assert!(rt; (shorter, document.len()) == (Ok(1), 0));
-    let again = read_first_document(alloc, two, STORED, &mut document);
-    assert!(rt; (again, document.len()) == (Ok(20), 2));
-    let cut = read_first_document(alloc, two, &STORED[..19], &mut document);
-    let broken = BlockError::BadDocument {
-        start: 0,
-        refusal: DocumentRefusal::Corrupted(Cause::UnexpectedEnd),
-    };
-    assert!(rt; (cut, document.len()) == (Err(broken), 0));
-    let key = read_first_document(alloc, two, b"\x81\0\0\0\0\x0d\x82\x0b", &mut document);
-    let no_text = BlockError::BadDocument {
-        start: 0,
-        refusal: DocumentRefusal::KeyIsNoText,
-    };
-    assert!(rt; key == Err(no_text));
+    assert!(rt; is_first_printed(alloc, &schema, &mut document));
+    assert!(rt; are_read_in_place(alloc, &mut document));
     Ok(())
 }
 
