@@ -19,12 +19,29 @@ fn within(bytes: Option<u64>, heap_bytes: Option<u64>, depth: Option<u32>) -> Re
     }
 }
 
-fn passed(limit: ReadLimit) -> Result<bool, LimitedReadError> {
-    Err(LimitedReadError::Limit(limit))
+// Whether a call within limits was refused for this reason.
+fn is_refused(answer: Result<bool, LimitedReadError>, error: LimitedReadError) -> bool {
+    answer == Err(error)
 }
 
-fn refused(error: DeserializeError) -> Result<bool, LimitedReadError> {
-    Err(LimitedReadError::Read(error))
+// Whether a call without limits answered so.
+fn is_found(answer: Result<bool, DeserializeError>, expected: bool) -> bool {
+    answer == Ok(expected)
+}
+
+// Whether a call without limits was refused because one before it had failed.
+fn is_failed(answer: Result<bool, DeserializeError>) -> bool {
+    answer == Err(DeserializeError::AlreadyFailed)
+}
+
+// Whether the reader answers so where it is to read a document within limits.
+fn advances<S: ByteSource>(
+    reader: &mut BlockReader,
+    source: &mut S,
+    limits: ReadLimits,
+    expected: bool,
+) -> bool {
+    reader.advance_within(source, limits) == Ok(expected)
 }
 
 // Limits that all three documents are within.
@@ -58,15 +75,15 @@ const WIDE: [ReadLimits; 5] = [
 
 // Whether the reader gives the three documents within the limits, and then the end, twice.
 fn reads_all(reader: &mut BlockReader, source: &mut SliceSource<'_>, limits: ReadLimits) -> bool {
-    reader.advance_within(source, limits) == Ok(true)
+    advances(reader, source, limits, true)
         && reader.document().len() == 1
         && source.rest().len() == 7
-        && reader.advance_within(source, limits) == Ok(true)
+        && advances(reader, source, limits, true)
         && reader.document().len() == 0
-        && reader.advance_within(source, limits) == Ok(true)
+        && advances(reader, source, limits, true)
         && reader.document().len() == 1
-        && reader.advance_within(source, limits) == Ok(false)
-        && reader.advance_within(source, limits) == Ok(false)
+        && advances(reader, source, limits, false)
+        && advances(reader, source, limits, false)
         && reader.document().len() == 0
 }
 
@@ -83,16 +100,18 @@ fn each_document_has_the_limits(rt: HostRuntime) -> Result<(), Fail> {
 // Whether nothing is read after a refusal.
 fn has_failed(reader: &mut BlockReader, source: &mut SliceSource<'_>) -> bool {
     let none = within(None, None, None);
-    reader.advance_within(source, none) == refused(DeserializeError::AlreadyFailed)
-        && reader.advance(source) == Err(DeserializeError::AlreadyFailed)
-        && reader.skip(source) == Err(DeserializeError::AlreadyFailed)
+    let failed = LimitedReadError::Read(DeserializeError::AlreadyFailed);
+    is_refused(reader.advance_within(source, none), failed)
+        && is_failed(reader.advance(source))
+        && is_failed(reader.skip(source))
 }
 
 // Whether the first document is refused at this limit, and this many bytes are left then and after a second call.
 fn refuses_first(alloc: Global, limits: ReadLimits, limit: ReadLimit, left: usize) -> bool {
     let mut source = SliceSource::new(BLOCK);
     let mut reader = BlockReader::new(alloc, DocStoreVersion::V2);
-    reader.advance_within(&mut source, limits) == passed(limit)
+    let answer = reader.advance_within(&mut source, limits);
+    is_refused(answer, LimitedReadError::Limit(limit))
         && source.rest().len() == left
         && reader.document().len() == 0
         && has_failed(&mut reader, &mut source)
@@ -118,7 +137,8 @@ fn no_byte_may_be_taken_at_the_end(rt: HostRuntime) -> Result<(), Fail> {
     let mut source = SliceSource::new(b"");
     let mut reader = BlockReader::new(rt.alloc(), DocStoreVersion::V2);
     let none = within(Some(0), None, None);
-    assert!(rt; reader.advance_within(&mut source, none) == passed(ReadLimit::Bytes));
+    let answer = reader.advance_within(&mut source, none);
+    assert!(rt; is_refused(answer, LimitedReadError::Limit(ReadLimit::Bytes)));
     Ok(())
 }
 
@@ -127,10 +147,10 @@ fn a_document_that_is_cut_off_is_corrupted(rt: HostRuntime) -> Result<(), Fail> 
     let mut source = SliceSource::new(b"\x80\x81\0\0");
     let mut reader = BlockReader::new(rt.alloc(), DocStoreVersion::V2);
     let limits = within(Some(100), Some(100), Some(100));
-    assert!(rt; reader.advance_within(&mut source, limits) == Ok(true));
+    assert!(rt; advances(&mut reader, &mut source, limits, true));
+    let answer = reader.advance_within(&mut source, limits);
     let cut = DeserializeError::CorruptedValue(Cause::UnexpectedEnd);
-    assert!(rt; reader.advance_within(&mut source, limits) == refused(cut));
-    assert!(rt; source.rest().len() == 0);
+    assert!(rt; is_refused(answer, LimitedReadError::Read(cut)) && source.rest().len() == 0);
     Ok(())
 }
 
@@ -140,11 +160,11 @@ fn reads_or_skips(
     source: &mut BufferedSource<&[u8]>,
     limits: ReadLimits,
 ) -> bool {
-    reader.advance_within(source, limits) == Ok(true)
+    advances(reader, source, limits, true)
         && reader.document().len() == 1
-        && reader.skip(source) == Ok(true)
-        && reader.advance(source) == Ok(true)
-        && reader.advance_within(source, limits) == Ok(false)
+        && is_found(reader.skip(source), true)
+        && is_found(reader.advance(source), true)
+        && advances(reader, source, limits, false)
         && source.next_byte() == Ok(None)
 }
 
