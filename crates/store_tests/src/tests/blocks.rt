@@ -43,39 +43,23 @@ fn documents_of(alloc: Global) -> Result<Vec<TantivyDocument>, DeserializeError>
     Ok(documents)
 }
 
-// Whether a reader gives these documents of bytes in a buffer of this size.
-fn reads_buffered(
-    alloc: Global,
-    capacity: usize,
-    bytes: &[u8],
-    documents: &[TantivyDocument],
-) -> Result<bool, DeserializeError> {
-    let mut source = BufferedSource::with_capacity(alloc, capacity, bytes)?;
-    reads_block(alloc, &mut source, documents)
-}
-
-// Whether these are the documents of the block, read to its end whatever is buffered.
-fn are_of_block(alloc: Global, documents: &[TantivyDocument]) -> bool {
-    for (document, len) in documents.iter().zip(LENS) {
-        if document.len() != len {
-            return false;
-        }
-    }
-    for capacity in [0, 1, 3, 8, 64] {
-        if reads_buffered(alloc, capacity, BLOCK, documents) != Ok(true) {
-            return false;
-        }
-    }
-    reads_block(alloc, &mut SliceSource::new(BLOCK), documents) == Ok(true)
-}
-
 #[test]
 fn a_block_is_read_to_its_end(rt: HostRuntime) -> Result<(), Fail> {
-    let documents = documents_of(rt.alloc())?;
-    assert!(rt; are_of_block(rt.alloc(), documents.as_slice()));
-    drop(documents);
-    assert!(rt; reads_block(rt.alloc(), &mut SliceSource::new(b""), &[]) == Ok(true));
-    assert!(rt; reads_buffered(rt.alloc(), 4, b"", &[]) == Ok(true));
+    let alloc = rt.alloc();
+    let documents = documents_of(alloc)?;
+    for (document, len) in documents.iter().zip(LENS) {
+        assert!(rt; document.len() == len);
+    }
+    let mut slice = SliceSource::new(BLOCK);
+    assert!(rt; reads_block(alloc, &mut slice, &documents) == Ok(true));
+    for capacity in [0, 1, 3, 8, 64] {
+        let mut source = BufferedSource::with_capacity(alloc, capacity, BLOCK)?;
+        assert!(rt; reads_block(alloc, &mut source, &documents) == Ok(true));
+    }
+    let mut empty = SliceSource::new(b"");
+    assert!(rt; reads_block(alloc, &mut empty, &[]) == Ok(true));
+    let mut none = BufferedSource::with_capacity(alloc, 4, b"".as_slice())?;
+    assert!(rt; reads_block(alloc, &mut none, &[]) == Ok(true));
     Ok(())
 }
 
