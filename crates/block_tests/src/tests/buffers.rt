@@ -1,5 +1,6 @@
 //! Calls over blocks that write into buffers of a caller's: what is written, what is needed, and what stays.
 
+use std::alloc::Global;
 use std::test::Fail;
 use tantivy_schema::common::Cause;
 use tv_blocks::status::{error_answer, import_answer, written_answer, wrong_version};
@@ -54,30 +55,51 @@ const NO_ANSWER: LineAnswer = LineAnswer {
     bytes: 99,
 };
 
+// Whether the answers are those of the lines, and the last one stays as it was.
+fn are_answered(answers: &[LineAnswer; 9]) -> bool {
+    for place in 0..8 {
+        let line = LineAnswer {
+            status: STATUSES[place],
+            field: FIELDS[place],
+            bytes: SIZES[place],
+        };
+        if answers[place] != line {
+            return false;
+        }
+    }
+    answers[8] == NO_ANSWER
+}
+
 #[test]
 fn lines_are_imported(rt: HostRuntime) -> Result<(), Fail> {
-    let alloc = rt.alloc();
     let mut block = [KEPT; 24];
     let mut answers = [NO_ANSWER; 9];
-    let imported = import_lines(alloc, SCHEMA, LINES, &mut block, &mut answers);
+    let imported = import_lines(rt.alloc(), SCHEMA, LINES, &mut block, &mut answers);
     let count = Imported {
         bytes: 21,
         lines: 8,
     };
-    assert!(rt; imported == Ok(count));
-    assert!(rt; &block[..21] == BLOCK);
-    assert!(rt; &block[21..] == [KEPT; 3].as_slice());
-    let said = STATUSES.into_iter().zip(FIELDS).zip(SIZES);
-    for (answer, ((status, field), bytes)) in answers.iter().zip(said) {
-        let line = LineAnswer {
-            status,
-            field,
-            bytes,
-        };
-        assert!(rt; *answer == line);
-    }
-    assert!(rt; answers[8] == NO_ANSWER);
+    assert!(rt; imported == Ok(count) && are_answered(&answers));
+    assert!(rt; block.starts_with(BLOCK) && block.ends_with(&[KEPT; 3]));
     Ok(())
+}
+
+// Whether nothing is imported into a block of one byte too few.
+fn is_block_short(alloc: Global, needed: BlockError) -> bool {
+    let mut block = [KEPT; 20];
+    let mut answers = [NO_ANSWER; 8];
+    import_lines(alloc, SCHEMA, LINES, &mut block, &mut answers) == Err(needed)
+        && block == [KEPT; 20]
+        && answers == [NO_ANSWER; 8]
+}
+
+// Whether nothing is imported with one answer too few.
+fn are_answers_short(alloc: Global, needed: BlockError) -> bool {
+    let mut block = [KEPT; 21];
+    let mut answers = [NO_ANSWER; 8];
+    import_lines(alloc, SCHEMA, LINES, &mut block, &mut answers[..7]) == Err(needed)
+        && block == [KEPT; 21]
+        && answers == [NO_ANSWER; 8]
 }
 
 #[test]
@@ -87,64 +109,59 @@ fn nothing_is_imported_where_a_buffer_is_too_small(rt: HostRuntime) -> Result<()
         bytes: 21,
         lines: 8,
     };
-    let mut block = [KEPT; 20];
-    let mut answers = [NO_ANSWER; 8];
-    let short = import_lines(alloc, SCHEMA, LINES, &mut block, &mut answers);
-    assert!(rt; short == Err(needed));
-    assert!(rt; block == [KEPT; 20]);
-    assert!(rt; answers == [NO_ANSWER; 8]);
-    let mut larger = [KEPT; 21];
-    let few = import_lines(alloc, SCHEMA, LINES, &mut larger, &mut answers[..7]);
-    assert!(rt; few == Err(needed));
-    assert!(rt; larger == [KEPT; 21]);
-    assert!(rt; answers == [NO_ANSWER; 8]);
-    let none = import_lines(alloc, b"{", LINES, &mut larger, &mut answers);
+    assert!(rt; is_block_short(alloc, needed) && are_answers_short(alloc, needed));
+    let none = import_lines(alloc, b"{", LINES, &mut [KEPT; 21], &mut [NO_ANSWER; 8]);
     assert!(rt; none == Err(BlockError::InvalidJson));
     Ok(())
 }
 
-#[test]
-fn a_block_is_printed(rt: HostRuntime) -> Result<(), Fail> {
-    let alloc = rt.alloc();
+// Whether a block of this version is printed.
+fn is_printed(alloc: Global, version: DocStoreVersion, block: &[u8]) -> bool {
     let mut lines = [KEPT; 32];
-    let len = export_block(alloc, SCHEMA, DocStoreVersion::V2, BLOCK, &mut lines);
-    assert!(rt; len == Ok(30));
-    assert!(rt; lines.as_slice() == PRINTED);
-    let mut others = [KEPT; 32];
-    let later = export_block(alloc, SCHEMA, DocStoreVersion::V3, LATER, &mut others);
-    assert!(rt; later == Ok(30));
-    assert!(rt; others.as_slice() == PRINTED);
+    export_block(alloc, SCHEMA, version, block, &mut lines) == Ok(30) && lines.as_slice() == PRINTED
+}
+
+// Whether nothing is printed where there is too little room, or where the block is cut off.
+fn is_not_printed(alloc: Global, version: DocStoreVersion) -> bool {
     let mut short = [KEPT; 29];
     let needed = BlockError::TooSmall {
         bytes: 30,
         lines: 0,
     };
-    let refused = export_block(alloc, SCHEMA, DocStoreVersion::V2, BLOCK, &mut short);
-    assert!(rt; refused == Err(needed));
-    assert!(rt; short == [KEPT; 29]);
-    let cut = export_block(alloc, SCHEMA, DocStoreVersion::V2, &BLOCK[..20], &mut short);
     let broken = BlockError::BadDocument {
         start: 8,
         refusal: DocumentRefusal::Corrupted(Cause::UnexpectedEnd),
     };
-    assert!(rt; cut == Err(broken));
+    export_block(alloc, SCHEMA, version, BLOCK, &mut short) == Err(needed)
+        && short == [KEPT; 29]
+        && export_block(alloc, SCHEMA, version, &BLOCK[..20], &mut short) == Err(broken)
+}
+
+#[test]
+fn a_block_is_printed(rt: HostRuntime) -> Result<(), Fail> {
+    let alloc = rt.alloc();
+    let (two, three) = (DocStoreVersion::V2, DocStoreVersion::V3);
+    assert!(rt; is_printed(alloc, two, BLOCK) && is_printed(alloc, three, LATER));
+    assert!(rt; is_not_printed(alloc, two));
     Ok(())
+}
+
+// Whether a block is carried over to version 3 and back.
+fn is_carried_over(alloc: Global, block: &mut [u8; 21]) -> bool {
+    let (two, three) = (DocStoreVersion::V2, DocStoreVersion::V3);
+    migrate_block(alloc, two, BLOCK, WriteVersion::V3, block) == Ok(20)
+        && &block[..20] == LATER
+        && migrate_block(alloc, three, LATER, WriteVersion::V2, block) == Ok(21)
+        && block.as_slice() == BLOCK
 }
 
 #[test]
 fn a_block_is_carried_over(rt: HostRuntime) -> Result<(), Fail> {
-    let alloc = rt.alloc();
     let mut block = [KEPT; 21];
-    let (two, three) = (DocStoreVersion::V2, DocStoreVersion::V3);
-    let later = migrate_block(alloc, two, BLOCK, WriteVersion::V3, &mut block);
-    assert!(rt; later == Ok(20));
-    assert!(rt; &block[..20] == LATER);
-    let back = migrate_block(alloc, three, LATER, WriteVersion::V2, &mut block);
-    assert!(rt; back == Ok(21));
-    assert!(rt; block.as_slice() == BLOCK);
+    assert!(rt; is_carried_over(rt.alloc(), &mut block));
     let key = migrate_block(
-        alloc,
-        two,
+        rt.alloc(),
+        DocStoreVersion::V2,
         b"\x80\x81\0\0\0\0\x0d\x82\x0b",
         WriteVersion::V2,
         &mut block,
@@ -153,48 +170,65 @@ fn a_block_is_carried_over(rt: HostRuntime) -> Result<(), Fail> {
         start: 1,
         refusal: DocumentRefusal::KeyIsNoText,
     };
-    assert!(rt; key == Err(broken));
-    assert!(rt; block.as_slice() == BLOCK);
+    assert!(rt; key == Err(broken) && block.as_slice() == BLOCK);
     Ok(())
+}
+
+// Whether paths name these fields, or none.
+fn are_fields_found(alloc: Global) -> bool {
+    find_field(alloc, SCHEMA, b"j.a.b") == Ok(FoundField { field: 4, rest: 2 })
+        && find_field(alloc, SCHEMA, b"u") == Ok(FoundField { field: 1, rest: 1 })
+        && find_field(alloc, SCHEMA, b"none") == Err(BlockError::NoField)
+        && find_field(alloc, SCHEMA, b"\xff") == Err(BlockError::NotUtf8)
 }
 
 #[test]
 fn a_path_names_a_field(rt: HostRuntime) -> Result<(), Fail> {
-    let alloc = rt.alloc();
-    assert!(rt; find_field(alloc, SCHEMA, b"j.a.b") == Ok(FoundField { field: 4, rest: 2 }));
-    assert!(rt; find_field(alloc, SCHEMA, b"u") == Ok(FoundField { field: 1, rest: 1 }));
-    assert!(rt; find_field(alloc, SCHEMA, b"none") == Err(BlockError::NoField));
-    assert!(rt; find_field(alloc, SCHEMA, b"\xff") == Err(BlockError::NotUtf8));
+    assert!(rt; are_fields_found(rt.alloc()));
     Ok(())
+}
+
+// Whether a facet is encoded and printed, and what is none is refused.
+fn are_facets_told(alloc: Global) -> bool {
+    let mut bytes = [KEPT; 8];
+    facet_of_text(alloc, b"/a/b\\/c", &mut bytes) == Ok(5)
+        && &bytes == b"a\0b/c\xa5\xa5\xa5"
+        && text_of_facet(alloc, b"a\0b/c", &mut bytes) == Ok(7)
+        && &bytes == b"/a/b\\/c\xa5"
+        && facet_of_text(alloc, b"a", &mut bytes) == Err(BlockError::NotFacet)
+        && text_of_facet(alloc, b"\xff", &mut bytes) == Err(BlockError::NotUtf8)
 }
 
 #[test]
 fn facets_are_encoded_and_printed(rt: HostRuntime) -> Result<(), Fail> {
-    let alloc = rt.alloc();
-    let mut bytes = [KEPT; 8];
-    assert!(rt; facet_of_text(alloc, b"/a/b\\/c", &mut bytes) == Ok(5));
-    assert!(rt; &bytes == b"a\0b/c\xa5\xa5\xa5");
-    assert!(rt; text_of_facet(alloc, b"a\0b/c", &mut bytes) == Ok(7));
-    assert!(rt; &bytes == b"/a/b\\/c\xa5");
-    assert!(rt; facet_of_text(alloc, b"a", &mut bytes) == Err(BlockError::NotFacet));
-    assert!(rt; text_of_facet(alloc, b"\xff", &mut bytes) == Err(BlockError::NotUtf8));
+    assert!(rt; are_facets_told(rt.alloc()));
     Ok(())
+}
+
+// A term of the number 258.
+const NUMBER: &[u8] = b"\0\0\0\x01u\0\0\0\0\0\0\x01\x02";
+
+// Whether terms have their texts.
+fn have_texts(alloc: Global, bytes: &mut [u8; 8]) -> bool {
+    text_of_term(alloc, NUMBER, bytes) == Ok(3)
+        && *bytes == *b"258\xa5\xa5\xa5\xa5\xa5"
+        && text_of_term(alloc, b"\0\0\0\x04ja\x01b\0sx", bytes) == Ok(1)
+        && *bytes == *b"x58\xa5\xa5\xa5\xa5\xa5"
+}
+
+// Whether no text is written where there is too little room, or of what is no term.
+fn have_no_texts(alloc: Global, bytes: &mut [u8; 8]) -> bool {
+    let short = BlockError::TooSmall { bytes: 3, lines: 0 };
+    text_of_term(alloc, NUMBER, &mut bytes[..2]) == Err(short)
+        && text_of_term(alloc, b"\0\0\0\0s\xff", bytes) == Err(BlockError::NotTerm)
+        && text_of_term(alloc, b"", bytes) == Err(BlockError::NotTerm)
+        && *bytes == *b"x58\xa5\xa5\xa5\xa5\xa5"
 }
 
 #[test]
 fn terms_have_texts(rt: HostRuntime) -> Result<(), Fail> {
-    let alloc = rt.alloc();
     let mut bytes = [KEPT; 8];
-    let number = b"\0\0\0\x01u\0\0\0\0\0\0\x01\x02";
-    assert!(rt; text_of_term(alloc, number, &mut bytes) == Ok(3));
-    assert!(rt; &bytes == b"258\xa5\xa5\xa5\xa5\xa5");
-    assert!(rt; text_of_term(alloc, b"\0\0\0\x04ja\x01b\0sx", &mut bytes) == Ok(1));
-    assert!(rt; &bytes == b"x58\xa5\xa5\xa5\xa5\xa5");
-    let short = BlockError::TooSmall { bytes: 3, lines: 0 };
-    assert!(rt; text_of_term(alloc, number, &mut bytes[..2]) == Err(short));
-    assert!(rt; text_of_term(alloc, b"\0\0\0\0s\xff", &mut bytes) == Err(BlockError::NotTerm));
-    assert!(rt; text_of_term(alloc, b"", &mut bytes) == Err(BlockError::NotTerm));
-    assert!(rt; &bytes == b"x58\xa5\xa5\xa5\xa5\xa5");
+    assert!(rt; have_texts(rt.alloc(), &mut bytes) && have_no_texts(rt.alloc(), &mut bytes));
     assert!(rt; error_answer(BlockError::NotTerm).status == 17);
     Ok(())
 }

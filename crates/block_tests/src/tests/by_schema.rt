@@ -1,6 +1,7 @@
 //! Values and terms of a block by a schema. The expected bytes are worked out by hand: of a term the field's number with its highest byte first, the
 //! letter of the type and the value, of a signed number with its highest bit turned.
 
+use std::alloc::Global;
 use std::test::Fail;
 use tantivy_schema::common::Cause;
 use tv_blocks::status::error_answer;
@@ -8,6 +9,7 @@ use tv_blocks::{
     Answer, BlockError, DocumentRefusal, TermsRefusal, read_schema, schema_terms_of_block,
     values_of_block,
 };
+use tv_schema::Schema;
 use tv_store::DocStoreVersion;
 
 const SCHEMA: &[u8] = br#"[{"name":"s","type":"text","options":{"stored":true,"indexing":{}}},
@@ -86,103 +88,122 @@ const WITHOUT_TERMS: [(&[u8], TermsRefusal); 4] = [
     (b"\x81\x03\0\0\0\x04\x81v", TermsRefusal::NoTerm),
 ];
 
+// Whether the fields have their values.
+fn have_values(alloc: Global, schema: &Schema) -> bool {
+    let mut values = [KEPT; 52];
+    values_of_block(alloc, schema, b"s", TWO, BLOCK, &mut values) == Ok(50)
+        && values.starts_with(TEXTS)
+        && values.ends_with(&[KEPT; 2])
+        && values_of_block(alloc, schema, b"j", TWO, BLOCK, &mut values) == Ok(39)
+        && values.starts_with(OBJECT)
+        && values_of_block(alloc, schema, b"i", TWO, BLOCK, &mut values) == Ok(0)
+        && values.starts_with(OBJECT)
+}
+
 #[test]
 fn a_field_has_values(rt: HostRuntime) -> Result<(), Fail> {
     let alloc = rt.alloc();
     let schema = read_schema(alloc, SCHEMA).expect(&rt, "a schema");
-    let mut values = [KEPT; 52];
-    let texts = values_of_block(alloc, &schema, b"s", TWO, BLOCK, &mut values);
-    assert!(rt; texts == Ok(50));
-    assert!(rt; values.starts_with(TEXTS));
-    assert!(rt; values.ends_with(&[KEPT; 2]));
-    let object = values_of_block(alloc, &schema, b"j", TWO, BLOCK, &mut values);
-    assert!(rt; object == Ok(39));
-    assert!(rt; values.starts_with(OBJECT));
-    let none = values_of_block(alloc, &schema, b"i", TWO, BLOCK, &mut values);
-    assert!(rt; none == Ok(0));
-    assert!(rt; values.starts_with(OBJECT));
+    assert!(rt; have_values(alloc, &schema));
     Ok(())
+}
+
+// Whether a field has values of each kind where they fit, and none is written where they don't.
+fn has_each_kind(alloc: Global, schema: &Schema) -> bool {
+    let mut values = [KEPT; 379];
+    let mut short = [KEPT; 378];
+    let needed = BlockError::TooSmall {
+        bytes: 379,
+        lines: 0,
+    };
+    values_of_block(alloc, schema, b"s", TWO, KINDS, &mut values) == Ok(379)
+        && values.as_slice() == EACH_KIND
+        && values_of_block(alloc, schema, b"s", TWO, KINDS, &mut short) == Err(needed)
+        && short == [KEPT; 378]
 }
 
 #[test]
 fn values_are_of_each_kind(rt: HostRuntime) -> Result<(), Fail> {
     let alloc = rt.alloc();
     let schema = read_schema(alloc, SCHEMA).expect(&rt, "a schema");
-    let mut values = [KEPT; 379];
-    let each = values_of_block(alloc, &schema, b"s", TWO, KINDS, &mut values);
-    assert!(rt; each == Ok(379));
-    assert!(rt; values.as_slice() == EACH_KIND);
-    let mut short = [KEPT; 378];
-    let refused = values_of_block(alloc, &schema, b"s", TWO, KINDS, &mut short);
-    let needed = BlockError::TooSmall {
-        bytes: 379,
-        lines: 0,
-    };
-    assert!(rt; refused == Err(needed));
-    assert!(rt; short == [KEPT; 378]);
+    assert!(rt; has_each_kind(alloc, &schema));
     Ok(())
+}
+
+// Whether the values of a field are refused for this reason, and none is written.
+fn has_no_values(
+    alloc: Global,
+    schema: &Schema,
+    name: &[u8],
+    block: &[u8],
+    error: BlockError,
+) -> bool {
+    let mut none = [KEPT; 64];
+    values_of_block(alloc, schema, name, TWO, block, &mut none) == Err(error) && none == [KEPT; 64]
 }
 
 #[test]
 fn values_are_refused(rt: HostRuntime) -> Result<(), Fail> {
     let alloc = rt.alloc();
     let schema = read_schema(alloc, SCHEMA).expect(&rt, "a schema");
-    let mut none = [KEPT; 64];
-    let text = values_of_block(alloc, &schema, b"\xff", TWO, BLOCK, &mut none);
-    assert!(rt; text == Err(BlockError::NotUtf8));
-    for name in [b"".as_slice(), b"none", b"j.k"] {
-        let unnamed = values_of_block(alloc, &schema, name, TWO, BLOCK, &mut none);
-        assert!(rt; unnamed == Err(BlockError::NoField));
-    }
     let broken = BlockError::BadDocument {
         start: 22,
         refusal: DocumentRefusal::Corrupted(Cause::UnexpectedEnd),
     };
-    let cut = values_of_block(alloc, &schema, b"u", TWO, &BLOCK[..53], &mut none);
-    assert!(rt; cut == Err(broken));
-    assert!(rt; none == [KEPT; 64]);
+    assert!(rt;
+        has_no_values(alloc, &schema, b"\xff", BLOCK, BlockError::NotUtf8)
+            && has_no_values(alloc, &schema, b"", BLOCK, BlockError::NoField)
+            && has_no_values(alloc, &schema, b"none", BLOCK, BlockError::NoField)
+            && has_no_values(alloc, &schema, b"j.k", BLOCK, BlockError::NoField)
+            && has_no_values(alloc, &schema, b"u", &BLOCK[..53], broken)
+    );
     Ok(())
+}
+
+// Whether documents have these terms where they fit, and none is written where they don't.
+fn have_terms(alloc: Global, schema: &Schema) -> bool {
+    let mut terms = [KEPT; 132];
+    let mut short = [KEPT; 129];
+    let needed = BlockError::TooSmall {
+        bytes: 130,
+        lines: 0,
+    };
+    schema_terms_of_block(alloc, schema, TWO, BLOCK, &mut terms) == Ok(130)
+        && terms.starts_with(TERMS)
+        && terms.ends_with(&[KEPT; 2])
+        && schema_terms_of_block(alloc, schema, TWO, BLOCK, &mut short) == Err(needed)
+        && short == [KEPT; 129]
 }
 
 #[test]
 fn documents_have_terms_by_a_schema(rt: HostRuntime) -> Result<(), Fail> {
     let alloc = rt.alloc();
     let schema = read_schema(alloc, SCHEMA).expect(&rt, "a schema");
-    let mut terms = [KEPT; 132];
-    let all = schema_terms_of_block(alloc, &schema, TWO, BLOCK, &mut terms);
-    assert!(rt; all == Ok(130));
-    assert!(rt; terms.starts_with(TERMS));
-    assert!(rt; terms.ends_with(&[KEPT; 2]));
-    let mut short = [KEPT; 129];
-    let refused = schema_terms_of_block(alloc, &schema, TWO, BLOCK, &mut short);
-    let needed = BlockError::TooSmall {
-        bytes: 130,
-        lines: 0,
-    };
-    assert!(rt; refused == Err(needed));
-    assert!(rt; short == [KEPT; 129]);
+    assert!(rt; have_terms(alloc, &schema));
     Ok(())
+}
+
+// Whether no terms of a block are written, for this reason.
+fn has_no_terms(alloc: Global, schema: &Schema, block: &[u8], error: BlockError) -> bool {
+    let mut none = [KEPT; 64];
+    schema_terms_of_block(alloc, schema, TWO, block, &mut none) == Err(error) && none == [KEPT; 64]
 }
 
 #[test]
 fn documents_have_no_terms(rt: HostRuntime) -> Result<(), Fail> {
     let alloc = rt.alloc();
     let schema = read_schema(alloc, SCHEMA).expect(&rt, "a schema");
-    let mut none = [KEPT; 64];
     let broken = BlockError::BadDocument {
         start: 22,
         refusal: DocumentRefusal::Corrupted(Cause::UnexpectedEnd),
     };
-    let cut = schema_terms_of_block(alloc, &schema, TWO, &BLOCK[..53], &mut none);
-    assert!(rt; cut == Err(broken));
+    assert!(rt; has_no_terms(alloc, &schema, &BLOCK[..53], broken));
     for (document, refusal) in WITHOUT_TERMS {
         let mut block = Vec::from_slice(alloc, &BLOCK[..22]).expect(&rt, "memory");
         block.extend_from_slice(document).expect(&rt, "memory");
-        let refused = schema_terms_of_block(alloc, &schema, TWO, block.as_slice(), &mut none);
-        let start = 22;
-        assert!(rt; refused == Err(BlockError::NoTerms { start, refusal }));
+        let error = BlockError::NoTerms { start: 22, refusal };
+        assert!(rt; has_no_terms(alloc, &schema, block.as_slice(), error));
     }
-    assert!(rt; none == [KEPT; 64]);
     Ok(())
 }
 

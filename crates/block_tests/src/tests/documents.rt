@@ -30,16 +30,32 @@ const PRINTED: &[u8] = b"{\"j\":[{\"a\":\"b\"}],\"s\":[\"a\"]}\xa5\xa5";
 // Where nothing was written.
 const KEPT: u8 = 0xa5;
 
+// What is said of a line that is parsed into this document.
+fn parsed(
+    alloc: Global,
+    schema: &Schema,
+    line: &[u8],
+    document: &mut TantivyDocument,
+) -> Result<(), BlockError> {
+    parse_line(alloc, schema, line, document, &mut ParseBuffers::new(alloc))
+}
+
 // What is said of a line.
 fn refused(alloc: Global, schema: &Schema, line: &[u8]) -> Result<(), BlockError> {
-    let mut document = TantivyDocument::new(alloc);
-    parse_line(
-        alloc,
-        schema,
-        line,
-        &mut document,
-        &mut ParseBuffers::new(alloc),
-    )
+    parsed(alloc, schema, line, &mut TantivyDocument::new(alloc))
+}
+
+// Whether a document is printed and written so in both versions.
+fn is_written(alloc: Global, schema: &Schema, document: &TantivyDocument) -> bool {
+    let mut text = [KEPT; 29];
+    let mut bytes = [KEPT; 20];
+    let mut later = [KEPT; 19];
+    print_document(alloc, schema, document, &mut text) == Ok(27)
+        && text.as_slice() == PRINTED
+        && write_document(alloc, schema, WriteVersion::V2, document, &mut bytes) == Ok(20)
+        && bytes.as_slice() == STORED
+        && write_document(alloc, schema, WriteVersion::V3, document, &mut later) == Ok(19)
+        && later.as_slice() == LATER
 }
 
 #[test]
@@ -47,22 +63,27 @@ fn a_line_is_parsed_printed_and_written(rt: HostRuntime) -> Result<(), Fail> {
     let alloc = rt.alloc();
     let schema = read_schema(alloc, SCHEMA).expect(&rt, "a schema");
     let mut document = TantivyDocument::new(alloc);
-    let mut buffers = ParseBuffers::new(alloc);
-    let parsed = parse_line(alloc, &schema, LINE, &mut document, &mut buffers);
-    assert!(rt; parsed == Ok(()));
-    let mut text = [KEPT; 29];
-    let printed = print_document(alloc, &schema, &document, &mut text);
-    assert!(rt; printed == Ok(27));
-    assert!(rt; text.as_slice() == PRINTED);
-    let mut bytes = [KEPT; 20];
-    let two = write_document(alloc, &schema, WriteVersion::V2, &document, &mut bytes);
-    assert!(rt; two == Ok(20));
-    assert!(rt; bytes.as_slice() == STORED);
-    let mut later = [KEPT; 19];
-    let three = write_document(alloc, &schema, WriteVersion::V3, &document, &mut later);
-    assert!(rt; three == Ok(19));
-    assert!(rt; later.as_slice() == LATER);
+    assert!(rt; parsed(alloc, &schema, LINE, &mut document) == Ok(()));
+    assert!(rt; is_written(alloc, &schema, &document));
     Ok(())
+}
+
+// Whether nothing of a document is printed or written where there is too little room.
+fn is_too_long(alloc: Global, schema: &Schema, document: &TantivyDocument) -> bool {
+    let mut text = [KEPT; 26];
+    let longer = BlockError::TooSmall {
+        bytes: 27,
+        lines: 0,
+    };
+    let mut bytes = [KEPT; 19];
+    let needed = BlockError::TooSmall {
+        bytes: 20,
+        lines: 0,
+    };
+    print_document(alloc, schema, document, &mut text) == Err(longer)
+        && text == [KEPT; 26]
+        && write_document(alloc, schema, WriteVersion::V2, document, &mut bytes) == Err(needed)
+        && bytes == [KEPT; 19]
 }
 
 #[test]
@@ -70,26 +91,37 @@ fn nothing_is_written_where_a_buffer_is_too_small(rt: HostRuntime) -> Result<(),
     let alloc = rt.alloc();
     let schema = read_schema(alloc, SCHEMA).expect(&rt, "a schema");
     let mut document = TantivyDocument::new(alloc);
-    let mut buffers = ParseBuffers::new(alloc);
-    let parsed = parse_line(alloc, &schema, LINE, &mut document, &mut buffers);
-    assert!(rt; parsed == Ok(()));
-    let mut text = [KEPT; 26];
-    let printed = print_document(alloc, &schema, &document, &mut text);
-    let longer = BlockError::TooSmall {
-        bytes: 27,
-        lines: 0,
-    };
-    assert!(rt; printed == Err(longer));
-    assert!(rt; text == [KEPT; 26]);
-    let mut bytes = [KEPT; 19];
-    let written = write_document(alloc, &schema, WriteVersion::V2, &document, &mut bytes);
-    let needed = BlockError::TooSmall {
-        bytes: 20,
-        lines: 0,
-    };
-    assert!(rt; written == Err(needed));
-    assert!(rt; bytes == [KEPT; 19]);
+    assert!(rt; parsed(alloc, &schema, LINE, &mut document) == Ok(()));
+    assert!(rt; is_too_long(alloc, &schema, &document));
     Ok(())
+}
+
+// Whether a document is read of bytes of version 3, and printed.
+fn is_first_printed(alloc: Global, schema: &Schema, document: &mut TantivyDocument) -> bool {
+    let mut text = [KEPT; 29];
+    read_first_document(alloc, DocStoreVersion::V3, LATER, document) == Ok(19)
+        && print_document(alloc, schema, document, &mut text) == Ok(27)
+        && text.as_slice() == PRINTED
+}
+
+// Whether documents are read one after the other in place of one, and none is left after bytes that are refused.
+fn are_read_in_place(alloc: Global, document: &mut TantivyDocument) -> bool {
+    let two = DocStoreVersion::V2;
+    let broken = BlockError::BadDocument {
+        start: 0,
+        refusal: DocumentRefusal::Corrupted(Cause::UnexpectedEnd),
+    };
+    let no_text = BlockError::BadDocument {
+        start: 0,
+        refusal: DocumentRefusal::KeyIsNoText,
+    };
+    read_first_document(alloc, two, b"\x80\x81", document) == Ok(1)
+        && document.len() == 0
+        && read_first_document(alloc, two, STORED, document) == Ok(20)
+        && document.len() == 2
+        && read_first_document(alloc, two, &STORED[..19], document) == Err(broken)
+        && document.len() == 0
+        && read_first_document(alloc, two, b"\x81\0\0\0\0\x0d\x82\x0b", document) == Err(no_text)
 }
 
 #[test]
@@ -97,29 +129,8 @@ fn bytes_begin_with_a_document(rt: HostRuntime) -> Result<(), Fail> {
     let alloc = rt.alloc();
     let schema = read_schema(alloc, SCHEMA).expect(&rt, "a schema");
     let mut document = TantivyDocument::new(alloc);
-    let (two, three) = (DocStoreVersion::V2, DocStoreVersion::V3);
-    let first = read_first_document(alloc, three, LATER, &mut document);
-    assert!(rt; first == Ok(19));
-    let mut text = [KEPT; 29];
-    let printed = print_document(alloc, &schema, &document, &mut text);
-    assert!(rt; printed == Ok(27));
-    assert!(rt; text.as_slice() == PRINTED);
-    let shorter = read_first_document(alloc, two, b"\x80\x81", &mut document);
-    assert!(rt; (shorter, document.len()) == (Ok(1), 0));
-    let again = read_first_document(alloc, two, STORED, &mut document);
-    assert!(rt; (again, document.len()) == (Ok(20), 2));
-    let cut = read_first_document(alloc, two, &STORED[..19], &mut document);
-    let broken = BlockError::BadDocument {
-        start: 0,
-        refusal: DocumentRefusal::Corrupted(Cause::UnexpectedEnd),
-    };
-    assert!(rt; (cut, document.len()) == (Err(broken), 0));
-    let key = read_first_document(alloc, two, b"\x81\0\0\0\0\x0d\x82\x0b", &mut document);
-    let no_text = BlockError::BadDocument {
-        start: 0,
-        refusal: DocumentRefusal::KeyIsNoText,
-    };
-    assert!(rt; key == Err(no_text));
+    assert!(rt; is_first_printed(alloc, &schema, &mut document));
+    assert!(rt; are_read_in_place(alloc, &mut document));
     Ok(())
 }
 

@@ -1,11 +1,13 @@
 //! Terms and ranges of texts of queries. The expected bytes are worked out by hand: of a term the field's number with its highest byte first, the
 //! letter of the type and the value, of a signed number with its highest bit turned.
 
+use std::alloc::Global;
 use std::test::Fail;
 use tv_blocks::status::error_answer;
 use tv_blocks::{
     Answer, BlockError, QueryRefusal, ValueRefusal, ranges_of_text, read_schema, terms_of_text,
 };
+use tv_schema::Schema;
 
 const SCHEMA: &[u8] = br#"[{"name":"s","type":"text","options":{}},
 {"name":"u","type":"u64","options":{"indexed":true,"stored":true}},
@@ -63,73 +65,103 @@ const REFUSED: [(&[u8], &[u8], QueryRefusal); 6] = [
     ),
 ];
 
-#[test]
-fn texts_have_terms(rt: HostRuntime) -> Result<(), Fail> {
-    let alloc = rt.alloc();
-    let schema = read_schema(alloc, SCHEMA).expect(&rt, "a schema");
+// Whether texts have these terms.
+fn have_terms(alloc: Global, schema: &Schema) -> bool {
     let mut terms = [KEPT; 48];
-    let number = terms_of_text(alloc, &schema, b"u", b"258", &mut terms);
-    assert!(rt; number == Ok(21));
-    assert!(rt; terms.starts_with(NUMBER));
-    assert!(rt; terms.ends_with(&[KEPT; 27]));
-    let below = terms_of_text(alloc, &schema, b"j.a.b", b"7", &mut terms);
-    assert!(rt; below == Ok(45));
-    assert!(rt; terms.starts_with(BELOW));
+    terms_of_text(alloc, schema, b"u", b"258", &mut terms) == Ok(21)
+        && terms.starts_with(NUMBER)
+        && terms.ends_with(&[KEPT; 27])
+        && terms_of_text(alloc, schema, b"j.a.b", b"7", &mut terms) == Ok(45)
+        && terms.starts_with(BELOW)
+}
+
+// Whether no term is written where there is too little room for it.
+fn is_term_refused(alloc: Global, schema: &Schema) -> bool {
     let mut short = [KEPT; 20];
-    let refused = terms_of_text(alloc, &schema, b"u", b"258", &mut short);
     let needed = BlockError::TooSmall {
         bytes: 21,
         lines: 0,
     };
-    assert!(rt; refused == Err(needed));
-    assert!(rt; short == [KEPT; 20]);
+    terms_of_text(alloc, schema, b"u", b"258", &mut short) == Err(needed) && short == [KEPT; 20]
+}
+
+#[test]
+fn texts_have_terms(rt: HostRuntime) -> Result<(), Fail> {
+    let alloc = rt.alloc();
+    let schema = read_schema(alloc, SCHEMA).expect(&rt, "a schema");
+    assert!(rt; have_terms(alloc, &schema) && is_term_refused(alloc, &schema));
     Ok(())
+}
+
+// Whether texts bound these ranges.
+fn bound_ranges(alloc: Global, schema: &Schema) -> bool {
+    let mut ranges = [KEPT; 96];
+    ranges_of_text(alloc, schema, b"u", b"[10 TO 20}", &mut ranges) == Ok(42)
+        && ranges.starts_with(RANGE)
+        && ranges.ends_with(&[KEPT; 54])
+        && ranges_of_text(alloc, schema, b"j.a", b"[10 TO 20}", &mut ranges) == Ok(84)
+        && ranges.starts_with(RANGES)
+}
+
+// Whether no range is written where there is too little room for it.
+fn is_range_refused(alloc: Global, schema: &Schema) -> bool {
+    let mut short = [KEPT; 41];
+    let needed = BlockError::TooSmall {
+        bytes: 42,
+        lines: 0,
+    };
+    ranges_of_text(alloc, schema, b"u", b"[10 TO 20}", &mut short) == Err(needed)
+        && short == [KEPT; 41]
 }
 
 #[test]
 fn texts_bound_ranges(rt: HostRuntime) -> Result<(), Fail> {
     let alloc = rt.alloc();
     let schema = read_schema(alloc, SCHEMA).expect(&rt, "a schema");
-    let mut ranges = [KEPT; 96];
-    let one = ranges_of_text(alloc, &schema, b"u", b"[10 TO 20}", &mut ranges);
-    assert!(rt; one == Ok(42));
-    assert!(rt; ranges.starts_with(RANGE));
-    assert!(rt; ranges.ends_with(&[KEPT; 54]));
-    let two = ranges_of_text(alloc, &schema, b"j.a", b"[10 TO 20}", &mut ranges);
-    assert!(rt; two == Ok(84));
-    assert!(rt; ranges.starts_with(RANGES));
-    let mut short = [KEPT; 41];
-    let refused = ranges_of_text(alloc, &schema, b"u", b"[10 TO 20}", &mut short);
-    let needed = BlockError::TooSmall {
-        bytes: 42,
-        lines: 0,
-    };
-    assert!(rt; refused == Err(needed));
-    assert!(rt; short == [KEPT; 41]);
+    assert!(rt; bound_ranges(alloc, &schema) && is_range_refused(alloc, &schema));
     Ok(())
+}
+
+// Whether a text has no terms, for this reason.
+fn has_no_terms(
+    alloc: Global,
+    schema: &Schema,
+    path: &[u8],
+    text: &[u8],
+    error: BlockError,
+) -> bool {
+    let mut none = [KEPT; 64];
+    terms_of_text(alloc, schema, path, text, &mut none) == Err(error) && none == [KEPT; 64]
+}
+
+// Whether a text bounds no ranges, for this reason.
+fn has_no_ranges(
+    alloc: Global,
+    schema: &Schema,
+    path: &[u8],
+    text: &[u8],
+    error: BlockError,
+) -> bool {
+    let mut none = [KEPT; 64];
+    ranges_of_text(alloc, schema, path, text, &mut none) == Err(error) && none == [KEPT; 64]
 }
 
 #[test]
 fn texts_are_refused(rt: HostRuntime) -> Result<(), Fail> {
     let alloc = rt.alloc();
     let schema = read_schema(alloc, SCHEMA).expect(&rt, "a schema");
-    let mut none = [KEPT; 64];
     for (path, text, why) in REFUSED {
-        let listed = terms_of_text(alloc, &schema, path, text, &mut none);
-        assert!(rt; listed == Err(BlockError::BadQuery(why)));
+        assert!(rt; has_no_terms(alloc, &schema, path, text, BlockError::BadQuery(why)));
     }
-    let range = ranges_of_text(alloc, &schema, b"none", b"10", &mut none);
-    assert!(rt; range == Err(BlockError::BadQuery(QueryRefusal::NoRange)));
-    let backwards = ranges_of_text(alloc, &schema, b"u", b"[20 TO 10]", &mut none);
-    let run = QueryRefusal::Backwards { field: 1 };
-    assert!(rt; backwards == Err(BlockError::BadQuery(run)));
-    let nothing = terms_of_text(alloc, &schema, b"none", b"10", &mut none);
-    assert!(rt; nothing == Err(BlockError::NoField));
-    let path = ranges_of_text(alloc, &schema, b"\xff", b"*", &mut none);
-    assert!(rt; path == Err(BlockError::NotUtf8));
-    let text = terms_of_text(alloc, &schema, b"none", b"\xff", &mut none);
-    assert!(rt; text == Err(BlockError::NotUtf8));
-    assert!(rt; none == [KEPT; 64]);
+    let no_range = BlockError::BadQuery(QueryRefusal::NoRange);
+    let backwards = BlockError::BadQuery(QueryRefusal::Backwards { field: 1 });
+    assert!(rt;
+        has_no_ranges(alloc, &schema, b"none", b"10", no_range)
+            && has_no_ranges(alloc, &schema, b"u", b"[20 TO 10]", backwards)
+            && has_no_terms(alloc, &schema, b"none", b"10", BlockError::NoField)
+            && has_no_ranges(alloc, &schema, b"\xff", b"*", BlockError::NotUtf8)
+            && has_no_terms(alloc, &schema, b"none", b"\xff", BlockError::NotUtf8)
+    );
     Ok(())
 }
 

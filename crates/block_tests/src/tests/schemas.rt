@@ -9,7 +9,7 @@ use tv_blocks::{
 };
 use tv_doc::parse_buffers::ParseBuffers;
 use tv_field::SchemaError;
-use tv_schema::SchemaKey;
+use tv_schema::{Schema, SchemaKey};
 use tv_store::DocStoreVersion;
 
 // A schema of a text and a JSON object.
@@ -184,64 +184,81 @@ fn refusal(alloc: Global, text: &[u8]) -> Option<BlockError> {
     }
 }
 
+// What lines are imported as by a schema, into this block and these answers.
+fn imported(
+    alloc: Global,
+    schema: &Schema,
+    block: &mut [u8],
+    answers: &mut [LineAnswer],
+) -> Result<Imported, BlockError> {
+    import_lines_by(
+        alloc,
+        schema,
+        &mut ParseBuffers::new(alloc),
+        LINES,
+        block,
+        answers,
+    )
+}
+
+// How long the text of the block is by a schema, which is written here.
+fn printed(alloc: Global, schema: &Schema, lines: &mut [u8]) -> Result<u64, BlockError> {
+    let two = DocStoreVersion::V2;
+    export_block_by(alloc, schema, two, b"\x81\0\0\0\0\0\x81a", lines)
+}
+
+// Whether lines are imported by a schema, and printed again.
+fn are_lines_served(alloc: Global, schema: &Schema) -> bool {
+    let mut block = [KEPT; 9];
+    let mut answers = [NO_ANSWER; 3];
+    let mut lines = [KEPT; 14];
+    imported(alloc, schema, &mut block, &mut answers) == Ok(Imported { bytes: 8, lines: 2 })
+        && block.as_slice() == BLOCK
+        && &answers == &ANSWERS
+        && printed(alloc, schema, &mut lines) == Ok(12)
+        && lines.as_slice() == PRINTED
+}
+
+// Whether paths are found by a schema, and what names none is refused.
+fn are_paths_found(schema: &Schema) -> bool {
+    find_field_by(schema, b"j.a.b") == Ok(FoundField { field: 1, rest: 2 })
+        && find_field_by(schema, b"none") == Err(BlockError::NoField)
+        && find_field_by(schema, b"\xff") == Err(BlockError::NotUtf8)
+}
+
 #[test]
 fn a_schema_serves_many_calls(rt: HostRuntime) -> Result<(), Fail> {
     let alloc = rt.alloc();
     let schema = read_schema(alloc, SCHEMA).expect(&rt, "a schema");
-    let mut buffers = ParseBuffers::new(alloc);
-    let mut block = [KEPT; 9];
-    let mut answers = [NO_ANSWER; 3];
-    let imported = import_lines_by(
-        alloc,
-        &schema,
-        &mut buffers,
-        LINES,
-        &mut block,
-        &mut answers,
-    );
-    assert!(rt; imported == Ok(Imported { bytes: 8, lines: 2 }));
-    assert!(rt; block.as_slice() == BLOCK);
-    assert!(rt; &answers == &ANSWERS);
-    let mut lines = [KEPT; 14];
-    let two = DocStoreVersion::V2;
-    let printed = export_block_by(alloc, &schema, two, b"\x81\0\0\0\0\0\x81a", &mut lines);
-    assert!(rt; printed == Ok(12));
-    assert!(rt; lines.as_slice() == PRINTED);
-    let found = find_field_by(&schema, b"j.a.b");
-    assert!(rt; found == Ok(FoundField { field: 1, rest: 2 }));
-    assert!(rt; find_field_by(&schema, b"none") == Err(BlockError::NoField));
-    assert!(rt; find_field_by(&schema, b"\xff") == Err(BlockError::NotUtf8));
+    assert!(rt; are_lines_served(alloc, &schema) && are_paths_found(&schema));
     Ok(())
+}
+
+// Whether a block that is too small is told its size, and nothing is written of the lines.
+fn is_import_short(alloc: Global, schema: &Schema) -> bool {
+    let mut block = [KEPT; 7];
+    let mut answers = [NO_ANSWER; 3];
+    let needed = BlockError::TooSmall { bytes: 8, lines: 2 };
+    imported(alloc, schema, &mut block, &mut answers) == Err(needed)
+        && block == [KEPT; 7]
+        && answers == [NO_ANSWER; 3]
+}
+
+// Whether a buffer that is too small is told the length of the text, and nothing is written of it.
+fn is_print_short(alloc: Global, schema: &Schema) -> bool {
+    let mut lines = [KEPT; 11];
+    let needed = BlockError::TooSmall {
+        bytes: 12,
+        lines: 0,
+    };
+    printed(alloc, schema, &mut lines) == Err(needed) && lines == [KEPT; 11]
 }
 
 #[test]
 fn nothing_is_written_where_a_buffer_is_too_small(rt: HostRuntime) -> Result<(), Fail> {
     let alloc = rt.alloc();
     let schema = read_schema(alloc, SCHEMA).expect(&rt, "a schema");
-    let mut buffers = ParseBuffers::new(alloc);
-    let mut block = [KEPT; 7];
-    let mut answers = [NO_ANSWER; 3];
-    let short = import_lines_by(
-        alloc,
-        &schema,
-        &mut buffers,
-        LINES,
-        &mut block,
-        &mut answers,
-    );
-    let needed = BlockError::TooSmall { bytes: 8, lines: 2 };
-    assert!(rt; short == Err(needed));
-    assert!(rt; block == [KEPT; 7]);
-    assert!(rt; answers == [NO_ANSWER; 3]);
-    let mut lines = [KEPT; 11];
-    let two = DocStoreVersion::V2;
-    let cut = export_block_by(alloc, &schema, two, b"\x81\0\0\0\0\0\x81a", &mut lines);
-    let longer = BlockError::TooSmall {
-        bytes: 12,
-        lines: 0,
-    };
-    assert!(rt; cut == Err(longer));
-    assert!(rt; lines == [KEPT; 11]);
+    assert!(rt; is_import_short(alloc, &schema) && is_print_short(alloc, &schema));
     Ok(())
 }
 
@@ -256,24 +273,24 @@ fn texts_that_describe_no_schema_are_refused(rt: HostRuntime) -> Result<(), Fail
     Ok(())
 }
 
+// Whether a schema is refused for this key of its first entry, with this number in the answer.
+fn is_key_named(alloc: Global, text: &[u8], key: SchemaKey, detail: u32) -> bool {
+    let fault = BlockError::BadSchemaKey { entry: 0, key };
+    refusal(alloc, text) == Some(fault) && error_answer(fault).detail == detail
+}
+
 #[test]
 fn a_key_at_fault_is_named(rt: HostRuntime) -> Result<(), Fail> {
     let alloc = rt.alloc();
     for (text, key, number) in &FAULTS {
-        let fault = BlockError::BadSchemaKey {
-            entry: 0,
-            key: *key,
-        };
-        assert!(rt; refusal(alloc, text) == Some(fault));
-        assert!(rt; error_answer(fault).detail == *number);
+        assert!(rt; is_key_named(alloc, text, *key, *number));
     }
     let later = br#"[{"name":"a","type":"facet","options":{"stored":true}},{"name":"a"}]"#;
     let second = BlockError::BadSchemaKey {
         entry: 1,
         key: SchemaKey::Type,
     };
-    assert!(rt; refusal(alloc, later) == Some(second));
-    assert!(rt; error_answer(second).place == 2);
+    assert!(rt; refusal(alloc, later) == Some(second) && error_answer(second).place == 2);
     Ok(())
 }
 
@@ -304,19 +321,24 @@ fn no_key_is_named_where_none_is_at_fault(rt: HostRuntime) -> Result<(), Fail> {
     Ok(())
 }
 
-#[test]
-fn a_schema_is_printed(rt: HostRuntime) -> Result<(), Fail> {
-    let alloc = rt.alloc();
-    let schema = read_schema(alloc, SCHEMA).expect(&rt, "a schema");
+// Whether the schema is printed where it fits, and nothing where it doesn't.
+fn prints_schema(alloc: Global, schema: &Schema) -> bool {
     let mut text = [KEPT; 186];
-    assert!(rt; print_schema(alloc, &schema, &mut text) == Ok(184));
-    assert!(rt; text.as_slice() == PRINTED_SCHEMA);
     let mut short = [KEPT; 183];
     let longer = BlockError::TooSmall {
         bytes: 184,
         lines: 0,
     };
-    assert!(rt; print_schema(alloc, &schema, &mut short) == Err(longer));
-    assert!(rt; short == [KEPT; 183]);
+    print_schema(alloc, schema, &mut text) == Ok(184)
+        && text.as_slice() == PRINTED_SCHEMA
+        && print_schema(alloc, schema, &mut short) == Err(longer)
+        && short == [KEPT; 183]
+}
+
+#[test]
+fn a_schema_is_printed(rt: HostRuntime) -> Result<(), Fail> {
+    let alloc = rt.alloc();
+    let schema = read_schema(alloc, SCHEMA).expect(&rt, "a schema");
+    assert!(rt; prints_schema(alloc, &schema));
     Ok(())
 }

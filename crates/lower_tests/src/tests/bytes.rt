@@ -2,6 +2,7 @@
 
 ghost use Rattle.std.specs.Prelude.{List, length};
 
+use std::alloc::Global;
 use std::io;
 use std::test::Fail;
 use tv_base::take::{take, take_text, take_u8, take_u32, take_u64, take_vint};
@@ -22,70 +23,93 @@ const NUMBERS: [(&[u8], Result<u64, ReadError>, u64); 4] = [
     (&LARGEST, Ok(u64::MAX), 10),
 ];
 
+// Whether the source begins with this number, or fails so, and this many bytes are counted.
+fn takes_number<S: ByteSource>(
+    source: &mut S,
+    number: &Result<u64, ReadError>,
+    taken: u64,
+) -> bool {
+    let mut count = 0;
+    take_vint(source, &mut count) == *number && count == taken
+}
+
 #[test]
 fn the_bytes_of_numbers_are_counted(rt: HostRuntime) {
-    for (bytes, number, taken) in NUMBERS {
-        let mut count = 0;
-        assert!(rt; take_vint(&mut SliceSource::new(bytes), &mut count) == number);
-        assert!(rt; count == taken);
+    for (bytes, number, taken) in &NUMBERS {
+        assert!(rt; takes_number(&mut SliceSource::new(bytes), number, *taken));
     }
-    let mut count = 0;
     let mut reader = ReadSource::new(LARGEST.as_slice());
-    assert!(rt; take_vint(&mut reader, &mut count) == Ok(u64::MAX));
-    assert!(rt; count == 10);
+    assert!(rt; takes_number(&mut reader, &Ok(u64::MAX), 10));
 }
 
 const VALUES: &[u8] = b"\x80\x55\xff\xff\0\0\x14\0\0\0\0\0\0\0\x8aChillFish8\x07";
 
+// Whether the source begins with the numbers of these values.
+fn takes_numbers(source: &mut SliceSource<'_>, count: &mut u64) -> bool {
+    take_vint(source, count) == Ok(0)
+        && take_u8(source, count) == Ok(0x55)
+        && take_u32(source, count) == Ok(65535)
+        && take_u64(source, count) == Ok(20)
+}
+
+// Whether the source goes on with their text, which replaces what the string held.
+fn takes_text(
+    alloc: Global,
+    source: &mut SliceSource<'_>,
+    count: &mut u64,
+    mut text: String,
+) -> bool {
+    take_text(alloc, source, count, &mut text) == Ok(()) && text.as_str() == "ChillFish8"
+}
+
 #[test]
 fn the_bytes_of_values_are_counted(rt: HostRuntime) -> Result<(), Fail> {
+    let text = String::from_str(rt.alloc(), "before")?;
     let mut source = SliceSource::new(VALUES);
     let mut count = 0;
-    assert!(rt; take_vint(&mut source, &mut count) == Ok(0));
-    assert!(rt; take_u8(&mut source, &mut count) == Ok(0x55));
-    assert!(rt; take_u32(&mut source, &mut count) == Ok(65535));
-    assert!(rt; take_u64(&mut source, &mut count) == Ok(20));
-    assert!(rt; count == 14);
-    let mut text = String::from_str(rt.alloc(), "before")?;
-    assert!(rt; take_text(rt.alloc(), &mut source, &mut count, &mut text) == Ok(()));
-    assert!(rt; text.as_str() == "ChillFish8");
-    assert!(rt; count == 25);
-    assert!(rt; source.rest() == [7].as_slice());
+    assert!(rt; takes_numbers(&mut source, &mut count) && count == 14);
+    assert!(rt;
+        takes_text(rt.alloc(), &mut source, &mut count, text)
+            && count == 25
+            && source.rest() == [7].as_slice()
+    );
     Ok(())
+}
+
+// Whether more was taken than can be counted.
+fn is_too_long(error: Option<ReadError>) -> bool {
+    error == Some(ReadError::Corrupted(Cause::TooLong))
 }
 
 #[test]
 fn no_more_is_counted_than_fits(rt: HostRuntime) {
-    let too_long = ReadError::Corrupted(Cause::TooLong);
     let mut source = SliceSource::new(&[7, 8]);
     let mut count = u64::MAX - 1;
     let taken = take(&mut source, &mut count, &mut [1; 2]);
-    assert!(rt; taken.err().as_ref() == Some(&too_long));
-    assert!(rt; source.rest() == [8].as_slice());
+    assert!(rt; is_too_long(taken.err()) && source.rest() == [8].as_slice());
     let mut source = SliceSource::new(&[1, 0, 0, 0, 0]);
     let mut count = u64::MAX - 3;
     let taken = take_u32(&mut source, &mut count);
-    assert!(rt; taken.err().as_ref() == Some(&too_long));
-    assert!(rt; count == u64::MAX);
-    assert!(rt; source.rest().len() == 2);
+    assert!(rt; is_too_long(taken.err()) && count == u64::MAX && source.rest().len() == 2);
+}
+
+// Whether a source of the bytes 1, 2 and 3 lends what is left of them, and passes over no more.
+fn lends_slice(source: &mut SliceSource<'_>) -> bool {
+    source.buffered() == [1, 2, 3].as_slice()
+        && source.pass(2)
+        && source.buffered() == [3].as_slice()
+        && !source.pass(2)
+        && source.pass(1)
+        && source.buffered().is_empty()
 }
 
 #[test]
 fn what_sources_lend(rt: HostRuntime) {
-    let bytes = [1, 2, 3];
-    let mut slice = SliceSource::new(&bytes);
-    assert!(rt; slice.buffered() == [1, 2, 3].as_slice());
-    assert!(rt; slice.pass(2));
-    assert!(rt; slice.buffered() == [3].as_slice());
-    assert!(rt; !slice.pass(2));
-    assert!(rt; slice.pass(1));
-    assert!(rt; slice.buffered().is_empty());
+    assert!(rt; lends_slice(&mut SliceSource::new(&[1, 2, 3])));
     let mut reader = ReadSource::new([1, 2].as_slice());
-    assert!(rt; reader.buffered().is_empty());
-    assert!(rt; !reader.pass(1));
+    assert!(rt; reader.buffered().is_empty() && !reader.pass(1));
     let mut byte = [0; 1];
-    assert!(rt; reader.read(&mut byte) == Ok(1));
-    assert!(rt; byte == [1]);
+    assert!(rt; reader.read(&mut byte) == Ok(1) && byte == [1]);
 }
 
 // Takes one byte at a time, and fails where it has no room left.

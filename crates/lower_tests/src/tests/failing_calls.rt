@@ -47,29 +47,62 @@ fn first_calls_fail(rt: HostRuntime) {
     assert!(rt; (answer, sink.as_slice()) == (Err(kind), b"".as_slice()));
 }
 
+// The calls before each read of a source of which the second one fails, and what is read.
+const READS: [(u64, Result<usize, io::ErrorKind>); 5] = [
+    (0, Ok(1)),
+    (1, Err(io::ErrorKind::TimedOut)),
+    (2, Ok(1)),
+    (3, Ok(1)),
+    (4, Ok(0)),
+];
+
+// Whether the next read gives this, after so many calls, and one into no bytes gives none.
+fn reads_next(
+    source: &mut FaultSource<SliceSource<'_>>,
+    buf: &mut [u8],
+    calls: u64,
+    answer: Result<usize, io::ErrorKind>,
+) -> bool {
+    source.calls() == calls && source.read(buf) == answer && source.read(&mut []) == Ok(0)
+}
+
 #[test]
 fn one_read_fails(rt: HostRuntime) {
     let mut source = FaultSource::new(SliceSource::new(b"abc"), 1, io::ErrorKind::TimedOut);
     let mut buf = [0; 8];
-    assert!(rt; (source.read(&mut []), source.calls()) == (Ok(0), 0));
+    assert!(rt; source.read(&mut []) == Ok(0) && source.calls() == 0);
     assert!(rt; source.buffered().is_empty() && !source.pass(1));
-    let failed = Err(io::ErrorKind::TimedOut);
-    for (calls, answer) in [Ok(1), failed, Ok(1), Ok(1), Ok(0)].iter().enumerate() {
-        let read = (source.calls(), source.read(&mut buf), source.read(&mut []));
-        assert!(rt; read == ((calls as u64, *answer, Ok(0))));
+    for (calls, answer) in READS {
+        assert!(rt; reads_next(&mut source, &mut buf, calls, answer));
     }
-    assert!(rt; (source.calls(), buf) == (5, *b"c\0\0\0\0\0\0\0"));
+    assert!(rt; source.calls() == 5 && buf == *b"c\0\0\0\0\0\0\0");
     assert!(rt; source.into_inner().rest().is_empty());
+}
+
+// The calls before each write to a sink of which the third one fails, and what is written.
+const WRITES: [(u64, Result<usize, io::ErrorKind>); 4] = [
+    (0, Ok(1)),
+    (1, Ok(1)),
+    (2, Err(io::ErrorKind::StorageFull)),
+    (3, Ok(1)),
+];
+
+// Whether the next write answers this, after so many calls, and one of no bytes writes none.
+fn writes_next(
+    sink: &mut FaultSink<VecSink>,
+    calls: u64,
+    answer: Result<usize, io::ErrorKind>,
+) -> bool {
+    sink.calls() == calls && sink.write(b"abc") == answer && sink.write(&[]) == Ok(0)
 }
 
 #[test]
 fn one_write_fails(rt: HostRuntime) {
-    let kind = io::ErrorKind::StorageFull;
-    let mut sink = FaultSink::new(VecSink::new(rt.alloc()), 2, kind);
+    let sink = VecSink::new(rt.alloc());
+    let mut sink = FaultSink::new(sink, 2, io::ErrorKind::StorageFull);
     assert!(rt; sink.write(&[]) == Ok(0));
-    for (calls, answer) in [Ok(1), Ok(1), Err(kind), Ok(1)].iter().enumerate() {
-        let written = (sink.calls(), sink.write(b"abc"), sink.write(&[]));
-        assert!(rt; written == ((calls as u64, *answer, Ok(0))));
+    for (calls, answer) in WRITES {
+        assert!(rt; writes_next(&mut sink, calls, answer));
     }
     assert!(rt; sink.calls() == 4);
     assert!(rt; sink.into_inner().as_slice() == b"aaa".as_slice());
@@ -97,8 +130,8 @@ fn reads_parts<S: ByteSource>(
     source: &mut S,
     count: &mut u64,
 ) -> Result<bool, ReadError> {
-    let mut text = String::new(alloc);
     let numbers = (take_vint(source, count)?, take_u32(source, count)?);
+    let mut text = String::new(alloc);
     take_text(alloc, source, count, &mut text)?;
     Ok(numbers == (128, 65535) && text.as_str() == "ChillFish8")
 }

@@ -52,13 +52,21 @@ fn terms_are_ordered(rt: HostRuntime) -> Result<(), Fail> {
     Ok(())
 }
 
+// Whether a text was read back, and this one.
+fn is_text(text: Option<String>, expected: &str) -> bool {
+    match text {
+        Some(text) => text.as_str() == expected,
+        None => false,
+    }
+}
+
 #[test]
 fn values_are_read_back(rt: HostRuntime) -> Result<(), Fail> {
     let (alloc, field) = (rt.alloc(), Field::from_field_id(0));
     let path = json_paths_are_read_back(alloc, field, "k8s\\.node.id", false, "c")?;
-    assert!(rt; path.ok_or("a path")?.as_str() == "k8s.node\u{1}id");
+    assert!(rt; is_text(path, "k8s.node\u{1}id"));
     let text = appended_texts_are_read_back(alloc, field, "a", true, "c")?;
-    assert!(rt; text.ok_or("a text")?.as_str() == "c");
+    assert!(rt; is_text(text, "c"));
     let number = appended_numbers_are_read_back(alloc, field, "a", true, -5)?;
     assert!(rt; number == Some(-5));
     let refused = json_paths_are_read_back(alloc, field, "a\0b", false, "c").err();

@@ -37,27 +37,42 @@ const OLDER_OBJECT: &[u8] = b"\x0d\x84\0\x81a\x0b\0\x82bc\x0d\x80";
 
 const NEWER_OBJECT: &[u8] = b"\x0d\x82\x81a\x0b\x82bc\x0d\x80";
 
-// Whether the value is passed over, and two bytes after it are left.
-fn passes(alloc: Global, value: &[u8], version: DocStoreVersion) -> Result<bool, AllocError> {
+// The bytes of a value, and others after it.
+fn followed(alloc: Global, value: &[u8], others: &[u8]) -> Result<Vec<u8>, AllocError> {
     let mut bytes = value.to_vec(alloc)?;
-    bytes.extend_from_slice(b"\xff\xff")?;
+    bytes.extend_from_slice(others)?;
+    Ok(bytes)
+}
+
+// Whether the value is passed over, and two bytes after it are left.
+fn passes(alloc: Global, value: &[u8], version: DocStoreVersion) -> bool {
+    let Ok(bytes) = followed(alloc, value, b"\xff\xff") else {
+        return false;
+    };
     let mut source = SliceSource::new(bytes.as_slice());
-    let answer = skip_value(alloc, &mut source, version);
-    Ok(answer.is_ok() && source.rest().len() == 2)
+    skip_value(alloc, &mut source, version).is_ok() && source.rest().len() == 2
 }
 
 // Whether the value is passed over also where the source has no more than this many bytes buffered, and the byte after it comes next.
-fn passes_buffered(
+fn passes_buffered(alloc: Global, value: &[u8], version: DocStoreVersion, capacity: usize) -> bool {
+    let Ok(bytes) = followed(alloc, value, b"\x5a") else {
+        return false;
+    };
+    match BufferedSource::with_capacity(alloc, capacity, bytes.as_slice()) {
+        Ok(source) => ends_behind_value(alloc, source, version),
+        Err(_) => false,
+    }
+}
+
+// Whether the source's value is passed over, and one byte comes after it.
+fn ends_behind_value(
     alloc: Global,
-    value: &[u8],
+    mut source: BufferedSource<&[u8]>,
     version: DocStoreVersion,
-    capacity: usize,
-) -> Result<bool, AllocError> {
-    let mut bytes = value.to_vec(alloc)?;
-    bytes.push(0x5a)?;
-    let mut source = BufferedSource::with_capacity(alloc, capacity, bytes.as_slice())?;
-    let answer = skip_value(alloc, &mut source, version);
-    Ok(answer.is_ok() && source.next_byte() == Ok(Some(0x5a)) && source.next_byte() == Ok(None))
+) -> bool {
+    skip_value(alloc, &mut source, version).is_ok()
+        && source.next_byte() == Ok(Some(0x5a))
+        && source.next_byte() == Ok(None)
 }
 
 #[test]
@@ -65,17 +80,20 @@ fn values_are_passed_over(rt: HostRuntime) -> Result<(), Fail> {
     let alloc = rt.alloc();
     for version in VERSIONS {
         for value in VALUES {
-            assert!(rt; passes(alloc, value, version)?);
+            assert!(rt; passes(alloc, value, version));
             for capacity in [0, 1, 3, 64] {
-                assert!(rt; passes_buffered(alloc, value, version, capacity)?);
+                assert!(rt; passes_buffered(alloc, value, version, capacity));
             }
         }
     }
-    assert!(rt; passes(alloc, OLDER_OBJECT, DocStoreVersion::V1)?);
-    assert!(rt; passes(alloc, OLDER_OBJECT, DocStoreVersion::V2)?);
-    assert!(rt; passes_buffered(alloc, OLDER_OBJECT, DocStoreVersion::V2, 1)?);
-    assert!(rt; passes(alloc, NEWER_OBJECT, DocStoreVersion::V3)?);
-    assert!(rt; passes_buffered(alloc, NEWER_OBJECT, DocStoreVersion::V3, 1)?);
+    let (one, two, three) = (VERSIONS[0], VERSIONS[1], VERSIONS[2]);
+    assert!(rt;
+        passes(alloc, OLDER_OBJECT, one)
+            && passes(alloc, OLDER_OBJECT, two)
+            && passes_buffered(alloc, OLDER_OBJECT, two, 1)
+            && passes(alloc, NEWER_OBJECT, three)
+            && passes_buffered(alloc, NEWER_OBJECT, three, 1)
+    );
     Ok(())
 }
 
@@ -115,21 +133,35 @@ fn malformed() -> [(&'static [u8], DeserializeError, usize); 15] {
     ]
 }
 
+// Whether a value is refused with this error, which is dropped, and this many bytes are left then.
+fn is_refused(
+    alloc: Global,
+    version: DocStoreVersion,
+    bytes: &[u8],
+    error: DeserializeError,
+    left: usize,
+) -> bool {
+    let mut source = SliceSource::new(bytes);
+    skip_value(alloc, &mut source, version) == Err(error) && source.rest().len() == left
+}
+
 #[test]
 fn malformed_values_are_refused_where_they_are_read(rt: HostRuntime) -> Result<(), Fail> {
     let alloc = rt.alloc();
     for (bytes, error, left) in malformed() {
-        let mut source = SliceSource::new(bytes);
-        let answer = skip_value(alloc, &mut source, DocStoreVersion::V2);
-        assert!(rt; answer == Err(error));
-        assert!(rt; source.rest().len() == left);
+        assert!(rt; is_refused(alloc, DocStoreVersion::V2, bytes, error, left));
     }
     // a date of version 1 whose nanoseconds don't fit 64 bits
-    let mut source = SliceSource::new(b"\x05\xff\xff\xff\xff\xff\xff\xff\x7f\x0b");
-    let answer = skip_value(alloc, &mut source, DocStoreVersion::V1);
-    let refused = Err(DeserializeError::CorruptedValue(Cause::DateRange));
-    assert!(rt; answer == refused);
-    assert!(rt; source.rest().len() == 1);
+    let date = b"\x05\xff\xff\xff\xff\xff\xff\xff\x7f\x0b";
+    assert!(rt;
+        is_refused(
+            alloc,
+            DocStoreVersion::V1,
+            date,
+            corrupt(Cause::DateRange),
+            1
+        )
+    );
     Ok(())
 }
 
@@ -198,26 +230,43 @@ fn deep_documents_are_passed_over(rt: HostRuntime) -> Result<(), Fail> {
 // A document with the number 20 in field 1, one without pairs, and one with null in field 0.
 const BLOCK: &[u8] = b"\x81\x01\0\0\0\x01\x14\0\0\0\0\0\0\0\x80\x81\0\0\0\0\x0b";
 
+// Whether a call of the reader answered so.
+fn is_found(answer: Result<bool, DeserializeError>, expected: bool) -> bool {
+    answer == Ok(expected)
+}
+
+// Whether a call of the reader was refused with this error, which is dropped.
+fn has_failed(answer: Result<bool, DeserializeError>, error: DeserializeError) -> bool {
+    answer == Err(error)
+}
+
+// Whether a document is read, and those after it are passed over up to the end.
+fn skips_all(reader: &mut BlockReader, source: &mut SliceSource<'_>) -> bool {
+    is_found(reader.advance(source), true)
+        && is_found(reader.skip(source), true)
+        && source.rest().len() == 6
+        && reader.document().len() == 1
+        && is_found(reader.skip(source), true)
+        && is_found(reader.skip(source), false)
+        && is_found(reader.skip(source), false)
+        && reader.document().len() == 1
+}
+
+// Whether a document is refused, and nothing is read after that.
+fn refuses_next(reader: &mut BlockReader, source: &mut SliceSource<'_>) -> bool {
+    has_failed(reader.skip(source), corrupt(Cause::FloatCode))
+        && has_failed(reader.skip(source), DeserializeError::AlreadyFailed)
+        && has_failed(reader.advance(source), DeserializeError::AlreadyFailed)
+        && source.rest().len() == 1
+        && reader.document().len() == 1
+}
+
 #[test]
 fn documents_of_a_block_are_passed_over(rt: HostRuntime) -> Result<(), Fail> {
-    let alloc = rt.alloc();
     let mut source = SliceSource::new(BLOCK);
-    let mut reader = BlockReader::new(alloc, DocStoreVersion::V2);
-    assert!(rt; reader.advance(&mut source) == Ok(true));
-    assert!(rt; reader.skip(&mut source) == Ok(true));
-    assert!(rt; source.rest().len() == 6);
-    assert!(rt; reader.document().len() == 1);
-    assert!(rt; reader.skip(&mut source) == Ok(true));
-    assert!(rt; reader.skip(&mut source) == Ok(false));
-    assert!(rt; reader.skip(&mut source) == Ok(false));
-    assert!(rt; reader.document().len() == 1);
-    // nothing is read after a refusal
+    let mut reader = BlockReader::new(rt.alloc(), DocStoreVersion::V2);
+    assert!(rt; skips_all(&mut reader, &mut source));
     let mut source = SliceSource::new(b"\x81\0\0\0\0\x06\x80");
-    let refused = Err(DeserializeError::CorruptedValue(Cause::FloatCode));
-    assert!(rt; reader.skip(&mut source) == refused);
-    assert!(rt; reader.skip(&mut source) == Err(DeserializeError::AlreadyFailed));
-    assert!(rt; reader.advance(&mut source) == Err(DeserializeError::AlreadyFailed));
-    assert!(rt; source.rest().len() == 1);
-    assert!(rt; reader.document().len() == 1);
+    assert!(rt; refuses_next(&mut reader, &mut source));
     Ok(())
 }

@@ -1,5 +1,6 @@
 //! Documents of a block that are read one after the other within limits.
 
+use std::alloc::Global;
 use std::test::Fail;
 use tantivy_schema::common::{BufferedSource, ByteSource, Cause, SliceSource};
 use tantivy_schema::store::{
@@ -18,12 +19,29 @@ fn within(bytes: Option<u64>, heap_bytes: Option<u64>, depth: Option<u32>) -> Re
     }
 }
 
-fn passed(limit: ReadLimit) -> Result<bool, LimitedReadError> {
-    Err(LimitedReadError::Limit(limit))
+// Whether a call within limits was refused for this reason.
+fn is_refused(answer: Result<bool, LimitedReadError>, error: LimitedReadError) -> bool {
+    answer == Err(error)
 }
 
-fn refused(error: DeserializeError) -> Result<bool, LimitedReadError> {
-    Err(LimitedReadError::Read(error))
+// Whether a call without limits answered so.
+fn is_found(answer: Result<bool, DeserializeError>, expected: bool) -> bool {
+    answer == Ok(expected)
+}
+
+// Whether a call without limits was refused because one before it had failed.
+fn is_failed(answer: Result<bool, DeserializeError>) -> bool {
+    answer == Err(DeserializeError::AlreadyFailed)
+}
+
+// Whether the reader answers so where it is to read a document within limits.
+fn advances<S: ByteSource>(
+    reader: &mut BlockReader,
+    source: &mut S,
+    limits: ReadLimits,
+    expected: bool,
+) -> bool {
+    reader.advance_within(source, limits) == Ok(expected)
 }
 
 // Limits that all three documents are within.
@@ -55,29 +73,53 @@ const WIDE: [ReadLimits; 5] = [
     },
 ];
 
+// Whether the reader gives the three documents within the limits, and then the end, twice.
+fn reads_all(reader: &mut BlockReader, source: &mut SliceSource<'_>, limits: ReadLimits) -> bool {
+    advances(reader, source, limits, true)
+        && reader.document().len() == 1
+        && source.rest().len() == 7
+        && advances(reader, source, limits, true)
+        && reader.document().len() == 0
+        && advances(reader, source, limits, true)
+        && reader.document().len() == 1
+        && advances(reader, source, limits, false)
+        && advances(reader, source, limits, false)
+        && reader.document().len() == 0
+}
+
 #[test]
 fn each_document_has_the_limits(rt: HostRuntime) -> Result<(), Fail> {
-    let alloc = rt.alloc();
     for limits in WIDE {
         let mut source = SliceSource::new(BLOCK);
-        let mut reader = BlockReader::new(alloc, DocStoreVersion::V2);
-        assert!(rt; reader.advance_within(&mut source, limits) == Ok(true));
-        assert!(rt; reader.document().len() == 1);
-        assert!(rt; source.rest().len() == 7);
-        assert!(rt; reader.advance_within(&mut source, limits) == Ok(true));
-        assert!(rt; reader.document().len() == 0);
-        assert!(rt; reader.advance_within(&mut source, limits) == Ok(true));
-        assert!(rt; reader.document().len() == 1);
-        assert!(rt; reader.advance_within(&mut source, limits) == Ok(false));
-        assert!(rt; reader.advance_within(&mut source, limits) == Ok(false));
-        assert!(rt; reader.document().len() == 0);
+        let mut reader = BlockReader::new(rt.alloc(), DocStoreVersion::V2);
+        assert!(rt; reads_all(&mut reader, &mut source, limits));
     }
     Ok(())
 }
 
+// Whether nothing is read after a refusal.
+fn has_failed(reader: &mut BlockReader, source: &mut SliceSource<'_>) -> bool {
+    let none = within(None, None, None);
+    let failed = LimitedReadError::Read(DeserializeError::AlreadyFailed);
+    is_refused(reader.advance_within(source, none), failed)
+        && is_failed(reader.advance(source))
+        && is_failed(reader.skip(source))
+}
+
+// Whether the first document is refused at this limit, and this many bytes are left then and after a second call.
+fn refuses_first(alloc: Global, limits: ReadLimits, limit: ReadLimit, left: usize) -> bool {
+    let mut source = SliceSource::new(BLOCK);
+    let mut reader = BlockReader::new(alloc, DocStoreVersion::V2);
+    let answer = reader.advance_within(&mut source, limits);
+    is_refused(answer, LimitedReadError::Limit(limit))
+        && source.rest().len() == left
+        && reader.document().len() == 0
+        && has_failed(&mut reader, &mut source)
+        && source.rest().len() == left
+}
+
 #[test]
 fn a_document_past_a_limit_is_refused(rt: HostRuntime) -> Result<(), Fail> {
-    let alloc = rt.alloc();
     let narrow = [
         (within(Some(12), None, None), ReadLimit::Bytes, 8),
         (within(Some(0), None, None), ReadLimit::Bytes, 20),
@@ -85,18 +127,7 @@ fn a_document_past_a_limit_is_refused(rt: HostRuntime) -> Result<(), Fail> {
         (within(None, None, Some(0)), ReadLimit::Depth, 13),
     ];
     for (limits, limit, left) in narrow {
-        let mut source = SliceSource::new(BLOCK);
-        let mut reader = BlockReader::new(alloc, DocStoreVersion::V2);
-        assert!(rt; reader.advance_within(&mut source, limits) == passed(limit));
-        assert!(rt; source.rest().len() == left);
-        assert!(rt; reader.document().len() == 0);
-        // nothing is read after a refusal
-        let none = within(None, None, None);
-        let again = reader.advance_within(&mut source, none);
-        assert!(rt; again == refused(DeserializeError::AlreadyFailed));
-        assert!(rt; reader.advance(&mut source) == Err(DeserializeError::AlreadyFailed));
-        assert!(rt; reader.skip(&mut source) == Err(DeserializeError::AlreadyFailed));
-        assert!(rt; source.rest().len() == left);
+        assert!(rt; refuses_first(rt.alloc(), limits, limit, left));
     }
     Ok(())
 }
@@ -106,7 +137,8 @@ fn no_byte_may_be_taken_at_the_end(rt: HostRuntime) -> Result<(), Fail> {
     let mut source = SliceSource::new(b"");
     let mut reader = BlockReader::new(rt.alloc(), DocStoreVersion::V2);
     let none = within(Some(0), None, None);
-    assert!(rt; reader.advance_within(&mut source, none) == passed(ReadLimit::Bytes));
+    let answer = reader.advance_within(&mut source, none);
+    assert!(rt; is_refused(answer, LimitedReadError::Limit(ReadLimit::Bytes)));
     Ok(())
 }
 
@@ -115,11 +147,25 @@ fn a_document_that_is_cut_off_is_corrupted(rt: HostRuntime) -> Result<(), Fail> 
     let mut source = SliceSource::new(b"\x80\x81\0\0");
     let mut reader = BlockReader::new(rt.alloc(), DocStoreVersion::V2);
     let limits = within(Some(100), Some(100), Some(100));
-    assert!(rt; reader.advance_within(&mut source, limits) == Ok(true));
+    assert!(rt; advances(&mut reader, &mut source, limits, true));
+    let answer = reader.advance_within(&mut source, limits);
     let cut = DeserializeError::CorruptedValue(Cause::UnexpectedEnd);
-    assert!(rt; reader.advance_within(&mut source, limits) == refused(cut));
-    assert!(rt; source.rest().len() == 0);
+    assert!(rt; is_refused(answer, LimitedReadError::Read(cut)) && source.rest().len() == 0);
     Ok(())
+}
+
+// Whether the documents are read and passed over up to the last, within the limits where there are any.
+fn reads_or_skips(
+    reader: &mut BlockReader,
+    source: &mut BufferedSource<&[u8]>,
+    limits: ReadLimits,
+) -> bool {
+    advances(reader, source, limits, true)
+        && reader.document().len() == 1
+        && is_found(reader.skip(source), true)
+        && is_found(reader.advance(source), true)
+        && advances(reader, source, limits, false)
+        && source.next_byte() == Ok(None)
 }
 
 #[test]
@@ -129,12 +175,7 @@ fn limits_hold_over_any_buffer(rt: HostRuntime) -> Result<(), Fail> {
     for capacity in [0, 1, 3, 64] {
         let mut source = BufferedSource::with_capacity(alloc, capacity, BLOCK)?;
         let mut reader = BlockReader::new(alloc, DocStoreVersion::V2);
-        assert!(rt; reader.advance_within(&mut source, limits) == Ok(true));
-        assert!(rt; reader.document().len() == 1);
-        assert!(rt; reader.skip(&mut source) == Ok(true));
-        assert!(rt; reader.advance(&mut source) == Ok(true));
-        assert!(rt; reader.advance_within(&mut source, limits) == Ok(false));
-        assert!(rt; source.next_byte() == Ok(None));
+        assert!(rt; reads_or_skips(&mut reader, &mut source, limits));
     }
     Ok(())
 }

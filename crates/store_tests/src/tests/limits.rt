@@ -4,7 +4,6 @@ use std::alloc::{AllocError, Global};
 use std::test::Fail;
 use tantivy_schema::common::LimitedSource;
 use tv_base::{ByteSource, Cause, SliceSource};
-use tv_doc::document::CompactDoc;
 use tv_store::{
     DeserializeError, DirectDecoder, DocStoreVersion, LimitedReadError, ReadLimit, ReadLimits,
     Step, read_document_within,
@@ -13,30 +12,41 @@ use tv_store::{
 // One pair: an array of an array of "abc" and null, and then two bytes that belong to no document.
 const BYTES: &[u8] = b"\x81\0\0\0\0\x0c\x82\x0c\x81\0\x83abc\x0b\xff\xff";
 
-// Reads it within limits, and says how many bytes are left then.
-fn read_within(alloc: Global, limits: ReadLimits) -> (Result<CompactDoc, LimitedReadError>, usize) {
-    let mut source = SliceSource::new(BYTES);
-    let result = read_document_within(alloc, &mut source, DocStoreVersion::V2, limits);
-    (result, source.rest().len())
-}
-
-// The same, where any number of bytes may be taken.
+// How many pairs are read of bytes within limits, or why none is, and how many bytes are left then.
 fn read(
     alloc: Global,
-    heap_bytes: Option<u64>,
-    depth: Option<u32>,
-) -> (Result<CompactDoc, LimitedReadError>, usize) {
-    let limits = ReadLimits {
+    bytes: &[u8],
+    limits: ReadLimits,
+) -> (Result<usize, LimitedReadError>, usize) {
+    let mut source = SliceSource::new(bytes);
+    let answer = match read_document_within(alloc, &mut source, DocStoreVersion::V2, limits) {
+        Ok(document) => Ok(document.len()),
+        Err(error) => Err(error),
+    };
+    (answer, source.rest().len())
+}
+
+// Whether one pair is read of bytes within limits, and this many bytes are left then.
+fn reads(alloc: Global, bytes: &[u8], limits: ReadLimits, left: usize) -> bool {
+    read(alloc, bytes, limits) == (Ok(1), left)
+}
+
+// Whether bytes are refused at this limit, and this many of them are left then.
+fn refuses(alloc: Global, bytes: &[u8], limits: ReadLimits, limit: ReadLimit, left: usize) -> bool {
+    read(alloc, bytes, limits) == (Err(LimitedReadError::Limit(limit)), left)
+}
+
+// Limits under which any number of bytes may be taken.
+fn within(heap_bytes: Option<u64>, depth: Option<u32>) -> ReadLimits {
+    ReadLimits {
         bytes: None,
         heap_bytes,
         depth,
-    };
-    read_within(alloc, limits)
+    }
 }
 
 #[test]
 fn documents_are_read_within_limits(rt: HostRuntime) -> Result<(), Fail> {
-    let alloc = rt.alloc();
     let limits = [
         (None, None),
         (Some(100), Some(2)),
@@ -44,65 +54,48 @@ fn documents_are_read_within_limits(rt: HostRuntime) -> Result<(), Fail> {
         (None, Some(2)),
     ];
     for (heap_bytes, depth) in limits {
-        let (result, left) = read(alloc, heap_bytes, depth);
-        assert!(rt; result.is_ok_and(|document| document.len() == 1));
-        assert!(rt; left == 2);
+        assert!(rt; reads(rt.alloc(), BYTES, within(heap_bytes, depth), 2));
     }
     Ok(())
 }
 
 #[test]
 fn lists_past_the_limit_are_refused_behind_their_head(rt: HostRuntime) -> Result<(), Fail> {
-    let deep = Err(LimitedReadError::Limit(ReadLimit::Depth));
-    let (result, left) = read(rt.alloc(), None, Some(1));
-    assert!(rt; result.map(|document| document.len()) == deep);
-    assert!(rt; left == 8);
-    let (result, left) = read(rt.alloc(), Some(0), Some(0));
-    assert!(rt; result.map(|document| document.len()) == deep);
-    assert!(rt; left == 10);
+    let alloc = rt.alloc();
+    assert!(rt;
+        refuses(alloc, BYTES, within(None, Some(1)), ReadLimit::Depth, 8)
+            && refuses(alloc, BYTES, within(Some(0), Some(0)), ReadLimit::Depth, 10)
+    );
     Ok(())
 }
 
 // The text takes four bytes of the heap, with its length.
 #[test]
 fn heaps_past_the_limit_are_refused(rt: HostRuntime) -> Result<(), Fail> {
-    let large = Err(LimitedReadError::Limit(ReadLimit::HeapBytes));
-    let (result, left) = read(rt.alloc(), Some(3), None);
-    assert!(rt; result.map(|document| document.len()) == large);
-    assert!(rt; left == 3);
+    assert!(rt;
+        refuses(
+            rt.alloc(),
+            BYTES,
+            within(Some(3), None),
+            ReadLimit::HeapBytes,
+            3
+        )
+    );
     Ok(())
 }
 
 // One pair: an object in an object, as older stores hold them, and then two bytes that belong to no document.
 const OLDER: &[u8] = b"\x81\0\0\0\0\x08{\"a\":{\"b\":1}}\xff\xff";
 
-// Reads bytes of version 2 within a limit of depth, and says how many are left then.
-fn read_to_depth(
-    alloc: Global,
-    bytes: &[u8],
-    depth: u32,
-) -> (Result<CompactDoc, LimitedReadError>, usize) {
-    let limits = ReadLimits {
-        depth: Some(depth),
-        ..ReadLimits::default()
-    };
-    let mut source = SliceSource::new(bytes);
-    let result = read_document_within(alloc, &mut source, DocStoreVersion::V2, limits);
-    (result, source.rest().len())
-}
-
 // It is refused once it has come.
 #[test]
 fn objects_of_older_stores_nest_within_the_limit(rt: HostRuntime) -> Result<(), Fail> {
-    let (result, left) = read_to_depth(rt.alloc(), OLDER, 2);
-    assert!(rt; result.is_ok_and(|document| document.len() == 1));
-    assert!(rt; left == 2);
-    for depth in 0..2 {
-        let (result, left) = read_to_depth(rt.alloc(), OLDER, depth);
-        let deep = Err(LimitedReadError::Limit(ReadLimit::Depth));
-        assert!(rt; result.map(|document| document.len()) == deep);
-        assert!(rt; left == 2);
-    }
+    let alloc = rt.alloc();
+    assert!(rt;
+        reads(alloc, OLDER, within(None, Some(2)), 2)
+            && refuses(alloc, OLDER, within(None, Some(0)), ReadLimit::Depth, 2)
+            && refuses(alloc, OLDER, within(None, Some(1)), ReadLimit::Depth, 2)
+    );
     Ok(())
 }
 
@@ -129,44 +122,40 @@ fn arrays(alloc: Global, depth: u32) -> Result<Vec<u8>, AllocError> {
     Ok(bytes)
 }
 
+// Whether bytes are read within a limit of this depth, and refused within one that is smaller by one. They are dropped.
+fn nests(alloc: Global, bytes: Vec<u8>, depth: u32) -> bool {
+    let (answer, _) = read(alloc, bytes.as_slice(), within(None, Some(depth)));
+    let smaller = within(None, Some(depth.saturating_sub(1)));
+    let (refused, _) = read(alloc, bytes.as_slice(), smaller);
+    answer == Ok(1) && refused == Err(LimitedReadError::Limit(ReadLimit::Depth))
+}
+
 // Past `MAX_DEPTH` levels too, and on the machine's stack no more of them than that.
 #[test]
 fn deep_values_nest_within_deep_limits(rt: HostRuntime) -> Result<(), Fail> {
     let alloc = rt.alloc();
-    let cases = [
-        (older_objects(alloc, 100)?, 100),
-        (arrays(alloc, 100000)?, 100000),
-    ];
-    for (bytes, depth) in &cases {
-        let (result, _) = read_to_depth(alloc, bytes.as_slice(), *depth);
-        assert!(rt; result.is_ok_and(|document| document.len() == 1));
-        let (result, _) = read_to_depth(alloc, bytes.as_slice(), depth.saturating_sub(1));
-        let deep = Err(LimitedReadError::Limit(ReadLimit::Depth));
-        assert!(rt; result.map(|document| document.len()) == deep);
-    }
+    assert!(rt; nests(alloc, older_objects(alloc, 100)?, 100));
+    assert!(rt; nests(alloc, arrays(alloc, 100000)?, 100000));
     Ok(())
+}
+
+// Limits under which this many bytes may be taken.
+fn of_bytes(bytes: u64) -> ReadLimits {
+    ReadLimits {
+        bytes: Some(bytes),
+        heap_bytes: None,
+        depth: None,
+    }
 }
 
 // The document has 15 bytes, and bytes 11 to 13 are those of the text.
 #[test]
 fn no_more_bytes_are_taken_than_the_limit(rt: HostRuntime) -> Result<(), Fail> {
-    let long = Err(LimitedReadError::Limit(ReadLimit::Bytes));
+    let alloc = rt.alloc();
     for (bytes, left) in [(0, 17), (1, 16), (12, 5), (14, 3)] {
-        let limits = ReadLimits {
-            bytes: Some(bytes),
-            ..ReadLimits::default()
-        };
-        let (result, rest) = read_within(rt.alloc(), limits);
-        assert!(rt; result.map(|document| document.len()) == long);
-        assert!(rt; rest == left);
+        assert!(rt; refuses(alloc, BYTES, of_bytes(bytes), ReadLimit::Bytes, left));
     }
-    let limits = ReadLimits {
-        bytes: Some(15),
-        ..ReadLimits::default()
-    };
-    let (result, rest) = read_within(rt.alloc(), limits);
-    assert!(rt; result.is_ok_and(|document| document.len() == 1));
-    assert!(rt; rest == 2);
+    assert!(rt; reads(alloc, BYTES, of_bytes(15), 2));
     Ok(())
 }
 
@@ -216,10 +205,12 @@ fn a_limited_source_ends(rt: HostRuntime) -> Result<(), Fail> {
         DocStoreVersion::V2,
         ReadLimits::default(),
     );
-    let cut = DeserializeError::CorruptedValue(Cause::UnexpectedEnd);
-    assert!(rt; result.map(|document| document.len()) == Err(LimitedReadError::Read(cut)));
-    assert!(rt; first.limit() == 0);
-    assert!(rt; first.next_byte() == Ok(None));
+    let cut = LimitedReadError::Read(DeserializeError::CorruptedValue(Cause::UnexpectedEnd));
+    let is_cut = match result {
+        Ok(_) => false,
+        Err(error) => error == cut,
+    };
+    assert!(rt; is_cut && first.limit() == 0 && first.next_byte() == Ok(None));
     assert!(rt; source.rest().len() == 9);
     Ok(())
 }
