@@ -56,7 +56,7 @@ const READS: [(u64, Result<usize, io::ErrorKind>); 5] = [
     (4, Ok(0)),
 ];
 
-// Whether the next read gives this, after so many calls, and one into no bytes gives none.
+// Whether the next read gives this, after this many calls, and one into no bytes gives none.
 fn reads_next(
     source: &mut FaultSource<SliceSource<'_>>,
     buf: &mut [u8],
@@ -87,7 +87,7 @@ const WRITES: [(u64, Result<usize, io::ErrorKind>); 4] = [
     (3, Ok(1)),
 ];
 
-// Whether the next write answers this, after so many calls, and one of no bytes writes none.
+// Whether the next write answers this, after this many calls, and one of no bytes writes none.
 fn writes_next(
     sink: &mut FaultSink<VecSink>,
     calls: u64,
