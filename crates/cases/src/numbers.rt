@@ -1,5 +1,6 @@
 //! Numbers, truth values, texts and byte strings as the store has them: read from sources of several kinds, and written to sinks.
 
+use crate::shared;
 use anyhow::{Context, Result, anyhow};
 use case_words as words;
 use case_words::leaves::facet;
@@ -27,9 +28,9 @@ pub fn answer(alloc: Global, call: &[&str]) -> Result<String> {
 
 // The number that bytes begin with, and how many bytes it has.
 fn found(alloc: Global, call: &[&str]) -> Result<String> {
-    let bytes = words::bytes(alloc, words::one(call)?)?;
+    let bytes = shared::bytes(alloc, call)?;
     match VInt::from_slice(bytes.as_slice()) {
-        Some((number, length)) => Ok(format!(in alloc; "{number} {length}")?),
+        Some((number, length)) => shared::answered(format!(in alloc; "{number} {length}")),
         None => words::none(alloc),
     }
 }
@@ -112,7 +113,7 @@ fn read_failing(alloc: Global, kinds: &str, bytes: &[u8], failure: &str) -> Resu
 // Values that were read, and the bytes that are left.
 fn ended(alloc: Global, values: &str, rest: &[u8]) -> Result<String> {
     let rest = words::digits(alloc, rest)?;
-    Ok(format!(in alloc; "{values}left {rest}")?)
+    shared::answered(format!(in alloc; "{values}left {rest}"))
 }
 
 // What values of these kinds are read, one after the other.
@@ -200,7 +201,7 @@ fn written(alloc: Global, bytes: &[u8], failure: Option<io::ErrorKind>) -> Resul
     let digits = words::digits(alloc, bytes)?;
     match failure {
         None => Ok(digits),
-        Some(kind) => Ok(format!(in alloc; "{digits} error {kind:?}")?),
+        Some(kind) => shared::answered(format!(in alloc; "{digits} error {kind:?}")),
     }
 }
 

@@ -1,5 +1,6 @@
 //! Paths into JSON objects, split into segments and joined.
 
+use crate::shared;
 use anyhow::{Result, anyhow};
 use case_words as words;
 use std::alloc::Global;
@@ -18,7 +19,7 @@ pub fn answer(alloc: Global, call: &[&str]) -> Result<String> {
 
 // The segments of a path.
 fn split(alloc: Global, call: &[&str]) -> Result<String> {
-    let path = words::text(alloc, words::one(call)?)?;
+    let path = shared::text(alloc, call)?;
     words::quoted_all(alloc, split_json_path(alloc, path.as_str())?.as_slice())
 }
 
@@ -26,14 +27,12 @@ fn split(alloc: Global, call: &[&str]) -> Result<String> {
 fn of_segments(alloc: Global, call: &[&str]) -> Result<String> {
     let (segments, dots) = words::two(call)?;
     let segments = words::texts(alloc, segments)?;
-    let joined = join_json_path(alloc, &segments, dots == "expanded")?;
-    words::quoted(alloc, joined.as_str())
+    shared::quoted(alloc, join_json_path(alloc, &segments, dots == "expanded"))
 }
 
 // The encoded path of a path.
 fn of_path(alloc: Global, call: &[&str]) -> Result<String> {
     let (path, dots) = words::two(call)?;
     let path = words::text(alloc, path)?;
-    let joined = joined_json_path(alloc, path.as_str(), dots == "expanded")?;
-    words::quoted(alloc, joined.as_str())
+    shared::quoted(alloc, joined_json_path(alloc, path.as_str(), dots == "expanded"))
 }
