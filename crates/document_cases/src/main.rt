@@ -9,6 +9,7 @@ mod heap;
 mod json_values;
 mod parts;
 mod rows;
+mod shared;
 mod terms;
 mod tokens;
 

@@ -1,5 +1,6 @@
 //! Terms of the values of documents, and of texts of queries.
 
+use crate::shared;
 use anyhow::{Result, anyhow};
 use case_words as words;
 use case_words::schemas::schema;
@@ -58,6 +59,11 @@ fn sorted(alloc: Global, schema: &Schema, call: &[&str]) -> Result<String> {
     let mut terms = TermList::new(alloc);
     term_values(alloc, schema, &document, &mut terms)?;
     terms.sort_dedup();
+    serialized(alloc, &terms)
+}
+
+// The bytes of each term of a list, by their places.
+fn serialized(alloc: Global, terms: &TermList) -> Result<String> {
     let mut digits = Vec::new(alloc);
     for index in 0..terms.len() {
         if let Some(term) = terms.term(alloc, index)? {
@@ -95,18 +101,30 @@ fn of_texts(alloc: Global, schema: &Schema, texts: &[&str]) -> Result<String> {
     let mut terms = TermList::new(alloc);
     let mut answer = String::new(alloc);
     for pair in texts.chunks(2) {
-        let (path, text) = path_and_text(alloc, pair)?;
-        if let Err(error) = terms_of_text(alloc, schema, path.as_str(), text.as_str(), &mut terms) {
-            write!(answer, "error {error:?}, ")?;
-        }
+        add_text(alloc, schema, pair, &mut terms, &mut answer)?;
     }
     answer.push_str(shown(alloc, &terms)?.as_str())?;
     Ok(answer)
 }
 
+// Adds the terms of a path and a text to a list, or puts after the answer why these are refused.
+fn add_text(
+    alloc: Global,
+    schema: &Schema,
+    pair: &[&str],
+    terms: &mut TermList,
+    answer: &mut String,
+) -> Result<()> {
+    let (path, text) = path_and_text(alloc, pair)?;
+    if let Err(error) = terms_of_text(alloc, schema, path.as_str(), text.as_str(), terms) {
+        write!(answer, "error {error:?}, ")?;
+    }
+    Ok(())
+}
+
 // The text that bytes have as a term, or that they have none.
 fn printed_bytes(alloc: Global, call: &[&str]) -> Result<String> {
-    let bytes = words::bytes(alloc, words::one(call)?)?;
+    let bytes = shared::bytes(alloc, call)?;
     match text_of_term(alloc, bytes.as_slice())? {
         Some(text) => words::quoted(alloc, text.as_str()),
         None => words::none(alloc),
@@ -118,6 +136,11 @@ fn printed(alloc: Global, schema: &Schema, call: &[&str]) -> Result<String> {
     let (path, text) = path_and_text(alloc, call)?;
     let mut terms = TermList::new(alloc);
     terms_of_text(alloc, schema, path.as_str(), text.as_str(), &mut terms)?;
+    texts_of(alloc, &terms)
+}
+
+// The text of each term of a list.
+fn texts_of(alloc: Global, terms: &TermList) -> Result<String> {
     let mut texts = Vec::new(alloc);
     for term in terms.iter() {
         if let Some(printed) = text_of_term(alloc, term)? {
