@@ -72,16 +72,11 @@ fn shown(alloc: Global, facet: &Facet) -> Result<String> {
     let printed = facet.to_path_string(alloc)?;
     check_printed(alloc, facet, printed.as_str())?;
     check_copy(alloc, facet)?;
-    parts(alloc, facet, printed.as_str())
-}
-
-// The encoded text of a facet, this printed text, the steps, and whether the facet is the root.
-fn parts(alloc: Global, facet: &Facet, printed: &str) -> Result<String> {
     let encoded = words::quoted(alloc, facet.encoded_str())?;
-    let printed = words::quoted(alloc, printed)?;
+    let printed = words::quoted(alloc, printed.as_str())?;
     let steps = steps(alloc, facet)?;
     let root = if facet.is_root() { " root" } else { "" };
-    shared::answered(format!(in alloc; "{encoded} {printed} {steps}{root}"))
+    Ok(format!(in alloc; "{encoded} {printed} {steps}{root}")?)
 }
 
 // The steps of a facet.

@@ -30,7 +30,7 @@ pub fn answer(alloc: Global, call: &[&str]) -> Result<String> {
 fn found(alloc: Global, call: &[&str]) -> Result<String> {
     let bytes = shared::bytes(alloc, call)?;
     match VInt::from_slice(bytes.as_slice()) {
-        Some((number, length)) => shared::answered(format!(in alloc; "{number} {length}")),
+        Some((number, length)) => Ok(format!(in alloc; "{number} {length}")?),
         None => words::none(alloc),
     }
 }
@@ -113,7 +113,7 @@ fn read_failing(alloc: Global, kinds: &str, bytes: &[u8], failure: &str) -> Resu
 // Values that were read, and the bytes that are left.
 fn ended(alloc: Global, values: &str, rest: &[u8]) -> Result<String> {
     let rest = words::digits(alloc, rest)?;
-    shared::answered(format!(in alloc; "{values}left {rest}"))
+    Ok(format!(in alloc; "{values}left {rest}")?)
 }
 
 // What values of these kinds are read, one after the other.
@@ -201,7 +201,7 @@ fn written(alloc: Global, bytes: &[u8], failure: Option<io::ErrorKind>) -> Resul
     let digits = words::digits(alloc, bytes)?;
     match failure {
         None => Ok(digits),
-        Some(kind) => shared::answered(format!(in alloc; "{digits} error {kind:?}")),
+        Some(kind) => Ok(format!(in alloc; "{digits} error {kind:?}")?),
     }
 }
 

@@ -72,7 +72,7 @@ fn tokenizer_shown(alloc: Global, name: &TokenizerName) -> Result<String> {
     ensure!(is_copied, "a copy is not equal");
     let is_default = words::is_equal(name, TokenizerName::default());
     let name = words::quoted(alloc, name.name())?;
-    shared::answered(format!(in alloc; "{name} {is_default}"))
+    Ok(format!(in alloc; "{name} {is_default}")?)
 }
 
 /// What a call about types returns.
@@ -291,22 +291,10 @@ fn changed_json(
     step: &str,
     tokenizer_name: Option<&str>,
 ) -> Result<FieldType> {
-    match step {
-        "fast" => json_objects(options.set_fast(alloc, tokenizer_name)),
-        "frequencies" => json_with(options, frequencies(alloc, tokenizer_name)),
-        _ => changed_plain_json(options, step),
-    }
-}
-
-// JSON objects with these options, if there was memory for them.
-fn json_objects(options: Result<JsonObjectOptions, AllocError>) -> Result<FieldType> {
-    Ok(FieldType::JsonObject(options?))
-}
-
-// JSON objects, with their options changed by one step that names no tokenizer.
-fn changed_plain_json(options: JsonObjectOptions, step: &str) -> Result<FieldType> {
     Ok(FieldType::JsonObject(match step {
         "dots" => options.set_expand_dots_enabled(),
+        "fast" => options.set_fast(alloc, tokenizer_name)?,
+        "frequencies" => return json_with(options, frequencies(alloc, tokenizer_name)),
         "|text" => options | TEXT,
         "|string" => options | STRING,
         "|stored|text" => options | (STORED | TEXT),

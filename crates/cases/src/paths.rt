@@ -27,12 +27,14 @@ fn split(alloc: Global, call: &[&str]) -> Result<String> {
 fn of_segments(alloc: Global, call: &[&str]) -> Result<String> {
     let (segments, dots) = words::two(call)?;
     let segments = words::texts(alloc, segments)?;
-    shared::quoted(alloc, join_json_path(alloc, &segments, dots == "expanded"))
+    let joined = join_json_path(alloc, &segments, dots == "expanded")?;
+    words::quoted(alloc, joined.as_str())
 }
 
 // The encoded path of a path.
 fn of_path(alloc: Global, call: &[&str]) -> Result<String> {
     let (path, dots) = words::two(call)?;
     let path = words::text(alloc, path)?;
-    shared::quoted(alloc, joined_json_path(alloc, path.as_str(), dots == "expanded"))
+    let joined = joined_json_path(alloc, path.as_str(), dots == "expanded")?;
+    words::quoted(alloc, joined.as_str())
 }

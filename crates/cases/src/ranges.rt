@@ -1,6 +1,6 @@
 //! Ranges of terms.
 
-use crate::shared::{self, field_and_word};
+use crate::shared;
 use crate::terms::wrapped;
 use anyhow::{Result, anyhow, ensure};
 use case_words as words;
@@ -76,14 +76,15 @@ fn of_field(alloc: Global, call: &[&str]) -> Result<Result<TermRange, TermError>
 
 // The terms of a field whose values are texts that begin with a text.
 fn of_prefix(alloc: Global, call: &[&str]) -> Result<Result<TermRange, TermError>> {
-    let (field, prefix) = field_and_word(call)?;
-    let prefix = words::text(alloc, prefix)?;
+    let (field, prefix) = words::two(call)?;
+    let (field, prefix) = (words::field(field)?, words::text(alloc, prefix)?);
     Ok(Term::prefix_range(alloc, field, prefix.as_str()))
 }
 
 // The terms of a field whose values are facets below a facet.
 fn below(alloc: Global, call: &[&str]) -> Result<Result<TermRange, TermError>> {
-    let (field, facet) = field_and_word(call)?;
+    let (field, facet) = words::two(call)?;
+    let field = words::field(field)?;
     let facet = leaves::facet(alloc, facet)?;
     Ok(Term::descendant_range(alloc, field, &facet))
 }

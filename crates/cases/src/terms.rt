@@ -47,7 +47,8 @@ fn of_value(alloc: Global, call: &[&str]) -> Result<String> {
 
 // The term of a date that is searched for.
 fn of_searched_date(alloc: Global, call: &[&str]) -> Result<String> {
-    let (field, value) = shared::field_and_word(call)?;
+    let (field, value) = words::two(call)?;
+    let field = words::field(field)?;
     let date = leaves::date(value)?;
     shown(
         alloc,
@@ -245,7 +246,7 @@ fn full_path(alloc: Global, call: &[&str]) -> Result<String> {
     let term = wrapped(alloc, digits)?;
     let schema = schema(alloc, description)?;
     ensure!(schema.has_field(term.field()), "a field of the schema");
-    shared::quoted(alloc, term.get_full_path(alloc, &schema))
+    words::quoted(alloc, term.get_full_path(alloc, &schema)?.as_str())
 }
 
 // How two terms compare.

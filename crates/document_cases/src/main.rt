@@ -9,7 +9,6 @@ mod heap;
 mod json_values;
 mod parts;
 mod rows;
-mod shared;
 mod terms;
 mod tokens;
 

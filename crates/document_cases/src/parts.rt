@@ -4,7 +4,7 @@ use anyhow::{Result, anyhow};
 use std::alloc::Global;
 use tv_doc::builder::{BuildError, BytesKind, TreeBuilder};
 use tv_doc::document::CompactDoc;
-use tv_heap::value::{CompactDocArrayIter, CompactDocObjectIter, CompactDocValue};
+use tv_heap::value::CompactDocValue;
 use tv_value::leaf::ReferenceValueLeaf;
 use tv_value::value::{ReferenceValue, Value};
 
@@ -75,42 +75,23 @@ fn children<'a>(
     value: CompactDocValue<'a>,
     cut: usize,
 ) -> Result<Vec<Part<'a>>> {
+    let mut children = Vec::new(alloc);
     match value.as_value() {
-        ReferenceValue::Leaf(leaf) => {
-            build_leaf(builder, leaf, cut)?;
-            Ok(Vec::new(alloc))
+        ReferenceValue::Leaf(leaf) => build_leaf(builder, leaf, cut)?,
+        ReferenceValue::Array(items) => {
+            for item in items {
+                children.push(Part::Value(item))?;
+            }
+            builder.open_array(children.len() as u64)?;
         }
-        ReferenceValue::Array(items) => items_of(alloc, builder, items),
-        ReferenceValue::Object(members) => members_of(alloc, builder, members),
+        ReferenceValue::Object(members) => {
+            for (key, item) in members {
+                children.push(Part::Key(key))?;
+                children.push(Part::Value(item))?;
+            }
+            builder.open_object(children.len() as u64 / 2)?;
+        }
     }
-}
-
-// Makes the call for an array, and gives its items.
-fn items_of<'a>(
-    alloc: Global,
-    builder: &mut TreeBuilder,
-    items: CompactDocArrayIter<'a>,
-) -> Result<Vec<Part<'a>>> {
-    let mut children = Vec::new(alloc);
-    for item in items {
-        children.push(Part::Value(item))?;
-    }
-    builder.open_array(children.len() as u64)?;
-    Ok(children)
-}
-
-// Makes the call for an object, and gives its keys and their values.
-fn members_of<'a>(
-    alloc: Global,
-    builder: &mut TreeBuilder,
-    members: CompactDocObjectIter<'a>,
-) -> Result<Vec<Part<'a>>> {
-    let mut children = Vec::new(alloc);
-    for (key, item) in members {
-        children.push(Part::Key(key))?;
-        children.push(Part::Value(item))?;
-    }
-    builder.open_object(children.len() as u64 / 2)?;
     Ok(children)
 }
 

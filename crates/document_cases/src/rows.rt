@@ -28,46 +28,24 @@ pub fn answer(alloc: Global, call: &[&str]) -> Result<String> {
 // The heap and the pairs of a document, to which values are added.
 fn of_document(alloc: Global, values: &[&str], answer: &mut String) -> Result<String> {
     let mut document = CompactDoc::new(alloc);
-    add(alloc, &mut document, values, answer)?;
-    documents::shown(alloc, &document)
-}
-
-// Adds values up to the first that is refused. Puts its refusal after the answer.
-fn add(
-    alloc: Global,
-    document: &mut CompactDoc,
-    values: &[&str],
-    answer: &mut String,
-) -> Result<()> {
     for (place, value) in values.iter().enumerate() {
-        let outcome = builder::add(alloc, document, value)?;
+        let outcome = builder::add(alloc, &mut document, value)?;
         if is_refused(answer, place, outcome)? {
             break;
         }
     }
-    Ok(())
+    documents::shown(alloc, &document)
 }
 
 // The heap and the pairs of the document that a tree builder gives after its calls.
 fn of_builder(alloc: Global, calls: &[&str], answer: &mut String) -> Result<String> {
     let mut builder = TreeBuilder::new(CompactDoc::new(alloc));
-    build(alloc, &mut builder, calls, answer)?;
-    documents::shown(alloc, &builder.into_doc())
-}
-
-// Makes calls on a tree builder up to the first that is refused. Puts its refusal after the answer.
-fn build(
-    alloc: Global,
-    builder: &mut TreeBuilder,
-    calls: &[&str],
-    answer: &mut String,
-) -> Result<()> {
     for (place, word) in calls.iter().enumerate() {
         let (call, content) = words::parted(word);
-        let outcome = builder::build(alloc, builder, call, content)?;
+        let outcome = builder::build(alloc, &mut builder, call, content)?;
         if is_refused(answer, place, outcome)? {
             break;
         }
     }
-    Ok(())
+    documents::shown(alloc, &builder.into_doc())
 }

@@ -1,6 +1,5 @@
 //! Texts with their tokens, as the store has them.
 
-use crate::shared;
 use anyhow::{Result, anyhow, ensure};
 use case_words as words;
 use case_words::leaves::tokenized;
@@ -22,7 +21,7 @@ pub fn answer(alloc: Global, call: &[&str]) -> Result<String> {
 
 // The text that bytes encode.
 fn read(alloc: Global, call: &[&str]) -> Result<String> {
-    let bytes = shared::bytes(alloc, call)?;
+    let bytes = words::bytes(alloc, words::one(call)?)?;
     match PreTokenizedStr::from_payload(bytes.as_slice()) {
         Some((text, length)) => shown(alloc, text, length),
         None => words::none(alloc),
@@ -51,7 +50,7 @@ fn same_as(alloc: Global, kept: &PreTokenizedString, digits: &str) -> Result<Str
         kept_way == one_way && lent_way == one_way,
         "copies compare otherwise"
     );
-    shared::answered(format!(in alloc; "{one_way} {other_way}"))
+    Ok(format!(in alloc; "{one_way} {other_way}")?)
 }
 
 // Whether a text is equal to another one, kept and lent. The other one is dropped.
