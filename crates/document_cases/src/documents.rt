@@ -1,6 +1,6 @@
 //! Documents: from JSON, as JSON, by names, and compared.
 
-use crate::{builder, json_values, parts, shared};
+use crate::{builder, json_values, parts};
 use anyhow::{Context, Result, anyhow, ensure};
 use case_words as words;
 use case_words::schemas::schema;
@@ -48,12 +48,6 @@ pub fn shown(alloc: Global, document: &CompactDoc) -> Result<String> {
         [] => String::from_str(alloc, "-"),
         heap => hex::encode(alloc, heap),
     }?;
-    push_pairs(&mut text, document)?;
-    Ok(text)
-}
-
-// Appends the field, the type's code and the address of each pair.
-fn push_pairs(text: &mut String, document: &CompactDoc) -> Result<()> {
     let mut place = 0;
     for (field, _) in document.field_values() {
         let number = field.field_id();
@@ -64,7 +58,7 @@ fn push_pairs(text: &mut String, document: &CompactDoc) -> Result<()> {
         place = usize::saturating_add(place, 1);
     }
     ensure!(document.addr_of(place).is_none(), "a pair behind the last");
-    Ok(())
+    Ok(text)
 }
 
 // The document of a JSON object, or of calls.
@@ -84,22 +78,23 @@ fn print(alloc: Global, call: &[&str]) -> Result<String> {
 
 // The document of a JSON object, or its refusal.
 fn parse(alloc: Global, call: &[&str]) -> Result<String> {
-    match outcome(alloc, call)? {
+    let (description, json) = words::two(call)?;
+    let schema = schema(alloc, description)?;
+    let outcome = CompactDoc::parse_json(alloc, &schema, json);
+    drop(schema);
+    match outcome {
         Ok(document) => parsed(alloc, document),
         Err(error) => refused(alloc, error),
     }
 }
 
-// What the call that reads a JSON object by a schema answers.
-fn outcome(alloc: Global, call: &[&str]) -> Result<Result<CompactDoc, DocParsingError>> {
-    let (description, json) = words::two(call)?;
-    let schema = schema(alloc, description)?;
-    Ok(CompactDoc::parse_json(alloc, &schema, json))
-}
-
 // The message about a JSON object that is refused.
 fn why(alloc: Global, call: &[&str]) -> Result<String> {
-    match outcome(alloc, call)? {
+    let (description, json) = words::two(call)?;
+    let schema = schema(alloc, description)?;
+    let outcome = CompactDoc::parse_json(alloc, &schema, json);
+    drop(schema);
+    match outcome {
         Ok(document) => parsed(alloc, document),
         Err(error) => printed(alloc, error),
     }
@@ -136,8 +131,10 @@ fn shown_by_parts(alloc: Global, document: &CompactDoc) -> Result<String> {
     let text = shown(alloc, document)?;
     for cut in 0..parts::MOST_BYTES {
         let rebuilt = parts::rebuilt(alloc, document, cut)?;
-        let is_same = words::is_equal(&text, shown(alloc, &rebuilt)?);
-        ensure!(is_same, "another document comes part by part");
+        ensure!(
+            shown(alloc, &rebuilt)? == text,
+            "another document comes part by part"
+        );
     }
     Ok(text)
 }
@@ -161,14 +158,14 @@ fn refusal(alloc: Global, error: &DocParsingError) -> Result<String> {
 // The beginning of a text that is no JSON object.
 fn invalid_json(alloc: Global, start: &str) -> Result<String> {
     let start = words::quoted(alloc, start)?;
-    shared::answered(format!(in alloc; "error InvalidJson {start}"))
+    Ok(format!(in alloc; "error InvalidJson {start}")?)
 }
 
 // The name of a field, and why its value is refused.
 fn refused_value(alloc: Global, name: &str, error: &ValueParsingError) -> Result<String> {
     let name = words::quoted(alloc, name)?;
     let reason = json_values::refusal(alloc, error)?;
-    shared::answered(format!(in alloc; "error ValueError {name} {reason}"))
+    Ok(format!(in alloc; "error ValueError {name} {reason}")?)
 }
 
 // The values of a document by the names of one schema, and the document that these names make with another.
@@ -189,7 +186,7 @@ fn named_shown(
 ) -> Result<String> {
     let names = document.to_named_doc(alloc, from)?;
     let made = converted(alloc, from, to, document, &names)?;
-    shared::answered(format!(in alloc; "{:?}\t{made}", names.0))
+    Ok(format!(in alloc; "{:?}\t{made}", names.0)?)
 }
 
 // The document that the names make with a schema. Where that is the document's own, the names are converted back.

@@ -1,9 +1,9 @@
 //! Values in a heap of bytes.
 
-use crate::{builder, shared};
+use crate::builder;
 use anyhow::{Context, Result, anyhow, ensure};
 use case_words as words;
-use std::alloc::Global;
+use std::alloc::{AllocError, Global};
 use tv_base::{BinarySerializable, SliceSource, VecSink};
 use tv_builder::encoded::put_encoded;
 use tv_builder::heap_pairs::HeapPairs;
@@ -85,7 +85,7 @@ fn put_after(alloc: Global, before: &[u8], levels: u32, bytes: &[u8]) -> Result<
 // A heap with a place in it, and the bytes after the value that was put.
 fn with_rest(alloc: Global, placed: &str, rest: &[u8]) -> Result<String> {
     let rest = hex::encode(alloc, rest)?;
-    shared::answered(format!(in alloc; "{placed}\t{rest}"))
+    answered(format!(in alloc; "{placed}\t{rest}"))
 }
 
 // The heap in which a JSON value stands after a text, its type's code and its address.
@@ -120,6 +120,11 @@ fn add_read(alloc: Global, text: &str, json: &BorrowedJson<'_>) -> Result<Option
     Ok(Some(shown))
 }
 
+// An answer that has been printed, if there was memory for it.
+fn answered(answer: Result<String, AllocError>) -> Result<String> {
+    Ok(answer?)
+}
+
 // A heap, and the place of a value in it. The places of open lists have to be as they were.
 fn placed(alloc: Global, heap: &[u8], place: Place, places: &[u8]) -> Result<String> {
     ensure!(places == OPEN, "the places of open lists have changed");
@@ -131,7 +136,7 @@ fn shown(alloc: Global, heap: &[u8], place: Place) -> Result<String> {
     let heap = hex::encode(alloc, heap)?;
     let code = place.value_type.to_code();
     let address = place.address;
-    shared::answered(format!(in alloc; "{heap}\t{code}:{address}"))
+    answered(format!(in alloc; "{heap}\t{code}:{address}"))
 }
 
 // The type of a value without children in a heap, and how many bytes it takes there.
@@ -178,5 +183,5 @@ fn value_type(alloc: Global, value_type: ValueType) -> Result<String> {
     let mut sink = VecSink::new(alloc);
     value_type.serialize(&mut sink).ok().context("a write")?;
     let byte = hex::encode(alloc, sink.as_slice())?;
-    shared::answered(format!(in alloc; "{value_type:?} {code} {byte}"))
+    answered(format!(in alloc; "{value_type:?} {code} {byte}"))
 }

@@ -1,6 +1,5 @@
 //! Terms of the values of documents, and of texts of queries.
 
-use crate::shared;
 use anyhow::{Result, anyhow};
 use case_words as words;
 use case_words::schemas::schema;
@@ -59,11 +58,6 @@ fn sorted(alloc: Global, schema: &Schema, call: &[&str]) -> Result<String> {
     let mut terms = TermList::new(alloc);
     term_values(alloc, schema, &document, &mut terms)?;
     terms.sort_dedup();
-    serialized(alloc, &terms)
-}
-
-// The bytes of each term of a list, by their places.
-fn serialized(alloc: Global, terms: &TermList) -> Result<String> {
     let mut digits = Vec::new(alloc);
     for index in 0..terms.len() {
         if let Some(term) = terms.term(alloc, index)? {
@@ -101,30 +95,18 @@ fn of_texts(alloc: Global, schema: &Schema, texts: &[&str]) -> Result<String> {
     let mut terms = TermList::new(alloc);
     let mut answer = String::new(alloc);
     for pair in texts.chunks(2) {
-        add_text(alloc, schema, pair, &mut terms, &mut answer)?;
+        let (path, text) = path_and_text(alloc, pair)?;
+        if let Err(error) = terms_of_text(alloc, schema, path.as_str(), text.as_str(), &mut terms) {
+            write!(answer, "error {error:?}, ")?;
+        }
     }
     answer.push_str(shown(alloc, &terms)?.as_str())?;
     Ok(answer)
 }
 
-// Adds the terms of a path and a text to a list, or puts after the answer why these are refused.
-fn add_text(
-    alloc: Global,
-    schema: &Schema,
-    pair: &[&str],
-    terms: &mut TermList,
-    answer: &mut String,
-) -> Result<()> {
-    let (path, text) = path_and_text(alloc, pair)?;
-    if let Err(error) = terms_of_text(alloc, schema, path.as_str(), text.as_str(), terms) {
-        write!(answer, "error {error:?}, ")?;
-    }
-    Ok(())
-}
-
 // The text that bytes have as a term, or that they have none.
 fn printed_bytes(alloc: Global, call: &[&str]) -> Result<String> {
-    let bytes = shared::bytes(alloc, call)?;
+    let bytes = words::bytes(alloc, words::one(call)?)?;
     match text_of_term(alloc, bytes.as_slice())? {
         Some(text) => words::quoted(alloc, text.as_str()),
         None => words::none(alloc),
