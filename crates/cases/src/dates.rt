@@ -1,5 +1,6 @@
 //! Dates, by their nanoseconds since 1970 and by their texts.
 
+use crate::shared;
 use anyhow::{Result, anyhow, ensure};
 use case_words as words;
 use case_words::leaves;
@@ -21,7 +22,7 @@ pub fn answer(alloc: Global, call: &[&str]) -> Result<String> {
 
 // The date of a text.
 fn read(alloc: Global, call: &[&str]) -> Result<String> {
-    let text = words::text(alloc, words::one(call)?)?;
+    let text = shared::text(alloc, call)?;
     match DateTime::from_rfc3339(text.as_str()) {
         Ok(date) => words::plain(alloc, &date.into_timestamp_nanos()),
         Err(error) => words::error(alloc, error),
@@ -44,20 +45,24 @@ fn truncated(alloc: Global, call: &[&str]) -> Result<String> {
     let cut = date.truncate(precision_named(precision)?);
     let order = words::compared(alloc, &date, &cut)?;
     let cut = cut.into_timestamp_nanos();
-    Ok(format!(in alloc; "{cut} {order}")?)
+    shared::answered(format!(in alloc; "{cut} {order}"))
 }
 
 // The text of a date. It is the same after another text.
 fn printed(alloc: Global, call: &[&str]) -> Result<String> {
     let date = leaves::date(words::one(call)?)?;
     let text = date.write_rfc3339(alloc)?;
+    check_pushed(alloc, date, text.as_str())?;
+    words::quoted(alloc, text.as_str())
+}
+
+// Checks that a date has this text after another text.
+fn check_pushed(alloc: Global, date: DateTime, text: &str) -> Result<()> {
     let mut behind = String::from_str(alloc, "on ")?;
     date.push_rfc3339(&mut behind)?;
-    ensure!(
-        behind.as_str().strip_prefix("on ") == Some(text.as_str()),
-        "two texts"
-    );
-    words::quoted(alloc, text.as_str())
+    let pushed = behind.as_str().strip_prefix("on ");
+    ensure!(pushed == Some(text), "two texts");
+    Ok(())
 }
 
 // The precision of a name.

@@ -1,5 +1,6 @@
 //! Facets: of texts, of steps and of encoded bytes, compared and printed.
 
+use crate::shared;
 use anyhow::{Result, anyhow, ensure};
 use case_words as words;
 use case_words::leaves::facet;
@@ -41,7 +42,7 @@ fn compared(alloc: Global, call: &[&str]) -> Result<String> {
 
 // The facet of a text.
 fn of_text(alloc: Global, call: &[&str]) -> Result<String> {
-    let text = words::text(alloc, words::one(call)?)?;
+    let text = shared::text(alloc, call)?;
     match Facet::from_text(alloc, text.as_str()) {
         Ok(facet) => shown(alloc, &facet),
         Err(error) => words::error(alloc, error),
@@ -50,11 +51,11 @@ fn of_text(alloc: Global, call: &[&str]) -> Result<String> {
 
 // The facet of encoded bytes.
 fn of_bytes(alloc: Global, call: &[&str]) -> Result<String> {
-    match Facet::from_encoded(words::bytes(alloc, words::one(call)?)?) {
+    match Facet::from_encoded(shared::bytes(alloc, call)?) {
         Ok(facet) => shown(alloc, &facet),
         Err(error) => {
             let refused = words::digits(alloc, &error.into_bytes())?;
-            Ok(format!(in alloc; "error FromUtf8Error {refused}")?)
+            shared::answered(format!(in alloc; "error FromUtf8Error {refused}"))
         }
     }
 }
@@ -90,7 +91,7 @@ fn check_printed(alloc: Global, facet: &Facet, printed: &str) -> Result<()> {
     Facet::print_encoded(facet.encoded_str(), &mut encoded)?;
     let all = format!(in alloc; "{encoded} {facet} {facet:?}")?;
     let expected = format!(in alloc; "{printed} {printed} Facet({printed})")?;
-    ensure!(all == expected, "printed otherwise");
+    ensure!(words::are_equal(all, expected), "printed otherwise");
     Ok(())
 }
 

@@ -10,6 +10,7 @@ mod paths;
 mod ranges;
 mod rows;
 mod schemas;
+mod shared;
 mod terms;
 mod values;
 

@@ -1,5 +1,6 @@
 //! Numbers, truth values, texts and byte strings as the store has them: read from sources of several kinds, and written to sinks.
 
+use crate::shared;
 use anyhow::{Context, Result, anyhow};
 use case_words as words;
 use case_words::leaves::facet;
@@ -27,7 +28,7 @@ pub fn answer(alloc: Global, call: &[&str]) -> Result<String> {
 
 // The number that bytes begin with, and how many bytes it has.
 fn found(alloc: Global, call: &[&str]) -> Result<String> {
-    let bytes = words::bytes(alloc, words::one(call)?)?;
+    let bytes = shared::bytes(alloc, call)?;
     match VInt::from_slice(bytes.as_slice()) {
         Some((number, length)) => Ok(format!(in alloc; "{number} {length}")?),
         None => words::none(alloc),

@@ -1,11 +1,12 @@
 //! Options of fields, made of flags and by setters, and the types of values.
 
+use crate::shared;
 use anyhow::{Context, Result, anyhow, ensure};
 use case_words as words;
 use case_words::parts::{Part, push_parts};
 use case_words::schemas::built;
 use serde_json::Value;
-use std::alloc::Global;
+use std::alloc::{AllocError, Global};
 use tv_date::DateTimePrecision;
 use tv_field::{FieldEntry, FieldType};
 use tv_options::{
@@ -13,7 +14,7 @@ use tv_options::{
     IpAddrOptions, JsonObjectOptions, NumericOptions, STORED, STRING, TEXT, TextFieldIndexing,
     TextOptions, TokenizerName, Type,
 };
-use tv_schema::Schema;
+use tv_schema::{Schema, SchemaBuilder};
 
 /// What a call about options returns.
 pub fn answer(alloc: Global, call: &[&str]) -> Result<String> {
@@ -51,13 +52,14 @@ fn compared_records(alloc: Global, call: &[&str]) -> Result<String> {
     let (one, other) = words::two(call)?;
     let one = record_named(one)?;
     let other = record_named(other)?;
-    let (order, least) = (words::compared(alloc, &one, &other)?, one.downgrade(other));
-    Ok(format!(in alloc; "{order} {least:?}")?)
+    let order = words::compared(alloc, &one, &other)?;
+    let least = one.downgrade(other);
+    shared::answered(format!(in alloc; "{order} {least:?}"))
 }
 
 // The name of a tokenizer, and whether it is the default.
 fn tokenizer(alloc: Global, call: &[&str]) -> Result<String> {
-    let name = words::text(alloc, words::one(call)?)?;
+    let name = shared::text(alloc, call)?;
     let name = TokenizerName::from_name(alloc, name.as_str())?;
     let answer = tokenizer_shown(alloc, &name);
     drop(name);
@@ -223,16 +225,28 @@ fn changed_text(
     step: &str,
     tokenizer_name: Option<&str>,
 ) -> Result<FieldType> {
+    match step {
+        "fast" => texts(options.set_fast(alloc, tokenizer_name)),
+        "frequencies" => text_with(options, frequencies(alloc, tokenizer_name)),
+        "|fast" => text_and_fast(alloc, options, tokenizer_name),
+        _ => changed_plain_text(options, step),
+    }
+}
+
+// Texts with these options, if there was memory for them.
+fn texts(options: Result<TextOptions, AllocError>) -> Result<FieldType> {
+    Ok(FieldType::Str(options?))
+}
+
+// Texts, with their options changed by one step that names no tokenizer.
+fn changed_plain_text(options: TextOptions, step: &str) -> Result<FieldType> {
     Ok(FieldType::Str(match step {
         "default" => options,
         "stored" => options.set_stored(),
         "coerce" => options.set_coerce(),
-        "fast" => options.set_fast(alloc, tokenizer_name)?,
-        "frequencies" => return text_with(options, frequencies(alloc, tokenizer_name)),
         "|text" => options | TEXT,
         "|string" => options | STRING,
         "stored|" => STORED | options,
-        "|fast" => return text_and_fast(alloc, options, tokenizer_name),
         "|stored+coerce" => options | (STORED | COERCE),
         "|stored+coerce+fast" => options | (STORED | COERCE | FAST),
         _ => return unknown_step(options),
@@ -339,17 +353,21 @@ fn json(alloc: Global, field_type: &FieldType) -> Result<String> {
 
 // The schema of one field of this type.
 fn schema_of(alloc: Global, field_type: &FieldType) -> Result<Schema> {
+    let mut builder = Schema::builder(alloc);
+    let outcome = add_field(alloc, &mut builder, field_type);
+    built(builder, outcome)
+}
+
+// Adds a field of this type.
+fn add_field(alloc: Global, builder: &mut SchemaBuilder, field_type: &FieldType) -> Result<()> {
     let name = String::from_str(alloc, "f")?;
     let entry = FieldEntry::new(name, field_type.try_clone(alloc)?)?;
-    let mut builder = Schema::builder(alloc);
-    match builder.add_field(entry) {
-        Ok(_) => built(builder, Ok(())),
-        Err(error) => built(builder, Err(error.into())),
-    }
+    builder.add_field(entry)?;
+    Ok(())
 }
 
 // The options of the first field in the JSON of a schema.
 fn options_of(alloc: Global, schema: &Value) -> Result<String> {
     let options = schema.pointer("/0/options").context("options")?;
-    Ok(options.to_string(alloc)?)
+    shared::answered(options.to_string(alloc))
 }

@@ -1,5 +1,6 @@
 //! Paths into JSON objects, split into segments and joined.
 
+use crate::shared;
 use anyhow::{Result, anyhow};
 use case_words as words;
 use std::alloc::Global;
@@ -18,7 +19,7 @@ pub fn answer(alloc: Global, call: &[&str]) -> Result<String> {
 
 // The segments of a path.
 fn split(alloc: Global, call: &[&str]) -> Result<String> {
-    let path = words::text(alloc, words::one(call)?)?;
+    let path = shared::text(alloc, call)?;
     words::quoted_all(alloc, split_json_path(alloc, path.as_str())?.as_slice())
 }
 

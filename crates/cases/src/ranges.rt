@@ -1,5 +1,6 @@
 //! Ranges of terms.
 
+use crate::shared;
 use crate::terms::wrapped;
 use anyhow::{Result, anyhow, ensure};
 use case_words as words;
@@ -23,12 +24,23 @@ pub fn answer(alloc: Global, call: &[&str]) -> Result<String> {
 pub fn within(alloc: Global, call: &[&str]) -> Result<String> {
     let (digits, call) = words::first(call)?;
     let range = range(alloc, call)??;
+    let terms = rising(alloc, digits)?;
+    within_range(alloc, &range, terms.as_slice())
+}
+
+// The terms with these digits, with a blank between each two.
+fn rising(alloc: Global, digits: &str) -> Result<Vec<Term>> {
     let mut terms = Vec::new(alloc);
     for digits in digits.split_whitespace() {
         terms.push(wrapped(alloc, digits)?)?;
     }
+    Ok(terms)
+}
+
+// Those of the terms that are in a range.
+fn within_range(alloc: Global, range: &TermRange, terms: &[Term]) -> Result<String> {
     let mut found = Vec::new(alloc);
-    for term in range.within(terms.as_slice()) {
+    for term in range.within(terms) {
         found.push(hex::encode(alloc, term.serialized_term())?)?;
     }
     words::joined(alloc, found.as_slice())
@@ -52,7 +64,7 @@ fn range(alloc: Global, call: &[&str]) -> Result<Result<TermRange, TermError>> {
 
 // The terms that begin with bytes.
 fn of_bytes(alloc: Global, call: &[&str]) -> Result<Result<TermRange, TermError>> {
-    let bytes = words::bytes(alloc, words::one(call)?)?;
+    let bytes = shared::bytes(alloc, call)?;
     Ok(Ok(TermRange::of_prefix(alloc, bytes.as_slice())?))
 }
 
@@ -72,7 +84,8 @@ fn of_prefix(alloc: Global, call: &[&str]) -> Result<Result<TermRange, TermError
 // The terms of a field whose values are facets below a facet.
 fn below(alloc: Global, call: &[&str]) -> Result<Result<TermRange, TermError>> {
     let (field, facet) = words::two(call)?;
-    let (field, facet) = (words::field(field)?, leaves::facet(alloc, facet)?);
+    let field = words::field(field)?;
+    let facet = leaves::facet(alloc, facet)?;
     Ok(Term::descendant_range(alloc, field, &facet))
 }
 
@@ -86,7 +99,8 @@ fn of_type(alloc: Global, call: &[&str]) -> Result<Result<TermRange, TermError>>
 // The terms of a field whose values stand at a path.
 fn of_path(alloc: Global, call: &[&str]) -> Result<Result<TermRange, TermError>> {
     let (field, path, dots) = words::three(call)?;
-    let (field, path) = (words::field(field)?, words::text(alloc, path)?);
+    let field = words::field(field)?;
+    let path = words::text(alloc, path)?;
     Ok(Term::json_path_range(alloc, field, path.as_str(), dots == "expanded"))
 }
 
@@ -95,10 +109,10 @@ fn of_values(alloc: Global, call: &[&str]) -> Result<Result<TermRange, TermError
     let (field, kind, start, end) = words::four(call)?;
     let field = words::field(field)?;
     match kind {
-        "u64" => Ok(between(alloc, field, bound::<u64>(start)?, bound::<u64>(end)?)),
-        "i64" => Ok(between(alloc, field, bound::<i64>(start)?, bound::<i64>(end)?)),
-        "bool" => Ok(between(alloc, field, bound::<bool>(start)?, bound::<bool>(end)?)),
-        "date" => Ok(between(alloc, field, date(bound(start)?), date(bound(end)?))),
+        "u64" => between::<u64>(alloc, field, start, end),
+        "i64" => between::<i64>(alloc, field, start, end),
+        "bool" => between::<bool>(alloc, field, start, end),
+        "date" => Ok(Term::range_of_values(alloc, field, &dates(start, end)?)),
         _ => Err(anyhow!("a value that has no range")),
     }
 }
@@ -106,7 +120,7 @@ fn of_values(alloc: Global, call: &[&str]) -> Result<Result<TermRange, TermError
 // The terms of a field whose values are dates, from the second of one bound to that of the other.
 fn of_dates(alloc: Global, call: &[&str]) -> Result<Result<TermRange, TermError>> {
     let (field, start, end) = words::three(call)?;
-    let dates = (date(bound(start)?), date(bound(end)?));
+    let dates = dates(start, end)?;
     Ok(Term::range_of_dates_for_search(alloc, words::field(field)?, &dates))
 }
 
@@ -135,13 +149,23 @@ fn date(bound: Bound<i64>) -> Bound<DateTime> {
     }
 }
 
-fn between<T: FastValue>(
+// The bounds of dates of two words.
+fn dates(start: &str, end: &str) -> Result<(Bound<DateTime>, Bound<DateTime>)> {
+    Ok((date(bound(start)?), date(bound(end)?)))
+}
+
+// The terms of a field whose values are between the bounds of two words.
+fn between<T: FastValue + FromStr + Drop>(
     alloc: Global,
     field: Field,
-    start: Bound<T>,
-    end: Bound<T>,
-) -> Result<TermRange, TermError> {
-    Term::range_of_values(alloc, field, &(start, end))
+    start: &str,
+    end: &str,
+) -> Result<Result<TermRange, TermError>>
+where
+    T::Err: Drop,
+{
+    let bounds = (bound::<T>(start)?, bound::<T>(end)?);
+    Ok(Term::range_of_values(alloc, field, &bounds))
 }
 
 // The start and the end of a range.

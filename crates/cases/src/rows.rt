@@ -3,9 +3,11 @@
 use crate::{schemas, terms};
 use anyhow::{Result, anyhow};
 use case_words as words;
+use case_words::schemas::built;
 use case_words::states::{self, Objects, is_refused};
 use std::alloc::Global;
-use tv_schema::Schema;
+use tv_schema::{Schema, SchemaBuilder};
+use tv_term::Term;
 
 struct Held;
 
@@ -27,23 +29,40 @@ pub fn answer(alloc: Global, call: &[&str]) -> Result<String> {
 // The JSON of the schema of a builder, to which fields of texts are added.
 fn of_schema(alloc: Global, names: &[&str], answer: &mut String) -> Result<String> {
     let mut builder = Schema::builder(alloc);
+    let outcome = add_texts(alloc, &mut builder, names, answer);
+    schemas::printed(alloc, &built(builder, outcome)?)
+}
+
+// Adds fields of texts up to the first that is refused. Puts its refusal after the answer.
+fn add_texts(
+    alloc: Global,
+    builder: &mut SchemaBuilder,
+    names: &[&str],
+    answer: &mut String,
+) -> Result<()> {
     for (place, name) in names.iter().enumerate() {
-        let outcome = schemas::add_text(alloc, &mut builder, name)?;
+        let outcome = schemas::add_text(alloc, builder, name)?;
         if is_refused(answer, place, outcome)? {
             break;
         }
     }
-    schemas::printed(alloc, &builder.build()?)
+    Ok(())
 }
 
 // The bytes of a term that is changed by steps.
 fn of_term(alloc: Global, steps: &[&str], answer: &mut String) -> Result<String> {
     let mut term = terms::wrapped(alloc, "new")?;
+    change(alloc, &mut term, steps, answer)?;
+    words::digits(alloc, term.serialized_term())
+}
+
+// Changes a term by steps up to the first that is refused. Puts its refusal after the answer.
+fn change(alloc: Global, term: &mut Term, steps: &[&str], answer: &mut String) -> Result<()> {
     for (place, step) in steps.iter().enumerate() {
-        let outcome = terms::edit(alloc, &mut term, step)?;
+        let outcome = terms::edit(alloc, term, step)?;
         if is_refused(answer, place, outcome)? {
             break;
         }
     }
-    words::digits(alloc, term.serialized_term())
+    Ok(())
 }

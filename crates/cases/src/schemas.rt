@@ -1,5 +1,6 @@
 //! Schemas: their JSON, their fields, and the fields that paths name.
 
+use crate::shared;
 use anyhow::{Result, anyhow, ensure};
 use case_words as words;
 use case_words::parts::{Part, push_parts};
@@ -43,10 +44,10 @@ fn described(alloc: Global, call: &[&str]) -> Result<String> {
 // The JSON of a schema. The schema that is read from this JSON has to be the same, and so has the one whose fields are added by the
 // calls of their types.
 fn described_again(alloc: Global, schema: &Schema) -> Result<String> {
-    let read_back = printed_schema_is_read_back(alloc, schema)?;
-    ensure!(read_back == *schema, "another schema is read back");
-    let added = added_again(alloc, schema)?;
-    ensure!(added == *schema, "another schema is added field by field");
+    let is_read_back = words::is_equal(schema, printed_schema_is_read_back(alloc, schema)?);
+    ensure!(is_read_back, "another schema is read back");
+    let is_added = words::is_equal(schema, added_again(alloc, schema)?);
+    ensure!(is_added, "another schema is added field by field");
     printed(alloc, schema)
 }
 
@@ -119,7 +120,12 @@ fn new_entry(name: String, field_type: FieldType) -> Result<FieldEntry, SchemaEr
 // How many fields there are, and the number, the name, the type and the queries of each.
 fn fields(alloc: Global, call: &[&str]) -> Result<String> {
     let schema = schema(alloc, words::one(call)?)?;
-    let mut answer = format!(in alloc; "{}", schema.num_fields())?;
+    fields_of(alloc, &schema)
+}
+
+// The same of a schema's fields.
+fn fields_of(alloc: Global, schema: &Schema) -> Result<String> {
+    let mut answer = words::plain(alloc, &schema.num_fields())?;
     for (field, entry) in schema.fields() {
         push_entry(alloc, &mut answer, field, entry)?;
     }
@@ -218,7 +224,7 @@ fn found(alloc: Global, field_and_rest: Option<(Field, &str)>) -> Result<String>
     match field_and_rest {
         Some((field, rest)) => {
             let rest = words::quoted(alloc, rest)?;
-            Ok(format!(in alloc; "{} {rest}", field.field_id())?)
+            shared::answered(format!(in alloc; "{} {rest}", field.field_id()))
         }
         None => words::none(alloc),
     }
@@ -270,7 +276,7 @@ fn added(alloc: Global, builder: &mut SchemaBuilder, word: &str) -> Result<Strin
 
 // Whether a name is valid, and the refusal of an entry of this name.
 fn name_answer(alloc: Global, call: &[&str]) -> Result<String> {
-    let name = words::text(alloc, words::one(call)?)?;
+    let name = shared::text(alloc, call)?;
     let is_valid = is_valid_field_name(name.as_str());
     let answer = match FieldEntry::new_text(name, TEXT) {
         Ok(entry) => {

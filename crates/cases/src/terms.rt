@@ -1,6 +1,6 @@
 //! Terms, and the values that are read back from them.
 
-use crate::ranges;
+use crate::{ranges, shared};
 use anyhow::{Result, anyhow, ensure};
 use case_words as words;
 use case_words::leaves;
@@ -61,7 +61,8 @@ fn of_path(alloc: Global, call: &[&str]) -> Result<String> {
     let [field, path, dots, appended @ ..] = call else {
         return Err(anyhow!("a field and a path"));
     };
-    let (field, path) = (words::field(field)?, words::text(alloc, path)?);
+    let field = words::field(field)?;
+    let path = words::text(alloc, path)?;
     match Term::from_field_json_path(alloc, field, path.as_str(), *dots == "expanded") {
         Ok(term) => of_appended(alloc, term, appended),
         Err(error) => words::error(alloc, error),
@@ -71,7 +72,8 @@ fn of_path(alloc: Global, call: &[&str]) -> Result<String> {
 // The term of a field and the segments of a path.
 fn of_segments(alloc: Global, call: &[&str]) -> Result<String> {
     let (field, segments) = words::first(call)?;
-    let (field, texts) = (words::field(field)?, words::all_texts(alloc, segments)?);
+    let field = words::field(field)?;
+    let texts = words::all_texts(alloc, segments)?;
     let segments = words::lent(alloc, texts.as_slice())?;
     match Term::from_field_json_segments(alloc, field, segments.as_slice()) {
         Ok(term) => shown(alloc, &term),
@@ -91,7 +93,7 @@ fn of_appended(alloc: Global, mut term: Term, appended: &[&str]) -> Result<Strin
 
 // The term of bytes.
 fn of_bytes(alloc: Global, call: &[&str]) -> Result<String> {
-    let bytes = words::bytes(alloc, words::one(call)?)?;
+    let bytes = shared::bytes(alloc, call)?;
     match Term::wrap(alloc, &bytes) {
         Ok(term) => shown(alloc, &term),
         Err(error) => words::error(alloc, error),
@@ -100,7 +102,7 @@ fn of_bytes(alloc: Global, call: &[&str]) -> Result<String> {
 
 // The value of bytes.
 fn value_of_bytes(alloc: Global, call: &[&str]) -> Result<String> {
-    let bytes = words::bytes(alloc, words::one(call)?)?;
+    let bytes = shared::bytes(alloc, call)?;
     match ValueBytes::wrap(&bytes) {
         Ok(value) => shown_value(alloc, &value),
         Err(error) => words::error(alloc, error),
@@ -162,15 +164,31 @@ fn append_value(term: &mut Term, value: &OwnedValue) -> Result<Result<(), AllocE
 // The bytes of a term, its field, and the value that is read back from a copy.
 fn shown(alloc: Global, term: &Term) -> Result<String> {
     check_copy(alloc, term)?;
+    let mut answer = parts(alloc, term)?;
+    push_json_path(alloc, &mut answer, term)?;
+    Ok(answer)
+}
+
+// The bytes of a term, its field, and its value.
+fn parts(alloc: Global, term: &Term) -> Result<String> {
     let bytes = hex::encode(alloc, term.serialized_term())?;
     let field = term.field().field_id();
+    let value = copied_value(alloc, term)?;
+    shared::answered(format!(in alloc; "{bytes} {field} {value}"))
+}
+
+// The value that is read back from a copy of a term's value.
+fn copied_value(alloc: Global, term: &Term) -> Result<String> {
     let owned = term.value().to_owned(alloc)?;
-    let value = shown_value(alloc, &owned.as_value_bytes())?;
-    let mut answer = format!(in alloc; "{bytes} {field} {value}")?;
+    shown_value(alloc, &owned.as_value_bytes())
+}
+
+// Appends the path of a term of a JSON field.
+fn push_json_path(alloc: Global, answer: &mut String, term: &Term) -> Result<()> {
     if let Some(path) = term.get_json_path(alloc)? {
-        push_parts(alloc, &mut answer, &[("path", Part::Text(path.as_str()))])?;
+        push_parts(alloc, answer, &[("path", Part::Text(path.as_str()))])?;
     }
-    Ok(answer)
+    Ok(())
 }
 
 // Checks that a copy of a term is equal and has the same hash.
@@ -254,12 +272,29 @@ pub fn edit(alloc: Global, term: &mut Term, step: &str) -> Result<Result<(), All
     match name {
         "set" => Ok(term.set_bytes(&words::bytes(alloc, content)?)),
         "append" => Ok(term.append_bytes(&words::bytes(alloc, content)?)),
-        "field" => Ok(Ok(set_field(term, content)?)),
-        "fill" => Ok(Ok(fill(term, content)?)),
-        "truncate" => Ok(Ok(term.truncate_value_bytes(words::number(content)?))),
-        "clear" => Ok(Ok(term.clear_with_type(words::type_of(content)?))),
+        "field" => changed(set_field(term, content)),
+        "fill" => changed(fill(term, content)),
+        "truncate" => changed(truncate(term, content)),
+        "clear" => changed(clear(term, content)),
         kind => append(alloc, term, kind, content),
     }
+}
+
+// What a step's call that takes no memory answers, if its words are right.
+fn changed(outcome: Result<()>) -> Result<Result<(), AllocError>> {
+    Ok(Ok(outcome?))
+}
+
+// Keeps this many value bytes of a term.
+fn truncate(term: &mut Term, content: &str) -> Result<()> {
+    term.truncate_value_bytes(words::number(content)?);
+    Ok(())
+}
+
+// Takes the value bytes of a term away, and gives it another type.
+fn clear(term: &mut Term, content: &str) -> Result<()> {
+    term.clear_with_type(words::type_of(content)?);
+    Ok(())
 }
 
 // Gives a term without value bytes another field and type.
@@ -319,5 +354,7 @@ fn compared<T: FastValue>(alloc: Global, one: T, other: T) -> Result<String> {
         "other values are read back"
     );
     let (values, numbers) = fast_values_are_ordered_as_numbers(one, other);
-    Ok(format!(in alloc; "{value_type} {number} {other_number} {values:?} {numbers:?}")?)
+    shared::answered(
+        format!(in alloc; "{value_type} {number} {other_number} {values:?} {numbers:?}"),
+    )
 }

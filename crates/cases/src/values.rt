@@ -1,5 +1,6 @@
 //! Values of one kind: what each accessor returns, copies, and which values are equal.
 
+use crate::shared;
 use anyhow::{Result, anyhow, ensure};
 use case_words as words;
 use case_words::leaves::leaf;
@@ -43,7 +44,7 @@ fn same_as(alloc: Global, one: &OwnedValue, kind: &str, value: &str) -> Result<S
     let (equal, same) = (*one == other, is_same(&one, &&other));
     drop(other);
     let same = same?;
-    Ok(format!(in alloc; "{equal} {same}")?)
+    shared::answered(format!(in alloc; "{equal} {same}"))
 }
 
 // The name and the answer of each accessor that has one.
