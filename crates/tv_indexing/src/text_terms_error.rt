@@ -7,7 +7,6 @@ ghost use Rattle.tv_indexing.specs.TextTerms.{IsWrongRange, IsWrongText};
 ghost use Rattle.tv_indexing.specs.declared.text_terms_error.TextTermsError.TheVariants.{Memory};
 
 use std::alloc::{AllocError, Global};
-use std::error::Error;
 use std::fmt;
 use tv_base::text_start::text_start;
 use tv_field::json_value::JsonRefusal;
@@ -49,7 +48,10 @@ impl fmt::Display for TextTermsError {
             TextTermsError::PathEnds(_) => "the path ends at a field of JSON objects",
             TextTermsError::NulInPath(_) => "the path has U+0000",
             TextTermsError::WrongText(_, wanted, _, text) => {
-                return write!(f, "the text {text:?} is no value of its field's type, {wanted:?}");
+                return write!(
+                    f,
+                    "the text {text:?} is no value of its field's type, {wanted:?}"
+                );
             }
             TextTermsError::WrongRange(text) => return write!(f, "the text {text:?} is no range"),
             TextTermsError::Backwards(_) => "the bounds of the range run backwards",
@@ -60,7 +62,7 @@ impl fmt::Display for TextTermsError {
     }
 }
 
-impl Error for TextTermsError {}
+impl std::error::Error for TextTermsError {}
 
 impl From<AllocError> for TextTermsError {
     ghost use Rattle.tv_indexing.specs.declared.text_terms_error.TextTermsError.TheVariants.{Memory};
