@@ -7,7 +7,6 @@ ghost use Rattle.tv_indexing.specs.TextTerms.{IsWrongRange, IsWrongText};
 ghost use Rattle.tv_indexing.specs.declared.text_terms_error.TextTermsError.TheVariants.{Memory};
 
 use std::alloc::{AllocError, Global};
-use std::error::Error;
 use std::fmt;
 use tv_base::text_start::text_start;
 use tv_field::json_value::JsonRefusal;
@@ -63,7 +62,7 @@ impl fmt::Display for TextTermsError {
     }
 }
 
-impl Error for TextTermsError {}
+impl std::error::Error for TextTermsError {}
 
 impl From<AllocError> for TextTermsError {
     ghost use Rattle.tv_indexing.specs.declared.text_terms_error.TextTermsError.TheVariants.{Memory};
