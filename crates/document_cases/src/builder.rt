@@ -22,14 +22,8 @@ use tv_value::value::Value;
 pub fn answer(alloc: Global, calls: &[&str]) -> Result<String> {
     let mut answers = String::new(alloc);
     let document = made(alloc, calls, &mut answers)?;
-    push_shown(alloc, &mut answers, &document)?;
+    answers.push_str(documents::shown(alloc, &document)?.as_str())?;
     Ok(answers)
-}
-
-// Puts a document after the answers.
-fn push_shown(alloc: Global, answers: &mut String, document: &CompactDoc) -> Result<()> {
-    let shown = documents::shown(alloc, document)?;
-    Ok(answers.push_str(shown.as_str())?)
 }
 
 /// The document that calls make, of which none is refused.

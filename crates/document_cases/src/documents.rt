@@ -18,7 +18,6 @@ use tv_json::compact::push_json;
 use tv_json::json_value::{ToJsonValue, to_json_value};
 use tv_schema::Schema;
 use tv_value::copy_error::CopyError;
-use tv_value::field::Field;
 use tv_value::owned_value::OwnedValue;
 
 /// What a call about documents returns.
@@ -45,9 +44,9 @@ pub fn shown(alloc: Global, document: &CompactDoc) -> Result<String> {
         return Ok(String::from_str(alloc, "-")?);
     }
     let mut text = match document.node_data() {
-        [] => String::from_str(alloc, "-"),
-        heap => hex::encode(alloc, heap),
-    }?;
+        [] => String::from_str(alloc, "-")?,
+        heap => hex::encode(alloc, heap)?,
+    };
     let mut place = 0;
     for (field, _) in document.field_values() {
         let number = field.field_id();
@@ -174,7 +173,8 @@ fn named(alloc: Global, call: &[&str]) -> Result<String> {
     let (to, calls) = words::first(call)?;
     let from = schema(alloc, from)?;
     let document = builder::document(alloc, calls)?;
-    named_shown(alloc, &from, to, &document)
+    let names = document.to_named_doc(alloc, &from)?;
+    named_shown(alloc, &from, to, &document, &names)
 }
 
 // The values by their names, and the document that these make.
@@ -183,9 +183,9 @@ fn named_shown(
     from: &Schema,
     to: &str,
     document: &CompactDoc,
+    names: &NamedFieldDocument,
 ) -> Result<String> {
-    let names = document.to_named_doc(alloc, from)?;
-    let made = converted(alloc, from, to, document, &names)?;
+    let made = converted(alloc, from, to, document, names)?;
     Ok(format!(in alloc; "{:?}\t{made}", names.0)?)
 }
 
@@ -210,29 +210,18 @@ fn converted(
 fn same(alloc: Global, calls: &[&str]) -> Result<String> {
     let place = calls.iter().position(|word| *word == "and");
     let (one, other) = calls.split_at(place.context("two documents")?);
-    same_as(alloc, one, other.get(1..).context("a document")?)
-}
-
-// Whether the documents of two lists of calls are the same.
-fn same_as(alloc: Global, one: &[&str], other: &[&str]) -> Result<String> {
     let one = builder::document(alloc, one)?;
-    let other = builder::document(alloc, other)?;
+    let other = builder::document(alloc, other.get(1..).context("a document")?)?;
     words::plain(alloc, &one.same_as(alloc, &other)?)
 }
 
 // A copy of a document. The document has to be the same when its memory is shrunk.
 fn copy(alloc: Global, calls: &[&str]) -> Result<String> {
     let mut document = builder::document(alloc, calls)?;
-    let copy = copied(alloc, &document)?;
+    let copy = shown(alloc, &document.try_clone(alloc)?)?;
     document.shrink_to_fit();
-    ensure!(words::is_equal(&copy, shown(alloc, &document)?), "the copy differs");
+    ensure!(shown(alloc, &document)? == copy, "the copy differs");
     Ok(copy)
-}
-
-// The heap and the pairs of a copy of a document.
-fn copied(alloc: Global, document: &CompactDoc) -> Result<String> {
-    let copy = document.try_clone(alloc)?;
-    shown(alloc, &copy)
 }
 
 // A value with its type.
@@ -251,15 +240,10 @@ fn get(alloc: Global, call: &[&str]) -> Result<String> {
     let (field, calls) = words::first(call)?;
     let field = words::field(field)?;
     let document = builder::document(alloc, calls)?;
-    values_of(alloc, &document, field)
-}
-
-// The same in this document.
-fn values_of(alloc: Global, document: &CompactDoc, field: Field) -> Result<String> {
     let mut text = match document.get_first(field) {
-        Some(value) => typed(alloc, value),
-        None => words::none(alloc),
-    }?;
+        Some(value) => typed(alloc, value)?,
+        None => words::none(alloc)?,
+    };
     for value in document.get_all(field) {
         push_typed(alloc, &mut text, value)?;
     }
@@ -270,78 +254,38 @@ fn values_of(alloc: Global, document: &CompactDoc, field: Field) -> Result<Strin
 fn sorted(alloc: Global, calls: &[&str]) -> Result<String> {
     let document = builder::document(alloc, calls)?;
     let groups = document.get_sorted_field_values(alloc)?;
-    groups_shown(alloc, groups.as_slice())
-}
-
-// How many fields there are, and the values of each.
-fn groups_shown(
-    alloc: Global,
-    groups: &[(Field, Vec<CompactDocValue<'_>>)],
-) -> Result<String> {
     let mut text = words::plain(alloc, &groups.len())?;
     for (field, values) in groups {
-        push_group(alloc, &mut text, *field, values.as_slice())?;
+        write!(text, "\tfield {}", field.field_id())?;
+        for value in values {
+            push_typed(alloc, &mut text, value)?;
+        }
     }
     Ok(text)
-}
-
-// Appends a field and its values.
-fn push_group(
-    alloc: Global,
-    text: &mut String,
-    field: Field,
-    values: &[CompactDocValue<'_>],
-) -> Result<()> {
-    write!(text, "\tfield {}", field.field_id())?;
-    for value in values {
-        push_typed(alloc, text, *value)?;
-    }
-    Ok(())
 }
 
 // The field of each pair, and its value with its type and as JSON.
 fn values(alloc: Global, calls: &[&str]) -> Result<String> {
     let document = builder::document(alloc, calls)?;
-    pairs_shown(alloc, &document)
-}
-
-// How many pairs a document has, and the field and the value of each.
-fn pairs_shown(alloc: Global, document: &CompactDoc) -> Result<String> {
     let mut text = words::plain(alloc, &document.len())?;
     for (field, value) in document.field_values() {
-        push_pair(alloc, &mut text, field, value)?;
+        let number = field.field_id();
+        let typed = typed(alloc, value)?;
+        let json = tabbed_json(alloc, value)?;
+        write!(text, "\t{number} {typed}{json}")?;
     }
     Ok(text)
-}
-
-// Appends a field, and a value with its type and as JSON.
-fn push_pair(
-    alloc: Global,
-    text: &mut String,
-    field: Field,
-    value: CompactDocValue<'_>,
-) -> Result<()> {
-    let number = field.field_id();
-    let typed = typed(alloc, value)?;
-    let json = tabbed_json(alloc, value)?;
-    Ok(write!(text, "\t{number} {typed}{json}")?)
 }
 
 // A tab and the JSON of a value, which is the same by each call.
 fn tabbed_json(alloc: Global, value: CompactDocValue<'_>) -> Result<String> {
     let mut text = String::from_str(alloc, "\t")?;
     push_json(alloc, &mut text, value)?;
-    check_json(alloc, value, text.as_str())?;
-    Ok(text)
-}
-
-// Checks that the JSON of a value is the same by each call as this text after a tab.
-fn check_json(alloc: Global, value: CompactDocValue<'_>, text: &str) -> Result<()> {
     let printed = words::json_text(alloc, to_json_value(alloc, value)?)?;
-    let is_printed = text.strip_prefix('\t') == Some(printed.as_str());
+    let is_printed = text.as_str().strip_prefix('\t') == Some(printed.as_str());
     let is_same = words::are_equal(to_json_value(alloc, value), json_of_copy(alloc, value));
     ensure!(is_same && is_printed, "the JSON values of a value differ");
-    Ok(())
+    Ok(text)
 }
 
 // The JSON value of a copy of a value.

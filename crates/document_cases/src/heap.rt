@@ -3,7 +3,7 @@
 use crate::builder;
 use anyhow::{Context, Result, anyhow, ensure};
 use case_words as words;
-use std::alloc::{AllocError, Global};
+use std::alloc::Global;
 use tv_base::{BinarySerializable, SliceSource, VecSink};
 use tv_builder::encoded::put_encoded;
 use tv_builder::heap_pairs::HeapPairs;
@@ -13,7 +13,6 @@ use tv_heap::len::leaf_len;
 use tv_heap::place::Place;
 use tv_heap::value_type::ValueType;
 use tv_json::Scratch;
-use tv_json::borrowed::BorrowedJson;
 use tv_json::read::read_borrowed;
 use tv_value::leaf::ReferenceValueLeaf;
 use tv_value::owned_value::OwnedValue;
@@ -29,7 +28,7 @@ pub fn answer(alloc: Global, call: &[&str]) -> Result<String> {
         "encoded" => encoded(alloc, call),
         "json" => json_value(alloc, call),
         "leaf" => leaf(alloc, call),
-        "type" => type_of_word(alloc, call),
+        "type" => type_of_word(alloc, words::one(call)?),
         _ => Err(anyhow!("an unknown call about heaps")),
     }
 }
@@ -46,46 +45,30 @@ fn nothing(alloc: Global, again: Option<String>) -> Result<String> {
 // The heap after which the value that bytes encode is written, its type's code and its address, and the bytes after it.
 fn encoded(alloc: Global, call: &[&str]) -> Result<String> {
     let (before, levels, digits) = words::three(call)?;
-    let levels = words::number(levels)?;
-    let bytes = words::bytes(alloc, digits)?;
-    encoded_value(alloc, before, levels, bytes.as_slice())
-}
-
-// The same for these bytes.
-fn encoded_value(alloc: Global, before: &str, levels: u32, bytes: &[u8]) -> Result<String> {
-    match put(alloc, before, levels, bytes)? {
+    let (levels, bytes) = (words::number(levels)?, words::bytes(alloc, digits)?);
+    match put(alloc, before, levels, bytes.as_slice())? {
         Some(answer) => Ok(answer),
-        None => nothing(alloc, put(alloc, before, levels, bytes)?),
+        None => nothing(alloc, put(alloc, before, levels, bytes.as_slice())?),
     }
 }
 
 // What the call for the value that bytes encode gives.
 fn put(alloc: Global, before: &str, levels: u32, bytes: &[u8]) -> Result<Option<String>> {
     let before = words::bytes(alloc, before)?;
-    put_after(alloc, before.as_slice(), levels, bytes)
-}
-
-// The same for a heap that holds these bytes before.
-fn put_after(alloc: Global, before: &[u8], levels: u32, bytes: &[u8]) -> Result<Option<String>> {
-    let mut heap = before.to_vec(alloc)?;
+    let mut heap = before.as_slice().to_vec(alloc)?;
     let mut places = OPEN.to_vec(alloc)?;
     if heap.len() > 4_294_967_295 {
         return Err(anyhow!("a heap is too long"));
     }
     let put = put_encoded(bytes, WriteVersion::V2, levels, &mut heap, &mut places);
-    let is_kept = heap.as_slice().starts_with(before);
+    let is_kept = heap.as_slice().starts_with(before.as_slice());
     ensure!(is_kept, "the heap has changed");
     let Some((rest, place)) = put else {
         return Ok(None);
     };
     let placed = placed(alloc, heap.as_slice(), place, places.as_slice())?;
-    Ok(Some(with_rest(alloc, placed.as_str(), rest)?))
-}
-
-// A heap with a place in it, and the bytes after the value that was put.
-fn with_rest(alloc: Global, placed: &str, rest: &[u8]) -> Result<String> {
     let rest = hex::encode(alloc, rest)?;
-    answered(format!(in alloc; "{placed}\t{rest}"))
+    Ok(Some(format!(in alloc; "{placed}\t{rest}")?))
 }
 
 // The heap in which a JSON value stands after a text, its type's code and its address.
@@ -103,26 +86,16 @@ fn add_json(alloc: Global, text: &str, json: &str) -> Result<Option<String>> {
     let Some(json) = read_borrowed(alloc, json, &mut scratch) else {
         return Ok(None);
     };
-    add_read(alloc, text, &json)
-}
-
-// What the calls give that add a JSON value after a text.
-fn add_read(alloc: Global, text: &str, json: &BorrowedJson<'_>) -> Result<Option<String>> {
     let mut pairs = HeapPairs::new(alloc);
     if pairs.add_leaf(0, &ReferenceValueLeaf::Str(text)).is_err() {
         return Ok(None);
     }
-    if pairs.add_value(1, &LentBorrowed::new(json)).is_err() {
+    if pairs.add_value(1, &LentBorrowed::new(&json)).is_err() {
         return Ok(None);
     }
     let last = pairs.pairs.last().context("a pair")?;
     let shown = shown(alloc, pairs.heap.as_slice(), last.place)?;
     Ok(Some(shown))
-}
-
-// An answer that has been printed, if there was memory for it.
-fn answered(answer: Result<String, AllocError>) -> Result<String> {
-    Ok(answer?)
 }
 
 // A heap, and the place of a value in it. The places of open lists have to be as they were.
@@ -136,7 +109,7 @@ fn shown(alloc: Global, heap: &[u8], place: Place) -> Result<String> {
     let heap = hex::encode(alloc, heap)?;
     let code = place.value_type.to_code();
     let address = place.address;
-    answered(format!(in alloc; "{heap}\t{code}:{address}"))
+    Ok(format!(in alloc; "{heap}\t{code}:{address}")?)
 }
 
 // The type of a value without children in a heap, and how many bytes it takes there.
@@ -156,8 +129,7 @@ fn leaf_shown(alloc: Global, value: &OwnedValue) -> Result<String> {
 }
 
 // The type by default, or the one that is read of a byte's digits.
-fn type_of_word(alloc: Global, call: &[&str]) -> Result<String> {
-    let word = words::one(call)?;
+fn type_of_word(alloc: Global, word: &str) -> Result<String> {
     if word == "default" {
         return value_type(alloc, ValueType::default());
     }
@@ -183,5 +155,5 @@ fn value_type(alloc: Global, value_type: ValueType) -> Result<String> {
     let mut sink = VecSink::new(alloc);
     value_type.serialize(&mut sink).ok().context("a write")?;
     let byte = hex::encode(alloc, sink.as_slice())?;
-    answered(format!(in alloc; "{value_type:?} {code} {byte}"))
+    Ok(format!(in alloc; "{value_type:?} {code} {byte}")?)
 }

@@ -118,11 +118,6 @@ fn printed(alloc: Global, schema: &Schema, call: &[&str]) -> Result<String> {
     let (path, text) = path_and_text(alloc, call)?;
     let mut terms = TermList::new(alloc);
     terms_of_text(alloc, schema, path.as_str(), text.as_str(), &mut terms)?;
-    texts_of(alloc, &terms)
-}
-
-// The text of each term of a list.
-fn texts_of(alloc: Global, terms: &TermList) -> Result<String> {
     let mut texts = Vec::new(alloc);
     for term in terms.iter() {
         if let Some(printed) = text_of_term(alloc, term)? {
