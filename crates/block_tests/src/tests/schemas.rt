@@ -234,7 +234,7 @@ fn a_schema_serves_many_calls(rt: HostRuntime) -> Result<(), Fail> {
     Ok(())
 }
 
-// Whether a block that is too small is told its size, and nothing is written of the lines.
+// Whether the size is returned where a block is too small, and nothing is written of the lines.
 fn is_import_short(alloc: Global, schema: &Schema) -> bool {
     let mut block = [KEPT; 7];
     let mut answers = [NO_ANSWER; 3];
@@ -244,7 +244,7 @@ fn is_import_short(alloc: Global, schema: &Schema) -> bool {
         && answers == [NO_ANSWER; 3]
 }
 
-// Whether a buffer that is too small is told the length of the text, and nothing is written of it.
+// Whether the length of the text is returned where a buffer is too small, and nothing is written of it.
 fn is_print_short(alloc: Global, schema: &Schema) -> bool {
     let mut lines = [KEPT; 11];
     let needed = BlockError::TooSmall {
