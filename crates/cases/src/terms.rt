@@ -354,7 +354,7 @@ fn compared<T: FastValue>(alloc: Global, one: T, other: T) -> Result<String> {
         "other values are read back"
     );
     let (values, numbers) = fast_values_are_ordered_as_numbers(one, other);
-    shared::answered(
-        format!(in alloc; "{value_type} {number} {other_number} {values:?} {numbers:?}"),
-    )
+    shared::answered(format!(in alloc;
+        "{value_type} {number} {other_number} {values:?} {numbers:?}"
+    ))
 }
