@@ -30,7 +30,8 @@ fn write_pretty(alloc: Global, json: &str, sink: &mut OutputSink) -> Result<(), 
     }
 }
 
-/// Appends what is wanted of the documents of a block to a sink, as `export_block` does, but over several lines. `progress` is advanced after the same documents.
+/// Appends what is wanted of the documents of a block to a sink, as `export_block` does, but over several lines. `progress` is advanced after the same
+/// documents.
 pub(crate) fn export_pretty(
     alloc: Global,
     schema: &Schema,
