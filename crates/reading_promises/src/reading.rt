@@ -98,7 +98,7 @@ pub fn refusals_are_true<S: ByteSource>(
 ) -> Result<TantivyDocument, DeserializeError>
     ensures error { S.is_known source.old → (e : DeserializeError) (r : Refusal) → IsErrOf result e
         → store_stop e ≡ InputError r → NoDocument (version_of version) (S.left source.old) r }
-    ensures full { S.is_known source.old → (e : DeserializeError) → IsErrOf result e → e ≡ HeapFull
+    ensures no_room { S.is_known source.old → (e : DeserializeError) → IsErrOf result e → e ≡ HeapFull
         → HasNoRoom (version_of version) (S.left source.old) }
     ensures errors { IfErr result IsReadingError }
 {

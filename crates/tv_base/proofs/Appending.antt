@@ -38,7 +38,7 @@ module _ {P : Type 0} {is_known : P → Type 0} {left : P → List ℕ} {count :
     taken = λ told. Taken_then (h.taken told) (moved_taken counted (moves (h.stays_known told)));
     stays_known = λ told. still (h.stays_known told);
     counts = same ∙ h.counts;
-    rises = omega (arith, h.rises, counted);
+    count_grows = omega (arith, h.count_grows, counted);
   }
 
   -- no byte is left
@@ -53,7 +53,7 @@ module _ {P : Type 0} {is_known : P → Type 0} {left : P → List ℕ} {count :
     taken = λ told. Taken_then (h.taken told) (moved_taken (omega (arith, counted, zero)) (moves (h.stays_known told)));
     stays_known = λ told. still (h.stays_known told);
     counts = same ∙ h.counts;
-    rises = omega (arith, h.rises, counted);
+    count_grows = omega (arith, h.count_grows, counted);
     may_stop = tt;
   }
     where

@@ -84,7 +84,7 @@ module _ {S X Y : Type 0} (source : Ghosts S) (are_bytes : (s : S) → source.is
         shows = λ told e c is stop. shows_by agrees (left old) (left new) c (are_bytes old told) (refusal told e c is stop);
         too_long = λ told e c is stop. let t = h.taken told in (t.prefix, t.joined, omega (arith, t.counted, (stops told e (Uncounted c) is stop).0));
         ends_early = λ told e c is stop. let t = h.taken told in early_by agrees (left old) t.prefix (left new) c (are_bytes old told) t.joined (stops told e (Uncounted c) is stop).1;
-        full = λ told e is none. none;
+        no_room = λ told e is none. none;
         errors = any result;
         taken = λ told. let t = h.taken told in (t.prefix, t.joined);
         failures = h.counts;

@@ -79,7 +79,7 @@ failed_since {kind} {new = new} same h = subst (λ n. HasFailed kind n new) same
 -- a lean reader as any other
 pub lean : {P X Y : Type 0} {is_known : P → Type 0} {left : P → List ℕ} {count : P → ℕ} {failures : P → Failures} {old new : P} {view : X → Y} {result : Result X ReadError} {reading : List ℕ → Result (Y × List ℕ) (Cause × List ℕ)}
     → Takes read_stop MayStopLean is_known left count failures old new view result reading → Takes read_stop MayStop is_known left count failures old new view result reading
-lean {result = result} h = record { gives = h.gives; taken = h.taken; stays_known = h.stays_known; counts = h.counts; rises = h.rises; may_stop = IfErr-weaker result _ _ (λ e may. may.0) h.may_stop }
+lean {result = result} h = record { gives = h.gives; taken = h.taken; stays_known = h.stays_known; counts = h.counts; count_grows = h.count_grows; may_stop = IfErr-weaker result _ _ (λ e may. may.0) h.may_stop }
 
 -- In the midst of reading: what the whole reads of the bytes that were taken and any after them is what the rest reads of those after.
 pub record SoFar {P F Y : Type 0} (is_known : P → Type 0) (left : P → List ℕ) (count : P → ℕ) (failures : P → Failures) (old now : P) (whole rest : List ℕ → Result (Y × List ℕ) (F × List ℕ)) : Type 0 where
@@ -87,7 +87,7 @@ pub record SoFar {P F Y : Type 0} (is_known : P → Type 0) (left : P → List �
   pub taken : is_known old → Taken (left old) (left now) (count old) (count now)
   pub stays_known : is_known old → is_known now
   pub counts : failures now ≡ failures old
-  pub rises : count old ≤ count now
+  pub count_grows : count old ≤ count now
 
 pub SoFar-start : {P F Y : Type 0} (is_known : P → Type 0) (left : P → List ℕ) (count : P → ℕ) (failures : P → Failures) (p : P) (whole rest : List ℕ → Result (Y × List ℕ) (F × List ℕ)) → ((bytes : List ℕ) → whole bytes ≡ rest bytes) → SoFar is_known left count failures p p whole rest
 SoFar-start is_known left count failures p whole rest same = record {
@@ -95,12 +95,12 @@ SoFar-start is_known left count failures p whole rest same = record {
   taken = λ told. Taken_none (left p) (count p);
   stays_known = λ told. told;
   counts = refl;
-  rises = omega arith;
+  count_grows = omega arith;
 }
 
 pub SoFar-is : {P F Y : Type 0} {is_known : P → Type 0} {left : P → List ℕ} {count : P → ℕ} {failures : P → Failures} {old now : P} {whole rest : List ℕ → Result (Y × List ℕ) (F × List ℕ)} (other : List ℕ → Result (Y × List ℕ) (F × List ℕ))
     → ((bytes : List ℕ) → rest bytes ≡ other bytes) → SoFar is_known left count failures old now whole rest → SoFar is_known left count failures old now whole other
-SoFar-is other same h = record { goes = λ told taken joined behind. h.goes told taken joined behind ∙ same behind; taken = h.taken; stays_known = h.stays_known; counts = h.counts; rises = h.rises }
+SoFar-is other same h = record { goes = λ told taken joined behind. h.goes told taken joined behind ∙ same behind; taken = h.taken; stays_known = h.stays_known; counts = h.counts; count_grows = h.count_grows }
 
 pub SoFar-step : {P E F X Y Z : Type 0} {stop : E → Stop F} {May : E → ℕ → Type 0} {is_known : P → Type 0} {left : P → List ℕ} {count : P → ℕ} {failures : P → Failures} {old mid new : P} {whole rest : List ℕ → Result (Y × List ℕ) (F × List ℕ)} {first : List ℕ → Result (Z × List ℕ) (F × List ℕ)} {view : X → Z} {x : X}
     (f : Z × List ℕ → Result (Y × List ℕ) (F × List ℕ)) → ((bytes : List ℕ) → rest bytes ≡ (first bytes >>= f))
@@ -118,7 +118,7 @@ SoFar-step {left = left} {new = new} {whole = whole} f parts h read = record {
   taken = λ told. Taken_then (h.taken told) (read.taken (h.stays_known told));
   stays_known = λ told. read.stays_known (h.stays_known told);
   counts = read.counts ∙ h.counts;
-  rises = omega (arith, h.rises, read.rises);
+  count_grows = omega (arith, h.count_grows, read.count_grows);
 }
 
 pub SoFar-fails : {P E F X Y Z W : Type 0} {stop : E → Stop F} {May : E → ℕ → Type 0} {is_known : P → Type 0} {left : P → List ℕ} {count : P → ℕ} {failures : P → Failures} {old mid new : P} {whole rest : List ℕ → Result (Y × List ℕ) (F × List ℕ)} {first : List ℕ → Result (Z × List ℕ) (F × List ℕ)} {view : X → Z} (other : W → Y) (e : E)
@@ -134,7 +134,7 @@ SoFar-fails {stop = stop} {left = left} {count = count} {new = new} {whole = who
   taken = λ told. Taken_then (h.taken told) (read.taken (h.stays_known told));
   stays_known = λ told. read.stays_known (h.stays_known told);
   counts = CountsStop-from (stop e) _ _ _ h.counts read.counts;
-  rises = omega (arith, h.rises, read.rises);
+  count_grows = omega (arith, h.count_grows, read.count_grows);
   may_stop = read.may_stop;
 }
 
@@ -151,18 +151,18 @@ SoFar-then {stop = stop} {left = left} {count = count} {failures = failures} {ol
   taken = λ told. Taken_then (h.taken told) (read.taken (h.stays_known told));
   stays_known = λ told. read.stays_known (h.stays_known told);
   counts = Counts-from stop result (failures old) (failures mid) (failures new) h.counts read.counts;
-  rises = omega (arith, h.rises, read.rises);
+  count_grows = omega (arith, h.count_grows, read.count_grows);
   may_stop = read.may_stop;
 }
 
 pub SoFar-returns : {P E F X Y : Type 0} (stop : E → Stop F) {May : E → ℕ → Type 0} {is_known : P → Type 0} {left : P → List ℕ} {count : P → ℕ} {failures : P → Failures} {old now : P} {whole rest : List ℕ → Result (Y × List ℕ) (F × List ℕ)} (view : X → Y) (x : X)
     → ((bytes : List ℕ) → rest bytes ≡ Ok (view x, bytes)) → SoFar is_known left count failures old now whole rest → Takes stop May is_known left count failures old now view (Ok x) whole
-SoFar-returns stop view x done h = record { gives = λ told taken joined behind. h.goes told taken joined behind ∙ done behind; taken = h.taken; stays_known = h.stays_known; counts = h.counts; rises = h.rises; may_stop = tt }
+SoFar-returns stop view x done h = record { gives = λ told taken joined behind. h.goes told taken joined behind ∙ done behind; taken = h.taken; stays_known = h.stays_known; counts = h.counts; count_grows = h.count_grows; may_stop = tt }
 
 pub SoFar-refuses : {P E F X Y : Type 0} (stop : E → Stop F) {May : E → ℕ → Type 0} {is_known : P → Type 0} {left : P → List ℕ} {count : P → ℕ} {failures : P → Failures} {old now : P} {whole rest : List ℕ → Result (Y × List ℕ) (F × List ℕ)} (view : X → Y) (e : E) (c : F)
     → stop e ≡ InputError c → May e (count now) → ((bytes : List ℕ) → rest bytes ≡ Err (c, bytes)) → SoFar is_known left count failures old now whole rest → Takes stop May is_known left count failures old now view (Err e) whole
 SoFar-refuses stop {left = left} {count = count} {failures = failures} {old = old} {now = now} {whole = whole} view e c is may refused h =
-    record { gives = λ told taken joined. subst (λ s. Stops s whole taken (left now) (count now)) (sym is) (h.goes told taken joined (left now) ∙ refused (left now)); taken = h.taken; stays_known = h.stays_known; counts = subst (λ s. CountsStop s (failures old) (failures now)) (sym is) h.counts; rises = h.rises; may_stop = may }
+    record { gives = λ told taken joined. subst (λ s. Stops s whole taken (left now) (count now)) (sym is) (h.goes told taken joined (left now) ∙ refused (left now)); taken = h.taken; stays_known = h.stays_known; counts = subst (λ s. CountsStop s (failures old) (failures now)) (sym is) h.counts; count_grows = h.count_grows; may_stop = may }
 
 -- no more bytes can be counted, and reading needs more
 pub SoFar-ends : {P E F X Y : Type 0} (stop : E → Stop F) {May : E → ℕ → Type 0} {is_known : P → Type 0} {left : P → List ℕ} {count : P → ℕ} {failures : P → Failures} {old now : P} {whole rest : List ℕ → Result (Y × List ℕ) (F × List ℕ)} (view : X → Y) (e : E) (end : F)
@@ -172,11 +172,11 @@ SoFar-ends stop {left = left} {count = count} {failures = failures} {old = old} 
   taken = h.taken;
   stays_known = h.stays_known;
   counts = subst (λ s. CountsStop s (failures old) (failures now)) (sym is) h.counts;
-  rises = h.rises;
+  count_grows = h.count_grows;
   may_stop = may;
 }
 
 pub SoFar-stops : {P E F X Y : Type 0} (stop : E → Stop F) {May : E → ℕ → Type 0} {is_known : P → Type 0} {left : P → List ℕ} {count : P → ℕ} {failures : P → Failures} {old now : P} {whole rest : List ℕ → Result (Y × List ℕ) (F × List ℕ)} (view : X → Y) (e : E)
     → stop e ≡ Short → May e (count now) → SoFar is_known left count failures old now whole rest → Takes stop May is_known left count failures old now view (Err e) whole
 SoFar-stops stop {left = left} {count = count} {failures = failures} {old = old} {now = now} {whole = whole} view e is may h =
-    record { gives = λ told taken joined. subst (λ s. Stops s whole taken (left now) (count now)) (sym is) tt; taken = h.taken; stays_known = h.stays_known; counts = subst (λ s. CountsStop s (failures old) (failures now)) (sym is) h.counts; rises = h.rises; may_stop = may }
+    record { gives = λ told taken joined. subst (λ s. Stops s whole taken (left now) (count now)) (sym is) tt; taken = h.taken; stays_known = h.stays_known; counts = subst (λ s. CountsStop s (failures old) (failures now)) (sym is) h.counts; count_grows = h.count_grows; may_stop = may }

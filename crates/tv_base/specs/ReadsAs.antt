@@ -79,7 +79,7 @@ pub record Reads {R E Y S X : Type 0} (kind : Errors R E) (grammar : Grammar R Y
   pub shows : source.is_known old → (e : E) (r : R) → IsErrOf result e → kind.stop e ≡ InputError r → Shows kind.end grammar.HasError (source.left old) (source.left new) r
   pub too_long : source.is_known old → (e : E) (r : R) → IsErrOf result e → kind.stop e ≡ Uncounted r → TakesMost (source.left old) (source.left new)
   pub ends_early : source.is_known old → (e : E) (r : R) → IsErrOf result e → kind.stop e ≡ Uncounted r → EndsEarly r grammar.HasError (source.left old) (source.left new)
-  pub full : source.is_known old → (e : E) → IsErrOf result e → kind.IsFull e → grammar.NoRoom (source.left old)
+  pub no_room : source.is_known old → (e : E) → IsErrOf result e → kind.IsFull e → grammar.NoRoom (source.left old)
   pub errors : IfErr result kind.MayCome
   pub taken : source.is_known old → (prefix : List ℕ) × (source.left old ≡ prefix ++ source.left new)
   pub failures : CountsBy kind.IsCounted result (source.failures old) (source.failures new)

@@ -64,5 +64,5 @@ pub record Takes {P E F X Y : Type 0} (stop : E → Stop F) (MayStop : E → ℕ
   pub taken : is_known old → Taken (left old) (left new) (count old) (count new)
   pub stays_known : is_known old → is_known new
   pub counts : Counts stop result (failures old) (failures new)
-  pub rises : count old ≤ count new
+  pub count_grows : count old ≤ count new
   pub may_stop : IfErr result (λ e. MayStop e (count new))

@@ -40,7 +40,7 @@ pub(crate) fn rewrite(rule: Rule, text: &str, out: &mut String) -> Result<(), Al
     ensures written { OnOk result
         (string_bytes out.new ≡ string_bytes out.old ++ rewritten (stands_for rule) text.now) }
     ensures unchanged { OnErr result (string_bytes out.new ≡ string_bytes out.old) }
-    ensures full { OnErr result (string_capacity out.old < string_len out.old + length text.now) }
+    ensures no_room { OnErr result (string_capacity out.old < string_len out.old + length text.now) }
 {
     out.reserve(text.len())?;
     let bytes = text.as_bytes();

@@ -124,7 +124,7 @@ pub finish_fields : (old : PairBuilder) (mid new : Building) (ps : List HeapPair
 finish_fields old mid new ps kept f failed_new (Ok x) ok err s = finish_fields_ok old mid new ps kept f ok s.ok
 finish_fields old mid new ps kept f failed_new (Err e) ok err s =
     subst (λ n. Fields new n ps) (sym err.kept_same) (subst (λ qs. Fields new old.kept qs) (sym err.pairs)
-    (fields_left old mid new failed_new (λ s. s) (Err e) (left_same old mid e err.same) (settled_as mid new kept old.kept old.failed failed_new (Err e) err.kept_same s)))
+    (fields_left old mid new failed_new (λ s. s) (Err e) (left_same old mid e err.unchanged) (settled_as mid new kept old.kept old.failed failed_new (Err e) err.kept_same s)))
 
 -- ---- what the call says
 
@@ -150,7 +150,7 @@ finish_live old new mid f (Err e) not_failed ok err s = answer e err.why fails
     fails : Fails old new
     fails = fails_now old new mid (λ s. s) e (record {
       not_failed = not_failed;
-      left = left_same old mid e err.same;
+      left = left_same old mid e err.unchanged;
       settled = settled_as mid new.building new.kept old.kept old.failed new.failed (Err e) err.kept_same s;
       kept = err.kept_same;
       pairs = err.pairs;

@@ -46,7 +46,7 @@ WhyNoPair old Memory = ¬ (old.complete ≡ None)
 WhyNoPair old _ = ⊥
 
 pub record KeptNot (old new : Building) (ps qs : List HeapPair) (kept kept_new : ℕ) (e : BuildError) : Type 0 where
-  pub same : new ≡ old
+  pub unchanged : new ≡ old
   pub pairs : qs ≡ ps
   pub kept_same : kept_new ≡ kept
   pub why : WhyNoPair old e

@@ -130,7 +130,7 @@ impl HeapPairs {
 
     /// Gives memory back that neither the values nor the pairs need, as far as the allocator takes it.
     pub fn shrink_to_fit(&mut self)
-        ensures same { IsUnchanged self.old self.new }
+        ensures unchanged { IsUnchanged self.old self.new }
         ensures bytes { heap_capacity self.new ≤ heap_capacity self.old }
         ensures places { pairs_capacity self.new ≤ pairs_capacity self.old }
         ensures frees_bytes { heap_of self.old ≡ [] → heap_capacity self.new ≡ 0 }

@@ -24,7 +24,7 @@ fn settle(
     kept: usize,
     answer: Result<(), BuildError>,
 ) -> Result<(), BuildError>
-    ensures same { result ≡ answer }
+    ensures returned { result ≡ answer }
     ensures settled { Settled building.old building.new kept failed.old failed.new answer }
 {
     if answer.is_err() {
@@ -129,7 +129,7 @@ impl PairBuilder {
 
     /// The length of the heap, in bytes: at most what the finished pairs and the value that comes next weigh.
     pub fn heap_len(&self) -> usize
-        ensures same { result ≡ length (heap_so_far self.now) }
+        ensures is_length { result ≡ length (heap_so_far self.now) }
         ensures within { result
             ≤ document_weight (built self.now) + state_weight (state_of self.now) }
     {

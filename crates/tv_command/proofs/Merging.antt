@@ -125,19 +125,19 @@ module _ {S : Type 0} (source : Ghosts S) where
     all_taken none = All-from_get_or (λ (pairs : List Pair). pairs ≡ []) runs [] (λ k lt.
         let within : k < length readers = omega (arith, lt, h.as_many) in
         let d = some_element readers k within in
-        none_left (get_or readers k d) (get_or runs k []) (h.left k d within) (none k d within))
+        none_left (get_or readers k d) (get_or runs k []) (h.each k d within) (none k d within))
 
     pub least_begins : (term : List ℕ) → IsLeastRead readers (Some term) → IsLeast term runs
     least_begins term least =
         let k = least.0.0 in
         let r = least.0.1 in
         let within : k < length runs = omega (arith, least.0.2, h.as_many) in
-        let here : HasLeft source r (get_or runs k []) = subst (λ (x : RunReader S). HasLeft source x (get_or runs k [])) least.0.3 (h.left k r least.0.2) in
+        let here : HasLeft source r (get_or runs k []) = subst (λ (x : RunReader S). HasLeft source x (get_or runs k [])) least.0.3 (h.each k r least.0.2) in
         record {
           begins = (k, get_or runs k [], within, get_or_default runs k (get_or runs k []) [] within, begins_with r (get_or runs k []) term here least.0.4.0 least.0.4.1);
           least = All-from_get_or (BeginsWithNoneBefore term) runs [] (λ j lt.
               let near : j < length readers = omega (arith, lt, h.as_many) in
-              begins_with_none (get_or readers j r) (get_or runs j []) term (h.left j r near) (least.1 j r near));
+              begins_with_none (get_or readers j r) (get_or runs j []) term (h.each j r near) (least.1 j r near));
         }
 
 -- ---- the order of what is left
@@ -190,7 +190,7 @@ pub record TakenSoFar {S : Type 0} (source : Ghosts S) (term : List ℕ) (reader
 
 module _ {S : Type 0} (source : Ghosts S) (term : List ℕ) (readers : List (RunReader S)) (runs : List (List Pair)) where
   pub taken_none : HaveLeft source readers runs → TakenSoFar source term readers runs 0 0
-  taken_none h = record { as_many = h.as_many; known = h.known; done = λ k d lt. absurd (omega (arith, lt)); ahead = λ k d le lt. h.left k d lt; counted = refl }
+  taken_none h = record { as_many = h.as_many; known = h.known; done = λ k d lt. absurd (omega (arith, lt)); ahead = λ k d le lt. h.each k d lt; counted = refl }
 
   module _ (number total : ℕ) (h : TakenSoFar source term readers runs number total) where
     pub taken_more : number < length readers → (r : RunReader S) (count sum : ℕ) → source.is_known r.source → TakesFrom source term r (get_or runs number []) (Ok count) → sum ≡ min (total + count) (2 ^ 64 - 1) → TakenSoFar source term (set readers number r) runs (number + 1) sum
@@ -227,7 +227,7 @@ module _ {S : Type 0} (source : Ghosts S) (term : List ℕ) (readers : List (Run
       record {
         as_many = length-map runs (without term) ∙ h.as_many;
         known = h.known;
-        left = λ k d lt.
+        each = λ k d lt.
             let near : k < length runs = omega (arith, lt, h.as_many) in
             let P : List Pair → Type 0 = λ pairs. HasLeft source (get_or readers k d) pairs in
             subst P (sym (get_or-map (without term) runs k [] [] near)) (h.done k d (omega (arith, lt, all)));
@@ -255,11 +255,11 @@ module _ {S : Type 0} (source : Ghosts S) (readers : List (RunReader S)) (runs :
   left_more r pairs known has = record {
     as_many = length_push runs pairs ∙ ap (λ n. n + 1) h.as_many ∙ sym (length_push readers r);
     known = All-push (λ (x : RunReader S). source.is_known x.source) readers r h.known known;
-    left = λ k d lt. elim (cases_lt k (length readers)) [
+    each = λ k d lt. elim (cases_lt k (length readers)) [
       | inl near ↦
           let P = λ (x : RunReader S). HasLeft source x (get_or (runs ++ pairs ∷ []) k []) in
           let Q : List Pair → Type 0 = λ l. HasLeft source (get_or readers k d) l in
-          subst P (sym (get_or_append_left readers (r ∷ []) d k near)) (subst Q (sym (get_or_append_left runs (pairs ∷ []) [] k (omega (arith, near, h.as_many)))) (h.left k d near))
+          subst P (sym (get_or_append_left readers (r ∷ []) d k near)) (subst Q (sym (get_or_append_left runs (pairs ∷ []) [] k (omega (arith, near, h.as_many)))) (h.each k d near))
       | inr far ↦
           let at : length readers ≡ k = omega (arith, far, lt, length_push readers r) in
           let P = λ (x : RunReader S). HasLeft source x (get_or (runs ++ pairs ∷ []) k []) in

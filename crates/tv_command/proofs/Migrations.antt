@@ -171,7 +171,7 @@ module _ {S K : Type 0} {from : Version} {source : Source S} {old new : S} {begu
 
   reason : (e ≡ errors.CorruptedValue UnexpectedEnd → length (source.left new) ≡ length (source.left old) → ⊥) → IsReason from (All no_limits) (source.left old) (source.left new) (limited.Read e)
   reason other = reason_of from (All no_limits) (Err e) e refl u.reads (λ bytes r h. h) (λ full. full) known (λ none.
-      says_nothing from (source.left old) e none (is_refused from (source.left old) e (λ r is. refusal_is_true (known, omega (arith, ap length none)) u.reads e r refl is) (λ full. u.reads.full known e refl full) u.reads.errors)
+      says_nothing from (source.left old) e none (is_refused from (source.left old) e (λ r is. refusal_is_true (known, omega (arith, ap length none)) u.reads e r refl is) (λ full. u.reads.no_room known e refl full) u.reads.errors)
       (λ is. other is (same_left none)))
 
 -- ---- where it stops

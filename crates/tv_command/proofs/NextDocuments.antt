@@ -59,7 +59,7 @@ module _ {S Y X : Type 0} {source : Ghosts S} {grammar : Grammar Refusal Y} {old
       → source.is_known old → (source.left old ≡ [] → SaysEnd (Err e)) → IsReason v wanted (source.left old) (source.left new) (limited.Read e)
   reason_of result e is reads to room known ends = record {
     true_of = λ few.
-        is_refused_by (NoRoomFor v wanted) v (source.left old) e (λ r refusal. to _ r (refusal_is_true (known, few) reads e r is refusal)) (λ full. room (reads.full known e is full))
+        is_refused_by (NoRoomFor v wanted) v (source.left old) e (λ r refusal. to _ r (refusal_is_true (known, few) reads e r is refusal)) (λ full. room (reads.no_room known e is full))
         (IfErr-at_err IsReadingError is reads.errors);
     at_end = ends;
   }
@@ -133,7 +133,7 @@ module _ {S : Type 0} (source : Ghosts S) {old new : S} (v : Version) (limits : 
   one_within (Ok false) document reads stops shallow small end ends known = let t = reads.taken known in (end known refl, none_after t.0 (source.left new) (sym (end known refl) ∙ t.1))
   one_within (Err (limited.Read e)) document reads stops shallow small end ends known = record {
     true_of = λ few.
-        is_refused_by (NoRoomFor v (All limits)) v (source.left old) e (λ r refusal. refused_within v limits known few reads e r refl refusal) (λ full. reads.full known (limited.Read e) refl (ap limited.Read full)) reads.errors;
+        is_refused_by (NoRoomFor v (All limits)) v (source.left old) e (λ r refusal. refused_within v limits known few reads e r refl refusal) (λ full. reads.no_room known (limited.Read e) refl (ap limited.Read full)) reads.errors;
     at_end = ends known;
   }
   one_within (Err (limited.Limit limit.Bytes)) document reads stops shallow small end ends known = record { true_of = (stops.bytes known refl, stops.ends known refl); at_end = ends known }

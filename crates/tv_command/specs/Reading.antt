@@ -133,7 +133,7 @@ pub record ReadsCounted {S : Type 0} (IsKept : Document → Type 0) (source : Gh
 pub record RefusesAgain {S : Type 0} (old new : DocumentReader) (source_old source_new : S) (result : Result Bool BlockError) : Type 0 where
   pub answers : error_of result ≡ Err (limited.Read AlreadyFailed)
   pub counted : CountsOne old new result
-  pub same : new ≡ old
+  pub unchanged : new ≡ old
   pub unread : source_new ≡ source_old
 
 -- ---- for private clauses

@@ -74,7 +74,7 @@ module _ {S : Type 0} where
   pub record HaveLeft (source : Ghosts S) (readers : List (RunReader S)) (runs : List (List Pair)) : Type 0 where
     pub as_many : length runs ≡ length readers
     pub known : All (λ r. source.is_known r.source) readers
-    pub left : (k : ℕ) (d : RunReader S) → k < length readers → HasLeft source (slice_index_or readers k d) (slice_index_or runs k [])
+    pub each : (k : ℕ) (d : RunReader S) → k < length readers → HasLeft source (slice_index_or readers k d) (slice_index_or runs k [])
 
 -- whether the pair has this term
 abbrev pub is_of : List ℕ → Pair → Bool

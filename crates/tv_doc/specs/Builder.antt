@@ -6,7 +6,7 @@
 -- open. `live`: no call was refused.
 -- `IsDocumentOf`: the document of a builder's finished pairs. `document` and `pairs`: it has these pairs, at their places. `heap`: its heap is the
 -- builder's up to the end of the last of their values.
--- `IsHeapLength`: a length. `same`: the heap so far has it. `within`: it is at most what the finished pairs and the next value so far weigh.
+-- `IsHeapLength`: a length. `is_length`: the heap so far has it. `within`: it is at most what the finished pairs and the next value so far weigh.
 -- `Builds`: a call that brings a part of the next value. Its arguments say where the call belongs, what fits where memory is refused, and which state
 -- it goes on to. After a refusal it returns `AlreadyFailed` and changes nothing. Else it goes on to that state: the finished pairs stay, and the heap
 -- is that of the state. Or it is refused: `OutOfPlace` exactly where it does not belong there, `HeapFull` where the state has no room, or `Memory`.
@@ -93,7 +93,7 @@ pub record IsDocumentOf (b : TreeBuilder) (doc : CompactDoc) : Type 0 where
 
 -- the length of the heap so far
 pub record IsHeapLength (b : TreeBuilder) (n : ℕ) : Type 0 where
-  pub same : n ≡ length (heap_so_far b)
+  pub is_length : n ≡ length (heap_so_far b)
   pub within : n ≤ document_weight (built b) + state_weight (state_of b)
 
 -- ---- the parts of the next value

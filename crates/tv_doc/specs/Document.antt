@@ -4,7 +4,7 @@
 -- `IsEmptyWith`: a document without pairs. `document`: it has no pair. `heap`: no byte stands in its heap. `bytes` and `places`: for how
 -- many bytes of the heap, and for how many pairs, it has memory.
 -- `Clears`: all pairs are taken off. The document is then empty, and has the memory that it had before.
--- `Shrinks`: memory is given back. `same`: the pairs and the heap are unchanged. `bytes` and `places`: the document has no more memory for its heap
+-- `Shrinks`: memory is given back. `unchanged`: the pairs and the heap are unchanged. `bytes` and `places`: the document has no more memory for its heap
 -- and for pairs than before. `frees_bytes` and `frees_places`: it has none for its heap where no byte stands in it, and none for pairs where it has
 -- no pair.
 -- `Adds`: a pair of this field and this tree is added after the others. Or the addition is refused: `HeapFull` where the heap has no room for the
@@ -80,7 +80,7 @@ Clears old new = IsEmptyWith (pairs_capacity old) (heap_capacity old) new
 
 -- memory is given back, all of it where nothing needs any, and the document stays the same
 pub record Shrinks (old new : CompactDoc) : Type 0 where
-  pub same : IsUnchanged old new
+  pub unchanged : IsUnchanged old new
   pub bytes : heap_capacity new ≤ heap_capacity old
   pub places : pairs_capacity new ≤ pairs_capacity old
   pub frees_bytes : heap_of old ≡ [] → heap_capacity new ≡ 0

@@ -5,7 +5,7 @@
 -- or the error is that of the first addition that was refused. `belongs`: each of its pairs has a field of the schema.
 -- `KeepsValues`: a second document has the values of a first. `kept`: each field of the schema has the same values, in their order. `all`: every
 -- field has, where each pair of the first has a field of the schema.
--- `KeepsNamed`: the pairs of values by name. `same`: where these are the values by name of this document, by a schema, the pairs keep the document's
+-- `KeepsNamed`: the pairs of values by name. `keeps`: where these are the values by name of this document, by a schema, the pairs keep the document's
 -- values. `others`: no field past the schema has a value.
 -- `ConvertsBack`: the values by name of a document are made a document again. `keeps`: it keeps the document's values. `belongs`: each of its pairs
 -- has a field of the schema. `errors`: the error is one of `IsBackError`.
@@ -76,7 +76,7 @@ pub record KeepsValues (schema : List Entry) (old new : Document) : Type 0 where
 
 -- the values by name of a document keep its values
 pub record KeepsNamed (schema : List Entry) (d : Document) (named : Named) : Type 0 where
-  pub same : IsSchema schema → IsNamed (field_names schema) d named → KeepsValues schema d (named_pairs schema named)
+  pub keeps : IsSchema schema → IsNamed (field_names schema) d named → KeepsValues schema d (named_pairs schema named)
   pub others : (field : ℕ) → length schema ≤ field → values_of field (named_pairs schema named) ≡ []
 
 -- The error of converting back the values by name of this document: memory was refused, or the document's values need more room than a

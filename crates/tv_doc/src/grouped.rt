@@ -11,7 +11,7 @@ use tv_value::field::Field;
 // Sorts pairs by their fields. The values of a field stay in order. The only error is that memory was refused.
 pub(crate) fn sort_pairs<V: Drop>(pairs: &mut Vec<(Field, V)>) -> Result<(), AllocError>
     ensures ascending { OnOk result (IsNonDecreasingBy (λ pair. pair.0.id) pairs.new.items) }
-    ensures same { (field : ℕ)
+    ensures values { (field : ℕ)
         → values_of field (map with_number pairs.new.items)
         ≡ values_of field (map with_number pairs.old.items) }
 {

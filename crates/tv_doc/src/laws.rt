@@ -89,7 +89,7 @@ pub fn built_values_are_as_added<'a, V: Value<'a>>(
 ) -> Result<(CompactDoc, CompactDoc), BuildError>
     ensures made { IfOk result
         (λ made. AddsAsBuilt document.now field.id (V.tree value.now) made.0 made.1) }
-    ensures full { IsErrOf result HeapFull → IsFull document.now (V.tree value.now) }
+    ensures no_room { IsErrOf result HeapFull → IsFull document.now (V.tree value.now) }
     ensures errors { IfErr result (λ error. (error ≡ HeapFull) ⊎ (error ≡ Memory)) }
 {
     let mut added = document.try_clone(alloc)?;

@@ -31,7 +31,7 @@ fn first_run<V>(pairs: &[(Field, V)]) -> Option<(Field, &[(Field, V)], &[(Field,
     ensures none { IfNone result (pairs.now ≡ []) }
     ensures joined { IfSome result (λ cut. cut.1.now ++ cut.2.now ≡ pairs.now) }
     ensures some { IfSome result (λ cut. cut.1.now ≢ []) }
-    ensures same { IfSome result (λ cut. AllByRecursion (λ pair. pair.0.id ≡ cut.0.id) cut.1.now) }
+    ensures one_field { IfSome result (λ cut. AllByRecursion (λ pair. pair.0.id ≡ cut.0.id) cut.1.now) }
     ensures shorter { IfSome result (λ cut. length cut.2.now < length pairs.now) }
 {
     let (first, _) = pairs.first()?;

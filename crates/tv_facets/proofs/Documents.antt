@@ -157,7 +157,7 @@ pub each-once : (old moved new : List (Bor (List ℕ) × ℕ)) → IsPermutation
 each-once old moved new permutation sorted is =
     record {
       rising = strictly-mapped new (rw is (IsStrictlySortedBy-dedup code-total code-ties moved sorted));
-      same = λ pair. (keeps pair, adds_none pair);
+      contains = λ pair. (keeps pair, adds_none pair);
     }
   where
     keeps : (pair : List ℕ × ℕ) → Contains (map pair_of old) pair → Contains (map pair_of new) pair
@@ -225,13 +225,13 @@ pub count-distinct : (ancestor : List ℕ) (facets old new : List (List ℕ × �
 count-distinct ancestor facets old new child p once children is_child =
     count-length child new
     ∙ length-from_keys nat_eq_equiv (documents_within child new) (documents_within child facets) (documents-distinct ancestor child new is_child children once.rising)
-    (λ n. sym (documents-same child n old new once.same) ∙ ap (λ l. is_member nat_eq l n) (p.documents child is_child))
+    (λ n. sym (documents-same child n old new once.contains) ∙ ap (λ l. is_member nat_eq l n) (p.documents child is_child))
 
 pub children-kept : (ancestor : List ℕ) (facets old new : List (List ℕ × ℕ)) → ArePairs ancestor facets old → HasEachOnce old new → AllByRecursion (λ pair. IsChild ancestor pair.0) new
 children-kept ancestor facets old new p once =
     let P = λ (pair : List ℕ × ℕ). IsChild ancestor pair.0 in
     recursion_from_All P new
-    (All-weaker (Contains new) P (λ pair h. All-contains P old pair (All-from_recursion P old p.children) ((once.same pair).1 h)) new (All-contains_itself new))
+    (All-weaker (Contains new) P (λ pair h. All-contains P old pair (All-from_recursion P old p.children) ((once.contains pair).1 h)) new (All-contains_itself new))
 
 none-distinct : (l : List ℕ) → distinct_count nat_eq l ≡ 0 → l ≡ []
 none-distinct [] e = refl

@@ -24,4 +24,4 @@ pub record ArePairs (ancestor : List ℕ) (facets pairs : List (List ℕ × ℕ)
 -- the same pairs, each once and rising
 pub record HasEachOnce (old new : List (List ℕ × ℕ)) : Type 0 where
   pub rising : IsStrictlySortedBy pair_cmp new
-  pub same : (pair : List ℕ × ℕ) → Contains old pair ↔ Contains new pair
+  pub contains : (pair : List ℕ × ℕ) → Contains old pair ↔ Contains new pair

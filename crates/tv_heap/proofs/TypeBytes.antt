@@ -39,7 +39,7 @@ no_byte_read source old new e r = record {
   shows = λ told f c is stop. shows_type (source.left old) (source.left new) c (r.shows told f c (err_is e f is) stop);
   too_long = λ told f c is stop. r.too_long told f c (err_is e f is) stop;
   ends_early = λ told f c is stop. let h = r.ends_early told f c (err_is e f is) stop in record { taken = h.taken; joined = h.joined; shown = no_byte h.shown };
-  full = λ told f is none. none;
+  no_room = λ told f is none. none;
   errors = tt;
   taken = r.taken;
   failures = r.failures;
@@ -93,7 +93,7 @@ other_byte_read source old new code other r =
           subst (Shows UnexpectedEnd ErrorInType (source.left old) (source.left new)) (refused_for (UnknownTypeCode code) c e apart is stop) (shows_other (source.left old) (source.left new) f.prefix code other f.encoded f.joined);
       too_long = λ told e c is stop. absurd (counted (UnknownTypeCode code) c e apart is stop);
       ends_early = λ told e c is stop. absurd (counted (UnknownTypeCode code) c e apart is stop);
-      full = λ told e is none. none;
+      no_room = λ told e is none. none;
       errors = tt;
       taken = r.taken;
       failures = r.failures;

@@ -58,7 +58,7 @@ fn by_weight<'a, 'b>(
 
 // What is known of two lists of which only this pair isn't compared.
 fn left_over<'a, 'b>(pair: Option<Pair<'a, 'b>>) -> Compared<'a, 'b>
-    ensures same { compared_eq result ≡ left_eq pair.entry }
+    ensures equal { compared_eq result ≡ left_eq pair.entry }
     ensures smaller { (n : ℕ) → IfSome pair.entry (Smaller n) → IsLeft (Smaller n) result }
 {
     match pair {
@@ -101,7 +101,7 @@ fn same_items<'a, 'b>(
     others: CompactDocArrayIter<'b>,
     begin: u32,
 ) -> Compared<'a, 'b>
-    ensures same { compared_eq result
+    ensures equal { compared_eq result
         ≡ elements_eq (elements items.entry.held.0) (elements others.entry.held.0) }
     ensures smaller { IsLeft (Smaller (elements_size (elements items.entry.held.0))) result }
 {
@@ -134,7 +134,7 @@ fn same_members<'a, 'b>(
     others: CompactDocObjectIter<'b>,
     begin: u32,
 ) -> Compared<'a, 'b>
-    ensures same { compared_eq result
+    ensures equal { compared_eq result
         ≡ entries_eq (entries members.entry.held.0) (entries others.entry.held.0) }
     ensures smaller { IsLeft (Smaller (entries_size (entries members.entry.held.0))) result }
 {

@@ -49,7 +49,7 @@ impl<R: Read> BufferedSource<R> {
         ensures inner { IfOk result (λ s. reader_inner s.inner ≡ inner) }
         ensures buffered { IfOk result (λ s. reader_buffer s.inner ≡ []) }
         ensures capacity { IfOk result (λ s. reader_capacity s.inner ≡ 65536) }
-        ensures left { IfOk result (λ s. reader_remaining R.remaining s.inner ≡ R.remaining inner) }
+        ensures remaining { IfOk result (λ s. reader_remaining R.remaining s.inner ≡ R.remaining inner) }
         ensures failures { IfOk result (λ s. ⟦<BufferedSource<R> as ByteSource>⟧.failures s
             ≡ record { number = 0; last = None }) }
     {
@@ -68,7 +68,7 @@ impl<R: Read> BufferedSource<R> {
         ensures inner { IfOk result (λ s. reader_inner s.inner ≡ inner) }
         ensures buffered { IfOk result (λ s. reader_buffer s.inner ≡ []) }
         ensures capacity { IfOk result (λ s. reader_capacity s.inner ≡ max capacity 1) }
-        ensures left { IfOk result (λ s. reader_remaining R.remaining s.inner ≡ R.remaining inner) }
+        ensures remaining { IfOk result (λ s. reader_remaining R.remaining s.inner ≡ R.remaining inner) }
         ensures failures { IfOk result (λ s. ⟦<BufferedSource<R> as ByteSource>⟧.failures s
             ≡ record { number = 0; last = None }) }
     {

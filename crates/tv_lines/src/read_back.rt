@@ -20,7 +20,7 @@ use tv_store::{DeserializeError, DocStoreVersion, read_document_into};
 fn unwritten(error: &DeserializeError) -> &'static str
     requires { (error.now ≡ Memory) ⊎ (error.now ≡ HeapFull) }
     ensures memory { error.now ≡ Memory → result.now ≡ codes "error Memory" }
-    ensures full { error.now ≡ HeapFull → result.now ≡ codes "error HeapFull" }
+    ensures no_room { error.now ≡ HeapFull → result.now ≡ codes "error HeapFull" }
 {
     match error {
         DeserializeError::Memory => "error Memory",

@@ -87,7 +87,7 @@ impl Parser {
             → Follows schema factor self.old.operators.items tokens self.old.steps.items depth
             → EndsWithout Not self.old.operators.items
             → OnOk result (FollowsAll schema self.new tokens depth) }
-        ensures same { self.new.wants_operand ≡ self.old.wants_operand }
+        ensures wants_operand { self.new.wants_operand ≡ self.old.wants_operand }
     {
         if take_off(&mut self.operators, Operator::And) {
             self.steps.push(Step::And)?;
@@ -101,7 +101,7 @@ impl Parser {
             → Follows schema factor self.old.operators.items tokens self.old.steps.items depth
             → EndsWithout Not self.old.operators.items
             → OnOk result (FollowsAny schema self.new tokens depth) }
-        ensures same { self.new.wants_operand ≡ self.old.wants_operand }
+        ensures wants_operand { self.new.wants_operand ≡ self.old.wants_operand }
     {
         self.write_and()?;
         if take_off(&mut self.operators, Operator::Or) {

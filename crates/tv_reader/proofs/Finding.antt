@@ -105,7 +105,7 @@ finds_then {stop = stop} {end = end} {left = left} {failures = failures} {old = 
   taken = λ t. Taken_then (p.taken t) (h.taken (p.stays_known t));
   stays_known = λ t. h.stays_known (p.stays_known t);
   counts = Counts-from stop result (failures old) (failures mid) (failures new) p.counts h.counts;
-  rises = omega (arith, p.rises, h.rises);
+  count_grows = omega (arith, p.count_grows, h.count_grows);
   may_stop = h.may_stop;
 }
 
@@ -113,7 +113,7 @@ finds_then {stop = stop} {end = end} {left = left} {failures = failures} {old = 
 pub finds_as : {S E F X Y : Type 0} {stop : E → Stop F} {May0 May : E → ℕ → Type 0} {end : F} {is_known : S → Type 0} {left : S → List ℕ} {failures : S → Failures} {old new : S} {i k : ℕ} {x : X} {R : List ℕ → X → Type 0} {I : List ℕ → F → Type 0} (y : Y) (B : List ℕ → Y → Type 0) (Q : List ℕ → F → Type 0)
     → ((a : List ℕ) → R a x → B a y) → FindsBy stop May0 end is_known left failures old i new k (Ok x) R I → FindsBy stop May end is_known left failures old i new k (Ok y) B Q
 finds_as y B Q map p =
-    record { found = λ t. let h = p.found t in record { prefix = h.prefix; joined = h.joined; encoded = map h.prefix h.encoded }; taken = p.taken; stays_known = p.stays_known; counts = p.counts; rises = p.rises; may_stop = tt }
+    record { found = λ t. let h = p.found t in record { prefix = h.prefix; joined = h.joined; encoded = map h.prefix h.encoded }; taken = p.taken; stays_known = p.stays_known; counts = p.counts; count_grows = p.count_grows; may_stop = tt }
 
 pub stop_map : {F : Type 0} (end : F) (P Q : List ℕ → F → Type 0) (s : Stop F) (old new : List ℕ) (count : ℕ) → ((w : List ℕ) (c : F) → P w c → Q w c) → GivesStop end P old new count s → GivesStop end Q old new count s
 stop_map end P Q (InputError f) old new count map h = record { stands = map old f h.stands; shows = shows_map (λ c. c) (λ f e. e) old new f map h.shows }
@@ -126,19 +126,19 @@ stop_map end P Q Never old new count map h = h
 pub finds_any : {S E F X : Type 0} {stop : E → Stop F} {May0 May : E → ℕ → Type 0} {end : F} {is_known : S → Type 0} {left : S → List ℕ} {failures : S → Failures} {old new : S} {i k : ℕ} {result : Result X E} {B : List ℕ → X → Type 0} {Q : List ℕ → F → Type 0}
     → ((e : E) (n : ℕ) → May0 e n → May e n) → FindsBy stop May0 end is_known left failures old i new k result B Q → FindsBy stop May end is_known left failures old i new k result B Q
 finds_any {k = k} {result = result} less p =
-    record { found = p.found; taken = p.taken; stays_known = p.stays_known; counts = p.counts; rises = p.rises; may_stop = IfErr-weaker result _ _ (λ e may. less e k may) p.may_stop }
+    record { found = p.found; taken = p.taken; stays_known = p.stays_known; counts = p.counts; count_grows = p.count_grows; may_stop = IfErr-weaker result _ _ (λ e may. less e k may) p.may_stop }
 
 -- a refusal of a part is one of the whole
 pub finds_fails : {S E F X Y : Type 0} {stop : E → Stop F} {May : E → ℕ → Type 0} {end : F} {is_known : S → Type 0} {left : S → List ℕ} {failures : S → Failures} {old new : S} {i k : ℕ} {e : E} {R : List ℕ → X → Type 0} {P : List ℕ → F → Type 0} (B : List ℕ → Y → Type 0) (Q : List ℕ → F → Type 0)
     → ((w : List ℕ) (c : F) → P w c → Q w c) → FindsBy stop May end is_known left failures old i new k (Err e) R P → FindsBy stop May end is_known left failures old i new k (Err e) B Q
 finds_fails {stop = stop} {end = end} {left = left} {old = old} {new = new} {k = k} {e = e} {P = P} B Q map p =
-    record { found = λ t. stop_map end P Q (stop e) (left old) (left new) k map (p.found t); taken = p.taken; stays_known = p.stays_known; counts = p.counts; rises = p.rises; may_stop = p.may_stop }
+    record { found = λ t. stop_map end P Q (stop e) (left old) (left new) k map (p.found t); taken = p.taken; stays_known = p.stays_known; counts = p.counts; count_grows = p.count_grows; may_stop = p.may_stop }
 
 -- what was read can't be kept
 pub finds_short : {S E F X Y : Type 0} {stop : E → Stop F} {May0 May : E → ℕ → Type 0} {end : F} {is_known : S → Type 0} {left : S → List ℕ} {failures : S → Failures} {old new : S} {i k : ℕ} {x : X} {R : List ℕ → X → Type 0} {I : List ℕ → F → Type 0} (e : E) (B : List ℕ → Y → Type 0) (Q : List ℕ → F → Type 0)
     → stop e ≡ Short → May e k → FindsBy stop May0 end is_known left failures old i new k (Ok x) R I → FindsBy stop May end is_known left failures old i new k (Err e) B Q
 finds_short {end = end} {left = left} {failures = failures} {old = old} {new = new} {k = k} e B Q is may p =
-    record { found = λ t. subst (GivesStop end Q (left old) (left new) k) (sym is) tt; taken = p.taken; stays_known = p.stays_known; counts = subst (λ s. CountsStop s (failures old) (failures new)) (sym is) p.counts; rises = p.rises; may_stop = may }
+    record { found = λ t. subst (GivesStop end Q (left old) (left new) k) (sym is) tt; taken = p.taken; stays_known = p.stays_known; counts = subst (λ s. CountsStop s (failures old) (failures new)) (sym is) p.counts; count_grows = p.count_grows; may_stop = may }
 
 -- two parts were read, and can't be kept
 pub finds_short_then : {S F E X Y Z : Type 0} {stop : E → Stop F} {May0 May1 May : E → ℕ → Type 0} {end : F} {is_known : S → Type 0} {left : S → List ℕ} {failures : S → Failures} {old mid new : S} {i j k : ℕ} {x : X} {y : Y} {R : List ℕ → X → Type 0} {I : List ℕ → F → Type 0} {A : List ℕ → Y → Type 0} {P : List ℕ → F → Type 0}
@@ -150,7 +150,7 @@ finds_short_then e B Q is may p h = finds_short e B Q is may (finds_then (λ b y
 pub finds_nothing : {S E F X : Type 0} (stop : E → Stop F) {May : E → ℕ → Type 0} (end : F) (is_known : S → Type 0) (left : S → List ℕ) (failures : S → Failures) (p : S) (i : ℕ) (x : X) (R : List ℕ → X → Type 0) (Q : List ℕ → F → Type 0)
     → R [] x → FindsBy stop May end is_known left failures p i p i (Ok x) R Q
 finds_nothing stop end is_known left failures p i x R Q r =
-    record { found = λ t. record { prefix = []; joined = refl; encoded = r }; taken = λ t. Taken_none (left p) i; stays_known = λ t. t; counts = refl; rises = omega arith; may_stop = tt }
+    record { found = λ t. record { prefix = []; joined = refl; encoded = r }; taken = λ t. Taken_none (left p) i; stays_known = λ t. t; counts = refl; count_grows = omega arith; may_stop = tt }
 
 -- a refusal that takes no byte
 pub finds_refused : {S E F X : Type 0} (stop : E → Stop F) {May : E → ℕ → Type 0} (end : F) (is_known : S → Type 0) (left : S → List ℕ) (failures : S → Failures) (p : S) (i : ℕ) (e : E) (f : F) (R : List ℕ → X → Type 0) (Q : List ℕ → F → Type 0)
@@ -160,7 +160,7 @@ finds_refused stop end is_known left failures p i e f R Q is may other q = recor
   taken = λ t. Taken_none (left p) i;
   stays_known = λ t. t;
   counts = subst (λ s. CountsStop s (failures p) (failures p)) (sym is) refl;
-  rises = omega arith;
+  count_grows = omega arith;
   may_stop = may;
 }
 
@@ -178,7 +178,7 @@ pub finds_part : {S X Y : Type 0} {May : ReadError → ℕ → Type 0} {is_known
     → ((source : S) → is_known source → AllBytes (left source)) → Agrees UnexpectedEnd reading Encodes HasError → TakesIf May is_known left failures old i new k view (Ok x) reading
     → FindsIf StoreMayStop is_known left failures old i new k (Ok x) (λ b x. Encodes b (view x)) (λ w f. ⊥)
 finds_part {left = left} {old = old} {new = new} {view = view} {x = x} are_bytes agrees h =
-    record { found = λ t. part_found view agrees x (left old) (left new) (are_bytes old t) (read_ok h t); taken = h.taken; stays_known = h.stays_known; counts = h.counts; rises = h.rises; may_stop = tt }
+    record { found = λ t. part_found view agrees x (left old) (left new) (are_bytes old t) (read_ok h t); taken = h.taken; stays_known = h.stays_known; counts = h.counts; count_grows = h.count_grows; may_stop = tt }
 
 part_shown : {Y : Type 0} {reading : List ℕ → Result (Y × List ℕ) (Cause × List ℕ)} {Encodes : List ℕ → Y → Type 0} {HasError : List ℕ → Cause → Type 0} (e : ReadError) (Q : List ℕ → Refusal → Type 0)
     → Agrees UnexpectedEnd reading Encodes HasError → ((w : List ℕ) (c : Cause) → HasError w c → Q w (corrupted c)) → (old taken new : List ℕ) (count : ℕ) → AllBytes old → old ≡ taken ++ new → Stops (read_stop e) reading taken new count
@@ -210,7 +210,7 @@ pub finds_part_fails : {S X Y Z : Type 0} {May : ReadError → ℕ → Type 0} {
     (B : List ℕ → Z → Type 0) (Q : List ℕ → Refusal → Type 0) → ((e : ReadError) (n : ℕ) → May e n → StoreMay (read_error e) n) → ((source : S) → is_known source → AllBytes (left source)) → Agrees UnexpectedEnd reading Encodes HasError → ((w : List ℕ) (c : Cause) → HasError w c → Q w (corrupted c))
     → TakesIf May is_known left failures old i new k view (Err e) reading → FindsIf StoreMay is_known left failures old i new k (Err (read_error e)) B Q
 finds_part_fails {left = left} {failures = failures} {old = old} {new = new} {k = k} {e = e} B Q raise are_bytes agrees map h =
-    record { found = λ t. let p = h.taken t in part_shown e Q agrees map (left old) p.prefix (left new) k (are_bytes old t) p.joined (h.gives t p.prefix p.joined); taken = h.taken; stays_known = h.stays_known; counts = raised_counts e (failures old) (failures new) h.counts; rises = h.rises; may_stop = raise e k h.may_stop }
+    record { found = λ t. let p = h.taken t in part_shown e Q agrees map (left old) p.prefix (left new) k (are_bytes old t) p.joined (h.gives t p.prefix p.joined); taken = h.taken; stays_known = h.stays_known; counts = raised_counts e (failures old) (failures new) h.counts; count_grows = h.count_grows; may_stop = raise e k h.may_stop }
 
 -- ---- parts of the store's own
 
@@ -223,7 +223,7 @@ pub finds_read : {S X Y : Type 0} {is_known : S → Type 0} {left : S → List �
     → ((source : S) → is_known source → AllBytes (left source)) → Agrees (corrupted UnexpectedEnd) reading Encodes HasError → store.StoreTakesIf store.StoreMayStopLean is_known left failures old i new k view (Ok x) reading
     → FindsIf StoreMayStop is_known left failures old i new k (Ok x) (λ b x. Encodes b (view x)) (λ w f. ⊥)
 finds_read {left = left} {old = old} {new = new} {view = view} {x = x} are_bytes agrees h =
-    record { found = λ t. read_found view agrees x (left old) (left new) (are_bytes old t) (read_ok h t); taken = h.taken; stays_known = h.stays_known; counts = h.counts; rises = h.rises; may_stop = tt }
+    record { found = λ t. read_found view agrees x (left old) (left new) (are_bytes old t) (read_ok h t); taken = h.taken; stays_known = h.stays_known; counts = h.counts; count_grows = h.count_grows; may_stop = tt }
 
 read_shown : {Y : Type 0} {reading : List ℕ → Result (Y × List ℕ) (Refusal × List ℕ)} {Encodes : List ℕ → Y → Type 0} {HasError : List ℕ → Refusal → Type 0} (s : Stop Refusal) (Q : List ℕ → Refusal → Type 0)
     → Agrees (corrupted UnexpectedEnd) reading Encodes HasError → ((w : List ℕ) (r : Refusal) → HasError w r → Q w r) → (old taken new : List ℕ) (count : ℕ) → AllBytes old → old ≡ taken ++ new → Stops s reading taken new count
@@ -241,14 +241,14 @@ pub finds_read_fails : {S X Y Z : Type 0} {is_known : S → Type 0} {left : S �
     (B : List ℕ → Z → Type 0) (Q : List ℕ → Refusal → Type 0) → ((source : S) → is_known source → AllBytes (left source)) → Agrees (corrupted UnexpectedEnd) reading Encodes HasError → ((w : List ℕ) (r : Refusal) → HasError w r → Q w r)
     → store.StoreTakesIf store.StoreMayStopLean is_known left failures old i new k view (Err e) reading → FindsIf StoreMayStopLean is_known left failures old i new k (Err e) B Q
 finds_read_fails {left = left} {old = old} {new = new} {k = k} {e = e} B Q are_bytes agrees map h =
-    record { found = λ t. let p = h.taken t in read_shown (store_stop e) Q agrees map (left old) p.prefix (left new) k (are_bytes old t) p.joined (h.gives t p.prefix p.joined); taken = h.taken; stays_known = h.stays_known; counts = h.counts; rises = h.rises; may_stop = h.may_stop }
+    record { found = λ t. let p = h.taken t in read_shown (store_stop e) Q agrees map (left old) p.prefix (left new) k (are_bytes old t) p.joined (h.gives t p.prefix p.joined); taken = h.taken; stays_known = h.stays_known; counts = h.counts; count_grows = h.count_grows; may_stop = h.may_stop }
 
 -- ---- readers of trees
 
 -- what was read was read, whatever may stop the reader
 pub finds_ok : {S E F X : Type 0} {stop0 : E → Stop F} {May0 : E → ℕ → Type 0} (stop : E → Stop F) (May : E → ℕ → Type 0) {end : F} {is_known : S → Type 0} {left : S → List ℕ} {failures : S → Failures} {old new : S} {i k : ℕ} {x : X} {R : List ℕ → X → Type 0} {I : List ℕ → F → Type 0}
     → FindsBy stop0 May0 end is_known left failures old i new k (Ok x) R I → FindsBy stop May end is_known left failures old i new k (Ok x) R I
-finds_ok stop May p = record { found = p.found; taken = p.taken; stays_known = p.stays_known; counts = p.counts; rises = p.rises; may_stop = tt }
+finds_ok stop May p = record { found = p.found; taken = p.taken; stays_known = p.stays_known; counts = p.counts; count_grows = p.count_grows; may_stop = tt }
 
 -- a part of a tree was read
 pub finds_part_deep : {S X Y : Type 0} {May : ReadError → ℕ → Type 0} {is_known : S → Type 0} {left : S → List ℕ} {failures : S → Failures} {old new : S} {i k : ℕ} {view : X → Y} {x : X} {reading : List ℕ → Result (Y × List ℕ) (Cause × List ℕ)} {Encodes : List ℕ → Y → Type 0} {HasError : List ℕ → Cause → Type 0}
@@ -276,6 +276,6 @@ roomy_deep {left = left} {failures = failures} {old = old} {new = new} {k = k} (
       taken = p.taken;
       stays_known = p.stays_known;
       counts = subst (λ s. CountsStop s (failures old) (failures new)) same p.counts;
-      rises = p.rises;
+      count_grows = p.count_grows;
       may_stop = inl p.may_stop;
     }

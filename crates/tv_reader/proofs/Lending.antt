@@ -23,7 +23,7 @@ module _ {S X : Type 0} {May : DeserializeError → ℕ → Type 0} {is_known : 
     taken = λ t. let p = pass t in record { prefix = p.0; joined = p.1; counted = omega (arith, counted, p.2) };
     stays_known = told;
     counts = same;
-    rises = omega (arith, counted);
+    count_grows = omega (arith, counted);
     may_stop = tt;
   }
 
@@ -34,7 +34,7 @@ module _ {S X : Type 0} {May : DeserializeError → ℕ → Type 0} {is_known : 
     taken = λ t. record { prefix = []; joined = sym (pass t); counted = omega arith };
     stays_known = told;
     counts = same;
-    rises = omega arith;
+    count_grows = omega arith;
     may_stop = tt;
   }
 

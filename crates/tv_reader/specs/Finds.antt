@@ -36,7 +36,7 @@ pub record FindsBy {S E F X : Type 0} (stop : E → Stop F) (MayStop : E → ℕ
   pub taken : is_known old → Taken (left old) (left new) old_count new_count
   pub stays_known : is_known old → is_known new
   pub counts : Counts stop result (failures old) (failures new)
-  pub rises : old_count ≤ new_count
+  pub count_grows : old_count ≤ new_count
   pub may_stop : IfErr result (λ e. MayStop e new_count)
 
 -- the same of values, whose errors are refusals

@@ -79,18 +79,18 @@ pub record FillsAt (a f : Option ℕ) (d : Document) (old : State) (ps : List Pa
   pub less : length d < announced
   pub is : IsState state
   pub trades : Trades (parts_at a d f old ++ ps) (open_parts announced d field state)
-  pub full : 4294967295 < document_room d + state_room state
+  pub no_room : 4294967295 < document_room d + state_room state
 
 pub fills_at : (a f : Option ℕ) (d : Document) (old new : State) (ps : List Part) → HasField f → IsPlace a d f old → IsState new → Trades (parts_of old ++ ps) (parts_of new) → 4294967295 < document_room d + state_room new → FillsAt a f d old ps
 fills_at None None d old new ps has h is t full = absurd has
 fills_at None (Some f) d old new ps has h is t full = absurd h
 fills_at (Some n) None d old new ps has h is t full = absurd has
-fills_at (Some n) (Some f) d old new ps has h is t full = record { announced = n; field = f; state = new; less = h.0; is = is; trades = trades_at (Some n) (Some f) d old new ps has h t; full = full }
+fills_at (Some n) (Some f) d old new ps has h is t full = record { announced = n; field = f; state = new; less = h.0; is = is; trades = trades_at (Some n) (Some f) d old new ps has h t; no_room = full }
 
 pub fills : (r : Reading) (s : State) (ps : List Part) → IsSound r → HasField r.field → IsState s → Trades (parts_of (state_of r.builder) ++ ps) (parts_of s) → Overfull r.builder s → LacksRoom r ps
 fills r s ps sound has is t full =
     let k = fills_at r.announced r.field (built r.builder) (state_of r.builder) s ps has sound.place is t full.room in
-    record { announced = k.announced; finished = built r.builder; field = k.field; state = k.state; less = k.less; is = k.is; trades = k.trades; full = k.full }
+    record { announced = k.announced; finished = built r.builder; field = k.field; state = k.state; less = k.less; is = k.is; trades = k.trades; no_room = k.no_room }
 
 -- ---- the call, and what it answers
 

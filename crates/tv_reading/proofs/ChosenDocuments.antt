@@ -128,7 +128,7 @@ module _ {S : Type 0} {is_known : S → Type 0} {left : S → List ℕ} {failure
         is = none.is;
         encoded = each_append R (document_parts n q.pairs) (field none.number ∷ parts_of none.state) f.prefix none.prefix number none.encoded;
         among = none.among;
-        full = omega (arith, none.full, ap document_room q.document);
+        no_room = omega (arith, none.no_room, ap document_room q.document);
       }
 
   -- all of them

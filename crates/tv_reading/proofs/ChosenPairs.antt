@@ -102,7 +102,7 @@ module _ {S : Type 0} {is_known : S → Type 0} {left : S → List ℕ} {failure
     taken = p.taken;
     stays_known = p.stays_known;
     counts = p.counts;
-    rises = p.rises;
+    count_grows = p.count_grows;
     may_stop = tt;
   }
 
@@ -135,7 +135,7 @@ module _ {S : Type 0} {is_known : S → Type 0} {left : S → List ℕ} {failure
         is = none.is;
         encoded = record { prefix = f.prefix; rest = none.prefix; joined = refl; first = f.encoded; second = none.encoded };
         among = among;
-        full = none.full;
+        no_room = none.no_room;
       }
 
   -- its value is passed over

@@ -162,7 +162,7 @@ end_left r b new (Err e) o l = goes_let_go r b (and_end (state_of r.builder)) ne
 end_fills_at : (a f : Option ℕ) (d : Document) (s : State) (finished : ℕ) → IsEnding a d f s → IsState (and_end s) → Trades (parts_of s ++ []) (parts_of (and_end s)) → 4294967295 < document_room d + state_room (and_end s) → FillsAt a f d s []
 end_fills_at None f d s finished h is t full = absurd h
 end_fills_at (Some n) None d s finished h is t full = absurd h
-end_fills_at (Some n) (Some f) d s finished h is t full = record { announced = n; field = f; state = and_end s; less = h.0; is = is; trades = open_trades n d f s (and_end s) [] t; full = full }
+end_fills_at (Some n) (Some f) d s finished h is t full = record { announced = n; field = f; state = and_end s; less = h.0; is = is; trades = open_trades n d f s (and_end s) [] t; no_room = full }
 
 pub end_refused : (r new : Reading) (b : PairBuilder) (e : BuildError) → AtEnd r → Ends r.builder b (Err e) → PutsEnd r new (Err (build_error e))
 end_refused r new b e h c = refused e c (ended r.builder b (Err e) h.not_failed (ends_all r h) c)
@@ -173,7 +173,7 @@ end_refused r new b e h c = refused e c (ended r.builder b (Err e) h.not_failed 
     refused : (e : BuildError) → Ends r.builder b (Err e) → CalledEnd r.builder b (Err e) → PutsEnd r new (Err (build_error e))
     refused HeapFull c k =
         let f = end_fills_at r.announced r.field (built r.builder) s 0 h.ending (and_end_is s (is_state r.builder)) (end_trades s (is_state r.builder) (ends_all r h) k.0) (k.1).room in
-        record { announced = f.announced; finished = built r.builder; field = f.field; state = f.state; less = f.less; is = f.is; trades = f.trades; full = f.full }
+        record { announced = f.announced; finished = built r.builder; field = f.field; state = f.state; less = f.less; is = f.is; trades = f.trades; no_room = f.no_room }
     refused Memory c k = tt
     refused NotUtf8 c k = k
     refused AlreadyFailed c k = absurd k

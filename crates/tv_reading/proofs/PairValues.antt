@@ -155,19 +155,19 @@ record NoRoom (v : Version) (taken : ℕ) (d : Document) (left : List ℕ) : Typ
   joined : left ≡ prefix ++ rest
   is : IsState state
   encoded : Encoded Legacy v prefix (parts_of state)
-  full : 4294967295 < taken + document_room d + state_room state
+  over : 4294967295 < taken + document_room d + state_room state
 
 module _ (v : Version) (f : ℕ) (is_field : f < 2 ^ 32) (left : List ℕ) where
   -- the pairs alone have none
   pairs_too_large : (taken : ℕ) (d : Document) → 4294967295 < taken + document_room d → NoRoom v taken d left
-  pairs_too_large taken d full = record { state = in_lists []; prefix = []; rest = left; joined = refl; is = (tt, tt); encoded = refl; full = omega (arith, full) }
+  pairs_too_large taken d full = record { state = in_lists []; prefix = []; rest = left; joined = refl; is = (tt, tt); encoded = refl; over = omega (arith, full) }
 
   no_room : (taken : ℕ) (o : Document) (g : ℕ) (st : State) (d : Document) (p x bytes : List ℕ) → IsState st → length o ≤ length d → Each (EncodesPart Legacy v) p (pairs_parts o ++ (field g ∷ parts_of st)) → Each (EncodesPair Legacy v) bytes d
       → p ++ x ≡ bytes ++ (four_bytes f ++ left) → 4294967295 < taken + document_room o + state_room st → NoRoom v taken d left
   no_room taken [] g st [] p x bytes is less h s e full =
       let cut : h.prefix ++ (h.rest ++ x) ≡ four_bytes f ++ left = sym (append_assoc h.prefix h.rest x) ∙ ap (λ (z : List ℕ). z ++ x) (sym h.joined) ∙ e ∙ ap (λ (z : List ℕ). z ++ (four_bytes f ++ left)) s in
       let same = one_fixed 4 h.prefix (four_bytes f) (h.rest ++ x) left g f h.first (four_bytes_encode f is_field) cut in
-      record { state = st; prefix = h.rest; rest = x; joined = sym (same_rest h.prefix (four_bytes f) (h.rest ++ x) left same.0 cut); is = is; encoded = h.second; full = full }
+      record { state = st; prefix = h.rest; rest = x; joined = sym (same_rest h.prefix (four_bytes f) (h.rest ++ x) left same.0 cut); is = is; encoded = h.second; over = full }
   no_room taken [] g st (r ∷ d) p x bytes is less h s e full =
       let y = four_bytes f ++ left in
       let whole = both_cut p bytes h.prefix h.rest s.prefix s.rest x y h.joined s.joined e in
@@ -183,7 +183,7 @@ module _ (v : Version) (f : ℕ) (is_field : f < 2 ^ 32) (left : List ℕ) where
       let same = one_pair Legacy v one_legacy h.prefix s.prefix (h.rest ++ x) (s.rest ++ y) q r h.first s.first whole in
       let rooms = ap (λ (z : ℕ × Tree). room z.1) same.1 in
       let more = no_room (taken + room r.1) o g st d h.rest x s.rest is (omega (arith, less)) h.second s.second (same_rest h.prefix s.prefix (h.rest ++ x) (s.rest ++ y) same.0 whole) (omega (arith, full, document_room-cons q o, rooms)) in
-      record { state = more.state; prefix = more.prefix; rest = more.rest; joined = more.joined; is = more.is; encoded = more.encoded; full = omega (arith, more.full, document_room-cons r d) }
+      record { state = more.state; prefix = more.prefix; rest = more.rest; joined = more.joined; is = more.is; encoded = more.encoded; over = omega (arith, more.over, document_room-cons r d) }
 
 pub value_too_large : (v : Version) (d : Document) (f : ℕ) (left : List ℕ) → length d + 1 < 2 ^ 64 → f < 2 ^ 32 → ((bytes : List ℕ) → Encoded Legacy v bytes (open_parts (length d + 1) d f (in_lists [])) → HasNoRoom v (bytes ++ left)) → CanStand v d
     → ValueHasNoRoom v d left
@@ -192,8 +192,8 @@ value_too_large v d f left few is_field none stands =
     let p = h.encoded in
     let cut : before d f stands.0 ++ left ≡ p.prefix ++ (p.rest ++ h.rest) = h.joined ∙ ap (λ (z : List ℕ). z ++ h.rest) p.joined ∙ append_assoc p.prefix p.rest h.rest in
     let number = behind_number v d f few is_field stands.0 stands.1 left p.prefix p.rest h.rest h.announced p.first cut in
-    let n = no_room v f is_field left 0 h.finished h.field h.state d p.rest h.rest stands.0 h.is (omega (arith, h.less, number.0)) p.second stands.1 (sym number.1) (omega (arith, h.full)) in
-    record { state = n.state; prefix = n.prefix; rest = n.rest; joined = n.joined; is = n.is; encoded = n.encoded; full = omega (arith, n.full) }
+    let n = no_room v f is_field left 0 h.finished h.field h.state d p.rest h.rest stands.0 h.is (omega (arith, h.less, number.0)) p.second stands.1 (sym number.1) (omega (arith, h.no_room)) in
+    record { state = n.state; prefix = n.prefix; rest = n.rest; joined = n.joined; is = n.is; encoded = n.encoded; no_room = omega (arith, n.over) }
 
 -- ---- the same reading in other words
 

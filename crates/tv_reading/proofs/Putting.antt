@@ -145,7 +145,7 @@ goes_let_go r b s new g l = record {
 
 pub puts_on : (r mid new : Reading) (ps : List Part) (result : Result (Unit {0}) DeserializeError) → Leads r mid ps → PutsParts mid new [] result → PutsParts r new ps result
 puts_on r mid new ps (Ok x) l h = record { sound = h.sound; grows = grows_on r mid new ps l h.grows; trades = trades_then l.trades (trades_from _ (sym (append-nil (parts_read mid))) h.trades) }
-puts_on r mid new ps (Err errors.HeapFull) l h = record { announced = h.announced; finished = h.finished; field = h.field; state = h.state; less = h.less; is = h.is; trades = trades_then l.trades (trades_from _ (sym (append-nil (parts_read mid))) h.trades); full = h.full }
+puts_on r mid new ps (Err errors.HeapFull) l h = record { announced = h.announced; finished = h.finished; field = h.field; state = h.state; less = h.less; is = h.is; trades = trades_then l.trades (trades_from _ (sym (append-nil (parts_read mid))) h.trades); no_room = h.no_room }
 puts_on r mid new ps (Err errors.Memory) t h = tt
 puts_on r mid new ps (Err (errors.CorruptedValue c)) t h = absurd h
 puts_on r mid new ps (Err (errors.UnsupportedType k)) t h = absurd h

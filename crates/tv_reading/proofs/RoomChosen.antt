@@ -58,4 +58,4 @@ chosen_has_room v fields whole prefix rest d joined encoded full small =
     let cut = both_cut full.prefix prefix h.prefix h.rest encoded.prefix encoded.rest full.rest rest h.joined encoded.joined (sym full.joined ∙ joined) in
     let same = one_number h.prefix encoded.prefix (h.rest ++ full.rest) (encoded.rest ++ rest) full.announced (length d) h.first encoded.first cut in
     let within = pairs_within v fields full.finished full.number full.state d h.rest full.rest encoded.rest rest full.among full.is (omega (arith, full.less, same.1)) h.second (same_rest h.prefix encoded.prefix (h.rest ++ full.rest) (encoded.rest ++ rest) same.0 cut) encoded.second in
-    omega (arith, full.full, small, within)
+    omega (arith, full.no_room, small, within)

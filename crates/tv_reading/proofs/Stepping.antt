@@ -47,10 +47,10 @@ pub advances : (L : List ℕ → Entries → Type 0) (v : Version) (old new : Re
 advances L v old new ps taken t h = λ bytes p. trades_sound L v (parts_read old ++ ps) (parts_read new) (bytes ++ taken) t (each_append (EncodesPart L v) (parts_read old) ps bytes taken p h)
 
 pub stepped : (v : Version) (legacy : Bool) (old new : Reading) (ps : List Part) (taken : List ℕ) → PartsPut old new ps → 0 < length taken → (length taken ≤ 4096) ⊎ IsTakenWhole old taken → EncodesIn Legacy v taken ps → (legacy ≡ false → EncodesIn NoLegacy v taken ps) → Stepped v legacy old new taken
-stepped v legacy old new ps taken p some few encoded plain = record { some = some; few = few; goes = advances Legacy v old new ps taken p.trades encoded; plain = λ e. advances NoLegacy v old new ps taken p.trades (plain e) }
+stepped v legacy old new ps taken p some few encoded plain = record { some = some; in_pieces = few; goes = advances Legacy v old new ps taken p.trades encoded; plain = λ e. advances NoLegacy v old new ps taken p.trades (plain e) }
 
 pub none_seen : (v : Version) (legacy : Bool) (old new : Reading) (taken : List ℕ) → Stepped v false old new taken → Stepped v legacy old new taken
-none_seen v legacy old new taken h = record { some = h.some; few = h.few; goes = h.goes; plain = λ _. h.plain refl }
+none_seen v legacy old new taken h = record { some = h.some; in_pieces = h.in_pieces; goes = h.goes; plain = λ _. h.plain refl }
 
 -- ---- the number of the pairs
 
@@ -118,12 +118,12 @@ field_put r new f sound none lacks announced finished field_is builder =
 -- what a part's bytes are
 pub record IsPart (v : Version) (legacy : Bool) (old : Reading) (taken : List ℕ) (ps : List Part) : Type 0 where
   pub some : 0 < length taken
-  pub few : (length taken ≤ 4096) ⊎ IsTakenWhole old taken
+  pub in_pieces : (length taken ≤ 4096) ⊎ IsTakenWhole old taken
   pub encoded : EncodesIn Legacy v taken ps
   pub plain : legacy ≡ false → EncodesIn NoLegacy v taken ps
 
 pub part_steps : (v : Version) (legacy : Bool) (old new : Reading) (ps : List Part) (taken : List ℕ) → IsPart v legacy old taken ps → PartsPut old new ps → Stepped v legacy old new taken
-part_steps v legacy old new ps taken h p = stepped v legacy old new ps taken p h.some h.few h.encoded h.plain
+part_steps v legacy old new ps taken h p = stepped v legacy old new ps taken p h.some h.in_pieces h.encoded h.plain
 
 pub puts_found : {S X : Type 0} {May : DeserializeError → ℕ → Type 0} {is_known : S → Type 0} {left : S → List ℕ} {failures : S → Failures} {os ns : S} {i k : ℕ} {x : X} {A : List ℕ → X → Type 0} {I : List ℕ → Refusal → Type 0} (v : Version) (legacy : Bool) (old new : Reading) (ps : List Part) (result : Result (Unit {0}) DeserializeError)
     → ((a : List ℕ) → A a x → IsPart v legacy old a ps) → FindsIf May is_known left failures os i ns k (Ok x) A I → PutsParts old new ps result → FindsIf StoreMayStop is_known left failures os i ns k result (λ b _. Stepped v legacy old new b) (IsMalformedNext v old)
@@ -152,7 +152,7 @@ no_room v old ps whole rest taken joined encoded f = λ bytes p. record {
   less = f.less;
   is = f.is;
   encoded = trades_sound Legacy v (parts_read old ++ ps) (open_parts f.announced f.finished f.field f.state) (bytes ++ taken) f.trades (each_append (EncodesPart Legacy v) (parts_read old) ps bytes taken p encoded);
-  full = f.full;
+  no_room = f.no_room;
 }
 
 full_by : (v : Version) (old new : Reading) (ps : List Part) (result : Result (Unit {0}) DeserializeError) → IsErrOf result errors.HeapFull → PutsParts old new ps result → LacksRoom old ps
@@ -167,9 +167,9 @@ puts_full {left = left} {os = os} {ns = ns} v legacy old new ps result part h p 
 -- ---- the head of a key
 
 pub key_part : (v : Version) (old : Reading) (n : ℕ) (a : List ℕ) → EncodesKeyHead v a n → IsPart v false old a (bytes_head kinds.Key n ∷ [])
-key_part V1 old n a h = record { some = omega (arith, ap length h.joined); few = inl (omega (arith, ap length h.joined, h.encoded.at_most_ten)); encoded = one_part Legacy V1 a (bytes_head kinds.Key n) h; plain = λ _. one_part NoLegacy V1 a (bytes_head kinds.Key n) h }
-key_part V2 old n a h = record { some = omega (arith, ap length h.joined); few = inl (omega (arith, ap length h.joined, h.encoded.at_most_ten)); encoded = one_part Legacy V2 a (bytes_head kinds.Key n) h; plain = λ _. one_part NoLegacy V2 a (bytes_head kinds.Key n) h }
-key_part V3 old n a h = record { some = some_number h; few = inl (omega (arith, h.at_most_ten)); encoded = one_part Legacy V3 a (bytes_head kinds.Key n) h; plain = λ _. one_part NoLegacy V3 a (bytes_head kinds.Key n) h }
+key_part V1 old n a h = record { some = omega (arith, ap length h.joined); in_pieces = inl (omega (arith, ap length h.joined, h.encoded.at_most_ten)); encoded = one_part Legacy V1 a (bytes_head kinds.Key n) h; plain = λ _. one_part NoLegacy V1 a (bytes_head kinds.Key n) h }
+key_part V2 old n a h = record { some = omega (arith, ap length h.joined); in_pieces = inl (omega (arith, ap length h.joined, h.encoded.at_most_ten)); encoded = one_part Legacy V2 a (bytes_head kinds.Key n) h; plain = λ _. one_part NoLegacy V2 a (bytes_head kinds.Key n) h }
+key_part V3 old n a h = record { some = some_number h; in_pieces = inl (omega (arith, h.at_most_ten)); encoded = one_part Legacy V3 a (bytes_head kinds.Key n) h; plain = λ _. one_part NoLegacy V3 a (bytes_head kinds.Key n) h }
 
 -- ---- the head of a value
 
@@ -209,7 +209,7 @@ head_encodes L v legacy_head a is h = absurd is
 pub head_is_part : (v : Version) (legacy : Bool) (old : Reading) (head : Head) (a : List ℕ) → IsParts (head_part head) → EncodesHead v a (head_part head) → IsPart v legacy old a (head_parts (head_part head))
 head_is_part v legacy old head a is h =
     let small = small_part v (head_part head) a is h in
-    record { some = small.0; few = inl small.1; encoded = head_encodes Legacy v (head_part head) a is h; plain = λ _. head_encodes NoLegacy v (head_part head) a is h }
+    record { some = small.0; in_pieces = inl small.1; encoded = head_encodes Legacy v (head_part head) a is h; plain = λ _. head_encodes NoLegacy v (head_part head) a is h }
 
 -- ---- a value that is taken whole
 
@@ -225,7 +225,7 @@ plain_leaf v a (object es) h = elim h [
 pub tokenized_part : (v : Version) (legacy : Bool) (old : Reading) (t : Tree) (a : List ℕ) → ValueNext old → (b : List ℕ) → a ≡ 7 ∷ 0 ∷ b → Encodes Legacy v a t → IsPart v legacy old a (value t ∷ [])
 tokenized_part v legacy old t a next b is h = record {
   some = omega (arith, ap length is);
-  few = inr (next, inl (subst (HasFirstByte 7) (sym is) refl));
+  in_pieces = inr (next, inl (subst (HasFirstByte 7) (sym is) refl));
   encoded = one_part Legacy v a (value t) h;
   plain = λ _. one_part NoLegacy v a (value t) (subst (λ z. Encodes NoLegacy v z t) (sym is) (plain_leaf v (0 ∷ b) t (subst (λ z. Encodes Legacy v z t) is h)));
 }
@@ -233,7 +233,7 @@ tokenized_part v legacy old t a next b is h = record {
 pub legacy_part : (v : Version) (old : Reading) (t : Tree) (a : List ℕ) → ValueNext old → (b : List ℕ) → a ≡ 8 ∷ b → Encodes Legacy v a t → IsPart v true old a (value t ∷ [])
 legacy_part v old t a next b is h = record {
   some = omega (arith, ap length is);
-  few = inr (next, inr (subst (HasFirstByte 8) (sym is) refl));
+  in_pieces = inr (next, inr (subst (HasFirstByte 8) (sym is) refl));
   encoded = one_part Legacy v a (value t) h;
   plain = λ e. absurd (let f : true ≡ false = e in cc);
 }

@@ -157,7 +157,7 @@ module _ {S : Type 0} {is_known : S → Type 0} {left : S → List ℕ} {failure
     taken = λ t. let g = p.taken t in record { prefix = g.prefix; joined = g.joined; counted = omega (arith, g.counted, counts t, many, second) };
     stays_known = p.stays_known;
     counts = p.counts;
-    rises = omega (arith, p.rises, second);
+    count_grows = omega (arith, p.count_grows, second);
     may_stop = refl;
   }
 

@@ -76,7 +76,7 @@ seen_as v legacy old new (Err e) Q a b k h = h
 pub finds_seen : {S : Type 0} {is_known : S → Type 0} {left : S → List ℕ} {failures : S → Failures} {os ns : S} {i k : ℕ} {result : Result (Unit {0}) DeserializeError} (v : Version) (legacy : Bool) (old new : Reading)
     → FindsIf StoreMayStop is_known left failures os i ns k result (λ b _. Stepped v false old new b) (IsMalformedNext v old) → FindsIf StoreMayStop is_known left failures os i ns k result (λ b _. Stepped v legacy old new b) (IsMalformedNext v old)
 finds_seen {left = left} {os = os} {ns = ns} {k = k} {result = result} v legacy old new h =
-    record { found = λ t. seen_as v legacy old new result (IsMalformedNext v old) (left os) (left ns) k (h.found t); taken = h.taken; stays_known = h.stays_known; counts = h.counts; rises = h.rises; may_stop = h.may_stop }
+    record { found = λ t. seen_as v legacy old new result (IsMalformedNext v old) (left os) (left ns) k (h.found t); taken = h.taken; stays_known = h.stays_known; counts = h.counts; count_grows = h.count_grows; may_stop = h.may_stop }
 
 -- ---- a value after its codes
 
@@ -136,7 +136,7 @@ piece_is n bytes a h = sym (h.2 ∙ h.1.1)
 piece_part : (v : Version) (legacy : Bool) (old : Reading) (n : ℕ) (bytes a : List ℕ) → 0 < n → n ≤ 4096 → Piece n bytes a → IsPart v legacy old a (some_bytes bytes ∷ [])
 piece_part v legacy old n bytes a some few h = record {
   some = omega (arith, some, h.1.0);
-  few = inl (omega (arith, few, h.1.0));
+  in_pieces = inl (omega (arith, few, h.1.0));
   encoded = one_part Legacy v a (some_bytes bytes) (piece_is n bytes a h);
   plain = λ _. one_part NoLegacy v a (some_bytes bytes) (piece_is n bytes a h);
 }
@@ -173,7 +173,7 @@ module _ {S X : Type 0} {is_known : S → Type 0} {left : S → List ℕ} {failu
     taken = p.taken;
     stays_known = p.stays_known;
     counts = p.counts;
-    rises = p.rises;
+    count_grows = p.count_grows;
     may_stop = tt;
   }
   text_refused _ h few none p = absurd none

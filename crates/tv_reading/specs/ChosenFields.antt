@@ -38,4 +38,4 @@ pub record HasNoRoomChosen (v : Version) (fields : List Field) (whole : List ℕ
   pub is : IsState state
   pub encoded : Encoded Legacy v prefix (open_parts announced finished number state)
   pub among : is_among fields number ≡ true
-  pub full : 4294967295 < document_room (chosen fields finished) + state_room state
+  pub no_room : 4294967295 < document_room (chosen fields finished) + state_room state

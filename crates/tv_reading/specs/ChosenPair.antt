@@ -49,4 +49,4 @@ pub record PairHasNoRoom (v : Version) (fields : List Field) (old : Document) (w
   pub is : IsState state
   pub encoded : Encoded Legacy v prefix (field number ∷ parts_of state)
   pub among : is_among fields number ≡ true
-  pub full : 4294967295 < document_room old + state_room state
+  pub no_room : 4294967295 < document_room old + state_room state

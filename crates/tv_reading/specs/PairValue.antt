@@ -38,4 +38,4 @@ pub record ValueHasNoRoom (v : Version) (old : Document) (whole : List ℕ) : Ty
   pub joined : whole ≡ prefix ++ rest
   pub is : IsState state
   pub encoded : Encoded Legacy v prefix (parts_of state)
-  pub full : 4294967295 < document_room old + state_room state
+  pub no_room : 4294967295 < document_room old + state_room state

@@ -73,7 +73,7 @@ pub record HasNoRoom (v : Version) (whole : List ℕ) : Type 0 where
   pub less : length finished < announced
   pub is : IsState state
   pub encoded : Encoded Legacy v prefix (open_parts announced finished field state)
-  pub full : 4294967295 < document_room finished + state_room state
+  pub no_room : 4294967295 < document_room finished + state_room state
 
 -- the same after the bytes of which this has come
 abbrev pub NoRoomBehind : Version → Reading → List ℕ → Type 0

@@ -71,7 +71,7 @@ pub record LacksRoom (old : Reading) (ps : List Part) : Type 0 where
   pub less : length finished < announced
   pub is : IsState state
   pub trades : Trades (parts_read old ++ ps) (open_parts announced finished field state)
-  pub full : 4294967295 < document_room finished + state_room state
+  pub no_room : 4294967295 < document_room finished + state_room state
 
 abbrev pub PutsParts : Reading → Reading → List Part → Result (Unit {0}) DeserializeError → Type 0
 PutsParts old new ps (Ok x) = PartsPut old new ps

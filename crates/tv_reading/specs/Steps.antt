@@ -28,7 +28,7 @@ IsFew old left before after = (after ≤ before + 4096) ⊎ IsTakenWhole old lef
 -- is encoded by them.
 pub record Stepped (v : Version) (legacy_seen : Bool) (old new : Reading) (taken : List ℕ) : Type 0 where
   pub some : 0 < length taken
-  pub few : (length taken ≤ 4096) ⊎ IsTakenWhole old taken
+  pub in_pieces : (length taken ≤ 4096) ⊎ IsTakenWhole old taken
   pub goes : Advances Legacy v old new taken
   pub plain : legacy_seen ≡ false → Advances NoLegacy v old new taken
 

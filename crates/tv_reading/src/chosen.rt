@@ -73,7 +73,7 @@ fn take_pair_by_parts<S: ByteSource>(
     ensures finds { Finds S.ByteSource source.old count.old source.new count.new
         result (FindsPair (version_of version) fields.now (document_of document))
         (FindsNoPair (version_of version) (document_of document)) }
-    ensures full { S.is_known source.old → IsErrOf result HeapFull
+    ensures no_room { S.is_known source.old → IsErrOf result HeapFull
         → CanStand (version_of version) (document_of document)
         → PairHasNoRoom (version_of version) fields.now (document_of document)
         (S.left source.old) }
@@ -99,7 +99,7 @@ fn take_chosen_pair<S: ByteSource>(
     ensures finds { Finds S.ByteSource source.old count.old source.new count.new
         result (FindsPair (version_of version) fields.now (document_of document))
         (FindsNoPair (version_of version) (document_of document)) }
-    ensures full { S.is_known source.old → IsErrOf result HeapFull
+    ensures no_room { S.is_known source.old → IsErrOf result HeapFull
         → CanStand (version_of version) (document_of document)
         → PairHasNoRoom (version_of version) fields.now (document_of document)
         (S.left source.old) }
@@ -130,7 +130,7 @@ pub fn take_chosen_into<S: ByteSource>(
     requires { document_of empty ≡ [] }
     ensures finds { Finds S.ByteSource source.old count.old source.new count.new
         result (EncodesChosen (version_of version) fields.now) (NoDocument (version_of version)) }
-    ensures full { S.is_known source.old → IsErrOf result HeapFull
+    ensures no_room { S.is_known source.old → IsErrOf result HeapFull
         → HasNoRoomChosen (version_of version) fields.now (S.left source.old) }
 {
     let announced = take_document_head(source, count)?;

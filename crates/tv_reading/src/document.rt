@@ -30,7 +30,7 @@ fn take_rest<S: ByteSource>(
     requires { IsSound begun }
     ensures finds { Finds S.ByteSource source.old count.old source.new count.new
         result (EncodesRest (version_of version) begun) (IsMalformedNext (version_of version) begun) }
-    ensures full { S.is_known source.old → IsErrOf result HeapFull
+    ensures no_room { S.is_known source.old → IsErrOf result HeapFull
         → NoRoomBehind (version_of version) begun (S.left source.old) }
 {
     let mut reading = begun;
@@ -65,7 +65,7 @@ pub fn take_document<S: ByteSource>(
 ) -> Result<HeapPairs, DeserializeError>
     ensures finds { Finds S.ByteSource source.old count.old source.new count.new
         result (EncodesRead (version_of version)) (NoDocument (version_of version)) }
-    ensures full { S.is_known source.old → IsErrOf result HeapFull
+    ensures no_room { S.is_known source.old → IsErrOf result HeapFull
         → HasNoRoom (version_of version) (S.left source.old) }
 {
     let empty = HeapPairs::with_capacity(alloc, FIRST_ROOM)?;
@@ -84,7 +84,7 @@ pub fn take_document_into<S: ByteSource>(
     requires { document_of empty ≡ [] }
     ensures finds { Finds S.ByteSource source.old count.old source.new count.new
         result (EncodesRead (version_of version)) (NoDocument (version_of version)) }
-    ensures full { S.is_known source.old → IsErrOf result HeapFull
+    ensures no_room { S.is_known source.old → IsErrOf result HeapFull
         → HasNoRoom (version_of version) (S.left source.old) }
 {
     let announced = take_document_head(source, count)?;
@@ -117,7 +117,7 @@ pub fn take_pair_value<S: ByteSource>(
     ensures finds { Finds S.ByteSource source.old count.old source.new count.new
         result (FindsValue (version_of version) (document_of document) field)
         (FindsNoValue (version_of version) (document_of document)) }
-    ensures full { S.is_known source.old → IsErrOf result HeapFull
+    ensures no_room { S.is_known source.old → IsErrOf result HeapFull
         → CanStand (version_of version) (document_of document)
         → ValueHasNoRoom (version_of version) (document_of document) (S.left source.old) }
 {

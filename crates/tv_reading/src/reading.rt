@@ -199,7 +199,7 @@ impl Reading {
     fn close_pair(&mut self) -> Result<(), DeserializeError>
         requires { IsOpen self.old }
         ensures puts { PutsParts self.old self.new [] result }
-        ensures left { OnErr result (LetGo self.old self.new) }
+        ensures after_error { OnErr result (LetGo self.old self.new) }
     {
         let Awaits::Finish = self.builder.awaits() else {
             return Ok(());
@@ -223,7 +223,7 @@ impl Reading {
         requires { Awaiting self.old ValueAwaited }
         ensures puts { PutsParts self.old self.new (value_part (leaf_tree (leaf_of value.entry)) ∷ [])
             result }
-        ensures left { OnErr result (LetGo self.old self.new) }
+        ensures after_error { OnErr result (LetGo self.old self.new) }
     {
         match self.builder.leaf(value) {
             Ok(()) => self.close_pair(),
@@ -235,7 +235,7 @@ impl Reading {
     fn put_tree<'a, V: Value<'a>>(&mut self, value: &V) -> Result<(), DeserializeError>
         requires { Awaiting self.old ValueAwaited }
         ensures puts { PutsParts self.old self.new (value_part (V.tree value.now) ∷ []) result }
-        ensures left { OnErr result (LetGo self.old self.new) }
+        ensures after_error { OnErr result (LetGo self.old self.new) }
     {
         match self.builder.tree(value) {
             Ok(()) => self.close_pair(),
@@ -247,7 +247,7 @@ impl Reading {
     fn put_list(&mut self, kind: ListKind, announced: u64) -> Result<(), DeserializeError>
         requires { Awaiting self.old ValueAwaited }
         ensures puts { PutsParts self.old self.new (list_head kind announced ∷ []) result }
-        ensures left { OnErr result (LetGo self.old self.new) }
+        ensures after_error { OnErr result (LetGo self.old self.new) }
     {
         match self.builder.open_list(kind, announced) {
             Ok(()) => self.close_pair(),
@@ -259,7 +259,7 @@ impl Reading {
     fn put_end(&mut self) -> Result<(), DeserializeError>
         requires { AtEnd self.old }
         ensures puts { PutsEnd self.old self.new result }
-        ensures left { OnErr result (LetGo self.old self.new) }
+        ensures after_error { OnErr result (LetGo self.old self.new) }
     {
         match self.builder.end_bytes() {
             Ok(()) => self.close_pair(),
@@ -271,7 +271,7 @@ impl Reading {
     fn put_bytes_head(&mut self, kind: BytesKind, announced: u64) -> Result<(), DeserializeError>
         requires { Awaiting self.old (head_awaits kind) }
         ensures puts { PutsParts self.old self.new (bytes_head kind announced ∷ []) result }
-        ensures left { OnErr result (LetGo self.old self.new) }
+        ensures after_error { OnErr result (LetGo self.old self.new) }
     {
         if let Err(error) = self.builder.begin_bytes(kind, announced) {
             return Err(store_error(error));
@@ -285,9 +285,9 @@ impl Reading {
     // Some of the announced bytes have come.
     fn put_bytes(&mut self, bytes: &[u8], missing: u32) -> Result<(), DeserializeError>
         requires awaiting { Awaiting self.old (BytesAwaited missing) }
-        requires few { length bytes.now ≤ missing }
+        requires at_most { length bytes.now ≤ missing }
         ensures puts { PutsBytes self.old self.new bytes.now (some_bytes bytes.now ∷ []) result }
-        ensures left { OnErr result (LetGo self.old self.new) }
+        ensures after_error { OnErr result (LetGo self.old self.new) }
     {
         if let Err(error) = self.builder.chunk(bytes) {
             return Err(store_error(error));
@@ -303,7 +303,7 @@ impl Reading {
         requires awaiting { Awaiting self.old ValueAwaited }
         requires parts { IsParts (head_part head) }
         ensures puts { PutsParts self.old self.new (head_parts (head_part head)) result }
-        ensures left { OnErr result (LetGo self.old self.new) }
+        ensures after_error { OnErr result (LetGo self.old self.new) }
     {
         match head {
             Head::Leaf(value) => self.put_leaf(value),
@@ -324,7 +324,7 @@ impl Reading {
         requires none { self.old.announced ≡ None }
         ensures sound { OnOk result (IsSound self.new) }
         ensures grows { OnOk result (Grows self.old self.new) }
-        ensures left { OnErr result (KeepsPairs self.old self.new) }
+        ensures after_error { OnErr result (KeepsPairs self.old self.new) }
         ensures finds { (v : Version)
             → FindsLean S.ByteSource source.old count.old source.new count.new
             result (λ b _. Stepped v false self.old self.new b) (IsMalformedNext v self.old) }
@@ -346,7 +346,7 @@ impl Reading {
         requires lacks { LacksPair self.old.announced self.old.finished }
         ensures sound { OnOk result (IsSound self.new) }
         ensures grows { OnOk result (Grows self.old self.new) }
-        ensures left { OnErr result (KeepsPairs self.old self.new) }
+        ensures after_error { OnErr result (KeepsPairs self.old self.new) }
         ensures finds { (v : Version)
             → FindsLean S.ByteSource source.old count.old source.new count.new
             result (λ b _. Stepped v false self.old self.new b) (IsMalformedNext v self.old) }
@@ -369,11 +369,11 @@ impl Reading {
         requires { Awaiting self.old ValueAwaited }
         ensures sound { OnOk result (IsSound self.new) }
         ensures grows { OnOk result (Grows self.old self.new) }
-        ensures left { OnErr result (KeepsPairs self.old self.new) }
+        ensures after_error { OnErr result (KeepsPairs self.old self.new) }
         ensures finds { Finds S.ByteSource source.old count.old source.new count.new
             result (λ b _. Stepped (version_of version) legacy_seen.new self.old self.new b)
             (IsMalformedNext (version_of version) self.old) }
-        ensures full { S.is_known source.old → IsErrOf result HeapFull
+        ensures no_room { S.is_known source.old → IsErrOf result HeapFull
             → NoRoomBehind (version_of version) self.old (S.left source.old) }
         ensures seen { S.is_known source.old
             → Sees self.old (S.left source.old) legacy_seen.old legacy_seen.new }
@@ -405,11 +405,11 @@ impl Reading {
         requires { Awaiting self.old KeyAwaited }
         ensures sound { OnOk result (IsSound self.new) }
         ensures grows { OnOk result (Grows self.old self.new) }
-        ensures left { OnErr result (KeepsPairs self.old self.new) }
+        ensures after_error { OnErr result (KeepsPairs self.old self.new) }
         ensures finds { Finds S.ByteSource source.old count.old source.new count.new
             result (λ b _. Stepped (version_of version) false self.old self.new b)
             (IsMalformedNext (version_of version) self.old) }
-        ensures full { S.is_known source.old → IsErrOf result HeapFull
+        ensures no_room { S.is_known source.old → IsErrOf result HeapFull
             → NoRoomBehind (version_of version) self.old (S.left source.old) }
         ensures at_most { count.new ≤ count.old + 4096 }
     {
@@ -428,11 +428,11 @@ impl Reading {
         requires awaiting { Awaiting self.old (BytesAwaited missing) }
         ensures sound { OnOk result (IsSound self.new) }
         ensures grows { OnOk result (Grows self.old self.new) }
-        ensures left { OnErr result (KeepsPairs self.old self.new) }
+        ensures after_error { OnErr result (KeepsPairs self.old self.new) }
         ensures finds { (v : Version)
             → Finds S.ByteSource source.old count.old source.new count.new result
             (λ b _. Stepped v false self.old self.new b) (IsMalformedNext v self.old) }
-        ensures full { (v : Version) → S.is_known source.old → IsErrOf result HeapFull
+        ensures no_room { (v : Version) → S.is_known source.old → IsErrOf result HeapFull
             → NoRoomBehind v self.old (S.left source.old) }
         ensures at_most { count.new ≤ count.old + 4096 }
     {
@@ -462,11 +462,11 @@ impl Reading {
         requires more { ¬ IsDone self.old }
         ensures sound { OnOk result (IsSound self.new) }
         ensures grows { OnOk result (Grows self.old self.new) }
-        ensures left { OnErr result (KeepsPairs self.old self.new) }
+        ensures after_error { OnErr result (KeepsPairs self.old self.new) }
         ensures finds { Finds S.ByteSource source.old count.old source.new count.new
             result (λ b _. Stepped (version_of version) legacy_seen.new self.old self.new b)
             (IsMalformedNext (version_of version) self.old) }
-        ensures full { S.is_known source.old → IsErrOf result HeapFull
+        ensures no_room { S.is_known source.old → IsErrOf result HeapFull
             → NoRoomBehind (version_of version) self.old (S.left source.old) }
         ensures seen { S.is_known source.old
             → Sees self.old (S.left source.old) legacy_seen.old legacy_seen.new }

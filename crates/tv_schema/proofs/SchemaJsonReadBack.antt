@@ -158,7 +158,7 @@ refusal-fresh schema entry rest is =
     let valid : is_valid_name entry.name ≡ true = rw get_or-middle at (is.valid (length schema) entry long) in
     let fresh : field_named schema entry.name ≡ None = place_from-other 0 schema entry.name
     (λ k d h same. is.distinct k (length schema) d h long (rw (get_or-prefix schema (entry ∷ rest) k d h, get_or-middle schema entry rest d) same)) in
-    let few : eqb (length schema) 4294967295 ≡ false = ne_eqb _ _ (λ same. omega (arith, is.few, long, same)) in
+    let few : eqb (length schema) 4294967295 ≡ false = ne_eqb _ _ (λ same. omega (arith, is.in_32_bits, long, same)) in
     rw (valid, fresh, few)
 
 with_entries-entries_json : (prefix rest : List Entry) → IsSchema (prefix ++ rest) → with_entries prefix (entries_json rest) ≡ Ok (prefix ++ rest)

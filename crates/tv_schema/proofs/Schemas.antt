@@ -46,7 +46,7 @@ pub IsSchema-push : (es : List Entry) (e : Entry) → IsSchema es → IsValidNam
 IsSchema-push es e is valid new few = record {
   valid = All-push (λ entry. IsValidName entry.name) es e is.valid valid;
   distinct = all_pairs_push (λ one other. one.name ≢ other.name) es e is.distinct (place_from-absent 0 es e.name new);
-  few = omega (arith, length-append es (e ∷ []));
+  in_32_bits = omega (arith, length-append es (e ∷ []));
 }
 
 -- a lookup among the old entries or at the new name, which none of them has

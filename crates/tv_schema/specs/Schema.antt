@@ -11,7 +11,7 @@ use Rattle.tv_field.specs.declared.schema_error.SchemaError.TheVariants.{Invalid
 pub record IsSchema (schema : List Entry) : Type 0 where
   pub valid : All (λ entry. IsValidName entry.name) schema
   pub distinct : AllPairs (λ one other. one.name ≢ other.name) schema
-  pub few : length schema < 2 ^ 32
+  pub in_32_bits : length schema < 2 ^ 32
 
 -- the place of the name among the names, counted from n
 abbrev pub place_from : ℕ → List Entry → List ℕ → Option ℕ

@@ -96,7 +96,7 @@ impl FieldTable {
     pub(crate) fn push(&mut self, entry: FieldEntry) -> Result<u32, AllocError>
         requires valid { IsValidName entry.name }
         requires is_new { field_named self.old entry.name ≡ None }
-        requires few { length self.old + 1 < 2 ^ 32 }
+        requires in_32_bits { length self.old + 1 < 2 ^ 32 }
         ensures ok { OnOk result (self.new ≡ self.old ++ entry ∷ []) }
         ensures number { IfOk result (λ number. number ≡ length self.old) }
         ensures err { OnErr result (self.new ≡ self.old) }

@@ -125,7 +125,7 @@ module _ {S K : Type 0} (from to : Version) (source : Source S) (old new : S) (s
 
   unread_at : (e : DeserializeError) → ReadsDocument from source old new document_of (Err e) → Known source old → (source.failures new).last ≡ None → IsUnread from (source.left old) e
   unread_at e reads known last =
-      unread_by from (source.left old) e reads.errors (λ r is. refusal_is_true known reads e r refl is) (λ full. reads.full known.0 e refl full)
+      unread_by from (source.left old) e reads.errors (λ r is. refusal_is_true known reads e r refl is) (λ full. reads.no_room known.0 e refl full)
       (λ k is. never_io e k (source.failures old) (source.failures new) reads.failures last is)
 
   uncarried_at : (read : Result CompactDoc DeserializeError) (e : MigrateError) → ReadsDocument from source old new document_of read → Rewrites to sink begun ended read (Err e) → Known source old → (source.failures new).last ≡ None → Uncarried from to (source.left old) sink begun ended e

@@ -42,8 +42,8 @@ of_place_as is_known left failures old new count v A read result document same h
     subst (λ (r : Result CompactDoc DeserializeError). FindsIf StoreMayStop is_known left failures old 0 new count r A (NoDocument v)) (sym (same document)) (placed read h)
   where
     placed : (read : Result (Unit {0}) DeserializeError) → FindsIf StoreMayStop is_known left failures old 0 new count read (λ b _. A b document) (NoDocument v) → FindsIf StoreMayStop is_known left failures old 0 new count (in_place read document) A (NoDocument v)
-    placed (Ok x) h = record { found = h.found; taken = h.taken; stays_known = h.stays_known; counts = h.counts; rises = h.rises; may_stop = h.may_stop }
-    placed (Err e) h = record { found = h.found; taken = h.taken; stays_known = h.stays_known; counts = h.counts; rises = h.rises; may_stop = h.may_stop }
+    placed (Ok x) h = record { found = h.found; taken = h.taken; stays_known = h.stays_known; counts = h.counts; count_grows = h.count_grows; may_stop = h.may_stop }
+    placed (Err e) h = record { found = h.found; taken = h.taken; stays_known = h.stays_known; counts = h.counts; count_grows = h.count_grows; may_stop = h.may_stop }
 
 pub of_place : {S : Type 0} (is_known : S → Type 0) (left : S → List ℕ) (failures : S → Failures) (old new : S) (count : ℕ) (v : Version) (read : Result (Unit {0}) DeserializeError) (result : Result Bool DeserializeError) (document : CompactDoc)
     → ((d : CompactDoc) → as_read result d ≡ in_place read d) → FindsIf StoreMayStop is_known left failures old 0 new count read (λ b _. EncodesRead v b document) (NoDocument v)

@@ -99,7 +99,7 @@ said_at_end v limits old new count (Ok false) document h cut t none = tt
 said_at_end v limits old new count (Err (limited.Read e)) document h cut t none =
     let few : length h.taken ≡ 0 = ap length (none_before h.taken new (sym h.joined ∙ none)) in
     let same : count ≡ 0 = omega (arith, t.counted, ap length t.joined, ap length none, length-append t.prefix new) in
-    at_end v (Err e) document old new count (subst (λ n. GivesStop end (NoDocument v) old new n (store_stop e)) (few ∙ sym same) h.outcome.stop) (λ is. h.outcome.full (cc)) (λ is. cut (cc)) same none
+    at_end v (Err e) document old new count (subst (λ n. GivesStop end (NoDocument v) old new n (store_stop e)) (few ∙ sym same) h.outcome.stop) (λ is. h.outcome.no_room (cc)) (λ is. cut (cc)) same none
 said_at_end v limits old new count (Err (limited.Limit limit.Bytes)) document h cut t none = h.outcome.0 ∙ ap (λ z. Some (length z)) (none_before h.taken new (sym h.joined ∙ none))
 said_at_end v limits old new count (Err (limited.Limit limit.HeapBytes)) document h cut t none =
     let o = h.outcome in

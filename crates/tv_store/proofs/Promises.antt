@@ -84,7 +84,7 @@ excluded v old prefix rest d r joined encoded f = (document_excludes Legacy Erro
 has_room : (v : Version) (old prefix rest : List ℕ) (d : Document) → old ≡ prefix ++ rest → EncodesDocument Legacy v prefix d → HasNoRoom v old → document_room d ≤ 4294967295 → ⊥
 has_room v old prefix rest d joined encoded full small =
     let within = document_within Legacy v one_legacy full.announced full.finished full.field full.state full.prefix full.rest prefix rest d full.is full.less full.encoded (sym full.joined ∙ joined) encoded in
-    omega (arith, full.full, small, within)
+    omega (arith, full.no_room, small, within)
 
 pub single_documents : (v : Version) (old : List ℕ) → IsSingle (documents v) old
 single_documents v old = record {
@@ -158,7 +158,7 @@ module _ {X Y : Type 0} (grammar : Grammar Refusal Y) (view : X → Y) where
         let most : count ≡ 2 ^ 64 - 1 = (stopped_by result (source.left old) (source.left new) count e {s = Uncounted r} (h.found known) is says).0 in
         (t.prefix, t.joined, omega (arith, t.counted, most));
     ends_early = λ known e r is says. (stopped_by result (source.left old) (source.left new) count e {s = Uncounted r} (h.found known) is says).1;
-    full = λ known e is full. room known (is ∙ ap (λ x. Err x) full);
+    no_room = λ known e is full. room known (is ∙ ap (λ x. Err x) full);
     errors = errors_by result (source.failures old) (source.failures new) h.counts;
     taken = λ known. let t = h.taken known in (t.prefix, t.joined);
     failures = h.counts;
@@ -186,5 +186,5 @@ module _ {S D : Type 0} {May : DeserializeError → ℕ → Type 0} {is_known : 
   finds_put same h = placed result (subst (λ r. FindsIf May is_known left failures old i new k r A H) (sym same) h)
     where
       placed : (result : Result (Unit {0}) DeserializeError) → FindsIf May is_known left failures old i new k (in_place result document) A H → FindsIf May is_known left failures old i new k result (λ b _. A b document) H
-      placed (Ok x) h = record { found = h.found; taken = h.taken; stays_known = h.stays_known; counts = h.counts; rises = h.rises; may_stop = h.may_stop }
-      placed (Err e) h = record { found = h.found; taken = h.taken; stays_known = h.stays_known; counts = h.counts; rises = h.rises; may_stop = h.may_stop }
+      placed (Ok x) h = record { found = h.found; taken = h.taken; stays_known = h.stays_known; counts = h.counts; count_grows = h.count_grows; may_stop = h.may_stop }
+      placed (Err e) h = record { found = h.found; taken = h.taken; stays_known = h.stays_known; counts = h.counts; count_grows = h.count_grows; may_stop = h.may_stop }

@@ -29,7 +29,7 @@ module _ {R E Y S X : Type 0} {grammar : Grammar R Y} {source : Ghosts S} {view 
     shows = r.shows;
     too_long = r.too_long;
     ends_early = r.ends_early;
-    full = r.full;
+    no_room = r.no_room;
     errors = may_come result (λ e h. inl h) r.errors;
     taken = r.taken;
     failures = counts_by kind.IsCounted (resumed failed again kind).IsCounted result (source.failures old) (source.failures new) (λ e h. inl h) r.failures;
@@ -45,7 +45,7 @@ module _ {R E Y S X : Type 0} {grammar : Grammar R Y} {source : Ghosts S} {view 
     shows = r.shows;
     too_long = r.too_long;
     ends_early = r.ends_early;
-    full = r.full;
+    no_room = r.no_room;
     errors = may_come result (λ e h. one_of h) r.errors;
     taken = r.taken;
     failures = counts_by (resumed failed again kind).IsCounted kind.IsCounted result (source.failures old) (source.failures new) (λ e h. one_of h) r.failures;

@@ -73,9 +73,9 @@ module _ {S : Type 0} (source : Ghosts S) {source_old source_new : S} {old new :
   still_paid stays seen known before none =
       let p = before (none_before old.legacy_seen new.legacy_seen seen none) in
       elim (failed_or_live old.failed) [
-        | inl failed ↦ subst IsPaidFor (sym (h.refused failed).same) p
+        | inl failed ↦ subst IsPaidFor (sym (h.refused failed).unchanged) p
         | inr not_failed ↦ elim (done_or_not old.reading) [
-          | inl done ↦ subst IsPaidFor (sym (h.finished not_failed done).same) p
+          | inl done ↦ subst IsPaidFor (sym (h.finished not_failed done).unchanged) p
           | inr more ↦
               let finds = h.finds not_failed more in
               let taken = finds.taken known in
@@ -110,9 +110,9 @@ module _ {S : Type 0} (source : Ghosts S) {source_old source_new : S} {old new :
 
   pub still_counted : source.is_known source_old → Taken (source.left source_old) (source.left source_new) old.count new.count
   still_counted known = elim (failed_or_live old.failed) [
-    | inl failed ↦ unchanged (h.refused failed).same (h.refused failed).unread
+    | inl failed ↦ unchanged (h.refused failed).unchanged (h.refused failed).unread
     | inr not_failed ↦ elim (done_or_not old.reading) [
-      | inl done ↦ unchanged (h.finished not_failed done).same (h.finished not_failed done).unread
+      | inl done ↦ unchanged (h.finished not_failed done).unchanged (h.finished not_failed done).unread
       | inr more ↦ (h.finds not_failed more).taken known
     ]
   ]

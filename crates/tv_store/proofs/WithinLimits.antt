@@ -68,7 +68,7 @@ module _ {S : Type 0} {is_known : S → Type 0} {left : S → List ℕ} {failure
     taken = p.taken;
     stays_known = p.stays_known;
     counts = p.counts;
-    rises = p.rises;
+    count_grows = p.count_grows;
     may_stop = tt;
   }
 
@@ -152,7 +152,7 @@ refused : (v : Version) (limits : ReadLimits) (begun : Reading) (e : Deserialize
 refused v limits begun e old new count none stop t below told full =
     let unread : Unread v old new (length t.prefix) e = record {
       stop = counted_again (NoDocument v) limits.bytes old new count (length t.prefix) e t.counted told (stop_map (corrupted UnexpectedEnd) (IsMalformedNext v begun) (NoDocument v) (store_stop e) old new count (λ w r h. h [] (at_start v begun none)) stop);
-      full = λ is. full is [] (at_start v begun none);
+      no_room = λ is. full is [] (at_start v begun none);
     } in
     record { taken = t.prefix; joined = t.joined; most = taken_within limits.bytes t.prefix old new count t.joined t below; outcome = unread }
 
@@ -195,7 +195,7 @@ tested v limits old new d (Ok x) test h = subst (λ z. ReadsByLimits v limits ol
 tested v limits old new d (Err (limited.Read e)) test h =
     let unread : Unread v old new (length h.taken) e = record {
       stop = subst (λ z. GivesStop (corrupted UnexpectedEnd) (NoDocument v) old new (length h.taken) (store_stop z)) (sym test) tt;
-      full = λ is. absurd (cc);
+      no_room = λ is. absurd (cc);
     } in
     record { taken = h.taken; joined = h.joined; most = h.most; outcome = unread }
 tested v limits old new d (Err (limited.Limit limit.Depth)) test h =
@@ -243,21 +243,21 @@ module _ {S X : Type 0} {is_known : S → Type 0} {left : S → List ℕ} {failu
   pub part_read : (x : X) (A B : List ℕ → X → Type 0) (H G : List ℕ → Refusal → Type 0) → ((b : List ℕ) → A b x → B b x) → FindsIf StoreMayStop is_known left failures old from new j (Ok x) A H → FindsPartBy is_known left failures old i new k (Ok x) B G
   part_read x A B H G to h = record {
     found = λ told. let f = h.found told in record { prefix = f.prefix; joined = f.joined; encoded = to f.prefix f.encoded };
-    taken = λ told. recounted (left old) (left new) first from i j k begun ended h.rises (h.taken told);
+    taken = λ told. recounted (left old) (left new) first from i j k begun ended h.count_grows (h.taken told);
     stays_known = h.stays_known;
     counts = h.counts;
-    rises = omega (arith, h.rises);
+    count_grows = omega (arith, h.count_grows);
     may_stop = tt;
   }
 
   pub part_refused : (e : DeserializeError) (all : Bool) (said : LimitedReadError) (most : Option ℕ) (A B : List ℕ → X → Type 0) (H G : List ℕ → Refusal → Type 0) → Told all e said → first ≡ first_count most → IsTrue all ↔ (IsSome most × (j ≡ 2 ^ 64 - 1))
       → ((b : List ℕ) (f : Refusal) → H b f → G b f) → FindsIf StoreMayStop is_known left failures old from new j (Err e) A H → FindsPartBy is_known left failures old i new k (Err said) B G
   part_refused e all said most A B H G told is same to h = record {
-    found = λ known. part_stop e all said most H G (left old) (left new) first from i j k begun ended told is h.rises same to (h.found known);
-    taken = λ known. recounted (left old) (left new) first from i j k begun ended h.rises (h.taken known);
+    found = λ known. part_stop e all said most H G (left old) (left new) first from i j k begun ended told is h.count_grows same to (h.found known);
+    taken = λ known. recounted (left old) (left new) first from i j k begun ended h.count_grows (h.taken known);
     stays_known = h.stays_known;
     counts = told_counts e all said (store_stop e) (failures old) (failures new) refl told h.counts;
-    rises = omega (arith, h.rises);
+    count_grows = omega (arith, h.count_grows);
     may_stop = tt;
   }
 
@@ -323,7 +323,7 @@ longer_in v most taken old new split all early d prefix rest joined encoded =
     ])
 
 full_in : (v : Version) (limits : ReadLimits) (old new : List ℕ) (result : Result CompactDoc LimitedReadError) → ReadsByLimits v limits old new result → IsErrOf result (limited.Read errors.HeapFull) → HasNoRoom v old
-full_in v limits old new result comes is = (subst (λ z. ReadsByLimits v limits old new z) is comes).outcome.full refl
+full_in v limits old new result comes is = (subst (λ z. ReadsByLimits v limits old new z) is comes).outcome.no_room refl
 
 -- why an error stopped the reader
 stopped_in : (v : Version) (limits : ReadLimits) (old new : List ℕ) (result : Result CompactDoc LimitedReadError) (comes : ReadsByLimits v limits old new result) (e : LimitedReadError) {s : Stop Refusal} → s ≢ Short → IsErrOf result e → limited_stop e ≡ s → GivesStop (corrupted UnexpectedEnd) (NoDocument v) old new (length comes.taken) s
@@ -341,7 +341,7 @@ only_in v limits old new (Ok x) few h d prefix rest joined encoded small =
     only_by (documents v) document_of (Ok x) old new 0 (single_documents v old) (record { prefix = h.taken; joined = h.joined; encoded = h.outcome }) (λ is. absurd (cc)) (omega arith) d prefix rest joined encoded small
 only_in v limits old new (Err (limited.Read e)) few h d prefix rest joined encoded small =
     let few_taken : length h.taken < 2 ^ 64 - 1 = omega (arith, few, ap length h.joined, length-append h.taken new) in
-    excused (documents v) e old new (length h.taken) (single_documents v old) h.outcome.stop h.outcome.full few_taken d prefix rest joined encoded small
+    excused (documents v) e old new (length h.taken) (single_documents v old) h.outcome.stop h.outcome.no_room few_taken d prefix rest joined encoded small
 only_in v limits old new (Err (limited.Limit limit.Bytes)) few h d prefix rest joined encoded small = longer_in v limits.bytes h.taken old new h.joined h.outcome.0 h.outcome.1 d prefix rest joined encoded
 only_in v limits old new (Err (limited.Limit l)) few h d prefix rest joined encoded small = tt
 
@@ -357,7 +357,7 @@ module _ {S : Type 0} (source : Ghosts S) (v : Version) (limits : ReadLimits) {o
         let t = comes known in
         (t.taken, t.joined, (stopped_in v limits (source.left old) (source.left new) result t e {s = Uncounted r} (λ same. cc) is says).0);
     ends_early = λ known e r is says. (stopped_in v limits (source.left old) (source.left new) result (comes known) e {s = Uncounted r} (λ same. cc) is says).1;
-    full = λ known e is full. full_in v limits (source.left old) (source.left new) result (comes known) (is ∙ ap (λ x. Err x) full);
+    no_room = λ known e is full. full_in v limits (source.left old) (source.left new) result (comes known) (is ∙ ap (λ x. Err x) full);
     errors = may;
     taken = λ known. let t = comes known in (t.taken, t.joined);
     failures = counts;

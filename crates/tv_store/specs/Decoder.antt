@@ -36,14 +36,14 @@ SaysDone Done = Unit {0}
 -- nothing is read, and nothing has changed
 pub record Rests {D S T E : Type 0} (old new : D) (source_old source_new : S) (result answer : Result T E) : Type 0 where
   pub answers : result ≡ answer
-  pub same : new ≡ old
+  pub unchanged : new ≡ old
   pub unread : source_new ≡ source_old
 
 pub record Steps {E S : Type 0} (kind : Errors Refusal E) (MayStop : E → ℕ → Type 0) (again : E) (source : Ghosts S) (source_old source_new : S) (old new : DirectDecoder) (result : Result Step E) : Type 0 where
   pub refused : old.failed ≡ true → Rests old new source_old source_new result (Err again)
   pub finished : old.failed ≡ false → IsDone old.reading → Rests old new source_old source_new result (Ok Done)
   pub finds : old.failed ≡ false → ¬ IsDone old.reading → FindsBy kind.stop MayStop kind.end source.is_known source.left source.failures source_old old.count source_new new.count result (λ b _. Stepped (version_of old.version) new.legacy_seen old.reading new.reading b) (IsMalformedNext (version_of old.version) old.reading)
-  pub full : source.is_known source_old → (e : E) → IsErrOf result e → kind.IsFull e → NoRoomBehind (version_of old.version) old.reading (source.left source_old)
+  pub no_room : source.is_known source_old → (e : E) → IsErrOf result e → kind.IsFull e → NoRoomBehind (version_of old.version) old.reading (source.left source_old)
   pub done : IfOk result (λ step. SaysDone step ↔ IsDone new.reading)
   pub not_failed : OnOk result (new.failed ≡ false)
   pub marked : OnErr result (new.failed ≡ true)

@@ -165,7 +165,7 @@ IsAll most taken = most ≡ Some (length taken)
 -- What couldn't be read, of bytes of which this many were taken.
 pub record Unread (v : Version) (old new : List ℕ) (count : ℕ) (e : DeserializeError) : Type 0 where
   pub stop : GivesStop (corrupted UnexpectedEnd) (NoDocument v) old new count (store_stop e)
-  pub full : e ≡ errors.HeapFull → HasNoRoom v old
+  pub no_room : e ≡ errors.HeapFull → HasNoRoom v old
 
 -- by what was taken
 abbrev pub OutcomeWithin : Version → ReadLimits → List ℕ → List ℕ → List ℕ → Result CompactDoc LimitedReadError → Type 0

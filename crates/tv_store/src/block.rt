@@ -26,7 +26,7 @@ use tv_value::field::Field;
 
 // Whether there was a document, by what reading one returned and how many bytes it took: where none was left, a missing end is no error.
 fn next_of(read: Result<(), DeserializeError>, count: u64) -> Result<bool, DeserializeError>
-    ensures same { (document : CompactDoc) → as_read result document ≡ in_place read document }
+    ensures placed { (document : CompactDoc) → as_read result document ≡ in_place read document }
     ensures passed { as_passed result ≡ read }
     ensures end { result ≡ Ok false → count ≡ 0 }
     ensures cut { IsErrOf result (CorruptedValue UnexpectedEnd) → 0 < count }
@@ -40,7 +40,7 @@ fn next_of(read: Result<(), DeserializeError>, count: u64) -> Result<bool, Deser
 
 // The same within limits.
 fn next_within(read: Result<(), LimitedReadError>, count: u64) -> Result<bool, LimitedReadError>
-    ensures same { (document : CompactDoc)
+    ensures placed { (document : CompactDoc)
         → as_read_within result document ≡ in_place read document }
     ensures end { result ≡ Ok false → count ≡ 0 }
     ensures cut { IsErrOf result (Read (CorruptedValue UnexpectedEnd)) → 0 < count }

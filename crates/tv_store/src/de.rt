@@ -42,7 +42,7 @@ pub(crate) fn take_in_place<S: ByteSource>(
 ) -> Result<(), DeserializeError>
     ensures finds { Finds S.ByteSource source.old count.old source.new count.new result
         (λ b _. EncodesRead (version_of version) b document.new) (NoDocument (version_of version)) }
-    ensures full { S.is_known source.old → IsErrOf result HeapFull
+    ensures no_room { S.is_known source.old → IsErrOf result HeapFull
         → HasNoRoom (version_of version) (S.left source.old) }
     ensures none { OnErr result (document_of document.new ≡ []) }
 {

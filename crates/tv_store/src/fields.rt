@@ -33,7 +33,7 @@ pub(crate) fn take_fields_in_place<S: ByteSource>(
     ensures finds { Finds S.ByteSource source.old count.old source.new count.new result
         (λ b _. EncodesChosenPairs (version_of version) fields.now b (document_of document.new))
         (NoDocument (version_of version)) }
-    ensures full { S.is_known source.old → IsErrOf result HeapFull
+    ensures no_room { S.is_known source.old → IsErrOf result HeapFull
         → HasNoRoomChosen (version_of version) fields.now (S.left source.old) }
     ensures none { OnErr result (document_of document.new ≡ []) }
 {

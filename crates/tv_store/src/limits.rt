@@ -180,7 +180,7 @@ fn step_capped<S: ByteSource>(
         → EndsEarly (corrupted UnexpectedEnd)
         (IsMalformedNext (version_of decoder.old.version) decoder.old.reading) (S.left source.old)
         (S.left source.new) }
-    ensures full { S.is_known source.old → IsErrOf result (Read HeapFull)
+    ensures no_room { S.is_known source.old → IsErrOf result (Read HeapFull)
         → NoRoomBehind (version_of decoder.old.version) decoder.old.reading (S.left source.old) }
     ensures done { IfOk result (λ step. SaysDone step ↔ IsDone decoder.new.reading) }
     ensures not_failed { OnOk result (decoder.new.failed ≡ false) }
@@ -221,7 +221,7 @@ fn take_within<S: ByteSource>(
         decoder.new.count result
         (λ b _. Advances Legacy (version_of decoder.old.version) decoder.old.reading
         decoder.new.reading b) (IsMalformedNext (version_of decoder.old.version) decoder.old.reading) }
-    ensures full { S.is_known source.old → IsErrOf result HeapFull
+    ensures no_room { S.is_known source.old → IsErrOf result HeapFull
         → NoRoomBehind (version_of decoder.old.version) decoder.old.reading (S.left source.old) }
     ensures checked { IfOk result
         (Checks limits (length (heap_so_far decoder.new.reading.builder))

@@ -87,7 +87,7 @@ pub fn migrations_are_read_back(
         → IfOk result (λ trip. trip.written.items ≡ short_document (written_version to) d) }
     ensures back { (d : Document) (rest : List ℕ) → BeginsWithDocument (version_of from) bytes.now rest d
         → document_room d ≤ 4294967295 → IfOk result (λ trip. document_of trip.back ≡ d) }
-    ensures left { IfOk result (λ trip. trip.left.items ≡ []) }
+    ensures nothing_left { IfOk result (λ trip. trip.left.items ≡ []) }
     ensures memory { IfErr result (λ error. error ≡ RoundTripError.Memory) }
 {
     let written = migrated_bytes(alloc, bytes, from, to)?;

@@ -115,7 +115,7 @@ pub(crate) fn read_back(
     ensures found { (d : Document) (rest : List ℕ) → IsDocument d
         → bytes.now ≡ short_document (version_of version) d ++ rest
         → IfOk result (λ read. (document_of read.0 ≡ d) × (read.1.items ≡ rest)) }
-    ensures full { (d : Document) (rest : List ℕ) → IsDocument d
+    ensures no_room { (d : Document) (rest : List ℕ) → IsDocument d
         → bytes.now ≡ short_document (version_of version) d ++ rest
         → IsErrOf result RoundTripError.HeapFull → 4294967295 < document_room d }
 {
@@ -154,8 +154,8 @@ pub fn additions_are_stored_and_read_back(
         ≡ short_document V2 (stored schema.now (document_of trip.added))) }
     ensures back { IfOk result
         (λ trip. document_of trip.back ≡ stored schema.now (document_of trip.added)) }
-    ensures left { IfOk result (λ trip. trip.left.items ≡ rest.now) }
-    ensures full { IsErrOf result RoundTripError.HeapFull
+    ensures rest_left { IfOk result (λ trip. trip.left.items ≡ rest.now) }
+    ensures no_room { IsErrOf result RoundTripError.HeapFull
         → 4294967295 < document_room (map pair_of_value values.now) }
 {
     documents_are_valid();

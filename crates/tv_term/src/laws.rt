@@ -41,7 +41,7 @@ pub fn fast_types_are_of_eight_bytes<T: FastValue>() -> Type
 pub fn fast_values_are_read_back<T: FastValue>(value: T) -> (u64, T)
     ensures number { result.0 ≡ T.as_number value }
     ensures back { result.1 ≡ T.of_number result.0 }
-    ensures same { result.1 ≡ value }
+    ensures equal { result.1 ≡ value }
 {
     let number = value.to_u64();
     (number, T::from_u64(number))
@@ -51,7 +51,7 @@ pub fn fast_values_are_read_back<T: FastValue>(value: T) -> (u64, T)
 pub fn fast_values_are_ordered_as_numbers<T: FastValue>(one: T, other: T) -> (Ordering, Ordering)
     ensures values { result.0 ≡ T.cmp one other }
     ensures numbers { result.1 ≡ nat_cmp (T.as_number one) (T.as_number other) }
-    ensures same { result.0 ≡ result.1 }
+    ensures equal { result.0 ≡ result.1 }
 {
     (one.cmp(&other), one.to_u64().cmp(&other.to_u64()))
 }

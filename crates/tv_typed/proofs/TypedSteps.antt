@@ -69,7 +69,7 @@ typed_part : {S X Y : Type 0} (is_known : S → Type 0) (left : S → List ℕ) 
     → ((source : S) → is_known source → AllBytes (left source)) → Agrees UnexpectedEnd reading Encodes HasError → ((a : List ℕ) (x : X) → Encodes a (view x) → B a x) → ((w : List ℕ) (c : Cause) → HasError w c → Q w (errors.CorruptedValue c))
     → TakesIf MayStop is_known left failures old i new k view answer reading → FindsBy typed_stop StoreMayStop end is_known left failures old i new k (raised answer) B Q
 typed_part is_known left failures old new i k view answer B Q are_bytes agrees join map h =
-    record { found = λ t. let p = h.taken t in typed_found view answer B Q agrees join map (left old) p.prefix (left new) k (are_bytes old t) p.joined (h.gives t p.prefix p.joined); taken = h.taken; stays_known = h.stays_known; counts = typed_counts answer (failures old) (failures new) h.counts; rises = h.rises; may_stop = typed_may answer k h.may_stop }
+    record { found = λ t. let p = h.taken t in typed_found view answer B Q agrees join map (left old) p.prefix (left new) k (are_bytes old t) p.joined (h.gives t p.prefix p.joined); taken = h.taken; stays_known = h.stays_known; counts = typed_counts answer (failures old) (failures new) h.counts; count_grows = h.count_grows; may_stop = typed_may answer k h.may_stop }
 
 both : (b : Bool) → b ≡ false → b ≡ true → ⊥
 both b p q = let e = sym p ∙ q in absurd cc
@@ -222,7 +222,7 @@ told_reads {is_known = is_known} {left = left} {failures = failures} {s = s} {k 
         taken = h.taken;
         stays_known = h.stays_known;
         counts = told_counts result (failures old.source) (failures s) k h.may_stop h.counts;
-        rises = h.rises;
+        count_grows = h.count_grows;
         may_stop = IfErr-weaker result _ _ (λ e may. may.0) h.may_stop;
       }));
   marks_failure = marks;
@@ -272,7 +272,7 @@ tree_reads {left = left} {failures = failures} old new result B F is_open h vers
     taken = h.taken;
     stays_known = h.stays_known;
     counts = tree_counts result (failures old.source) (failures new.source) new.count h.may_stop h.counts;
-    rises = h.rises;
+    count_grows = h.count_grows;
     may_stop = h.may_stop;
   };
   marks_failure = marks;

@@ -67,13 +67,13 @@ leaf_taken {value = value} single h = record {
   taken = h.taken;
   stays_known = h.stays_known;
   counts = h.counts;
-  rises = h.rises;
+  count_grows = h.count_grows;
   may_stop = tt;
 }
 
 pub none_taken : {P : Type 0} {is_known : P → Type 0} {left : P → List ℕ} {count : P → ℕ} {failures : P → Failures} {old new : P} {e : ReadError} {reading : List ℕ → Result (Tree × List ℕ) (Cause × List ℕ)}
     → Takes {X = OwnedValue} read_stop MayStop is_known left count failures old new owned_tree (Err e) reading → Takes read_stop MayStop is_known left count failures old new leaf (Err e) reading
-none_taken h = record { gives = h.gives; taken = h.taken; stays_known = h.stays_known; counts = h.counts; rises = h.rises; may_stop = h.may_stop }
+none_taken h = record { gives = h.gives; taken = h.taken; stays_known = h.stays_known; counts = h.counts; count_grows = h.count_grows; may_stop = h.may_stop }
 
 -- a leaf was taken, and this is the answer to it
 pub leaf_visits : {S X : Type 0} {is_known : S → Type 0} {left : S → List ℕ} {failures : S → Failures} (old new : StoreReader S) (kind : ValueType) (answers : Leaf → Result X DeserializeError → Type 0) (result : Result X DeserializeError) (answer : Result Leaf ReadError)

@@ -104,7 +104,7 @@ pub(crate) fn same_values<'a, V: Value<'a>, W: Value<'a>>(one: &V, other: &W) ->
 /// Whether two values are one: of one kind, with the same content, children in the same order and keys among them. It takes no
 /// memory. (Not in tantivy.) The only error is that one of them nests deeper than `MAX_DEPTH` lists; then nothing is compared.
 pub fn is_same<'a, V: Value<'a>, W: Value<'a>>(one: &V, other: &W) -> Result<bool, TooDeep>
-    ensures same { IfOk result (λ same. same ≡ tree_eq (V.tree one.now) (W.tree other.now)) }
+    ensures equal { IfOk result (λ same. same ≡ tree_eq (V.tree one.now) (W.tree other.now)) }
     ensures within { OnOk result
         (NestsWithin MAX_DEPTH (V.tree one.now) × NestsWithin MAX_DEPTH (W.tree other.now)) }
     ensures deep { IsErr result

@@ -50,8 +50,8 @@ fn prefix_of(block: u8x64, len: usize) -> u8x64
 // Whether the first `len` of sixteen bytes are ASCII.
 #[inline(always)]
 fn is_ascii_prefix(bytes: &[u8], len: usize) -> bool
-    requires many { 16 ≤ length bytes.now }
-    requires few { len ≤ 16 }
+    requires at_least_16 { 16 ≤ length bytes.now }
+    requires at_most_16 { len ≤ 16 }
     ensures { IsTrue result → IsAscii (take len bytes.now) }
 {
     let high = u8x16::from_slice(bytes).simd_ge(u8x16::splat(128));

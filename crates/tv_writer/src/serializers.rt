@@ -225,7 +225,7 @@ impl<'se, K: ByteSink> BinaryArraySerializer<'se, K> {
     /// many are awaited as before.
     pub fn serialize_value<'a, V: Value<'a>>(&mut self, value: &V) -> Result<(), SerializeError>
         ensures same_sink { self.new.sink.ghost_name ≡ self.old.sink.ghost_name }
-        ensures full { self.old.awaited ≡ 0
+        ensures complete { self.old.awaited ≡ 0
             → WritesNothing SerializeError.WrongCount self.old.sink.now self.new.sink.now result }
         ensures writes { 0 < self.old.awaited
             → WritesWithin self.old.depth (V.tree value.now) K.ByteSink
@@ -344,7 +344,7 @@ impl<'se, K: ByteSink> BinaryObjectSerializer<'se, K> {
         value: &V,
     ) -> Result<(), SerializeError>
         ensures same_sink { self.new.sink.ghost_name ≡ self.old.sink.ghost_name }
-        ensures full { self.old.awaited ≡ 0
+        ensures complete { self.old.awaited ≡ 0
             → WritesNothing SerializeError.WrongCount self.old.sink.now self.new.sink.now result }
         ensures writes { 0 < self.old.awaited
             → WritesWithin self.old.depth (V.tree value.now) K.ByteSink

@@ -9,6 +9,6 @@ returns-then-fill-clause-takes g c =
       taken = λ told. full_taken _ (omega (arith, c.if-fill.ensures.length)) refl (c.if-fill.ensures.bytes told);
       stays_known = c.if-fill.ensures.is_known;
       counts = c.if-fill.ensures.failures;
-      rises = omega arith;
+      count_grows = omega arith;
       may_stop = tt;
     }

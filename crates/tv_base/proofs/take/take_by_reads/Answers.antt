@@ -13,7 +13,7 @@ returns-then-room-eq0-clause-takes g c =
       taken = λ told. taken_so_far _ _ _ before.within before.taken (before.given told);
       stays_known = before.stays_known;
       counts = before.counts;
-      rises = omega (arith, before.taken);
+      count_grows = omega (arith, before.taken);
       may_stop = (omega arith, λ is. cc);
     }
 
@@ -29,7 +29,7 @@ returns-in-Ok-eq0-clause-takes g c =
       taken = λ told. taken_so_far _ _ _ before.within before.taken (given told);
       stays_known = λ told. c.in-Ok-eq0.ensures.is_known (before.stays_known told);
       counts = c.in-Ok-eq0.ensures.failures ∙ before.counts;
-      rises = omega (arith, before.taken);
+      count_grows = omega (arith, before.taken);
       may_stop = (tt, λ is. cc);
     }
 
@@ -55,7 +55,7 @@ returns-clause-takes g c =
       taken = λ told. taken_so_far _ _ _ before.within before.taken (before.given told);
       stays_known = before.stays_known;
       counts = before.counts;
-      rises = omega (arith, before.taken);
+      count_grows = omega (arith, before.taken);
       may_stop = tt;
     }
 
@@ -68,6 +68,6 @@ returns-in-Err-clause-takes g c =
       taken = λ told. taken_so_far _ _ _ before.within before.taken (given_still _ _ _ _ (before.given told) (sym (c.in-Err.ensures.bytes (before.stays_known told))));
       stays_known = λ told. c.in-Err.ensures.is_known (before.stays_known told);
       counts = failed_since before.counts c.in-Err.ensures.failures;
-      rises = omega (arith, before.taken);
+      count_grows = omega (arith, before.taken);
       may_stop = (tt, λ is. cc);
     }

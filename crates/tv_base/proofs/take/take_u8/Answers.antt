@@ -9,7 +9,7 @@ returns-then-count-eq18446744073709551615-clause-takes g c = record {
   taken = λ told. Taken_none _ _;
   stays_known = λ told. told;
   counts = refl;
-  rises = omega arith;
+  count_grows = omega arith;
   may_stop = (omega arith, λ is. cc);
 }
 
@@ -21,6 +21,6 @@ returns-in-Ok-Some-clause-takes g c =
       taken = λ told. byte_taken (given told);
       stays_known = c.in-Ok-Some.ensures.is_known;
       counts = c.in-Ok-Some.ensures.failures;
-      rises = omega arith;
+      count_grows = omega arith;
       may_stop = tt;
     }

@@ -10,6 +10,6 @@ returns-in-Some-clause-takes g c =
       taken = λ told. number_taken {n = c.in-Some.number} refl (gave.bytes told);
       stays_known = gave.is_known;
       counts = gave.failures;
-      rises = omega arith;
+      count_grows = omega arith;
       may_stop = tt;
     }

@@ -16,4 +16,4 @@ returns-in-Err-clause-err c =
     subst (IsUnread v bytes) (sym c.unread.ensures)
     (unread_first v bytes c.in-Err.error
     (λ r refusal. subst (λ (l : List ℕ). NoDocument v l r) c.new-source.ensures (refusal_is_true (tt, known) c.in-Err.ensures.reads c.in-Err.error r refl refusal))
-    (λ full. subst (λ (l : List ℕ). HasNoRoom v l) c.new-source.ensures (c.in-Err.ensures.reads.full tt c.in-Err.error refl full)) c.in-Err.ensures.reads.errors)
+    (λ full. subst (λ (l : List ℕ). HasNoRoom v l) c.new-source.ensures (c.in-Err.ensures.reads.no_room tt c.in-Err.error refl full)) c.in-Err.ensures.reads.errors)

@@ -20,7 +20,7 @@ returns-in-Err-clause-err c =
     let some : rest ≡ [] → SaysNothing c.in-Err.error = λ empty. absurd (is_left rest c.rest.result.now c.is_empty.result c.rest.ensures c.is_empty.ensures c.loop-source-test.true empty) in
     subst (IsValuesBlockRefusal v c.args.field.id c.args.block.now) (sym c.unread.ensures)
     (unread_values c.args.field _ _ m (ap (λ n. length c.args.block.now - n) (ap length c.rest-in-loop-source.ensures))
-    (unread_at (HasNoRoomChosen v (c.args.field ∷ [])) v rest _ c.in-Err.error some (λ r refusal. refusal_is_true (tt, known) reads c.in-Err.error r refl refusal) (λ full. reads.full tt c.in-Err.error refl full) reads.errors))
+    (unread_at (HasNoRoomChosen v (c.args.field ∷ [])) v rest _ c.in-Err.error some (λ r refusal. refusal_is_true (tt, known) reads c.in-Err.error r refl refusal) (λ full. reads.no_room tt c.in-Err.error refl full) reads.errors))
 
 pub loop-source-preserved : goal.loop-source-preserved
 loop-source-preserved c =

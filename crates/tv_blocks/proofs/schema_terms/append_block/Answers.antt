@@ -47,4 +47,4 @@ returns-in-Err-clause-err c =
     subst (IsTermsBlockRefusal c.args.schema.now v c.args.block.now) (sym c.unread.ensures)
     (unread_terms _ _ m (ap (λ n. length c.args.block.now - n) (ap length c.rest.ensures))
     (unread_at (HasNoRoom v) v rest _ c.in-Err.error some (λ r refusal. subst (λ (w : DocStoreVersion). NoDocument (version_of w) rest r) i.version (refusal_is_true (tt, known) reads c.in-Err.error r refl refusal))
-    (λ full. subst (λ (w : DocStoreVersion). HasNoRoom (version_of w) rest) i.version (reads.full tt c.in-Err.error refl full)) reads.errors))
+    (λ full. subst (λ (w : DocStoreVersion). HasNoRoom (version_of w) rest) i.version (reads.no_room tt c.in-Err.error refl full)) reads.errors))

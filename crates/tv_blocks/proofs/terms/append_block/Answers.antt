@@ -26,7 +26,7 @@ returns-in-Err-clause-err c =
     subst (IsRefusedBlock v c.args.block.now) (sym c.unread.ensures)
     (breaks v c.args.block.now m.before rest m.documents _ c.in-Err.error m.joined (ap (λ n. length c.args.block.now - n) (ap length c.rest.ensures) ∙ rest_at c.args.block.now m.before rest m.joined) some m.encoded
     (λ r refusal. subst (λ (w : DocStoreVersion). NoDocument (version_of w) rest r) i.version (refusal_is_true (tt, known) reads c.in-Err.error r refl refusal))
-    (λ full. subst (λ (w : DocStoreVersion). HasNoRoom (version_of w) rest) i.version (reads.full tt c.in-Err.error refl full)) reads.errors)
+    (λ full. subst (λ (w : DocStoreVersion). HasNoRoom (version_of w) rest) i.version (reads.no_room tt c.in-Err.error refl full)) reads.errors)
 
 pub loop-writer-preserved : goal.loop-writer-preserved
 loop-writer-preserved c =

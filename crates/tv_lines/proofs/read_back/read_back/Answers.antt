@@ -37,6 +37,6 @@ returns-in-Err-clause-err c = λ d valid same.
     (only_short c.in-Err.error _ _
     (λ r is. c.malformed_documents_derive_none.ensures V2 _ r d (c.in-Err.ensures.reads.error tt c.in-Err.error r refl is) derives)
     (λ r is. never_long (tt, omega (arith, ap length left)) c.in-Err.ensures.reads c.in-Err.error r refl is)
-    c.in-Err.ensures.reads.errors refl c.in-Err.ensures.reads.failures) c.unwritten.ensures.memory c.unwritten.ensures.full
+    c.in-Err.ensures.reads.errors refl c.in-Err.ensures.reads.failures) c.unwritten.ensures.memory c.unwritten.ensures.no_room
     (λ f. above (document_room d) 4294967295
     (λ small. full_answers_none c.in-Err.error f (c.in-Err.ensures.reads.only (tt, omega (arith, ap length left)) d (short_document V2 d) [] joined encoded small)))

@@ -29,10 +29,10 @@ returns-in_err-document-clause-finds g c =
     let p = err_from_is_err_and c.from_residual-in_err-document.result c.from_residual-in_err-document.ensures.1 in
     rw (p.1, p.2) (pair_refused (version_of c.args.version) c.args.fields.now c.in_ok-announced.announced c.loop.counter c.loop.document (omega (arith, c.loop-test.true)) c.loop.invariant c.in_err-document.ensures.finds)
 
-pub returns-in_err-document-clause-full : goal.returns-in_err-document-clause-full
-returns-in_err-document-clause-full g c =
+pub returns-in_err-document-clause-no_room : goal.returns-in_err-document-clause-no_room
+returns-in_err-document-clause-no_room g c =
     let p = err_from_is_err_and c.from_residual-in_err-document.result c.from_residual-in_err-document.ensures.1 in
-    rw (p.1, p.2) (λ told full. pair_has_none (version_of c.args.version) c.args.fields.now c.in_ok-announced.announced c.loop.counter c.loop.document (omega (arith, c.loop-test.true)) c.loop.invariant told (c.in_err-document.ensures.full (c.loop.invariant.stays_known told) full))
+    rw (p.1, p.2) (λ told full. pair_has_none (version_of c.args.version) c.args.fields.now c.in_ok-announced.announced c.loop.counter c.loop.document (omega (arith, c.loop-test.true)) c.loop.invariant told (c.in_err-document.ensures.no_room (c.loop.invariant.stays_known told) full))
 
 pub returns-clause-finds : goal.returns-clause-finds
 returns-clause-finds g c =

@@ -18,7 +18,7 @@ pub returns-clause-finds : goal.returns-clause-finds
 returns-clause-finds g c =
     none_before (version_of c.args.version) c.args.fields.now c.args.document c.take_buffered_pair.new.document c.take_buffered_pair.result c.take_pair_by_parts.result c.if-take_buffered_pair.false c.take_buffered_pair.ensures.finds c.take_pair_by_parts.ensures.finds
 
-pub returns-clause-full : goal.returns-clause-full
-returns-clause-full g c = λ told full stands.
+pub returns-clause-no_room : goal.returns-clause-no_room
+returns-clause-no_room g c = λ told full stands.
     none_before_full (version_of c.args.version) c.args.fields.now c.args.document c.take_buffered_pair.new.document c.take_buffered_pair.result c.if-take_buffered_pair.false c.take_buffered_pair.ensures.finds told stands
-    (c.take_pair_by_parts.ensures.full (c.take_buffered_pair.ensures.finds.stays_known told) full)
+    (c.take_pair_by_parts.ensures.no_room (c.take_buffered_pair.ensures.finds.stays_known told) full)

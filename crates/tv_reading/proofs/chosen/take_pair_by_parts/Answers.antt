@@ -22,11 +22,11 @@ returns-then-is_among-clause-finds g c =
     let field = finds_read g.met.S.ByteSource.are_bytes field_agrees c.in_ok-field.ensures.takes in
     value_kept v c.args.fields.now d c.in_ok-field.field c.take_pair_value.result (sym c.is_among.ensures ∙ c.if-is_among.true) field c.take_pair_value.ensures.finds
 
-pub returns-then-is_among-clause-full : goal.returns-then-is_among-clause-full
-returns-then-is_among-clause-full g c = λ told full stands.
+pub returns-then-is_among-clause-no_room : goal.returns-then-is_among-clause-no_room
+returns-then-is_among-clause-no_room g c = λ told full stands.
     let field = finds_read g.met.S.ByteSource.are_bytes field_agrees c.in_ok-field.ensures.takes in
     value_has_none (version_of c.args.version) c.args.fields.now (document_of c.args.document) c.in_ok-field.field (sym c.is_among.ensures ∙ c.if-is_among.true) field told
-    (c.take_pair_value.ensures.full (field.stays_known told) full stands)
+    (c.take_pair_value.ensures.no_room (field.stays_known told) full stands)
 
 pub returns-in_err-pass_value-clause-finds : goal.returns-in_err-pass_value-clause-finds
 returns-in_err-pass_value-clause-finds g c =

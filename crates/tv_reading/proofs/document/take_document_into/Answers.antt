@@ -32,12 +32,12 @@ returns-clause-finds g c =
     begun_then v n empty document c.requires m c.between_pairs-begun.result c.take_rest.result c.between_pairs-begun.ensures.parts prefix c.take_rest.ensures.finds c.between_pairs-begun.ensures.sound
     (λ done. absurd (omega (arith, c.if-finished-announced.false, c.between_pairs-begun.ensures.done done)))
 
-pub returns-clause-full : goal.returns-clause-full
-returns-clause-full g c = λ t full.
+pub returns-clause-no_room : goal.returns-clause-no_room
+returns-clause-no_room g c = λ t full.
     let v = version_of c.args.version in
     let empty = c.args.empty in
     let document = c.take_buffered_pairs-finished.new.document in
     let n = c.in_ok-announced.announced in
     let m = c.take_buffered_pairs-finished.result in
     let prefix = begun_finds v n empty document c.requires m c.in_ok-announced.ensures.finds c.take_buffered_pairs-finished.ensures.finds in
-    begun_no_room v n empty document c.requires m c.between_pairs-begun.result c.between_pairs-begun.ensures.parts prefix t (c.take_rest.ensures.full (prefix.stays_known t) full)
+    begun_no_room v n empty document c.requires m c.between_pairs-begun.result c.between_pairs-begun.ensures.parts prefix t (c.take_rest.ensures.no_room (prefix.stays_known t) full)

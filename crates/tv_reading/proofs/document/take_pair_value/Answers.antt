@@ -21,11 +21,11 @@ returns-clause-finds g c =
     (λ w r refuses. value_refused v d f w r few field (λ bytes p. refuses bytes (subst (λ (z : List Part). Encoded Legacy v bytes z) (sym parts) p)))
     c.take_rest.ensures.finds
 
-pub returns-clause-full : goal.returns-clause-full
-returns-clause-full g c = λ told full.
+pub returns-clause-no_room : goal.returns-clause-no_room
+returns-clause-no_room g c = λ told full.
     let v = version_of c.args.version in
     let few = c.before_value-begun.ensures.at_most in
     let field : c.args.field < 2 ^ 32 = omega (arith, c.ranges.field.fits) in
     let d = document_of c.args.document in
-    let none = c.take_rest.ensures.full told full in
+    let none = c.take_rest.ensures.no_room told full in
     value_too_large v d c.args.field _ few field (λ bytes p. none bytes (subst (λ (z : List Part). Encoded Legacy v bytes z) (sym c.before_value-begun.ensures.parts) p))

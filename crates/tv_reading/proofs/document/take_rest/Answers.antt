@@ -29,10 +29,10 @@ returns-in_err-advance-clause-finds g c =
     let v = version_of c.args.version in
     rw (p.1, p.2) (step_fails v c.args.begun c.loop.reading _ c.advance.new.legacy_seen c.advance.new.self c.loop.invariant.0 (λ d. let t : true ≡ false = sym (c.is_done.ensures.1 d) ∙ c.if-is_done.false in cc) c.loop.invariant.1 c.in_err-advance.ensures.finds)
 
-pub returns-in_err-advance-clause-full : goal.returns-in_err-advance-clause-full
-returns-in_err-advance-clause-full g c =
+pub returns-in_err-advance-clause-no_room : goal.returns-in_err-advance-clause-no_room
+returns-in_err-advance-clause-no_room g c =
     let p = err_from_is_err_and c.from_residual.result c.from_residual.ensures.1 in
-    rw (p.1, p.2) (λ told full. no_room (version_of c.args.version) c.args.begun c.loop.reading c.loop.invariant.1 told (c.in_err-advance.ensures.full (c.loop.invariant.1.stays_known told) (err_of _ HeapFull full)))
+    rw (p.1, p.2) (λ told full. no_room (version_of c.args.version) c.args.begun c.loop.reading c.loop.invariant.1 told (c.in_err-advance.ensures.no_room (c.loop.invariant.1.stays_known told) (err_of _ HeapFull full)))
 
 pub loop-preserved : goal.loop-preserved
 loop-preserved g c =
@@ -43,7 +43,7 @@ loop-preserved g c =
     let more = step_more v c.args.begun l.reading c.in_ok-advance.field-0 c.advance.new.legacy_seen c.advance.new.self l.invariant.1 step.finds in (
       pairs.sound,
       pairs_more v c.args.begun c.advance.new.self c.with_buffered_pairs-reading.result more pairs.finds,
-      λ told. omega (arith, l.invariant.2 told, step_takes v c.args.begun l.reading c.in_ok-advance.field-0 c.advance.new.legacy_seen c.advance.new.self step.finds (l.invariant.1.stays_known told), pairs.finds.rises),
+      λ told. omega (arith, l.invariant.2 told, step_takes v c.args.begun l.reading c.in_ok-advance.field-0 c.advance.new.legacy_seen c.advance.new.self step.finds (l.invariant.1.stays_known told), pairs.finds.count_grows),
     )
 
 pub returns-clause-finds : goal.returns-clause-finds

@@ -21,4 +21,4 @@ returns-in-Ok g c =
 pub returns-in-Err : goal.returns-in-Err
 returns-in-Err g c =
     let v = version_of c.args.version in
-    reads_of (documents v) document_of g.S.ByteSource (Err c.in-Err.error) (single_documents v _) (finds_fails (EncodesRead v) (NoDocument v) (λ w r q. q) c.in-Err.ensures.finds) (λ known is. c.in-Err.ensures.full known (cc))
+    reads_of (documents v) document_of g.S.ByteSource (Err c.in-Err.error) (single_documents v _) (finds_fails (EncodesRead v) (NoDocument v) (λ w r q. q) c.in-Err.ensures.finds) (λ known is. c.in-Err.ensures.no_room known (cc))

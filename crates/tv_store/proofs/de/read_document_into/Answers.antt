@@ -9,4 +9,4 @@ returns-clause-reads g c =
     let v = version_of c.args.version in
     let read = c.take_in_place in
     let document = read.new.document in
-    reads_of (documents v) (λ (x : Unit {0}). document_of document) g.S.ByteSource read.result (single_documents v _) read.ensures.finds read.ensures.full
+    reads_of (documents v) (λ (x : Unit {0}). document_of document) g.S.ByteSource read.result (single_documents v _) read.ensures.finds read.ensures.no_room

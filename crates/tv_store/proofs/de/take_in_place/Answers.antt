@@ -11,6 +11,6 @@ returns-clause-finds g c =
     let v = version_of c.args.version in
     finds_put c.put_read.result c.put_read.new.document.values (EncodesRead v) (NoDocument v) c.put_read.ensures.put c.take_document_into-read.ensures.finds
 
-pub returns-clause-full : goal.returns-clause-full
-returns-clause-full g c = λ told is.
-    c.take_document_into-read.ensures.full told (sym c.put_read.ensures.put ∙ placed_error c.put_read.result c.put_read.new.document.values HeapFull is)
+pub returns-clause-no_room : goal.returns-clause-no_room
+returns-clause-no_room g c = λ told is.
+    c.take_document_into-read.ensures.no_room told (sym c.put_read.ensures.put ∙ placed_error c.put_read.result c.put_read.new.document.values HeapFull is)

@@ -24,4 +24,4 @@ returns-in-Err g c =
     let v = version_of c.args.version in
     let fields = c.args.fields.now in
     let read = λ (b : List ℕ) (d : CompactDoc). EncodesChosenPairs v fields b (document_of d) in
-    reads_of (chosen_pairs v fields) document_of g.S.ByteSource (Err c.in-Err.error) (single_chosen v fields _) (finds_fails read (NoDocument v) (λ w r q. q) c.in-Err.ensures.finds) (λ known is. c.in-Err.ensures.full known (cc))
+    reads_of (chosen_pairs v fields) document_of g.S.ByteSource (Err c.in-Err.error) (single_chosen v fields _) (finds_fails read (NoDocument v) (λ w r q. q) c.in-Err.ensures.finds) (λ known is. c.in-Err.ensures.no_room known (cc))

@@ -10,4 +10,4 @@ returns-clause-reads g c =
     let fields = c.args.fields.now in
     let read = c.take_fields_in_place in
     let document = read.new.document in
-    reads_of (chosen_pairs v fields) (λ (x : Unit {0}). document_of document) g.S.ByteSource read.result (single_chosen v fields _) read.ensures.finds read.ensures.full
+    reads_of (chosen_pairs v fields) (λ (x : Unit {0}). document_of document) g.S.ByteSource read.result (single_chosen v fields _) read.ensures.finds read.ensures.no_room

@@ -42,7 +42,7 @@ returns-in-Err-clause-comes g c = λ told.
     let taken = subst (λ n. Taken (left c.args.source.now) (left c.take_within-taken.new.source) n decoder.count) (begun.ensures.count ∙ c.first_count-first.ensures.count) (h.finds.taken told) in
     let below : decoder.count < 2 ^ 64 = omega (arith, c.bytes_read-last.ensures, c.bytes_read-last.type_inv) in
     subst (λ z. ReadsByLimits (version_of z) c.args.limits (left c.args.source.now) (left c.take_within-taken.new.source) (Err c.refused.result)) begun.ensures.version
-    (told_of (version_of begun.result.version) c.args.limits begun.result.reading c.in-Err.error _ _ decoder.count _ c.refused.result c.refused.ensures begun.ensures.parts (h.finds.found told) taken below (subst (λ n. IsTrue c.is_all.result ↔ (IsSome c.args.limits.bytes × (n ≡ 2 ^ 64 - 1))) c.bytes_read-last.ensures c.is_all.ensures) (λ m e. subst (λ z. z + m ≡ 2 ^ 64 - 1) c.first_count-first.ensures.count (c.first_count-first.ensures.sum m e)) (λ is. h.full told (ap (λ (z : DeserializeError). Err z) is)))
+    (told_of (version_of begun.result.version) c.args.limits begun.result.reading c.in-Err.error _ _ decoder.count _ c.refused.result c.refused.ensures begun.ensures.parts (h.finds.found told) taken below (subst (λ n. IsTrue c.is_all.result ↔ (IsSome c.args.limits.bytes × (n ≡ 2 ^ 64 - 1))) c.bytes_read-last.ensures c.is_all.ensures) (λ m e. subst (λ z. z + m ≡ 2 ^ 64 - 1) c.first_count-first.ensures.count (c.first_count-first.ensures.sum m e)) (λ is. h.no_room told (ap (λ (z : DeserializeError). Err z) is)))
 
 pub returns-in-Err-clause-failures : goal.returns-in-Err-clause-failures
 returns-in-Err-clause-failures g c = told_counts c.in-Err.error _ c.refused.result (store_stop c.in-Err.error) _ _ refl c.refused.ensures (c.in-Err.ensures.finds.counts)
@@ -57,10 +57,10 @@ pub returns-in-None-clause-failures : goal.returns-in-None-clause-failures
 returns-in-None-clause-failures g c = tested_counts c.args.limits.depth c.into_doc.result c.tested.result _ _ c.tested.ensures c.in-Ok.ensures.finds.counts
 
 pub returns-in-None-clause-counted : goal.returns-in-None-clause-counted
-returns-in-None-clause-counted g c = λ told. counted_from _ _ _ _ _ c.counting_from-decoder.ensures.count c.bytes_read-last.ensures c.in-Ok.ensures.finds.rises (c.in-Ok.ensures.finds.taken told)
+returns-in-None-clause-counted g c = λ told. counted_from _ _ _ _ _ c.counting_from-decoder.ensures.count c.bytes_read-last.ensures c.in-Ok.ensures.finds.count_grows (c.in-Ok.ensures.finds.taken told)
 
 pub returns-in-Some-clause-counted : goal.returns-in-Some-clause-counted
-returns-in-Some-clause-counted g c = λ told. counted_from _ _ _ _ _ c.counting_from-decoder.ensures.count c.bytes_read-last.ensures c.in-Ok.ensures.finds.rises (c.in-Ok.ensures.finds.taken told)
+returns-in-Some-clause-counted g c = λ told. counted_from _ _ _ _ _ c.counting_from-decoder.ensures.count c.bytes_read-last.ensures c.in-Ok.ensures.finds.count_grows (c.in-Ok.ensures.finds.taken told)
 
 pub returns-in-Err-clause-counted : goal.returns-in-Err-clause-counted
-returns-in-Err-clause-counted g c = λ told. counted_from _ _ _ _ _ c.counting_from-decoder.ensures.count c.bytes_read-last.ensures c.in-Err.ensures.finds.rises (c.in-Err.ensures.finds.taken told)
+returns-in-Err-clause-counted g c = λ told. counted_from _ _ _ _ _ c.counting_from-decoder.ensures.count c.bytes_read-last.ensures c.in-Err.ensures.finds.count_grows (c.in-Err.ensures.finds.taken told)

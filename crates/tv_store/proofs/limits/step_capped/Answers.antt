@@ -62,7 +62,7 @@ returns-in-Ok-clause-paid g c = λ known.
     let ended = c.recount-2.ensures.count ∙ ap (λ n. n - c.first_count-first.result) c.bytes_read-count.ensures in
     let more = subst (λ r. ¬ IsDone r) (sym c.recount.ensures.reading) c.requires.more in
     let h = c.in-Ok.ensures.steps.finds (c.recount.ensures.failed ∙ c.requires.not_failed) more in
-    recounted_paid c.args.decoder.now c.recount.new.self c.step-stepped.new.self c.recount-2.new.self c.first_count-first.result c.recount.ensures.reading begun c.recount-2.ensures.reading ended c.recount-2.ensures.seen c.recount.ensures.version c.recount.ensures.failed h.rises (c.in-Ok.ensures.paid known)
+    recounted_paid c.args.decoder.now c.recount.new.self c.step-stepped.new.self c.recount-2.new.self c.first_count-first.result c.recount.ensures.reading begun c.recount-2.ensures.reading ended c.recount-2.ensures.seen c.recount.ensures.version c.recount.ensures.failed h.count_grows (c.in-Ok.ensures.paid known)
 
 pub returns-in-Err-clause-at_most : goal.returns-in-Err-clause-at_most
 returns-in-Err-clause-at_most g c = λ known.
@@ -76,4 +76,4 @@ returns-in-Err-clause-paid g c = λ known.
     let ended = c.recount-2.ensures.count ∙ ap (λ n. n - c.first_count-first.result) c.bytes_read-count.ensures in
     let more = subst (λ r. ¬ IsDone r) (sym c.recount.ensures.reading) c.requires.more in
     let h = c.in-Err.ensures.steps.finds (c.recount.ensures.failed ∙ c.requires.not_failed) more in
-    recounted_paid c.args.decoder.now c.recount.new.self c.step-stepped.new.self c.recount-2.new.self c.first_count-first.result c.recount.ensures.reading begun c.recount-2.ensures.reading ended c.recount-2.ensures.seen c.recount.ensures.version c.recount.ensures.failed h.rises (c.in-Err.ensures.paid known)
+    recounted_paid c.args.decoder.now c.recount.new.self c.step-stepped.new.self c.recount-2.new.self c.first_count-first.result c.recount.ensures.reading begun c.recount-2.ensures.reading ended c.recount-2.ensures.seen c.recount.ensures.version c.recount.ensures.failed h.count_grows (c.in-Err.ensures.paid known)

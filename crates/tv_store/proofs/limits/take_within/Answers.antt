@@ -19,11 +19,11 @@ returns-in_err-step-clause-finds g c =
     rw (p.1, p.2) (fails v (version_of l.decoder.version) (ap version_of l.invariant.version) c.args.decoder.now.reading l.decoder.reading _ c.step.new.self.legacy_seen c.step.new.self.reading (λ b x. Advances Legacy v c.args.decoder.now.reading c.step.new.self.reading b)
     (l.decoder.sound l.invariant.not_failed) l.invariant.more l.invariant.finds (c.in_err-step.ensures.steps.finds l.invariant.not_failed l.invariant.more))
 
-pub returns-in_err-step-clause-full : goal.returns-in_err-step-clause-full
-returns-in_err-step-clause-full g c = λ told is.
+pub returns-in_err-step-clause-no_room : goal.returns-in_err-step-clause-no_room
+returns-in_err-step-clause-no_room g c = λ told is.
     let p = err_from_is_err_and c.from_residual.result c.from_residual.ensures.1 in
     let l = c.loop in
-    let full = c.in_err-step.ensures.steps.full (l.invariant.finds.stays_known told) HeapFull (ap (λ z. Err z) (err_is c.from_residual.result _ HeapFull (p.1 ∙ ap (λ z. Err z) p.2) is)) refl in
+    let full = c.in_err-step.ensures.steps.no_room (l.invariant.finds.stays_known told) HeapFull (ap (λ z. Err z) (err_is c.from_residual.result _ HeapFull (p.1 ∙ ap (λ z. Err z) p.2) is)) refl in
     no_room (version_of c.args.decoder.now.version) c.args.decoder.now.reading l.decoder.reading l.invariant.finds told
     (subst (λ w. NoRoomBehind w l.decoder.reading (g.S.ByteSource.left l.source)) (ap version_of l.invariant.version) full)
 

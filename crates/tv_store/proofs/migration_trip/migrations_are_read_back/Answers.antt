@@ -28,7 +28,7 @@ returns-in_err-document-clause-memory c =
     let small = c.requires.begins.1.1.1 in
     let written = c.in_ok-written.ensures.written d rest begins small in
     let same = c.as_slice.ensures.value ∙ written ∙ ap (λ v. short_document v d) (sym c.requires.new_version) ∙ sym (append-nil (short_document (version_of c.args.back) d)) in
-    let full = c.in_err-document.ensures.full d [] (c.in_ok-written.ensures.valid d rest begins) same in
+    let full = c.in_err-document.ensures.no_room d [] (c.in_ok-written.ensures.valid d rest begins) same in
     rw (p.1, p.2) (not_full c.in_err-document.field-0.0 (λ e. omega (arith, full (ap (λ z. Err z) e), small)))
 
 pub returns-clause-back : goal.returns-clause-back
@@ -37,8 +37,8 @@ returns-clause-back c = λ d rest begins small.
     let same = c.as_slice.ensures.value ∙ written ∙ ap (λ v. short_document v d) (sym c.requires.new_version) ∙ sym (append-nil (short_document (version_of c.args.back) d)) in
     (c.in_ok-document.ensures.found d [] (c.in_ok-written.ensures.valid d rest begins) same).0
 
-pub returns-clause-left : goal.returns-clause-left
-returns-clause-left c =
+pub returns-clause-nothing_left : goal.returns-clause-nothing_left
+returns-clause-nothing_left c =
     let d = c.requires.begins.0 in
     let rest = c.requires.begins.1.0 in
     let begins = c.requires.begins.1.1.0 in

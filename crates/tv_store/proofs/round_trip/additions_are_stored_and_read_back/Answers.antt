@@ -12,8 +12,8 @@ stored_bytes-requires c =
     kept_belongs c.args.schema.now values added c.requires
     (kept_of values start added (record { document = c.new-added.ensures.document; heap = c.new-added.ensures.heap }) c.add_all.ensures)
 
-pub returns-in_err-back-clause-full : goal.returns-in_err-back-clause-full
-returns-in_err-back-clause-full c = λ e.
+pub returns-in_err-back-clause-no_room : goal.returns-in_err-back-clause-no_room
+returns-in_err-back-clause-no_room c = λ e.
     let start = c.new-added.result in
     let values = c.args.values.now in
     let added = c.add_all.new.document in
@@ -21,7 +21,7 @@ returns-in_err-back-clause-full c = λ e.
     let d = stored c.args.schema.now (document_of added) in
     let copied = c.in_ok-bytes.ensures.items ∙ c.as_slice.ensures.value ∙ c.in_ok-written.ensures.bytes in
     let same = c.as_slice-2.ensures.value ∙ c.in_ok-extend_from_slice.ensures.items ∙ ap (λ l. l ++ c.args.rest.now) copied in
-    let full = c.read_back.ensures.full d c.args.rest.now (c.stored_pairs_are_valid.ensures c.args.schema.now (document_of added) (c.documents_are_valid.ensures added)) same (search (rules, e)) in
+    let full = c.read_back.ensures.no_room d c.args.rest.now (c.stored_pairs_are_valid.ensures c.args.schema.now (document_of added) (c.documents_are_valid.ensures added)) same (search (rules, e)) in
     omega (arith, full, kept_room values added kept, c.stored_pairs_need_no_more_room.ensures c.args.schema.now (document_of added))
 
 pub returns-clause-added : goal.returns-clause-added

@@ -30,8 +30,8 @@ returns-in_ok-left-in-Ok-clause-found c = λ d rest valid same.
     let one = c.documents_have_one_reading.ensures v begins.prefix (short_document v d) _ rest _ d begins.encoded (c.short_documents_encode.ensures v c.requires.written d valid) joined in
     (one.1, c.in_ok-left-in-Ok.ensures.items ∙ c.rest.ensures ∙ same_rest begins.prefix (short_document v d) _ rest one.0 joined)
 
-pub returns-in-Err-clause-full : goal.returns-in-Err-clause-full
-returns-in-Err-clause-full c = λ d rest valid same e.
+pub returns-in-Err-clause-no_room : goal.returns-in-Err-clause-no_room
+returns-in-Err-clause-no_room c = λ d rest valid same e.
     let v = version_of c.args.version in
     let left = c.new-source.ensures in
     above (document_room d) 4294967295

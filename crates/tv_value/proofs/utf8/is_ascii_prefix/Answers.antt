@@ -24,13 +24,13 @@ pub returns : goal.returns
 returns c told i =
     let bytes = c.args.bytes.now in
     let lanes = take 16 bytes in
-    let sixteen : length lanes ≡ 16 = length-take-le 16 bytes c.requires.many in
+    let sixteen : length lanes ≡ 16 = length-take-le 16 bytes c.requires.at_least_16 in
     let mask = ap (λ m. mask_l m % 2 ^ 64) (tops_compared w8 leb (replicate 16 128) lanes ∙ zip2_splat_left leb 128 16 lanes sixteen) ∙ mask_l-mod (map is_high lanes) 64 (omega (arith, sixteen, length-map lanes is_high)) in
     let zeros : c.args.len ≤ count_trailing_zeros 64 (mask_l (map is_high lanes)) = subst (λ m. c.args.len ≤ count_trailing_zeros 64 m) mask (leb-true _ _ told) in
     elim (cases_lt i c.args.len) [
       | inl within ↦
-          let passes = prefix_len_passes (λ byte. not (is_high byte)) lanes i 0 (omega (arith, within, leads lanes c.args.len sixteen c.requires.few zeros)) in
+          let passes = prefix_len_passes (λ byte. not (is_high byte)) lanes i 0 (omega (arith, within, leads lanes c.args.len sixteen c.requires.at_most_16 zeros)) in
           let low = leb-false 128 (get_or lanes i 0) (not-true _ passes) in
-          omega (arith, low, get_or-take c.args.len bytes i 0 within, get_or-take 16 bytes i 0 (omega (arith, within, c.requires.few)))
-      | inr past ↦ omega (arith, get_or_past (take c.args.len bytes) i 0 (omega (arith, past, length-take-le c.args.len bytes (omega (arith, c.requires.many, c.requires.few)))))
+          omega (arith, low, get_or-take c.args.len bytes i 0 within, get_or-take 16 bytes i 0 (omega (arith, within, c.requires.at_most_16)))
+      | inr past ↦ omega (arith, get_or_past (take c.args.len bytes) i 0 (omega (arith, past, length-take-le c.args.len bytes (omega (arith, c.requires.at_least_16, c.requires.at_most_16)))))
     ]

@@ -11,8 +11,8 @@ invariant_of-self c =
     let f = same_fields old _ _ heap pairs in
     record { document = f.document; bytes = f.bytes; fits = f.fits }
 
-pub returns-clause-same : goal.returns-clause-same
-returns-clause-same c = unchanged c.args.self.now _ c.shrink_to_fit.ensures.items c.shrink_to_fit-2.ensures.items
+pub returns-clause-unchanged : goal.returns-clause-unchanged
+returns-clause-unchanged c = unchanged c.args.self.now _ c.shrink_to_fit.ensures.items c.shrink_to_fit-2.ensures.items
 
 pub returns-clause-frees_bytes : goal.returns-clause-frees_bytes
 returns-clause-frees_bytes c = λ e. c.shrink_to_fit.ensures.frees (omega (arith, c.args.self.now.heap.ok.0, ap length e))

@@ -10,4 +10,4 @@ invariant_of-self c =
 
 pub returns : goal.returns
 returns c =
-    builds_next c.args.self.now _ c.begin_bytes-result.new.self _ _ _ c.begin_bytes-result.result c.settle.result c.if-self.false c.begin_bytes-result.ensures c.settle.ensures.settled refl refl c.settle.ensures.same
+    builds_next c.args.self.now _ c.begin_bytes-result.new.self _ _ _ c.begin_bytes-result.result c.settle.result c.if-self.false c.begin_bytes-result.ensures c.settle.ensures.settled refl refl c.settle.ensures.returned

@@ -10,4 +10,4 @@ invariant_of-self c =
 
 pub returns-clause-builds : goal.returns-clause-builds
 returns-clause-builds c =
-    builds_chunk c.args.self.now _ c.chunk-result.new.self _ _ _ c.chunk-result.result c.settle.result c.if-self.false c.chunk-result.ensures.does c.settle.ensures.settled refl refl c.settle.ensures.same
+    builds_chunk c.args.self.now _ c.chunk-result.new.self _ _ _ c.chunk-result.result c.settle.result c.if-self.false c.chunk-result.ensures.does c.settle.ensures.settled refl refl c.settle.ensures.returned

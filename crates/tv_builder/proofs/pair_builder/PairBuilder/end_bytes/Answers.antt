@@ -10,4 +10,4 @@ invariant_of-self c =
 
 pub returns : goal.returns
 returns c =
-    ends c.args.self.now _ c.end_bytes-result.new.self c.end_bytes-result.result c.settle.result c.if-self.false c.end_bytes-result.ensures c.settle.ensures.settled refl refl c.settle.ensures.same
+    ends c.args.self.now _ c.end_bytes-result.new.self c.end_bytes-result.result c.settle.result c.if-self.false c.end_bytes-result.ensures c.settle.ensures.settled refl refl c.settle.ensures.returned

@@ -10,4 +10,4 @@ invariant_of-self c =
 pub returns : goal.returns
 returns c =
     let k = c.keep_tree-result in
-    finishes c.args.self.now _ k.new.building c.args.field k.result c.settle.result c.if-self.false k.ensures.ok k.ensures.err c.settle.ensures.settled c.settle.ensures.same
+    finishes c.args.self.now _ k.new.building c.args.field k.result c.settle.result c.if-self.false k.ensures.ok k.ensures.err c.settle.ensures.settled c.settle.ensures.returned

@@ -10,4 +10,4 @@ invariant_of-self c =
 
 pub returns : goal.returns
 returns c =
-    builds_next c.args.self.now _ c.key-result.new.self _ _ _ c.key-result.result c.settle.result c.if-self.false c.key-result.ensures c.settle.ensures.settled refl refl c.settle.ensures.same
+    builds_next c.args.self.now _ c.key-result.new.self _ _ _ c.key-result.result c.settle.result c.if-self.false c.key-result.ensures c.settle.ensures.settled refl refl c.settle.ensures.returned

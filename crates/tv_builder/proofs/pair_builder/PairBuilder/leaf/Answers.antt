@@ -13,4 +13,4 @@ invariant_of-self c =
 
 pub returns : goal.returns
 returns c =
-    builds_next c.args.self.now _ c.leaf-result.new.self _ _ _ c.leaf-result.result c.settle.result c.if-self.false c.leaf-result.ensures c.settle.ensures.settled refl refl c.settle.ensures.same
+    builds_next c.args.self.now _ c.leaf-result.new.self _ _ _ c.leaf-result.result c.settle.result c.if-self.false c.leaf-result.ensures c.settle.ensures.settled refl refl c.settle.ensures.returned

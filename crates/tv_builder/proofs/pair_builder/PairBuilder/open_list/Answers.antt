@@ -10,4 +10,4 @@ invariant_of-self c =
 
 pub returns : goal.returns
 returns c =
-    builds_next c.args.self.now _ c.open_list-result.new.self _ _ _ c.open_list-result.result c.settle.result c.if-self.false c.open_list-result.ensures c.settle.ensures.settled refl refl c.settle.ensures.same
+    builds_next c.args.self.now _ c.open_list-result.new.self _ _ _ c.open_list-result.result c.settle.result c.if-self.false c.open_list-result.ensures c.settle.ensures.settled refl refl c.settle.ensures.returned

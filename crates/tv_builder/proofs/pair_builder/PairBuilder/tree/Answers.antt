@@ -11,4 +11,4 @@ invariant_of-self g c =
 
 pub returns : goal.returns
 returns g c =
-    builds_next c.args.self.now _ c.tree-result.new.self _ _ _ c.tree-result.result c.settle.result c.if-self.false c.tree-result.ensures c.settle.ensures.settled refl refl c.settle.ensures.same
+    builds_next c.args.self.now _ c.tree-result.new.self _ _ _ c.tree-result.result c.settle.result c.if-self.false c.tree-result.ensures c.settle.ensures.settled refl refl c.settle.ensures.returned

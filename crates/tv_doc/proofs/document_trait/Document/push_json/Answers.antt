@@ -24,5 +24,5 @@ returns-clause-added g c =
     let sorted = subst (λ l. IsNamed names (map (pair_seen tree) l) named) c.as_slice-2.ensures.value
     (subst (λ l. IsNamed names (map (pair_seen tree) c.as_slice-2.result.now) (map (named_trees tree) l)) (sym c.as_slice-3.ensures.value) c.in_ok-named-2.ensures) in
     on_ok_weaker c.push_named_json-2.result
-    (λ is. (_, (named, named_sorted tree names _ _ (g.Self.Document.pairs c.args.self.now) named c.sort_pairs.ensures.same c.in_ok-pairs.ensures sorted, refl), is))
+    (λ is. (_, (named, named_sorted tree names _ _ (g.Self.Document.pairs c.args.self.now) named c.sort_pairs.ensures.values c.in_ok-pairs.ensures sorted, refl), is))
     c.push_named_json-2.ensures.ok

@@ -14,7 +14,7 @@ returns-in-Err-clause-puts c =
     let r = c.args.self.now in
     let w = c.requires.awaiting in
     let refused = bytes_refused r (with_builder r c.chunk.new.self) c.chunk.new.self _ _ (λ s. and_bytes s c.args.bytes.now) c.args.bytes.now (some_bytes c.args.bytes.now ∷ []) c.in-Err.error w.sound.not_failed
-    (takes_bytes (state_of r.builder) c.args.missing (length c.args.bytes.now) (is_state r.builder) w.next c.requires.few) c.in-Err.ensures.builds c.in-Err.ensures.no_heap_full in
+    (takes_bytes (state_of r.builder) c.args.missing (length c.args.bytes.now) (is_state r.builder) w.next c.requires.at_most) c.in-Err.ensures.builds c.in-Err.ensures.no_heap_full in
     rw (c.store_error.ensures) refused
 
 pub returns-then-bytes-missing : goal.returns-then-bytes-missing
@@ -24,7 +24,7 @@ returns-then-bytes-missing c =
     let b = c.chunk.new.self in
     let w = c.requires.awaiting in
     let bytes = c.args.bytes.now in
-    let takes = takes_bytes s c.args.missing (length bytes) (is_state r.builder) w.next c.requires.few in
+    let takes = takes_bytes s c.args.missing (length bytes) (is_state r.builder) w.next c.requires.at_most in
     let mid = with_builder r b in
     let g = called r.builder b _ _ (λ s. and_bytes s bytes) (Ok c.in_default.field-0) w.sound.not_failed takes c.in_default.ensures.builds in
     let opened = call_opens r b _ _ _ (λ s. and_bytes s bytes) [] c.in_default.field-0 w takes c.in_default.ensures.builds (bytes_stand s bytes c.args.missing (is_state r.builder) w.next takes c.if-bytes-missing.true) in
@@ -41,7 +41,7 @@ put_end-requires c =
     let b = c.chunk.new.self in
     let w = c.requires.awaiting in
     let bytes = c.args.bytes.now in
-    let takes = takes_bytes s c.args.missing (length bytes) (is_state r.builder) w.next c.requires.few in
+    let takes = takes_bytes s c.args.missing (length bytes) (is_state r.builder) w.next c.requires.at_most in
     let g = called r.builder b _ _ (λ s. and_bytes s bytes) (Ok c.in_default.field-0) w.sound.not_failed takes c.in_default.ensures.builds in
     at_end r b (and_bytes s bytes) w.sound w.field g (bytes_all s bytes c.args.missing (is_state r.builder) w.next takes c.if-bytes-missing.false)
 
@@ -52,16 +52,16 @@ returns-clause-puts c =
     let b = c.chunk.new.self in
     let w = c.requires.awaiting in
     let bytes = c.args.bytes.now in
-    let takes = takes_bytes s c.args.missing (length bytes) (is_state r.builder) w.next c.requires.few in
+    let takes = takes_bytes s c.args.missing (length bytes) (is_state r.builder) w.next c.requires.at_most in
     let g = called r.builder b _ _ (λ s. and_bytes s bytes) (Ok c.in_default.field-0) w.sound.not_failed takes c.in_default.ensures.builds in
     let all = subst HasAllBytes (sym g.state) (bytes_all s bytes c.args.missing (is_state r.builder) w.next takes c.if-bytes-missing.false) in
     bytes_from_end r (with_builder r b) c.put_end.new.self bytes (some_bytes bytes ∷ []) c.put_end.result
     (call_lead r b _ _ _ (λ s. and_bytes s bytes) (some_bytes bytes ∷ []) c.in_default.field-0 w takes c.in_default.ensures.builds (bytes_trades s bytes takes))
     (λ none. end_no_text s (state_of b) bytes takes all g.state none) c.put_end.ensures.puts
 
-pub returns-clause-left : goal.returns-clause-left
-returns-clause-left c =
+pub returns-clause-after_error : goal.returns-clause-after_error
+returns-clause-after_error c =
     let r = c.args.self.now in
     let w = c.requires.awaiting in
-    let takes = takes_bytes (state_of r.builder) c.args.missing (length c.args.bytes.now) (is_state r.builder) w.next c.requires.few in
-    call_left r c.chunk.new.self _ _ _ (λ s. and_bytes s c.args.bytes.now) [] c.in_default.field-0 c.put_end.new.self c.put_end.result w takes c.in_default.ensures.builds c.put_end.ensures.left
+    let takes = takes_bytes (state_of r.builder) c.args.missing (length c.args.bytes.now) (is_state r.builder) w.next c.requires.at_most in
+    call_left r c.chunk.new.self _ _ _ (λ s. and_bytes s c.args.bytes.now) [] c.in_default.field-0 c.put_end.new.self c.put_end.result w takes c.in_default.ensures.builds c.put_end.ensures.after_error

@@ -53,7 +53,7 @@ returns-clause-puts c =
     puts_from_end r (with_builder r b) c.put_end.new.self (bytes_head c.args.kind c.args.announced ∷ []) c.put_end.result
     (call_lead r b _ _ _ (λ s. and_head s c.args.kind c.args.announced) (bytes_head c.args.kind c.args.announced ∷ []) c.in_default.field-0 c.requires e c.in_default.ensures (head_trades s c.args.kind c.args.announced e)) content c.put_end.ensures.puts
 
-pub returns-clause-left : goal.returns-clause-left
-returns-clause-left c =
+pub returns-clause-after_error : goal.returns-clause-after_error
+returns-clause-after_error c =
     let r = c.args.self.now in
-    call_left r c.begin_bytes.new.self _ _ _ (λ s. and_head s c.args.kind c.args.announced) [] c.in_default.field-0 c.put_end.new.self c.put_end.result c.requires c.requires.next c.in_default.ensures c.put_end.ensures.left
+    call_left r c.begin_bytes.new.self _ _ _ (λ s. and_head s c.args.kind c.args.announced) [] c.in_default.field-0 c.put_end.new.self c.put_end.result c.requires c.requires.next c.in_default.ensures c.put_end.ensures.after_error

@@ -10,10 +10,10 @@ returns-in-Ok-clause-puts c =
     let r = c.args.self.now in
     puts_end r (with_builder r c.end_bytes.new.self) _ c.close_pair.result (end_opens r c.end_bytes.new.self _ c.requires c.in-Ok.ensures).leads c.close_pair.ensures.puts
 
-pub returns-in-Ok-clause-left : goal.returns-in-Ok-clause-left
-returns-in-Ok-clause-left c =
+pub returns-in-Ok-clause-after_error : goal.returns-in-Ok-clause-after_error
+returns-in-Ok-clause-after_error c =
     let r = c.args.self.now in
-    end_left r c.end_bytes.new.self c.close_pair.new.self c.close_pair.result (end_opens r c.end_bytes.new.self _ c.requires c.in-Ok.ensures) c.close_pair.ensures.left
+    end_left r c.end_bytes.new.self c.close_pair.new.self c.close_pair.result (end_opens r c.end_bytes.new.self _ c.requires c.in-Ok.ensures) c.close_pair.ensures.after_error
 
 pub returns-in-Err-clause-puts : goal.returns-in-Err-clause-puts
 returns-in-Err-clause-puts c =

@@ -20,10 +20,10 @@ returns-in-Ok-clause-puts c =
     let r = c.args.self.now in
     call_puts r c.leaf.new.self _ _ _ (λ s. and_value s (leaf (leaf_of c.args.value))) (value (leaf (leaf_of c.args.value)) ∷ []) tt _ c.close_pair.result c.requires c.requires.next c.in-Ok.ensures (values_trade (state_of r.builder) (leaf (leaf_of c.args.value)) (is_state r.builder) c.requires.next) c.close_pair.ensures.puts
 
-pub returns-in-Ok-clause-left : goal.returns-in-Ok-clause-left
-returns-in-Ok-clause-left c =
+pub returns-in-Ok-clause-after_error : goal.returns-in-Ok-clause-after_error
+returns-in-Ok-clause-after_error c =
     let r = c.args.self.now in
-    call_left r c.leaf.new.self _ _ _ (λ s. and_value s (leaf (leaf_of c.args.value))) (value (leaf (leaf_of c.args.value)) ∷ []) tt _ c.close_pair.result c.requires c.requires.next c.in-Ok.ensures c.close_pair.ensures.left
+    call_left r c.leaf.new.self _ _ _ (λ s. and_value s (leaf (leaf_of c.args.value))) (value (leaf (leaf_of c.args.value)) ∷ []) tt _ c.close_pair.result c.requires c.requires.next c.in-Ok.ensures c.close_pair.ensures.after_error
 
 pub returns-in-Err-clause-puts : goal.returns-in-Err-clause-puts
 returns-in-Err-clause-puts c =

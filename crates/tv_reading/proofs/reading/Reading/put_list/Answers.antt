@@ -17,10 +17,10 @@ returns-in-Ok-clause-puts c =
     let r = c.args.self.now in
     call_puts r c.open_list.new.self _ _ _ (λ s. and_list s c.args.kind c.args.announced) (list_head c.args.kind c.args.announced ∷ []) tt _ c.close_pair.result c.requires c.requires.next c.in-Ok.ensures (lists_trade (state_of r.builder) c.args.kind c.args.announced (is_state r.builder) c.requires.next) c.close_pair.ensures.puts
 
-pub returns-in-Ok-clause-left : goal.returns-in-Ok-clause-left
-returns-in-Ok-clause-left c =
+pub returns-in-Ok-clause-after_error : goal.returns-in-Ok-clause-after_error
+returns-in-Ok-clause-after_error c =
     let r = c.args.self.now in
-    call_left r c.open_list.new.self _ _ _ (λ s. and_list s c.args.kind c.args.announced) (list_head c.args.kind c.args.announced ∷ []) tt _ c.close_pair.result c.requires c.requires.next c.in-Ok.ensures c.close_pair.ensures.left
+    call_left r c.open_list.new.self _ _ _ (λ s. and_list s c.args.kind c.args.announced) (list_head c.args.kind c.args.announced ∷ []) tt _ c.close_pair.result c.requires c.requires.next c.in-Ok.ensures c.close_pair.ensures.after_error
 
 pub returns-in-Err-clause-puts : goal.returns-in-Err-clause-puts
 returns-in-Err-clause-puts c =

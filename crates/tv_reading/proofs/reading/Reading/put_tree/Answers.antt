@@ -18,10 +18,10 @@ returns-in-Ok-clause-puts g c =
     let r = c.args.self.now in
     call_puts r c.tree.new.self _ _ _ (λ s. and_value s (g.V.Value.tree c.args.value.now)) (value (g.V.Value.tree c.args.value.now) ∷ []) tt _ c.close_pair.result c.requires c.requires.next c.in-Ok.ensures (values_trade (state_of r.builder) (g.V.Value.tree c.args.value.now) (is_state r.builder) c.requires.next) c.close_pair.ensures.puts
 
-pub returns-in-Ok-clause-left : goal.returns-in-Ok-clause-left
-returns-in-Ok-clause-left g c =
+pub returns-in-Ok-clause-after_error : goal.returns-in-Ok-clause-after_error
+returns-in-Ok-clause-after_error g c =
     let r = c.args.self.now in
-    call_left r c.tree.new.self _ _ _ (λ s. and_value s (g.V.Value.tree c.args.value.now)) (value (g.V.Value.tree c.args.value.now) ∷ []) tt _ c.close_pair.result c.requires c.requires.next c.in-Ok.ensures c.close_pair.ensures.left
+    call_left r c.tree.new.self _ _ _ (λ s. and_value s (g.V.Value.tree c.args.value.now)) (value (g.V.Value.tree c.args.value.now) ∷ []) tt _ c.close_pair.result c.requires c.requires.next c.in-Ok.ensures c.close_pair.ensures.after_error
 
 pub returns-in-Err-clause-puts : goal.returns-in-Err-clause-puts
 returns-in-Err-clause-puts g c =

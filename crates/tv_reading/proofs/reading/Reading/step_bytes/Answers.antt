@@ -26,8 +26,8 @@ returns-clause-finds g c = λ v.
     bytes_found v old c.put_bytes.new.self n c.args.missing bytes c.put_bytes.result c.requires.awaiting (omega (arith, some, c.from.ensures, c.min-len.ensures)) (omega (arith, c.from.ensures, c.min-len.ensures))
     (omega (arith, c.from.ensures, c.min-len.ensures)) piece c.put_bytes.ensures.puts
 
-pub returns-clause-full : goal.returns-clause-full
-returns-clause-full g c = λ v told is.
+pub returns-clause-no_room : goal.returns-clause-no_room
+returns-clause-no_room g c = λ v told is.
     let old = c.args.self.now in
     let n = c.from.result in
     let bytes = c.as_slice.result.now in

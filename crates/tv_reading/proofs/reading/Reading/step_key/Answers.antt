@@ -22,8 +22,8 @@ returns-clause-finds g c =
     let n = c.in_ok-len.len in
     puts_found v false old c.put_bytes_head.new.self (bytes_head Key n ∷ []) c.put_bytes_head.result (λ a h. key_part v old n a h) c.in_ok-len.ensures.finds c.put_bytes_head.ensures.puts
 
-pub returns-clause-full : goal.returns-clause-full
-returns-clause-full g c = λ told is.
+pub returns-clause-no_room : goal.returns-clause-no_room
+returns-clause-no_room g c = λ told is.
     let v = version_of c.args.version in
     let old = c.args.self.now in
     let n = c.in_ok-len.len in

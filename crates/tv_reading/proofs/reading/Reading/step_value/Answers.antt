@@ -40,8 +40,8 @@ returns-in_err-value-in-Legacy-clause-finds g c =
 not_full : (e : DeserializeError) → e ≢ HeapFull → IsErrOf {T = Unit {0}} (Err e) HeapFull → ⊥
 not_full e other is = let same : e ≡ HeapFull = cc in other same
 
-pub returns-in_err-value-in-Legacy-clause-full : goal.returns-in_err-value-in-Legacy-clause-full
-returns-in_err-value-in-Legacy-clause-full g c =
+pub returns-in_err-value-in-Legacy-clause-no_room : goal.returns-in_err-value-in-Legacy-clause-no_room
+returns-in_err-value-in-Legacy-clause-no_room g c =
     let p = err_from_is_err_and c.from_residual-in_err-value-in-Legacy.result c.from_residual-in_err-value-in-Legacy.ensures.1 in
     rw (p.1, p.2) (λ told is. absurd (not_full _ (c.in_err-value-in-Legacy.ensures.finds (version_of c.args.version)).may_stop.1 is))
 
@@ -58,8 +58,8 @@ returns-in_ok-text-in-Tokenized-clause-finds g c =
     let w = whole_found tokenized_tree v old PreTokStr c.requires (λ a h. subst (λ z. EncodesHead v a (head_part z)) c.in-Tokenized.is h) c.in_ok-head.ensures.finds x.ensures.finds in
     puts_found v c.args.legacy_seen.now old new (value t ∷ []) c.put_leaf.result (λ a h. tokenized_part v c.args.legacy_seen.now old t a (c.requires.field, c.requires.next) h.body h.joined h.encoded) w puts
 
-pub returns-in_ok-text-in-Tokenized-clause-full : goal.returns-in_ok-text-in-Tokenized-clause-full
-returns-in_ok-text-in-Tokenized-clause-full g c = λ told is.
+pub returns-in_ok-text-in-Tokenized-clause-no_room : goal.returns-in_ok-text-in-Tokenized-clause-no_room
+returns-in_ok-text-in-Tokenized-clause-no_room g c = λ told is.
     let v = version_of c.args.version in
     let old = c.args.self.now in
     let new = c.put_leaf.new.self in
@@ -79,8 +79,8 @@ returns-in_ok-value-in-Legacy-clause-finds g c =
     let w = whole_found owned_tree v old JSONObject c.requires (λ a h. subst (λ z. EncodesHead v a (head_part z)) c.in-Legacy.is h) c.in_ok-head.ensures.finds (c.in_ok-value-in-Legacy.ensures.finds v) in
     puts_found v true old c.put_tree.new.self (value t ∷ []) c.put_tree.result (λ a h. legacy_part v old t a (c.requires.field, c.requires.next) h.body h.joined h.encoded) w c.put_tree.ensures.puts
 
-pub returns-in_ok-value-in-Legacy-clause-full : goal.returns-in_ok-value-in-Legacy-clause-full
-returns-in_ok-value-in-Legacy-clause-full g c = λ told is.
+pub returns-in_ok-value-in-Legacy-clause-no_room : goal.returns-in_ok-value-in-Legacy-clause-no_room
+returns-in_ok-value-in-Legacy-clause-no_room g c = λ told is.
     let v = version_of c.args.version in
     let old = c.args.self.now in
     let t = owned_tree c.in_ok-value-in-Legacy.value in
@@ -99,9 +99,9 @@ returns-in_default g c =
     record {
       sound = sound_of old new ps c.put_head.result c.put_head.ensures.puts;
       grows = grows_of old new ps c.put_head.result c.put_head.ensures.puts;
-      left = keeps_of old new c.put_head.result c.put_head.ensures.left;
+      left = keeps_of old new c.put_head.result c.put_head.ensures.after_error;
       finds = puts_found v legacy old new ps c.put_head.result (λ a h. head_is_part v legacy old head a are h) c.in_ok-head.ensures.finds c.put_head.ensures.puts;
-      full = λ told is. puts_full v legacy old new ps c.put_head.result (λ a h. head_is_part v legacy old head a are h) c.in_ok-head.ensures.finds c.put_head.ensures.puts told is;
+      no_room = λ told is. puts_full v legacy old new ps c.put_head.result (λ a h. head_is_part v legacy old head a are h) c.in_ok-head.ensures.finds c.put_head.ensures.puts told is;
       at_most = λ told. inl (omega (arith, c.in_ok-head.ensures.at_most));
       seen = λ told. record { still = λ e. e; first = λ e f. absurd (let k : false ≡ true = sym e ∙ f in cc) };
     }

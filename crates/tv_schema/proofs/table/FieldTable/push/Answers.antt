@@ -12,4 +12,4 @@ invariant_of-self-2 c =
     let updates : Updates string_eq c.self.inside.numbers c.insert.new.self c.in_ok-name.name (Some (length c.self.inside.entries.items)) = search rules in
     let named = ap length c.name.ensures.name in
     rw items (IsTable-push c.self.inside.numbers c.insert.new.self c.in_ok-name.name (length c.self.inside.entries.items) c.self.inside.longest c.max-longest.result
-    c.self.inside.entries.items c.args.entry (omega (arith, c.max-longest.ensures)) (omega (arith, c.max-longest.ensures, named)) (omega (arith, c.max-longest.ensures, c.self.invariant.small, named)) c.self.invariant c.requires.valid (rw view c.requires.is_new) (rw view c.requires.few) same refl updates)
+    c.self.inside.entries.items c.args.entry (omega (arith, c.max-longest.ensures)) (omega (arith, c.max-longest.ensures, named)) (omega (arith, c.max-longest.ensures, c.self.invariant.small, named)) c.self.invariant c.requires.valid (rw view c.requires.is_new) (rw view c.requires.in_32_bits) same refl updates)

@@ -15,8 +15,8 @@ returns-clause-ended g c = λ not_failed told none.
     let next = c.next_of-next in
     let v = version_of c.args.self.now.version in
     let document = read.new.document in
-    let h = of_place s.is_known s.left s.failures c.args.source.now read.new.source read.new.count v read.result next.result document next.ensures.same read.ensures.finds in
-    at_end v next.result document _ _ read.new.count (h.found told) (λ is. read.ensures.full told (place_error read.result next.result document HeapFull (next.ensures.same document) is))
+    let h = of_place s.is_known s.left s.failures c.args.source.now read.new.source read.new.count v read.result next.result document next.ensures.placed read.ensures.finds in
+    at_end v next.result document _ _ read.new.count (h.found told) (λ is. read.ensures.no_room told (place_error read.result next.result document HeapFull (next.ensures.placed document) is))
     next.ensures.cut (no_more _ _ _ (h.taken told) none) none
 
 pub returns-clause-reads : goal.returns-clause-reads
@@ -28,5 +28,5 @@ returns-clause-reads g c =
     let document = read.new.document in
     reads_on reading AlreadyFailed c.args.self.now.failed
     (reads_of (documents v) document_of s (as_read next.result document) (single_documents v _)
-    (of_place s.is_known s.left s.failures c.args.source.now read.new.source read.new.count v read.result next.result document next.ensures.same read.ensures.finds)
-    (λ told is. read.ensures.full told (error_as_read read.result next.result document HeapFull (next.ensures.same document) is)))
+    (of_place s.is_known s.left s.failures c.args.source.now read.new.source read.new.count v read.result next.result document next.ensures.placed read.ensures.finds)
+    (λ told is. read.ensures.no_room told (error_as_read read.result next.result document HeapFull (next.ensures.placed document) is)))

@@ -19,7 +19,7 @@ returns-clause-end g c = λ not_failed told is.
     let next = c.next_of-next in
     let v = version_of c.args.self.now.version in
     let document = read.new.document in
-    let h = of_place_as s.is_known s.left s.failures c.args.source.now read.new.source read.new.count v (λ (b : List ℕ) (d : CompactDoc). EncodesChosenPairs v c.args.fields.now b (document_of d)) read.result next.result document next.ensures.same read.ensures.finds in
+    let h = of_place_as s.is_known s.left s.failures c.args.source.now read.new.source read.new.count v (λ (b : List ℕ) (d : CompactDoc). EncodesChosenPairs v c.args.fields.now b (document_of d)) read.result next.result document next.ensures.placed read.ensures.finds in
     next_end v next.result _ _ read.new.count (passed_of v c.args.fields.now next.result document _ _ read.new.count (h.found told)) (h.taken told) (next.ensures.end is) is
 
 pub returns-clause-ended : goal.returns-clause-ended
@@ -29,9 +29,9 @@ returns-clause-ended g c = λ not_failed told none.
     let next = c.next_of-next in
     let v = version_of c.args.self.now.version in
     let document = read.new.document in
-    let h = of_place_as s.is_known s.left s.failures c.args.source.now read.new.source read.new.count v (λ (b : List ℕ) (d : CompactDoc). EncodesChosenPairs v c.args.fields.now b (document_of d)) read.result next.result document next.ensures.same read.ensures.finds in
+    let h = of_place_as s.is_known s.left s.failures c.args.source.now read.new.source read.new.count v (λ (b : List ℕ) (d : CompactDoc). EncodesChosenPairs v c.args.fields.now b (document_of d)) read.result next.result document next.ensures.placed read.ensures.finds in
     next_at_end v next.result document _ _ read.new.count (passed_of v c.args.fields.now next.result document _ _ read.new.count (h.found told))
-    (λ is. never_full_chosen v c.args.fields.now _ none (read.ensures.full told (place_error read.result next.result document HeapFull (next.ensures.same document) is)))
+    (λ is. never_full_chosen v c.args.fields.now _ none (read.ensures.no_room told (place_error read.result next.result document HeapFull (next.ensures.placed document) is)))
     next.ensures.cut (no_more _ _ _ (h.taken told) none) none
 
 pub returns-clause-fewer : goal.returns-clause-fewer
@@ -41,7 +41,7 @@ returns-clause-fewer g c = λ told is.
     let next = c.next_of-next in
     let v = version_of c.args.self.now.version in
     let document = read.new.document in
-    let h = of_place_as s.is_known s.left s.failures c.args.source.now read.new.source read.new.count v (λ (b : List ℕ) (d : CompactDoc). EncodesChosenPairs v c.args.fields.now b (document_of d)) read.result next.result document next.ensures.same read.ensures.finds in
+    let h = of_place_as s.is_known s.left s.failures c.args.source.now read.new.source read.new.count v (λ (b : List ℕ) (d : CompactDoc). EncodesChosenPairs v c.args.fields.now b (document_of d)) read.result next.result document next.ensures.placed read.ensures.finds in
     next_fewer v _ _ (next_found v next.result _ _ read.new.count (passed_of v c.args.fields.now next.result document _ _ read.new.count (h.found told)) is)
 
 pub returns-clause-reads : goal.returns-clause-reads
@@ -53,5 +53,5 @@ returns-clause-reads g c =
     let document = read.new.document in
     reads_on reading AlreadyFailed c.args.self.now.failed
     (reads_of (chosen_pairs v c.args.fields.now) document_of s (as_read next.result document) (single_chosen v c.args.fields.now _)
-    (of_place_as s.is_known s.left s.failures c.args.source.now read.new.source read.new.count v (λ (b : List ℕ) (d : CompactDoc). EncodesChosenPairs v c.args.fields.now b (document_of d)) read.result next.result document next.ensures.same read.ensures.finds)
-    (λ told is. read.ensures.full told (error_as_read read.result next.result document HeapFull (next.ensures.same document) is)))
+    (of_place_as s.is_known s.left s.failures c.args.source.now read.new.source read.new.count v (λ (b : List ℕ) (d : CompactDoc). EncodesChosenPairs v c.args.fields.now b (document_of d)) read.result next.result document next.ensures.placed read.ensures.finds)
+    (λ told is. read.ensures.no_room told (error_as_read read.result next.result document HeapFull (next.ensures.placed document) is)))

@@ -17,7 +17,7 @@ returns-clause-end g c = λ not_failed told is.
     let read = c.read_parts_in_place-read in
     let next = c.next_within-next in
     let document = read.new.document in
-    let h = said_comes v c.args.limits _ _ read.result next.result document next.ensures.same (read.ensures.comes told) in
+    let h = said_comes v c.args.limits _ _ read.result next.result document next.ensures.placed (read.ensures.comes told) in
     said_end v c.args.limits _ _ read.new.count next.result document h (read.ensures.counted told) (next.ensures.end is) is
 
 pub returns-clause-ended : goal.returns-clause-ended
@@ -26,7 +26,7 @@ returns-clause-ended g c = λ not_failed told none.
     let read = c.read_parts_in_place-read in
     let next = c.next_within-next in
     let document = read.new.document in
-    let h = said_comes v c.args.limits _ _ read.result next.result document next.ensures.same (read.ensures.comes told) in
+    let h = said_comes v c.args.limits _ _ read.result next.result document next.ensures.placed (read.ensures.comes told) in
     said_at_end v c.args.limits _ _ read.new.count next.result document h next.ensures.cut (read.ensures.counted told) none
 
 pub returns-clause-fewer : goal.returns-clause-fewer
@@ -34,26 +34,26 @@ returns-clause-fewer g c = λ told is.
     let v = version_of c.args.self.now.version in
     let read = c.read_parts_in_place-read in
     let next = c.next_within-next in
-    let found = said_found v c.args.limits _ _ next.result read.new.document (said_comes v c.args.limits _ _ read.result next.result read.new.document next.ensures.same (read.ensures.comes told)) is in
+    let found = said_found v c.args.limits _ _ next.result read.new.document (said_comes v c.args.limits _ _ read.result next.result read.new.document next.ensures.placed (read.ensures.comes told)) is in
     next_fewer v _ _ (record { prefix = found.prefix; joined = found.joined; encoded = (document_of read.new.document, found.encoded) })
 
 pub returns-clause-shallow : goal.returns-clause-shallow
 returns-clause-shallow g c = λ is.
     let read = c.read_parts_in_place-read in
     let next = c.next_within-next in
-    said_ok (AllNestWithinLimit c.args.limits.depth (document_of read.new.document)) read.result next.result read.new.document next.ensures.same read.ensures.shallow is
+    said_ok (AllNestWithinLimit c.args.limits.depth (document_of read.new.document)) read.result next.result read.new.document next.ensures.placed read.ensures.shallow is
 
 pub returns-clause-small : goal.returns-clause-small
 returns-clause-small g c = λ is.
     let read = c.read_parts_in_place-read in
     let next = c.next_within-next in
-    said_ok (¬ IsPast c.args.limits.heap_bytes (length (heap_of read.new.document))) read.result next.result read.new.document next.ensures.same read.ensures.small is
+    said_ok (¬ IsPast c.args.limits.heap_bytes (length (heap_of read.new.document))) read.result next.result read.new.document next.ensures.placed read.ensures.small is
 
 pub returns-clause-none : goal.returns-clause-none
 returns-clause-none g c = λ not_failed other.
     let read = c.read_parts_in_place-read in
     let next = c.next_within-next in
-    said_none (document_of read.new.document ≡ []) read.result next.result read.new.document next.ensures.same read.ensures.none other
+    said_none (document_of read.new.document ≡ []) read.result next.result read.new.document next.ensures.placed read.ensures.none other
 
 pub returns-clause-reads : goal.returns-clause-reads
 returns-clause-reads g c =
@@ -62,9 +62,9 @@ returns-clause-reads g c =
     let next = c.next_within-next in
     let document = read.new.document in
     reads_on (within c.args.limits) (Read AlreadyFailed) c.args.self.now.failed
-    (reads_within g.S.ByteSource v c.args.limits (as_read_within next.result document) (λ told. said_comes v c.args.limits _ _ read.result next.result document next.ensures.same (read.ensures.comes told))
-    (said_errors_as (IsLimitedError c.args.limits) read.result next.result document next.ensures.same read.ensures.errors)
-    (said_counts_as read.result next.result document _ _ next.ensures.same read.ensures.failures) read.ensures.stays_known)
+    (reads_within g.S.ByteSource v c.args.limits (as_read_within next.result document) (λ told. said_comes v c.args.limits _ _ read.result next.result document next.ensures.placed (read.ensures.comes told))
+    (said_errors_as (IsLimitedError c.args.limits) read.result next.result document next.ensures.placed read.ensures.errors)
+    (said_counts_as read.result next.result document _ _ next.ensures.placed read.ensures.failures) read.ensures.stays_known)
 
 pub returns-clause-stops : goal.returns-clause-stops
 returns-clause-stops g c =
@@ -72,4 +72,4 @@ returns-clause-stops g c =
     let read = c.read_parts_in_place-read in
     let next = c.next_within-next in
     let document = read.new.document in
-    said_stops g.S.ByteSource v c.args.limits next.result document (stops_within g.S.ByteSource v c.args.limits (as_read_within next.result document) (λ told. said_comes v c.args.limits _ _ read.result next.result document next.ensures.same (read.ensures.comes told)))
+    said_stops g.S.ByteSource v c.args.limits next.result document (stops_within g.S.ByteSource v c.args.limits (as_read_within next.result document) (λ told. said_comes v c.args.limits _ _ read.result next.result document next.ensures.placed (read.ensures.comes told)))
