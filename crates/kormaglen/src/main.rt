@@ -1,7 +1,29 @@
-//! The command `kormaglen`: `kormaglen --help` says what it does.
+//! The command `kormaglen`: its words, its files, and what it prints. `kormaglen --help` says what it does, and the work is that of `tv_command`.
 #![tactic(auto)]
 
-use command_line::run;
+mod arguments;
+mod bars;
+mod blocks;
+mod depth;
+mod ending;
+mod facets;
+mod files;
+mod find;
+mod imports;
+mod inputs;
+mod migrations;
+mod pretty;
+mod progress;
+mod runs;
+mod schema_words;
+mod schemas;
+mod starts;
+mod stat;
+mod term_counts;
+mod terms;
+mod visits;
+
+use crate::ending::run;
 use std::process::ExitCode;
 use std::{env, io};
 

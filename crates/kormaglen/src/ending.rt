@@ -139,7 +139,7 @@ fn answer(rt: &HostRuntime, words: &[String]) -> io::Result<u8> {
 
 /// Does what the words of a command line say, and gives the exit status: 0 where all was done, 1 where something was refused, 2 for a wrong use, and 3 where
 /// the command broke off, with the reason on the standard error.
-pub fn run(rt: &HostRuntime, words: &[String]) -> u8 {
+pub(crate) fn run(rt: &HostRuntime, words: &[String]) -> u8 {
     match answer(rt, words) {
         Ok(status) => status,
         Err(_) => 3,
