@@ -90,7 +90,7 @@ fn first_value(read: &Result<TantivyDocument, DeserializeError>) -> FirstValue {
     }
 }
 
-/// A refusal of bytes is true of them.
+/// Every reported error of bytes is really in them.
 pub fn refusals_are_true<S: ByteSource>(
     alloc: Global,
     source: &mut S,

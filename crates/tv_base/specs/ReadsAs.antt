@@ -8,7 +8,7 @@
 --   shows        With an error that speaks of the bytes, it took just the bytes that show the error, and none after them.
 --   too_long     It says that the bytes are too long only where it took as many as can be counted, 2 ^ 64 - 1.
 --   ends_early   The bytes that it took then end too early.
---   full         It says that there is no room only of bytes that encode what has none, or announce it.
+--   no_room      It says that there is no room only of bytes that encode what has none, or announce it.
 --   errors       It returns no other errors than those of its kind.
 --   taken        Whatever it returns, it took bytes from the front alone.
 --   failures     It says that the source failed exactly where the source did, with the kind that the source returned.

@@ -8,7 +8,8 @@
 --   placed       The next document begins after the bytes that were taken, and so does what an error calls its place.
 --   failures     It says that the source failed exactly where the source did, with the kind that the source returned.
 --   stays_known  What is known of the source stays known.
---   live, mark   After an error the reader reads nothing more.
+--   not_failed   After a document was read, or none was left, the reader reads on.
+--   marked       After an error it reads nothing more.
 use Rattle.std.specs.Prelude.{◌≡◌, ◌+◌, ◌-◌, ◌^◌, ◌<◌, min, ℕ, Bool, true, false, List, [], length, None, Result, Ok, Err, OnOk, OnErr}
 use Rattle.tv_base.specs.Parts.{Begins, Each}
 use Rattle.tv_base.specs.ReadsAs.{EndsEarly}

@@ -3,7 +3,7 @@
 -- The words of the public contracts:
 -- `IsNewBuilder`: a builder after this document's pairs. `document`, `heap`, `kept` and `pairs`: its finished pairs are those of the document, at
 -- the same places, and its heap is the document's, which ends after the last of them. `state`: nothing of a next value has come, and no list is
--- open. `live`: no call was refused.
+-- open. `not_failed`: no call was refused.
 -- `IsDocumentOf`: the document of a builder's finished pairs. `document` and `pairs`: it has these pairs, at their places. `heap`: its heap is the
 -- builder's up to the end of the last of their values.
 -- `IsHeapLength`: a length. `is_length`: the heap so far has it. `within`: it is at most what the finished pairs and the next value so far weigh.

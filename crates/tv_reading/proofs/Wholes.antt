@@ -108,7 +108,7 @@ whole_fails {head = head} v legacy old new kind h is p q =
     (λ a f r other _ start byte last. value_edge v old kind h a start byte r last)
     (finds_as head (λ a _. a ≡ type_prefix kind) (λ w r. Unit {0}) is p) (finds_fails (λ b z. ⊥) (NoneBehind v kind) (λ w c f. f) (finds_any (λ e n may. may.0) q))
 
--- a text with its tokens, lent out of what was gathered
+-- a text with its tokens, borrowed from what was gathered
 pub lent_is : (s : PreTokenizedStr) (content : String Global) (tokens : EncodedTokens) → text_of s ≡ string_bytes content → tokens_of s ≡ gathered tokens → leaf (tokenized_leaf s) ≡ tokenized_tree (content, tokens)
 lent_is s content tokens e f = λ i. leaf (tokenized (e i) (f i))
 
