@@ -62,4 +62,4 @@ pub returns-in-Err-clause-sink_is_known : goal.returns-in-Err-clause-sink_is_kno
 returns-in-Err-clause-sink_is_known g c = λ k. sink_known c.in-Err.ensures (c.loop-documents.invariant.sink_is_known k)
 
 pub returns-clause-err : goal.returns-clause-err
-returns-clause-err g c = λ k. absurd (omega (arith, few_so_far (c.loop-documents.invariant.so_far k), c.requires, k.summed, k.few, c.loop-documents.auto.documents-end, c.loop-documents-test.false))
+returns-clause-err g c = λ k. absurd (omega (arith, few_so_far (c.loop-documents.invariant.so_far k), c.requires, k.summed, k.in_64_bits, c.loop-documents.auto.documents-end, c.loop-documents-test.false))
