@@ -1,6 +1,6 @@
 //! Blocks of documents as lines of JSON.
 
-ghost use Rattle.std.specs.Prelude.{◌≡◌, [], IfErr, OnOk, string_bytes};
+ghost use Rattle.std.specs.Prelude.{◌≡◌, [], IfErr, OnErr, OnOk, string_bytes};
 ghost use Rattle.tv_blocks.specs.Blocks.{AppendsLine, IsExported, IsPrintedBlock, IsRefusedBlock};
 ghost use Rattle.tv_blocks.specs.Buffer.{FillsBuffer};
 ghost use Rattle.tv_blocks.specs.Refusals.{IsBlockRefusal, IsExportRefusal};
@@ -18,20 +18,25 @@ use tv_schema::Schema;
 use tv_store::{BlockReader, DocStoreVersion};
 
 /// Appends the document's text of JSON by the names of the schema's fields, see `to_json`, and a line feed. The only error is that memory was
-/// refused.
+/// refused, and then the text is as it was.
 pub fn append_line(
     alloc: Global,
     schema: &Schema,
     document: &CompactDoc,
     text: &mut String,
 ) -> Result<(), AllocError>
-    ensures { OnOk result
+    ensures appended { OnOk result
         (AppendsLine schema.now (document_of document.now) (string_bytes text.old)
         (string_bytes text.new)) }
+    ensures unchanged { OnErr result (string_bytes text.new ≡ string_bytes text.old) }
 {
+    let len = text.len();
     document.push_json(alloc, schema, text)?;
-    text.push('\n')?;
-    Ok(())
+    let fed = text.push('\n');
+    if fed.is_err() {
+        text.truncate(len);
+    }
+    fed
 }
 
 // Appends the lines of the documents of the block.

@@ -15,7 +15,7 @@ use tantivy_schema::store::{BlockReader, DocStoreVersion, LimitedReadError, Read
 use thiserror::Error;
 
 /// What is kept of each document of a block. (Not in tantivy.)
-#[derive(Debug, Drop)]
+#[derive(Drop)]
 pub enum Wanted {
     /// All of it. A document that passes one of these limits is refused.
     All(ReadLimits),

@@ -22,7 +22,7 @@ use tv_indexing::{TermList, TermValuesError, term_values};
 use tv_query::{Query, QueryStack};
 
 /// What was found in a block.
-#[derive(Clone, Copy, Debug, PartialEq, Eq)]
+#[derive(Clone, Copy)]
 pub struct Found {
     /// How many documents there are.
     pub documents: u64,

@@ -34,7 +34,7 @@ pub enum LineError {
 }
 
 /// What becomes of a line.
-#[derive(Debug, Drop)]
+#[derive(Drop)]
 pub enum LineOutcome {
     /// Its document is stored, in this number of bytes.
     Stored(u64),
@@ -67,7 +67,7 @@ impl From<AllocError> for ImportError {
 }
 
 /// How lines are read and documents are stored.
-#[derive(Clone, Copy, Debug, PartialEq, Eq)]
+#[derive(Clone, Copy)]
 pub struct ImportRules {
     /// The version of the store that documents are written in.
     pub version: WriteVersion,

@@ -14,7 +14,7 @@ use tantivy_schema::schema::Schema;
 use thiserror::Error;
 
 /// How many lines there were.
-#[derive(Clone, Copy, Debug, Default, PartialEq, Eq)]
+#[derive(Clone, Copy, Default)]
 pub struct Imported {
     /// Those whose documents are stored.
     pub stored: u64,

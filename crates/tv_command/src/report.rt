@@ -6,7 +6,7 @@ ghost use Rattle.tv_command.specs.declared.report.LineReport.{LineReport};
 use crate::import::LineOutcome;
 
 /// What became of a line of an input.
-#[derive(Debug, Drop)]
+#[derive(Drop)]
 pub struct LineReport {
     /// The number of the line, counted from 1.
     pub line: u64,

@@ -7,7 +7,7 @@ pub trait Watch {
 }
 
 /// Work that isn't watched.
-#[derive(Clone, Copy, Debug, PartialEq, Eq)]
+#[derive(Clone, Copy)]
 pub struct Unwatched;
 
 impl Watch for Unwatched {

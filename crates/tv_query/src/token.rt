@@ -13,7 +13,7 @@ ghost use Rattle.tv_query.specs.declared.query_error.QueryReason.TheVariants.{Un
 use crate::query_error::QueryReason;
 
 /// What is wanted at a path.
-#[derive(Clone, Copy, Debug, PartialEq, Eq)]
+#[derive(Clone, Copy)]
 pub enum Wanted<'q> {
     /// The terms of a text.
     Text(&'q str),
@@ -24,7 +24,7 @@ pub enum Wanted<'q> {
 }
 
 /// A token of a query's text.
-#[derive(Clone, Copy, Debug, PartialEq, Eq)]
+#[derive(Clone, Copy)]
 pub enum Token<'q> {
     /// `(`.
     Open,
@@ -46,7 +46,7 @@ pub enum Token<'q> {
 }
 
 /// Where a part of a token ends.
-#[derive(Clone, Copy, Debug, PartialEq, Eq)]
+#[derive(Clone, Copy)]
 pub enum Stop {
     /// A bare path: before white space, a parenthesis, a quote or a colon.
     Path,

@@ -28,7 +28,7 @@ loop-reader-preserved c =
       not_failed = c.in-Ok-true.ensures.not_failed;
       version = c.advance.ensures.version ∙ i.version;
       so_far = printed_more i.so_far (subst (λ (w : DocStoreVersion). BeginsWithDocument (version_of w) c.loop-reader.source.rest.now c.advance.new.source.rest.now (document_of c.advance.new.self.document)) i.version (reads.found tt))
-          (subst (λ d. AppendsLine c.args.schema.now (document_of d) (string_bytes c.loop-reader.text) (string_bytes c.append_line.new.text)) c.document.ensures c.in_ok-append_line-in-Ok-true.ensures);
+          (subst (λ d. AppendsLine c.args.schema.now (document_of d) (string_bytes c.loop-reader.text) (string_bytes c.append_line.new.text)) c.document.ensures c.in_ok-append_line-in-Ok-true.ensures.appended);
     }
 
 pub returns-in-Err-clause-err : goal.returns-in-Err-clause-err
