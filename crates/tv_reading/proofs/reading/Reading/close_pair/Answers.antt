@@ -5,7 +5,7 @@ use Rattle.tv_reading.proofs.Putting.{closed, stays, finish_awaited}
 use Rattle.tv_reading.proofs.reading.Reading.close_pair.Goals as goal
 
 pub returns-in_default : goal.returns-in_default
-returns-in_default c = record { puts = stays c.args.self.now c.requires (λ e. c.in_default.not-Finish (c.awaits.ensures ∙ e)); left = tt }
+returns-in_default c = record { puts = stays c.args.self.now c.requires (λ e. c.in_default.not-Finish (c.awaits.ensures ∙ e)); after_error = tt }
 
 pub returns-in-Ok-clause-puts : goal.returns-in-Ok-clause-puts
 returns-in-Ok-clause-puts c =

@@ -31,7 +31,7 @@ returns-then-bytes-missing c =
     let more = stays mid opened (bytes_await_more s (state_of b) bytes takes g.state) in
     record {
       puts = call_puts r b _ _ _ (λ s. and_bytes s bytes) (some_bytes bytes ∷ []) c.in_default.field-0 mid (Ok tt) w takes c.in_default.ensures.builds (bytes_trades s bytes takes) more;
-      left = tt;
+      after_error = tt;
     }
 
 pub put_end-requires : goal.put_end-requires

@@ -30,7 +30,7 @@ returns-then-announced-gt0 c =
     let more = stays mid opened (head_awaits_more s (state_of b) c.args.kind c.args.announced g.state e) in
     record {
       puts = call_puts r b _ _ _ (λ s. and_head s c.args.kind c.args.announced) (bytes_head c.args.kind c.args.announced ∷ []) c.in_default.field-0 mid (Ok tt) c.requires e c.in_default.ensures (head_trades s c.args.kind c.args.announced e) more;
-      left = tt;
+      after_error = tt;
     }
 
 pub put_end-requires : goal.put_end-requires

@@ -99,7 +99,7 @@ returns-in_default g c =
     record {
       sound = sound_of old new ps c.put_head.result c.put_head.ensures.puts;
       grows = grows_of old new ps c.put_head.result c.put_head.ensures.puts;
-      left = keeps_of old new c.put_head.result c.put_head.ensures.after_error;
+      after_error = keeps_of old new c.put_head.result c.put_head.ensures.after_error;
       finds = puts_found v legacy old new ps c.put_head.result (λ a h. head_is_part v legacy old head a are h) c.in_ok-head.ensures.finds c.put_head.ensures.puts;
       no_room = λ told is. puts_full v legacy old new ps c.put_head.result (λ a h. head_is_part v legacy old head a are h) c.in_ok-head.ensures.finds c.put_head.ensures.puts told is;
       at_most = λ told. inl (omega (arith, c.in_ok-head.ensures.at_most));
