@@ -34,7 +34,7 @@ runs-preserved g c =
     let added : named ++ (name.now, trees) ∷ [] ≡ map (named_trees tree) c.push.new.self.items =
     sym (ap (map (named_trees tree)) c.in_ok-push.ensures.items ∙ map-append (named_trees tree) c.runs.named.items ((name, run) ∷ [])) in
     record {
-      in_runs = subst (InRuns tree names pairs others) added (in_runs_next tree names pairs c.runs.rest.now run.now others named field name.now cut.joined cut.some cut.same is_named above inv.in_runs);
+      in_runs = subst (InRuns tree names pairs others) added (in_runs_next tree names pairs c.runs.rest.now run.now others named field name.now cut.joined cut.some cut.one_field is_named above inv.in_runs);
       rises = subst (RisesTo (Some name)) added (rises_on name named trees above);
     }
 
