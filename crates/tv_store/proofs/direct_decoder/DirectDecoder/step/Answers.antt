@@ -12,7 +12,7 @@ pub returns-in-Err-clause-paid : goal.returns-in-Err-clause-paid
 returns-in-Err-clause-paid g c = λ told not_failed bytes p none.
     let d = c.args.self.now in
     let h = c.in-Err.ensures in
-    paid_left (version_of d.version) d.reading c.advance-read.new.self bytes _ (d.sound not_failed) p (omega arith) h.left
+    paid_left (version_of d.version) d.reading c.advance-read.new.self bytes _ (d.sound not_failed) p (omega arith) h.after_error
 
 pub returns-then-is_done-2-clause-paid : goal.returns-then-is_done-2-clause-paid
 returns-then-is_done-2-clause-paid g c = λ told not_failed bytes p none.
