@@ -204,7 +204,7 @@ static inline uint8_t *print_text(uint8_t *to, const uint8_t *from, uint64_t cou
     return to;
 }
 
-/* Prints a value and goes behind its parts. */
+/* Prints a value and goes past its parts. */
 static uint8_t *print_value(uint8_t *to, const struct part **next)
 {
     const struct part *part = (*next)++;

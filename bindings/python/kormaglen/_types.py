@@ -1,4 +1,4 @@
-"""Names for the types of arguments, for those who check types. When the package runs they say nothing:
+"""Names for the types of arguments, for type checkers. When the package runs they say nothing:
 what is given is tested then."""
 
 from __future__ import annotations

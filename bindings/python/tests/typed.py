@@ -1,4 +1,4 @@
-"""The package as those use it who check types: `mypy --strict` passes over this file, and a test runs it."""
+"""The package as code with types uses it: `mypy --strict` passes over this file, and a test runs it."""
 
 from __future__ import annotations
 

@@ -1,4 +1,4 @@
-"""kormaglen.dask as those use it who check types: `mypy --strict` passes over this file, and a test runs it."""
+"""kormaglen.dask as code with types uses it: `mypy --strict` passes over this file, and a test runs it."""
 
 from __future__ import annotations
 

@@ -133,7 +133,7 @@ fn a_name_is_refused() {
 
 #[test]
 fn a_document_is_refused_with_the_reason() {
-    // Behind the number of pairs, 1, and the number of the field stands the code of the type.
+    // After the number of pairs, 1, and the number of the field comes the code of the type.
     let long_number = [&b"\0"[..], &[0; 9], b"\x82"].concat();
     let late_date = [&b"\x05"[..], &i64::MAX.to_le_bytes()].concat();
     let number_as_key = [&b"\x0d\x82\x01"[..], &[0; 8], b"\x0b"].concat();
