@@ -18,7 +18,7 @@ const STANDING: u64 = 200;
 // The clock is looked at after this many documents at most.
 const MOST_STEP: u64 = 1024;
 
-/// What erases the line where something else is written to the standard error by code that doesn't hold the `Progress`. The line comes back as the work goes on.
+/// What erases the line where code that doesn't hold the `Progress` writes something else to the standard error. The line comes back as the work goes on.
 pub(crate) const ERASING: &str =
     "\r                                                                               \r";
 

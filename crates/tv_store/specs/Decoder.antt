@@ -1,14 +1,14 @@
 -- The promise of a step: what a step of a decoder does to the decoder and to its source, whatever its errors are.
 --
 -- A call that makes this promise does the following.
---   refused    After a refusal it returns one error, and nothing happens.
---   finished   Once all announced pairs are finished it says so, and nothing happens.
---   finds      Else the bytes that it took encode the next part, which has come then; or they show why none has. It counts what it took.
---   no_room    It says that there is no room only where what has come and the next part have none.
---   done       It says that it was the last exactly where all announced pairs are finished then.
---   not_failed After it succeeded, the decoder isn't refused.
---   marked     After an error it is.
---   version    The version stays.
+--   refused     After a refusal it returns one error, and nothing happens.
+--   finished    Once all announced pairs are finished it says so, and nothing happens.
+--   finds       Else the bytes that it took encode the next part, which has come then; or they show why none has. It counts what it took.
+--   no_room     It says that there is no room only where what has come and the next part have none.
+--   done        It says that it was the last exactly where all announced pairs are finished then.
+--   not_failed  After it succeeded, the decoder isn't refused.
+--   marked      After an error it is.
+--   version     The version stays.
 use Rattle.std.specs.Prelude.{◌≡◌, ◌↔◌, ℕ, zero, suc, ◌+◌, ◌-◌, List, [], length, true, false, Result, Ok, Err, IfOk, IsErrOf, OnOk, OnErr}
 use Rattle.tv_base.specs.declared.source.ByteSource.{Ghosts}
 use Rattle.tv_base.specs.ReadsAs.{Errors}
