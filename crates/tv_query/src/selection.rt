@@ -17,7 +17,7 @@ ghost use Rattle.tv_indexing.specs.declared.text_terms_error.TextTermsError.TheV
 
 use crate::query_error::QueryReason;
 use crate::token::Wanted;
-use std::alloc::Global;
+use std::alloc::{AllocError, Global};
 use tv_base::Facet;
 use tv_field::field_type::FieldType;
 use tv_indexing::{TermList, TextTermsError, ranges_of_text, terms_of_text};
@@ -86,30 +86,26 @@ fn refuses_prefixes(schema: &Schema, path: &str) -> bool
 }
 
 // The range of the facets below the one that the text names.
-fn range_below(alloc: Global, field: Field, text: &str) -> Result<TermRange, QueryReason>
-    ensures made { IfOk result (λ range. (facet : List ℕ) × (parse text.now ≡ Some facet)
+fn range_below(alloc: Global, field: Field, text: &str) -> Result<TermRange, AllocError>
+    ensures { IfOk result (λ range. (facet : List ℕ) × (parse text.now ≡ Some facet)
         × HasTerms (IsBelowFacet field.id facet) range) }
-    ensures memory { IfErr result (λ e. e ≡ Memory) }
 {
     let Ok(facet) = Facet::from_text(alloc, text) else {
-        return Err(QueryReason::Memory);
+        return Err(AllocError);
     };
     match Term::descendant_range(alloc, field, &facet) {
         Ok(range) => Ok(range),
-        Err(_) => Err(QueryReason::Memory),
+        Err(_) => Err(AllocError),
     }
 }
 
 // The one range of a list.
-fn one_range(alloc: Global, range: TermRange) -> Result<Vec<TermRange>, QueryReason>
-    ensures made { IfOk result (λ ranges. ranges.items ≡ range ∷ []) }
-    ensures memory { IfErr result (λ e. e ≡ Memory) }
+fn one_range(alloc: Global, range: TermRange) -> Result<Vec<TermRange>, AllocError>
+    ensures { IfOk result (λ ranges. ranges.items ≡ range ∷ []) }
 {
     let mut ranges = Vec::new(alloc);
-    match ranges.push(range) {
-        Ok(()) => Ok(ranges),
-        Err(_) => Err(QueryReason::Memory),
-    }
+    ranges.push(range)?;
+    Ok(ranges)
 }
 
 // In a field of facets the range of those below the one that the text names.
@@ -118,19 +114,17 @@ fn ranges_below(
     schema: &Schema,
     path: &str,
     text: &str,
-) -> Result<Vec<TermRange>, QueryReason>
-    ensures made { IfOk result
+) -> Result<Vec<TermRange>, AllocError>
+    ensures { IfOk result
         (λ ranges. AreBelow (field_at schema.now path.now) text.now ranges.items) }
-    ensures memory { IfErr result (λ e. e ≡ Memory) }
 {
-    let Some((field, field_type)) = field_at(schema, path) else {
-        return Ok(Vec::new(alloc));
-    };
-    if !is_of_facets(field_type) {
-        return Ok(Vec::new(alloc));
+    match field_at(schema, path) {
+        Some((field, field_type)) if is_of_facets(field_type) => {
+            let range = range_below(alloc, field, text)?;
+            one_range(alloc, range)
+        }
+        _ => Ok(Vec::new(alloc)),
     }
-    let range = range_below(alloc, field, text)?;
-    one_range(alloc, range)
 }
 
 // The terms of a text.
@@ -153,16 +147,15 @@ fn exact_terms(
 }
 
 // The range of the terms that begin with the first of these.
-fn ranges_of_first(alloc: Global, terms: &TermList) -> Result<Vec<TermRange>, QueryReason>
-    ensures made { IfOk result (λ ranges. AreOfFirst terms.now ranges.items) }
-    ensures memory { IfErr result (λ e. e ≡ Memory) }
+fn ranges_of_first(alloc: Global, terms: &TermList) -> Result<Vec<TermRange>, AllocError>
+    ensures { IfOk result (λ ranges. AreOfFirst terms.now ranges.items) }
 {
-    let Some(first) = terms.get(0) else {
-        return Ok(Vec::new(alloc));
-    };
-    match TermRange::of_prefix(alloc, first) {
-        Ok(range) => one_range(alloc, range),
-        Err(_) => Err(QueryReason::Memory),
+    match terms.get(0) {
+        Some(first) => {
+            let range = TermRange::of_prefix(alloc, first)?;
+            one_range(alloc, range)
+        }
+        None => Ok(Vec::new(alloc)),
     }
 }
 
@@ -183,7 +176,7 @@ fn text_selection(
     };
     match ranges_below(alloc, schema, path, text) {
         Ok(ranges) => Ok(Selection { exact, ranges }),
-        Err(reason) => Err(reason),
+        Err(_) => Err(QueryReason::Memory),
     }
 }
 
@@ -210,7 +203,7 @@ fn prefix_selection(
             exact: TermList::new(alloc),
             ranges,
         }),
-        Err(reason) => Err(reason),
+        Err(_) => Err(QueryReason::Memory),
     }
 }
 

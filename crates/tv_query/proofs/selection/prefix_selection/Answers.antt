@@ -9,4 +9,4 @@ returns-in-Err-clause-refused c = λ some.
     subst (RefusesClause c.args.schema.now c.args.path.now (of_prefix c.args.text.now)) (sym r.1) (sym c.if-refuses_prefixes.ensures, r.2)
 
 pub returns-in-Ok-ranges_of_first-clause-made : goal.returns-in-Ok-ranges_of_first-clause-made
-returns-in-Ok-ranges_of_first-clause-made c = (sym c.if-refuses_prefixes.ensures, c.in-Ok.terms, c.in-Ok.ensures.made, c.new.ensures, c.in-Ok-ranges_of_first.ensures.made)
+returns-in-Ok-ranges_of_first-clause-made c = (sym c.if-refuses_prefixes.ensures, c.in-Ok.terms, c.in-Ok.ensures.made, c.new.ensures, c.in-Ok-ranges_of_first.ensures)
