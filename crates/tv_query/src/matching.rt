@@ -16,7 +16,9 @@ pub struct QueryStack {
 
 impl QueryStack {
     /// A stack that has taken no memory.
-    pub fn new(alloc: Global) -> QueryStack {
+    pub fn new(alloc: Global) -> QueryStack
+        ensures { result.truths.items ≡ [] }
+    {
         QueryStack {
             truths: Vec::new(alloc),
         }
