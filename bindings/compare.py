@@ -1,7 +1,8 @@
-"""Compares the library's answers, by the Python module, with what the program `schemadoc` must print: the first argument is its folder. Each
-line of JSON is imported alone and printed back, also as one document, and all together; then the whole block is carried over to version 3 and
-back."""
+"""Compares the library's answers, by the Python module, with what runs over lines must print: the first argument is the folder of their rows.
+Of each run that is done each line of JSON is imported alone and printed back, also as one document, and all together; then the whole block is
+carried over to version 3 and back."""
 
+import json
 import sys
 
 import kormaglen
@@ -18,7 +19,7 @@ REFUSALS = {
 
 
 def answered(schema: kormaglen.Schema, line: bytes) -> str:
-    """What `schemadoc` prints for the line."""
+    """What a run prints for the line."""
     imported = schema.import_lines(line + b"\n")
     (said,) = imported.lines
     if said.status != kormaglen.LineStatus.STORED:
@@ -40,23 +41,26 @@ def compare_alone(schema: kormaglen.Schema, line: bytes, block: str, text: str) 
         sys.exit(f"{line!r}: the document of its values is another")
 
 
-def main() -> None:
-    folder = sys.argv[1]
-    with open(folder + "/stdin", "rb") as file:
-        schema, *lines = file.read().split(b"\n")
-    with open(folder + "/stdout", encoding="utf-8") as file:
-        wanted = file.read().split("\n")
-    if lines[-1] == b"":
+def text_of(word: str) -> str:
+    """The text that a word of a row writes: as JSON has it, or its bytes in hexadecimal."""
+    return json.loads(word) if word.startswith('"') else bytes.fromhex(word).decode()
+
+
+def compare_run(source: str, answers: str) -> tuple[int, int]:
+    """The lines of a run, its schema's first, and what it prints. Returns how many documents' lines there are, and how many are stored."""
+    schema, *lines = source.encode().split(b"\n")
+    if lines and lines[-1] == b"":
         lines.pop()
+    wanted = answers.split("\n")[:-1]
     by = kormaglen.Schema(schema)
-    for line, want in zip(lines, wanted):
+    for line, want in zip(lines, wanted, strict=True):
         got = answered(by, line)
         if got != want:
             sys.exit(f"{line!r}: {got} instead of {want}")
         if not want.startswith("error"):
             compare_alone(by, line, *want.split(" ", 1))
     whole = by.import_lines(b"\n".join(lines))
-    stored = [want.split(" ", 1) for want in wanted if want and not want.startswith("error")]
+    stored = [want.split(" ", 1) for want in wanted if not want.startswith("error")]
     if whole.block.hex() != "".join(block for block, _ in stored):
         sys.exit("the lines' blocks aren't the whole block")
     printed = by.export_block(whole.block).decode()
@@ -66,7 +70,20 @@ def main() -> None:
         sys.exit("the documents one by one aren't those of the block")
     if kormaglen.migrate_block(3, kormaglen.migrate_block(2, whole.block, 3), 2) != whole.block:
         sys.exit("the block isn't the same after version 3")
-    print(f"{len(lines)} lines, {len(stored)} of them stored, agree")
+    return len(lines), len(stored)
+
+
+def main() -> None:
+    folder = sys.argv[1]
+    with open(folder + "/stdin", encoding="utf-8") as rows, open(folder + "/stdout", encoding="utf-8") as answers:
+        runs = [
+            (row.rstrip("\n").split("\t")[3], answer.rstrip("\n").removeprefix("Done "))
+            for row, answer in zip(rows, answers, strict=True)
+            if row.startswith("lines\twhole\tall\t") and answer.startswith("Done ")
+        ]
+    counts = [compare_run(text_of(source), text_of(answer)) for source, answer in runs]
+    lines, stored = (sum(each) for each in zip(*counts))
+    print(f"{lines} lines of {len(runs)} runs, {stored} of them stored, agree")
 
 
 if __name__ == "__main__":

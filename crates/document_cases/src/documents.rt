@@ -15,9 +15,9 @@ use tv_doc::named::NamedFieldDocument;
 use tv_field::ValueParsingError;
 use tv_heap::value::CompactDocValue;
 use tv_json::compact::push_json;
-use tv_json::json_value::{ToJsonValue, to_json_value};
 use tv_schema::Schema;
 use tv_value::copy_error::CopyError;
+use tv_value::json_value::to_json_value;
 use tv_value::owned_value::OwnedValue;
 
 /// What a call about documents returns.

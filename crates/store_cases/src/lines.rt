@@ -73,12 +73,12 @@ fn ran<S: ByteSource>(alloc: Global, source: &mut S, room: &str) -> Result<Strin
     ended(alloc, name(end), sink.into_inner().as_slice())
 }
 
-// The name of an end, without its reason.
+// The name of an end.
 fn name(end: RunEnd) -> &'static str {
     match end {
         RunEnd::Done => "Done",
         RunEnd::BadSchema => "BadSchema",
-        RunEnd::Broken(_) => "Broken",
+        RunEnd::Broken => "Broken",
     }
 }
 

@@ -39,7 +39,7 @@ pub use Rattle.tv_format.specs.Leaves
 pub use Rattle.tv_value.specs.IpAddress
 pub use Rattle.tv_value.specs.JsonTree
 pub use Rattle.tv_format.specs.Size
-pub use Rattle.tv_json.specs.JsonOf
+pub use Rattle.tv_value.specs.JsonOf
 pub use Rattle.tv_json.specs.Named as NamedJson
 pub use Rattle.tv_json.specs.Syntax as JsonSyntax
 pub use Rattle.tv_json.specs.Faults as JsonFaults

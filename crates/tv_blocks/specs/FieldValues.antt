@@ -16,7 +16,7 @@ use Rattle.tv_field.specs.Entry.{Entry}
 use Rattle.tv_format.specs.Tree.{Document, Leaf, Tree, leaf, null, text, unsigned, signed, boolean, date, facet, bytes, ip_address, tokenized, array, object}
 use Rattle.tv_format.specs.Version.{Version}
 use Rattle.tv_indexing.specs.DocumentTerms.{field_of}
-use Rattle.tv_json.specs.JsonOf.{json_of}
+use Rattle.tv_value.specs.JsonOf.{json_of}
 use Rattle.tv_reading.specs.ChosenFields.{HasNoRoomChosen}
 use Rattle.tv_schema.specs.Schema.{field_named}
 use Rattle.tv_store.specs.BlockMigration.{EncodesBlock}

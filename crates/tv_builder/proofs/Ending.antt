@@ -9,7 +9,6 @@ use Rattle.tv_format.specs.Tree.{Tree, leaf, text, facet, bytes}
 use Rattle.tv_heap.specs.Reads.{Stands as StandsAt, ShortSized, ShortText, ReadsTree}
 use Rattle.tv_heap.specs.TypeCode.{type_code}
 use Rattle.tv_heap.specs.declared.value_type.ValueType.{ValueType}
-use Rattle.tv_format.specs.declared.leaf_type.LeafType.TheVariants as leaves
 use Rattle.tv_heap.specs.declared.value_type.ValueType.TheVariants as types
 use Rattle.tv_heap.proofs.Writes.{at_end, longer, sized_some}
 use Rattle.tv_builder.specs.declared.build_error.BuildError.{BuildError}
@@ -60,10 +59,10 @@ record Content (kind : BytesKind) (old content : List ℕ) (at : ℕ) : Type 0 w
   place : record { value_type = bytes_type kind; address = at } ≡ tree_place old (content_tree kind content)
 
 content_written : (kind : BytesKind) (old content : List ℕ) (at : ℕ) → at ≡ length old → Content kind old content at
-content_written kinds.Str old content at e = record { heap = refl; place = λ i. record { value_type = types.Leaf leaves.Str; address = e i } }
-content_written kinds.Facet old content at e = record { heap = refl; place = λ i. record { value_type = types.Leaf leaves.Facet; address = e i } }
-content_written kinds.Bytes old content at e = record { heap = refl; place = λ i. record { value_type = types.Leaf leaves.Bytes; address = e i } }
-content_written kinds.Key old content at e = record { heap = refl; place = λ i. record { value_type = types.Leaf leaves.Str; address = e i } }
+content_written kinds.Str old content at e = record { heap = refl; place = λ i. record { value_type = types.Str; address = e i } }
+content_written kinds.Facet old content at e = record { heap = refl; place = λ i. record { value_type = types.Facet; address = e i } }
+content_written kinds.Bytes old content at e = record { heap = refl; place = λ i. record { value_type = types.Bytes; address = e i } }
+content_written kinds.Key old content at e = record { heap = refl; place = λ i. record { value_type = types.Str; address = e i } }
 
 content_placed : (kind : BytesKind) (old new content : List ℕ) (at : ℕ) → new ≡ old ++ short_sized content → length new ≤ 4294967295 → IsContentOf kind content → at ≡ length old
     → Placed new (record { value_type = bytes_type kind; address = at }) (content_tree kind content)

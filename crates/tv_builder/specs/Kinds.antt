@@ -4,7 +4,6 @@ use Rattle.tv_builder.specs.declared.bytes_kind.BytesKind.{BytesKind}
 use Rattle.tv_builder.specs.declared.bytes_kind.BytesKind.TheVariants as kinds
 use Rattle.tv_builder.specs.declared.list_kind.ListKind.{ListKind}
 use Rattle.tv_builder.specs.declared.list_kind.ListKind.TheVariants as lists
-use Rattle.tv_format.specs.declared.leaf_type.LeafType.TheVariants as leaves
 use Rattle.tv_heap.specs.declared.value_type.ValueType.{ValueType}
 use Rattle.tv_heap.specs.declared.value_type.ValueType.TheVariants as types
 
@@ -14,10 +13,10 @@ list_type lists.Object = types.Object
 
 -- a key is a text
 abbrev pub bytes_type : BytesKind → ValueType
-bytes_type kinds.Str = types.Leaf leaves.Str
-bytes_type kinds.Facet = types.Leaf leaves.Facet
-bytes_type kinds.Bytes = types.Leaf leaves.Bytes
-bytes_type kinds.Key = types.Leaf leaves.Str
+bytes_type kinds.Str = types.Str
+bytes_type kinds.Facet = types.Facet
+bytes_type kinds.Bytes = types.Bytes
+bytes_type kinds.Key = types.Str
 
 abbrev pub IsTextKind : BytesKind → Type 0
 IsTextKind kinds.Str = Unit {0}

@@ -2,7 +2,6 @@
 
 ghost use Rattle.std.specs.Prelude.{◌≡◌, ◌↔◌, IsTrue};
 
-use tv_format::leaf_type::LeafType;
 use tv_heap::value_type::ValueType;
 
 /// A value, or a key of an object, that is bytes after their length. (Not in tantivy.)
@@ -36,9 +35,9 @@ impl BytesKind {
         ensures { result ≡ bytes_type self }
     {
         match self {
-            BytesKind::Str | BytesKind::Key => ValueType::Leaf(LeafType::Str),
-            BytesKind::Facet => ValueType::Leaf(LeafType::Facet),
-            BytesKind::Bytes => ValueType::Leaf(LeafType::Bytes),
+            BytesKind::Str | BytesKind::Key => ValueType::Str,
+            BytesKind::Facet => ValueType::Facet,
+            BytesKind::Bytes => ValueType::Bytes,
         }
     }
 }

@@ -24,5 +24,14 @@ pub mod strict_json;
 pub mod strict_parsing_error;
 mod text_refusal;
 
+pub use builder::{Awaits, BuildError, BytesKind, TreeBuilder};
+pub use doc_parsing_error::DocParsingError;
+pub use document::{CompactDoc, CompactDoc as TantivyDocument};
+pub use document_trait::Document;
+pub use field_values::{FieldValueIterRef, GetAllIter};
+pub use named::NamedFieldDocument;
 pub use tv_builder::add_error;
+pub use tv_builder::add_error::AddError;
+pub use tv_heap::value::{CompactDocArrayIter, CompactDocObjectIter, CompactDocValue};
+pub use tv_heap::value_type::ValueType;
 pub use tv_json::{json_expected, json_fault};

@@ -14,7 +14,8 @@ use Rattle.tv_heap.specs.declared.value_type.ValueType.TheVariants as type
 use Rattle.tv_heap.specs.Held.{Held, same_held, ReadAsElements, HeldElements, ReadAsEntries, HeldEntries}
 use Rattle.tv_heap.specs.Lent.{GivesChild}
 use Rattle.tv_heap.specs.Reads.{Stands, ShortText, ReadsTree, ReadsElements, ReadsEntries}
-use Rattle.tv_heap.specs.TypeCode.{type_code}
+use Rattle.tv_heap.proofs.TypeCodes.{leaf_code}
+use Rattle.tv_heap.specs.TypeCode.{leaf_heap_type, type_code}
 use Rattle.tv_heap.proofs.Shapes.{same_elements, same_entries}
 
 -- a child's type, its address, and what follows
@@ -30,7 +31,7 @@ abbrev Typed : ℕ → Type 0
 Typed code = (t : ValueType) × (code ≡ type_code t)
 
 tree_typed : (heap : List ℕ) (code at : ℕ) (t : Tree) → ReadsTree heap code at t → Typed code
-tree_typed heap code at (leaf l) r = (type.Leaf (type_of l), r.0)
+tree_typed heap code at (leaf l) r = (leaf_heap_type (type_of l), r.0 ∙ sym (leaf_code (type_of l)))
 tree_typed heap code at (array ts) r = (type.Array, r.0)
 tree_typed heap code at (object es) r = (type.Object, r.0)
 

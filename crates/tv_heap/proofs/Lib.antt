@@ -1,6 +1,7 @@
 pub mod Grown
 pub mod Writes
 pub mod Weights
+pub mod TypeCodes
 pub mod TypeBytes
 pub mod Lends
 pub mod Shapes

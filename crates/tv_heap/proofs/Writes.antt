@@ -67,6 +67,10 @@ sized_fits content h = omega (arith, length-append (vnum (length content)) conte
 pub wrote_at : {old new : List ℕ} {code at to : ℕ} {t : Tree} → Wrote old new code at t → at ≡ to → Wrote old new code to t
 wrote_at {old} {new} {code} {at} {to} {t} w e = subst (λ m. Wrote old new code m t) e w
 
+-- by the same type byte, said otherwise
+pub wrote_as : {old new : List ℕ} {code to at : ℕ} {t : Tree} → code ≡ to → Wrote old new code at t → Wrote old new to at t
+wrote_as {old} {new} {code} {to} {at} {t} e w = subst (λ k. Wrote old new k at t) e w
+
 -- ---- texts with their tokens
 
 pub vnum_ten : (n : ℕ) → n < 2 ^ 64 → length (vnum n) ≤ 10

@@ -9,7 +9,7 @@ use Rattle.tv_format.specs.Short.{short_tokenized}
 use Rattle.tv_format.specs.Tree.{Leaf}
 use Rattle.tv_heap.specs.declared.value_type.ValueType.{ValueType}
 use Rattle.tv_heap.specs.Reads.{flag}
-use Rattle.tv_heap.specs.declared.value_type.ValueType.TheVariants as types
+use Rattle.tv_heap.specs.TypeCode.{leaf_heap_type}
 
 -- nothing and a truth value have no bytes
 abbrev pub content_bytes : Content → List ℕ
@@ -26,7 +26,7 @@ abbrev pub leaf_bytes : Leaf → List ℕ
 leaf_bytes l = content_bytes (content l)
 
 abbrev pub leaf_value_type : Leaf → ValueType
-leaf_value_type l = types.Leaf (type_of l)
+leaf_value_type l = leaf_heap_type (type_of l)
 
 -- the address of what is written at the end of a heap of this length
 abbrev pub content_address : ℕ → Content → ℕ

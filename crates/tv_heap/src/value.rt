@@ -72,7 +72,6 @@ impl<'a> CompactDocValue<'a> {
         let heap = self.heap;
         let address = self.address;
         match self.value_type {
-            ValueType::Leaf(leaf_type) => encoded_at(heap, leaf_type, address),
             ValueType::Array => {
                 let list = sized_at(heap, address);
                 Encoded::Array(children(list), CompactDocArrayIter { heap, list })
@@ -81,6 +80,10 @@ impl<'a> CompactDocValue<'a> {
                 let list = sized_at(heap, address);
                 Encoded::Object(children(list) / 2, CompactDocObjectIter { heap, list })
             }
+            single => match single.leaf_type() {
+                Some(leaf_type) => encoded_at(heap, leaf_type, address),
+                None => unreachable!(),
+            },
         }
     }
 }
@@ -156,7 +159,6 @@ impl<'a> Value<'a> for CompactDocValue<'a> {
         let heap = self.heap;
         let address = self.address;
         match self.value_type {
-            ValueType::Leaf(leaf_type) => ReferenceValue::Leaf(leaf_at(heap, leaf_type, address)),
             ValueType::Array => {
                 let list = sized_at(heap, address);
                 ReferenceValue::Array(CompactDocArrayIter { heap, list })
@@ -165,6 +167,10 @@ impl<'a> Value<'a> for CompactDocValue<'a> {
                 let list = sized_at(heap, address);
                 ReferenceValue::Object(CompactDocObjectIter { heap, list })
             }
+            single => match single.leaf_type() {
+                Some(leaf_type) => ReferenceValue::Leaf(leaf_at(heap, leaf_type, address)),
+                None => unreachable!(),
+            },
         }
     }
 }

@@ -14,9 +14,8 @@ ghost use Rattle.tv_format.specs.Short.{short_tokenized, IsContent};
 ghost use Rattle.tv_format.specs.Tree.{Leaf, leaf};
 ghost use Rattle.tv_heap.specs.LeafBytes.{content_bytes, content_address, leaf_bytes};
 ghost use Rattle.tv_heap.specs.LeafBytes.{leaf_value_type, leaf_address};
-ghost use Rattle.tv_heap.specs.TypeCode.{type_code};
+ghost use Rattle.tv_heap.specs.TypeCode.{leaf_heap_type, type_code};
 ghost use Rattle.tv_heap.specs.Wrote.{Wrote};
-ghost use Rattle.tv_heap.specs.declared.value_type.ValueType.TheVariants as types;
 
 use crate::place::Place;
 use crate::value_type::ValueType;
@@ -155,7 +154,7 @@ pub fn write_leaf(heap: &mut Vec<u8>, value: &ReferenceValueLeaf<'_>) -> Result<
     let address = content_address(heap.len() as u32, content);
     push_content(heap, content)?;
     Ok(Place {
-        value_type: ValueType::Leaf(value.leaf_type()),
+        value_type: ValueType::of_leaf(value.leaf_type()),
         address,
     })
 }
@@ -172,7 +171,7 @@ pub fn write_content(
     ensures heap { OnOk result
         (heap.new.items ≡ heap.old.items ++ content_bytes (content_of held.entry)) }
     ensures place { IfOk result
-        (λ place. (place.value_type ≡ types.Leaf leaf_type)
+        (λ place. (place.value_type ≡ leaf_heap_type leaf_type)
         × (place.address ≡ content_address (length heap.old.items) (content_of held.entry))) }
     ensures ok { IfOk result
         (λ place. (l : Leaf) → type_of l ≡ leaf_type → content l ≡ content_of held.entry
@@ -184,7 +183,7 @@ pub fn write_content(
     let address = content_address(heap.len() as u32, held);
     push_content(heap, held)?;
     Ok(Place {
-        value_type: ValueType::Leaf(leaf_type),
+        value_type: ValueType::of_leaf(leaf_type),
         address,
     })
 }

@@ -20,7 +20,7 @@ use Rattle.std.proofs.lemmas.Str.{IsUtf8-from_is_utf8, is_utf8-from_IsUtf8}
 use Rattle.tv_format.specs.Tree.{Leaf, unsigned, signed, boolean, date, ip_address}
 use Rattle.tv_indexing.specs.TermText.{coded_leaf, inner, leaf_at, truth_at, value_leaf}
 use Rattle.tv_indexing.proofs.ByteNumbers.{AreBytes, eight-small, four-small, sixteen-small, sixteen_again}
-use Rattle.tv_json.specs.JsonOf.{address_text, segments_text}
+use Rattle.tv_value.specs.JsonOf.{address_text, segments_text}
 use Rattle.tv_options.specs.Types.{all_types, code, type_among, type_of_code}
 use Rattle.tv_options.specs.declared.types.TypeTag.{TypeTag}
 use Rattle.tv_options.specs.declared.types.TypeTag.TheVariants as tag

@@ -7,7 +7,7 @@ ghost use Rattle.std.specs.Net.Text.{ip_text};
 ghost use Rattle.std.specs.Option.{option_and_then, option_copied};
 ghost use Rattle.tv_indexing.specs.TermText.{coded_leaf, inner, leaf_text, text_of_value};
 ghost use Rattle.tv_indexing.specs.TermText.{truth_at, value_leaf};
-ghost use Rattle.tv_json.specs.JsonOf.{address_text};
+ghost use Rattle.tv_value.specs.JsonOf.{address_text};
 ghost use Rattle.tv_term.specs.Key.{Fits, IsTerm, TermValue, coded_value};
 ghost use Rattle.tv_term.specs.Printed.{text_if_utf8};
 ghost use Rattle.tv_term.specs.Reading.{number_of_eight, number_of_sixteen};

@@ -8,7 +8,7 @@ use Rattle.std.specs.Ordering.{nat_cmp}
 use Rattle.serde_json.specs.Data as json
 use Rattle.serde_json.specs.Data.{Data, Members, no_members, member, put}
 use Rattle.tv_format.specs.Tree.{Tree, object, Entries, no_entries, entry, entries}
-use Rattle.tv_json.specs.JsonOf.{json_of, entries_json}
+use Rattle.tv_value.specs.JsonOf.{json_of, entries_json}
 use Rattle.tv_json.specs.Rising.{Below, RiseFrom, KeysRise, entries_of, listed_json, pair_entries}
 
 -- ---- members after others

@@ -1,6 +1,5 @@
 pub mod Behind
 pub mod InOrder
-pub mod ItemsBefore
 mod OpenLists
 mod WrittenParts
 pub mod Levels

@@ -3,7 +3,7 @@ use Rattle.std.proofs.Common.{◌≡◌, ◌<◌, ℕ, Option, length, map, List
 use Rattle.json.specs.Token as token
 use Rattle.json.specs.Token.{Token}
 use Rattle.tv_format.specs.Tree.{Tree, elements}
-use Rattle.tv_json.specs.JsonOf.{json_of, elements_json}
+use Rattle.tv_value.specs.JsonOf.{json_of, elements_json}
 use Rattle.tv_json.specs.Open.{key_tokens, children_tokens, open_left, LeavesToWrite}
 use Rattle.tv_json.specs.Rising.{data_tokens, rest_of_array, rest_of_object, listed_json}
 use Rattle.tv_value.specs.Children.{Child, without_key, with_key}

@@ -3,9 +3,9 @@ use Rattle.std.proofs.Common.{◌≡◌, ℕ, List, [], ◌∷◌, ◌++◌, app
 use Rattle.json.specs.Token as token
 use Rattle.json.specs.Token.{Token}
 use Rattle.serde_json.specs.Data as json
-use Rattle.serde_json.specs.Data.{Data, Members, put}
+use Rattle.serde_json.specs.Data.{Members}
 use Rattle.tv_format.specs.Tree.{Tree, array, elements, entries}
-use Rattle.tv_json.specs.JsonOf.{json_of, elements_json, entries_json}
+use Rattle.tv_value.specs.JsonOf.{json_of, elements_json}
 use Rattle.tv_json.specs.Named.{list_json, named_json}
 use Rattle.tv_json.specs.Rising.{data_tokens, rest_of_array, rest_of_object, listed_json}
 
@@ -47,11 +47,3 @@ pub object_written : (old begun now last : List Token) (left all : Members) → 
 object_written old begun now last left all begins none so_far ends =
     let whole = rest_of_object all in
     ends ∙ ap (λ ms. now ++ rest_of_object ms) (sym none) ∙ so_far ∙ ap (λ z. z ++ whole) begins ∙ append_assoc old (token.begin_object ∷ []) whole
-
--- ---- members that are put in
-
-pub member_put : (key k : List ℕ) (d : Data) (t : Tree) (found made whole : Members) (all rest : List (List ℕ × Tree)) → made ≡ put key d found → key ≡ k → d ≡ json_of t → all ≡ (k, t) ∷ rest
-    → entries_json (entries all) found ≡ whole → entries_json (entries rest) made ≡ whole
-member_put key k d t found made whole all rest puts named is first so_far =
-    let es = entries rest in
-    ap (entries_json es) puts ∙ ap (λ z. entries_json es (put z d found)) named ∙ ap (λ z. entries_json es (put k z found)) is ∙ ap (λ z. entries_json (entries z) found) (sym first) ∙ so_far

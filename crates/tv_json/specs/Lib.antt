@@ -1,4 +1,3 @@
-pub mod JsonOf
 pub mod Rising
 pub mod Named
 pub mod Open

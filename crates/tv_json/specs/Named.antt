@@ -5,7 +5,7 @@ use Rattle.serde_json.specs.Data as json
 use Rattle.serde_json.specs.Data.{Data, Members}
 use Rattle.tv_format.specs.Tree.{Tree, elements}
 use Rattle.tv_value.specs.declared.field.Field.{Field}
-use Rattle.tv_json.specs.JsonOf.{elements_json}
+use Rattle.tv_value.specs.JsonOf.{elements_json}
 
 -- the array of some values
 abbrev pub list_json : List Tree → Data

@@ -3,7 +3,7 @@ use Rattle.std.specs.Prelude.{◌≡◌, ℕ, ◌<◌, Bool, true, false, List, 
 use Rattle.json.specs.Token as token
 use Rattle.json.specs.Token.{Token}
 use Rattle.tv_format.specs.Tree.{Tree}
-use Rattle.tv_json.specs.JsonOf.{json_of}
+use Rattle.tv_value.specs.JsonOf.{json_of}
 use Rattle.tv_json.specs.Rising.{data_tokens, pair_entries}
 use Rattle.tv_json.specs.declared.open_lists.OpenList.{OpenList}
 use Rattle.tv_json.specs.declared.open_lists.Rest.{Rest}

@@ -11,7 +11,7 @@ use Rattle.serde_json.specs.Data as json
 use Rattle.serde_json.specs.Data.{Data, Items, Members}
 use Rattle.serde_json.specs.Written.{outline, items_outline, members_outline}
 use Rattle.tv_format.specs.Tree.{Token, Tree, leaf, array, object, Entries, no_entries, entry}
-use Rattle.tv_json.specs.JsonOf.{json_of}
+use Rattle.tv_value.specs.JsonOf.{json_of}
 use Rattle.tv_value.specs.Lent.{nested_entry}
 
 -- the first text comes before the second

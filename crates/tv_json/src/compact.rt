@@ -3,7 +3,7 @@
 ghost use Rattle.std.specs.Prelude.{◌≡◌, ◌++◌, OnOk, OnErr, string_bytes};
 ghost use Rattle.serde_json.specs.Data as Data;
 ghost use Rattle.serde_json.specs.Written.{compact_text};
-ghost use Rattle.tv_json.specs.JsonOf.{json_of};
+ghost use Rattle.tv_value.specs.JsonOf.{json_of};
 ghost use Rattle.tv_json.specs.Rising.{data_tokens, listed_json};
 ghost use Rattle.tv_format.specs.Tree.{array, object, elements, entries};
 

@@ -2,7 +2,7 @@
 
 ghost use Rattle.std.specs.Prelude.{◌≡◌, ◌↔◌, IsTrue, IfOk};
 ghost use Rattle.serde_json.specs.Data.{no_members};
-ghost use Rattle.tv_json.specs.JsonOf.{entries_json};
+ghost use Rattle.tv_value.specs.JsonOf.{entries_json};
 ghost use Rattle.tv_json.specs.Rising.{Below, KeysRise, entries_of, listed_json, pair_entries};
 ghost use Rattle.tv_format.specs.Tree.{entries};
 ghost use Rattle.tv_value.specs.Lent.{nested_tree};

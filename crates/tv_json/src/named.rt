@@ -4,7 +4,7 @@ ghost use Rattle.std.specs.Prelude.{◌≡◌, ◌++◌, ◌∷◌, [], OnErr, O
 ghost use Rattle.json.specs.Token as Token;
 ghost use Rattle.serde_json.specs.Data.{object};
 ghost use Rattle.serde_json.specs.Written.{compact_text};
-ghost use Rattle.tv_json.specs.JsonOf.{json_of};
+ghost use Rattle.tv_value.specs.JsonOf.{json_of};
 ghost use Rattle.tv_json.specs.Named.{list_json, named_json, named_trees};
 ghost use Rattle.tv_json.specs.Rising.{data_tokens, rest_of_object};
 

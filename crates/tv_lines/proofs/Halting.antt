@@ -1,13 +1,11 @@
 -- How often reads and writes failed, and how many bytes were taken, where a run breaks off.
 use Rattle.std.proofs.Common.{◌≡◌, ℕ, ◌-◌, ◌^◌, List, ◌++◌, sym, subst, ap, ◌∙◌, append_assoc, arith}
 use Rattle.std.proofs.lemmas.List.{length-append}
-use Rattle.tv_base.specs.Source.{Failures}
-use Rattle.tv_base.specs.Stop.{Stop, Taken}
+use Rattle.tv_base.specs.Stop.{Taken}
 use Rattle.tv_base.specs.ReadsAs.{TakesMost}
-use Rattle.tv_lines.specs.Run.{CountsEnd, IsWhole}
+use Rattle.tv_lines.specs.Run.{IsWhole}
 use Rattle.tv_lines.specs.declared.run_end.RunEnd.{RunEnd}
 use Rattle.tv_lines.specs.declared.run_end.RunEnd.TheVariants.{Done, BadSchema, Broken}
-use Rattle.tv_lines.specs.declared.halt.Halt.{Halt}
 
 pub taken_more : (a b c : List ℕ) (m n k : ℕ) → Taken a b m n → Taken b c n k → Taken a c m k
 taken_more a b c m n k s t = record {
@@ -16,17 +14,11 @@ taken_more a b c m n k s t = record {
   counted = omega (arith, s.counted, t.counted, length-append s.prefix t.prefix);
 }
 
--- ---- whole runs
-
-pub whole_counts : (stop : Halt → Stop ⊥) (end : RunEnd) (f g : Failures) → IsWhole end → g ≡ f → CountsEnd stop end f g
-whole_counts stop Done f g whole same = same
-whole_counts stop BadSchema f g whole same = same
-whole_counts stop (Broken halt) f g whole same = absurd whole
-
-pub not_broken : {P : Type 0} (end : RunEnd) (halt : Halt) → IsWhole end → end ≡ Broken halt → P
-not_broken Done halt whole e = absurd (cc)
-not_broken BadSchema halt whole e = absurd (cc)
-not_broken (Broken h) halt whole e = absurd whole
+-- a whole run isn't a broken one
+pub not_broken : {P : Type 0} (end : RunEnd) → IsWhole end → end ≡ Broken → P
+not_broken Done whole e = absurd (cc)
+not_broken BadSchema whole e = absurd (cc)
+not_broken Broken whole e = absurd whole
 
 pub taken_again : (a b c : List ℕ) (m n i k : ℕ) → Taken a b m n → i ≡ n → Taken b c i k → Taken a c m k
 taken_again a b c m n i k s e t = taken_more a b c m n k s (subst (λ j. Taken b c j k) e t)

@@ -1,5 +1,6 @@
 -- What a run over an input writes.
 use Rattle.std.specs.Prelude.{◌≡◌, ◌⊎◌, ℕ, List, [], ◌∷◌, ◌++◌}
+use Rattle.tv_base.specs.ReadsAs.{TakesMost}
 use Rattle.tv_base.specs.Sink.{IsPrefix}
 use Rattle.tv_base.specs.Source.{Failures}
 use Rattle.tv_base.specs.Stop.{Stop, CountsStop}
@@ -52,12 +53,12 @@ WritesText P old new = (text : List ℕ) × P text × (new ≡ old ++ text)
 abbrev pub EndsWith : RunEnd → List ℕ → List ℕ → List ℕ → Type 0
 EndsWith Done input old new = WritesText (DoneText input) old new
 EndsWith BadSchema input old new = WritesText (BadSchemaText input) old new
-EndsWith (Broken halt) input old new = ⊥
+EndsWith Broken input old new = ⊥
 
 abbrev pub IsWhole : RunEnd → Type 0
 IsWhole Done = Unit {0}
 IsWhole BadSchema = Unit {0}
-IsWhole (Broken halt) = ⊥
+IsWhole Broken = ⊥
 
 -- Why a run broke off, seen from the source and from the sink: a read or a write failed with this kind, or none did.
 abbrev pub source_stop : Halt → Stop ⊥
@@ -72,8 +73,10 @@ sink_stop (Write kind) = Failed kind
 sink_stop Memory = Short
 sink_stop TooLong = Short
 
--- a failure of a read or a write is reported with its kind, and only where there was one
-abbrev pub CountsEnd : (Halt → Stop ⊥) → RunEnd → Failures → Failures → Type 0
-CountsEnd stop Done old new = new ≡ old
-CountsEnd stop BadSchema old new = new ≡ old
-CountsEnd stop (Broken halt) old new = CountsStop (stop halt) old new
+-- A run broke off for some reason: a read or a write failed exactly where the reason says so, with its kind, and `TooLong` comes after the
+-- most bytes that are counted.
+pub record Halted (read new_read written new_written : Failures) (is_known : Type 0) (left new_left : List ℕ) : Type 0 where
+  pub halt : Halt
+  pub source : CountsStop (source_stop halt) read new_read
+  pub sink : CountsStop (sink_stop halt) written new_written
+  pub too_long : is_known → halt ≡ TooLong → TakesMost left new_left

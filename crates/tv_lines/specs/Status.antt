@@ -6,4 +6,4 @@ use Rattle.tv_lines.specs.declared.run_end.RunEnd.TheVariants.{Done, BadSchema, 
 abbrev pub status_of : RunEnd → ℕ
 status_of Done = 0
 status_of BadSchema = 1
-status_of (Broken halt) = 2
+status_of Broken = 2

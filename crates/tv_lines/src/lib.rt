@@ -14,4 +14,4 @@ mod schema_line;
 pub use halt::Halt;
 pub use program::answer_lines;
 pub use run_end::RunEnd;
-pub use runs::run;
+pub use runs::{run, try_run};

@@ -1,6 +1,5 @@
 //! The program `schemadoc` over any reader and any writer.
 
-use crate::halt::Halt;
 use crate::run_end::RunEnd;
 use crate::runs::run;
 use std::alloc::Global;
@@ -16,7 +15,7 @@ const BUFFERED: usize = 65536;
 pub fn answer_lines(alloc: Global, reader: impl Read + Drop, writer: impl Write + Drop) -> u8 {
     match answer(alloc, reader, writer) {
         Ok(end) => end.status(),
-        Err(error) => RunEnd::Broken(Halt::Write(error.kind())).status(),
+        Err(_) => RunEnd::Broken.status(),
     }
 }
 

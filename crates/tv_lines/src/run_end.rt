@@ -3,8 +3,6 @@
 ghost use Rattle.std.specs.Prelude.{◌≡◌};
 ghost use Rattle.tv_lines.specs.Status.{status_of};
 
-use crate::halt::Halt;
-
 /// How a run over lines ended.
 #[derive(Clone, Copy, Debug, PartialEq, Eq, Drop)]
 pub enum RunEnd {
@@ -12,8 +10,8 @@ pub enum RunEnd {
     Done,
     /// The first line describes no schema, or memory was refused as it was read. This was answered for it.
     BadSchema,
-    /// The run broke off, for this reason.
-    Broken(Halt),
+    /// The run broke off: a read or a write failed, memory was refused, or the source was too long. `try_run` tells which.
+    Broken,
 }
 
 impl RunEnd {
@@ -24,7 +22,7 @@ impl RunEnd {
         match self {
             RunEnd::Done => 0,
             RunEnd::BadSchema => 1,
-            RunEnd::Broken(_) => 2,
+            RunEnd::Broken => 2,
         }
     }
 }

@@ -6,9 +6,8 @@ ghost use Rattle.tv_base.specs.Source.{CountsFailure};
 ghost use Rattle.tv_base.specs.Stop.{Counts, Taken};
 ghost use Rattle.tv_base.specs.Sink.{IsPrefix};
 ghost use Rattle.tv_lines.specs.Run.{AnswersOf, BadSchemaText, BrokenText, DoneText, EndsWith};
-ghost use Rattle.tv_lines.specs.Run.{PrefixOf, WritesText, CountsEnd, IsWhole};
+ghost use Rattle.tv_lines.specs.Run.{Halted, PrefixOf, WritesText, IsWhole};
 ghost use Rattle.tv_lines.specs.Run.{source_stop, sink_stop};
-ghost use Rattle.tv_lines.specs.declared.halt.Halt.{Halt};
 ghost use Rattle.tv_lines.specs.declared.halt.Halt.TheVariants.{TooLong};
 ghost use Rattle.tv_lines.specs.Reader.{unread};
 ghost use Rattle.tv_lines.specs.declared.run_end.RunEnd.TheVariants.{Done, BadSchema, Broken};
@@ -80,8 +79,12 @@ fn answer_lines<S: ByteSource, K: ByteSink>(
     }
 }
 
-// Answers the lines of the source, or says why that breaks off.
-fn answer_source<S: ByteSource, K: ByteSink>(
+/// Answers the lines of a source, as `run` does, and tells why that breaks off. On success it returns `Done` or `BadSchema`. (Not in tantivy.)
+///
+/// Errors: `Read` and `Write` only where the source's or the sink's count of failures rose, with the kind of the failure; `TooLong` only after
+/// 2^64 - 1 bytes; `Memory` where memory was refused, and neither count has changed. What was written is then a prefix of what such a run
+/// writes.
+pub fn try_run<S: ByteSource, K: ByteSink>(
     alloc: Global,
     source: &mut S,
     sink: &mut K,
@@ -128,33 +131,30 @@ fn answer_source<S: ByteSource, K: ByteSink>(
 ///
 /// Bytes are read in pieces of 64 KiB, and each answer is written at once. The memory of a line, of its document and of its answer serves the next.
 ///
-/// `Broken` says why the run broke off: `Read` and `Write` only where the source's or the sink's count of failures rose, with the kind of
-/// the failure, `TooLong` only after 2^64 - 1 bytes, and else `Memory`, where memory was refused and neither count has changed.
+/// `Broken` where the run broke off; `try_run` does the same, and tells why.
 pub fn run<S: ByteSource, K: ByteSink>(alloc: Global, source: &mut S, sink: &mut K) -> RunEnd
     // what is written after what the sink held
     ensures done { S.is_known source.old → K.is_known sink.old → result ≡ Done
         → WritesText (DoneText (S.left source.old)) (K.held sink.old) (K.held sink.new) }
     ensures bad_schema { S.is_known source.old → K.is_known sink.old → result ≡ BadSchema
         → WritesText (BadSchemaText (S.left source.old)) (K.held sink.old) (K.held sink.new) }
-    ensures broken { S.is_known source.old → K.is_known sink.old → (halt : Halt)
-        → result ≡ Broken halt
+    ensures broken { S.is_known source.old → K.is_known sink.old → result ≡ Broken
         → WritesText (BrokenText (S.left source.old)) (K.held sink.old) (K.held sink.new) }
 
     // all of the source was read
     ensures all { S.is_known source.old → result ≡ Done → S.left source.new ≡ [] }
 
-    // a read or a write failed exactly where that is returned, with its kind; `TooLong` comes after the most bytes that are counted
-    ensures source_failures { CountsEnd source_stop result (S.failures source.old)
-        (S.failures source.new) }
-    ensures sink_failures { CountsEnd sink_stop result (K.failures sink.old)
-        (K.failures sink.new) }
-    ensures too_long { S.is_known source.old → result ≡ Broken TooLong
-        → TakesMost (S.left source.old) (S.left source.new) }
+    // where it didn't break off, no read and no write failed; else there is a reason, which `try_run` returns
+    ensures whole_source { IsWhole result → S.failures source.new ≡ S.failures source.old }
+    ensures whole_sink { IsWhole result → K.failures sink.new ≡ K.failures sink.old }
+    ensures halted { result ≡ Broken
+        → Halted (S.failures source.old) (S.failures source.new) (K.failures sink.old)
+        (K.failures sink.new) (S.is_known source.old) (S.left source.old) (S.left source.new) }
     ensures source_is_known { S.is_known source.old → S.is_known source.new }
     ensures sink_is_known { K.is_known sink.old → K.is_known sink.new }
 {
-    match answer_source(alloc, source, sink) {
+    match try_run(alloc, source, sink) {
         Ok(end) => end,
-        Err(halt) => RunEnd::Broken(halt),
+        Err(_) => RunEnd::Broken,
     }
 }

@@ -34,3 +34,7 @@ pub use se::{
 };
 pub use skip::{skip_document, skip_value};
 pub use tv_reader::type_codes;
+pub use tv_typed::{
+    BinaryArrayDeserializer, BinaryDocumentDeserializer, BinaryObjectDeserializer,
+    BinaryValueDeserializer, DocumentDeserializer, StoreReader, ValueDeserialize, ValueVisitor,
+};

@@ -9,5 +9,6 @@ pub mod Payloads
 pub mod GatheredTokens
 pub mod LentJson
 pub mod MovedJson
+pub mod JsonParts
 pub mod Utf8Prefixes
 mod SameChildren

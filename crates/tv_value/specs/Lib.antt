@@ -16,4 +16,5 @@ pub mod EncodedTokens
 pub mod SameTokens
 pub mod SameTokensLaws
 pub mod JsonTree
+pub mod JsonOf
 pub mod IpAddress

@@ -12,8 +12,10 @@ pub mod in_place;
 pub mod ip_addr;
 pub mod json;
 pub mod json_error;
+pub mod json_value;
 pub mod laws;
 pub mod leaf;
+pub mod leaf_text;
 mod moved;
 pub mod nested;
 pub mod nesting;
@@ -24,4 +26,24 @@ pub mod tokenizer;
 mod utf8;
 pub mod value;
 
-pub use tv_date::{date_error, date_time};
+pub use field::Field;
+pub use ip_addr::IntoIpv6Addr;
+pub use json_error::JsonError;
+pub use leaf::ReferenceValueLeaf;
+pub use owned_value::OwnedValue;
+pub use pre_tokenized::{PreTokenizedStr, TokenRef};
+pub use tokenizer::{PreTokenizedString, Token};
+pub use tv_base::{
+    BinarySerializable, ByteSink, ByteSource, Cause, FACET_SEP_BYTE, FACET_SEP_CHAR, Facet,
+    FacetParseError, ReadError, SliceSource, VInt, VecSink, WriteError, join_json_path,
+    joined_json_path, push_joined_json_path, split_json_path,
+};
+pub use tv_date::{
+    DATE_TIME_PRECISION_INDEXED, DateError, DateTime, DateTimePrecision, date_error, date_time,
+};
+pub use tv_facets::{
+    DocumentFacet, FacetCount, FacetCountsError, count_child_documents, count_child_facets,
+    greatest_counts,
+};
+pub use tv_io::{BufferedSource, FaultSink, FaultSource, LimitedSource, ReadSource, WriteSink};
+pub use value::{ReferenceValue, Value};

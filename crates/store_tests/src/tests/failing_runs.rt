@@ -4,7 +4,7 @@ use std::alloc::{AllocError, Global};
 use std::io;
 use std::test::Fail;
 use tantivy_schema::common::{FaultSink, FaultSource, SliceSource, VecSink};
-use tantivy_schema::{Halt, RunEnd, run};
+use tantivy_schema::{Halt, RunEnd, run, try_run};
 
 // A schema of one stored field of texts, and three documents, of which the second is refused. The last line has no line feed.
 const INPUT: &[u8] =
@@ -43,10 +43,10 @@ fn ran(
     reads: u64,
     writes: u64,
     kind: io::ErrorKind,
-) -> (RunEnd, VecSink) {
+) -> (Result<RunEnd, Halt>, VecSink) {
     let mut source = FaultSource::new(SliceSource::new(input), reads, kind);
     let mut sink = FaultSink::new(VecSink::new(alloc), writes, kind);
-    let end = run(alloc, &mut source, &mut sink);
+    let end = try_run(alloc, &mut source, &mut sink);
     (end, sink.into_inner())
 }
 
@@ -71,8 +71,12 @@ fn each_read_of_a_run_fails(rt: HostRuntime) -> Result<(), Fail> {
     for kind in KINDS {
         for place in 0..=reads {
             let (end, sink) = ran(rt.alloc(), INPUT, place as u64, NEVER, kind);
-            let broken = RunEnd::Broken(Halt::Read(kind));
-            let expected = if place == reads { RunEnd::Done } else { broken };
+            let halted = Err(Halt::Read(kind));
+            let expected = if place == reads {
+                Ok(RunEnd::Done)
+            } else {
+                halted
+            };
             assert!(rt; end == expected, "at {place}");
             let written = answers(rt.alloc(), answered(place))?;
             assert!(rt; sink.as_slice() == written.as_slice(), "at {place}");
@@ -94,9 +98,9 @@ fn each_write_of_a_run_fails(rt: HostRuntime) -> Result<(), Fail> {
             for place in 0..=output.len() {
                 let (end, sink) = ran(rt.alloc(), input, NEVER, place as u64, kind);
                 let is_whole = place == output.len();
-                let broken = RunEnd::Broken(Halt::Write(kind));
+                let halted = Err(Halt::Write(kind));
                 assert!(rt;
-                    end == (if is_whole { whole } else { broken }),
+                    end == (if is_whole { Ok(whole) } else { halted }),
                     "at {place}"
                 );
                 assert!(rt; Some(sink.as_slice()) == output.get(..place), "at {place}");
@@ -104,4 +108,12 @@ fn each_write_of_a_run_fails(rt: HostRuntime) -> Result<(), Fail> {
         }
     }
     Ok(())
+}
+
+#[test]
+fn a_run_is_broken_where_a_read_fails(rt: HostRuntime) {
+    let mut source = FaultSource::new(SliceSource::new(INPUT), 0, io::ErrorKind::BrokenPipe);
+    let mut sink = VecSink::new(rt.alloc());
+    assert!(rt; run(rt.alloc(), &mut source, &mut sink) == RunEnd::Broken);
+    assert!(rt; sink.as_slice().is_empty());
 }

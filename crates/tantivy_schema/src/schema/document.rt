@@ -30,6 +30,16 @@
 //! }
 //! ```
 
+/// What reading stored values says of their types.
+pub mod de {
+    pub use tv_store::ValueType;
+}
+
+/// The types of values in a document's heap.
+pub mod default_document {
+    pub use tv_heap::value_type::ValueType;
+}
+
 pub use tv_doc::add_error::AddError;
 pub use tv_doc::builder::{Awaits, BuildError, BytesKind, TreeBuilder};
 pub use tv_doc::doc_parsing_error::DocParsingError;
@@ -44,9 +54,7 @@ pub use tv_doc::parse_buffers::ParseBuffers;
 pub use tv_doc::strict_parsing_error::StrictParsingError;
 pub use tv_format::leaf_type::LeafType;
 pub use tv_heap::value::{CompactDocArrayIter, CompactDocObjectIter, CompactDocValue};
-pub use tv_heap::value_type::ValueType as HeapValueType;
 pub use tv_json::compact::push_json;
-pub use tv_json::json_value::{ToJsonValue, to_json_value, to_json_value_within};
 pub use tv_store::{
     BinaryArraySerializer, BinaryDocumentSerializer, BinaryObjectSerializer, BinaryValueSerializer,
     DeserializeError, DocumentDeserialize, SerializeError, ValueType, type_codes,
@@ -56,6 +64,7 @@ pub use tv_typed::{
     BinaryValueDeserializer, DocumentDeserializer, StoreReader, ValueDeserialize, ValueVisitor,
 };
 pub use tv_value::copy_error::CopyError;
+pub use tv_value::json_value::{to_json_value, to_json_value_within};
 pub use tv_value::leaf::ReferenceValueLeaf;
 pub use tv_value::nested::{Lent, Nested, NestedValue, lend};
 pub use tv_value::nesting::{MAX_DEPTH, TooDeep, nests_within};

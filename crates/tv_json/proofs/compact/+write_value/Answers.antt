@@ -4,7 +4,7 @@ use Rattle.std.proofs.lemmas.Result.{on_ok_weaker}
 use Rattle.json.specs.Token as Token
 use Rattle.serde_json.specs.Data.{Members, no_members}
 use Rattle.tv_format.specs.Tree.{Tree, array, object, elements, entries}
-use Rattle.tv_json.specs.JsonOf.{json_of, elements_json, entries_json}
+use Rattle.tv_value.specs.JsonOf.{json_of, elements_json, entries_json}
 use Rattle.tv_json.specs.Rising.{KeysRise, entries_of, data_tokens, rest_of_array, rest_of_object, listed_json, pair_entries}
 use Rattle.tv_json.proofs.InOrder.{object_in_order}
 use Rattle.tv_json.proofs.WrittenParts.{item_written, array_written, member_written, object_written}

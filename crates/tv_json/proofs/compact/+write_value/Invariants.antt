@@ -1,6 +1,6 @@
 use Rattle.std.proofs.Common.{◌≡◌, ◌++◌, ◌+◌, ◌*◌}
 use Rattle.tv_format.specs.Tree.{elements}
-use Rattle.tv_json.specs.JsonOf.{elements_json}
+use Rattle.tv_value.specs.JsonOf.{elements_json}
 use Rattle.tv_json.specs.Rising.{rest_of_array, rest_of_object, listed_json, pair_entries}
 use Rattle.tv_json.proofs.compact.+write_value.Given as goal
 

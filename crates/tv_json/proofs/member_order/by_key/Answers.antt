@@ -2,10 +2,10 @@ use Rattle.std.proofs.Common.{◌≡◌, ap, refl, sym, ◌∙◌, string_bytes,
 use Rattle.std.specs.Prelude.{Some, None}
 use Rattle.serde_json.specs.Data.{no_members}
 use Rattle.tv_format.specs.Tree.{entries}
-use Rattle.tv_json.specs.JsonOf.{json_of, entries_json}
+use Rattle.tv_value.specs.JsonOf.{json_of, entries_json}
 use Rattle.tv_json.specs.Rising.{listed_json, pair_entries}
 use Rattle.tv_json.proofs.InOrder.{pairs-insert_entry}
-use Rattle.tv_json.proofs.WrittenParts.{member_put}
+use Rattle.tv_value.proofs.JsonParts.{member_put}
 use Rattle.tv_json.proofs.member_order.by_key.Goals as goal
 
 pub loop-key-preserved : goal.loop-key-preserved

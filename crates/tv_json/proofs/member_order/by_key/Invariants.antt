@@ -1,7 +1,7 @@
 use Rattle.std.proofs.Common.{◌≡◌}
 use Rattle.serde_json.specs.Data.{no_members}
 use Rattle.tv_format.specs.Tree.{entries}
-use Rattle.tv_json.specs.JsonOf.{entries_json}
+use Rattle.tv_value.specs.JsonOf.{entries_json}
 use Rattle.tv_json.specs.Rising.{listed_json, pair_entries}
 use Rattle.tv_json.proofs.member_order.by_key.Given as goal
 

@@ -1,6 +1,6 @@
 use Rattle.std.proofs.Common.{◌≡◌, ◌++◌, map, drop}
 use Rattle.tv_format.specs.Tree.{elements}
-use Rattle.tv_json.specs.JsonOf.{elements_json}
+use Rattle.tv_value.specs.JsonOf.{elements_json}
 use Rattle.tv_json.specs.Rising.{rest_of_array}
 use Rattle.tv_json.proofs.named.write_list.Given as goal
 

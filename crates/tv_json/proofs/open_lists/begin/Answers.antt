@@ -1,6 +1,6 @@
 use Rattle.std.proofs.Common.{◌∷◌, ap, ◌∙◌}
 use Rattle.json.specs.Token.{begin_array, begin_object}
-use Rattle.tv_json.specs.JsonOf.{json_of}
+use Rattle.tv_value.specs.JsonOf.{json_of}
 use Rattle.tv_json.specs.Open.{list_left}
 use Rattle.tv_json.specs.Rising.{data_tokens}
 use Rattle.tv_json.proofs.OpenLists.{array_tokens, list_opened}

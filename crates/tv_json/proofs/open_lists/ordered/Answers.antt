@@ -1,7 +1,7 @@
 use Rattle.std.proofs.Common.{◌≡◌, ◌∷◌, ap, subst, ◌∙◌}
 use Rattle.json.specs.Token.{begin_object}
 use Rattle.serde_json.specs.Data.{object}
-use Rattle.tv_json.specs.JsonOf.{json_of}
+use Rattle.tv_value.specs.JsonOf.{json_of}
 use Rattle.tv_json.specs.Rising.{KeysRise, entries_of, data_tokens, listed_json, pair_entries}
 use Rattle.tv_json.proofs.InOrder.{object_in_order}
 use Rattle.tv_json.proofs.OpenLists.{object_tokens}

@@ -1,5 +1,5 @@
 use Rattle.std.proofs.Common.{◌≡◌, ◌++◌, length}
-use Rattle.tv_json.specs.JsonOf.{json_of}
+use Rattle.tv_value.specs.JsonOf.{json_of}
 use Rattle.tv_json.specs.Open.{list_left, open_left}
 use Rattle.tv_json.specs.Rising.{data_tokens}
 use Rattle.tv_json.proofs.open_lists.write_deep.Given as goal

@@ -4,7 +4,7 @@ use Rattle.json.specs.Token as Token
 use Rattle.std.proofs.lemmas.Result.{on_ok_weaker}
 use Rattle.tv_value.specs.PreTokenized.{tokens_left}
 use Rattle.tv_format.specs.Tree.{Token as TokenSpec}
-use Rattle.tv_json.specs.JsonOf.{tokens_json, tokenized_json}
+use Rattle.tv_value.specs.JsonOf.{tokens_json, tokenized_json}
 use Rattle.tv_json.specs.Rising.{data_tokens, rest_of_array}
 use Rattle.tv_json.proofs.Behind.{behind}
 use Rattle.tv_json.proofs.write.write_tokenized.Goals as goal

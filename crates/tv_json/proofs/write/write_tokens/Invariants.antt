@@ -1,6 +1,6 @@
 use Rattle.std.proofs.Common.{◌≡◌, ◌++◌}
 use Rattle.tv_value.specs.PreTokenized.{tokens_left}
-use Rattle.tv_json.specs.JsonOf.{tokens_json}
+use Rattle.tv_value.specs.JsonOf.{tokens_json}
 use Rattle.tv_json.specs.Rising.{rest_of_array}
 use Rattle.tv_json.proofs.write.write_tokens.Given as goal
 

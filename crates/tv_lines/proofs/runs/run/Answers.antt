@@ -1,13 +1,13 @@
-use Rattle.tv_lines.specs.Run.{source_stop, sink_stop}
-use Rattle.tv_lines.specs.declared.halt.Halt.TheVariants.{TooLong}
-use Rattle.tv_lines.proofs.Halting.{whole_counts, not_broken}
+use Rattle.tv_lines.proofs.Halting.{not_broken}
 use Rattle.tv_lines.proofs.runs.run.Goals as goal
 
-pub returns-in-Ok-clause-source_failures : goal.returns-in-Ok-clause-source_failures
-returns-in-Ok-clause-source_failures g c = whole_counts source_stop c.in-Ok.end _ _ c.in-Ok.ensures.whole c.in-Ok.ensures.source_failures
+pub returns-in-Ok-clause-halted : goal.returns-in-Ok-clause-halted
+returns-in-Ok-clause-halted g c = λ e. not_broken c.in-Ok.end c.in-Ok.ensures.whole e
 
-pub returns-in-Ok-clause-sink_failures : goal.returns-in-Ok-clause-sink_failures
-returns-in-Ok-clause-sink_failures g c = whole_counts sink_stop c.in-Ok.end _ _ c.in-Ok.ensures.whole c.in-Ok.ensures.sink_failures
-
-pub returns-in-Ok-clause-too_long : goal.returns-in-Ok-clause-too_long
-returns-in-Ok-clause-too_long g c = λ s e. not_broken c.in-Ok.end TooLong c.in-Ok.ensures.whole e
+pub returns-in-Err-clause-halted : goal.returns-in-Err-clause-halted
+returns-in-Err-clause-halted g c = λ e. record {
+  halt = c.in-Err.error;
+  source = c.in-Err.ensures.source_failures;
+  sink = c.in-Err.ensures.sink_failures;
+  too_long = λ known is. c.in-Err.ensures.too_long known is;
+}

@@ -1,18 +1,19 @@
-use Rattle.std.proofs.Common.{◌/◌, ap, rules, arith}
+use Rattle.std.proofs.Common.{◌/◌, ap, sym, ◌∙◌, rules, arith}
 use Rattle.tv_heap.specs.TypeCode.{type_code}
+use Rattle.tv_heap.proofs.TypeCodes.{leaf_type_code}
 use Rattle.tv_heap.proofs.Shapes.{array_list, object_list}
 use Rattle.tv_heap.proofs.InPlace.{leaf_bytes, leaf_tokens, array_bytes, object_bytes, no_list_tokens}
 use Rattle.tv_heap.proofs.value.CompactDocValue.encoded.Goals as goal
 
-pub returns-in-Leaf-clause-bytes : goal.returns-in-Leaf-clause-bytes
-returns-in-Leaf-clause-bytes c = λ version.
+pub returns-in-Some-clause-bytes : goal.returns-in-Some-clause-bytes
+returns-in-Some-clause-bytes c = λ version.
     let v = c.args.self.now in
-    leaf_bytes version v.heap.now (type_code v.value_type) v.address v.held c.in-Leaf.leaf_type _ (ap type_code c.in-Leaf.is) (c.encoded_at.ensures.bytes version)
+    leaf_bytes version v.heap.now (type_code v.value_type) v.address v.held c.in-Some.leaf_type _ (leaf_type_code v.value_type c.in-Some.leaf_type (sym c.leaf_type.ensures ∙ c.in-Some.is)) (c.encoded_at.ensures.bytes version)
 
-pub returns-in-Leaf-clause-tokens : goal.returns-in-Leaf-clause-tokens
-returns-in-Leaf-clause-tokens c =
+pub returns-in-Some-clause-tokens : goal.returns-in-Some-clause-tokens
+returns-in-Some-clause-tokens c =
     let v = c.args.self.now in
-    leaf_tokens v.heap.now (type_code v.value_type) v.address v.held c.in-Leaf.leaf_type c.encoded_at.result (ap type_code c.in-Leaf.is) c.encoded_at.ensures.tokens
+    leaf_tokens v.heap.now (type_code v.value_type) v.address v.held c.in-Some.leaf_type c.encoded_at.result (leaf_type_code v.value_type c.in-Some.leaf_type (sym c.leaf_type.ensures ∙ c.in-Some.is)) c.encoded_at.ensures.tokens
 
 pub invariant_of-result : goal.invariant_of-result
 invariant_of-result c =

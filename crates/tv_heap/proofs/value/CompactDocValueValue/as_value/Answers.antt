@@ -1,17 +1,18 @@
-use Rattle.std.proofs.Common.{ap, rules}
+use Rattle.std.proofs.Common.{ap, sym, ◌∙◌, rules}
 use Rattle.tv_heap.specs.TypeCode.{type_code}
+use Rattle.tv_heap.proofs.TypeCodes.{leaf_type_code}
 use Rattle.tv_heap.proofs.Shapes.{text_there, leaf_is, array_list, array_is, object_list, object_is}
 use Rattle.tv_heap.proofs.value.CompactDocValueValue.as_value.Goals as goal
 
 pub leaf_at-requires : goal.leaf_at-requires
 leaf_at-requires c =
     let v = c.args.self.now in
-    text_there v.heap.now (type_code v.value_type) v.address v.held c.in-Leaf.leaf_type (ap type_code c.in-Leaf.is)
+    text_there v.heap.now (type_code v.value_type) v.address v.held c.in-Some.leaf_type (leaf_type_code v.value_type c.in-Some.leaf_type (sym c.leaf_type.ensures ∙ c.in-Some.is))
 
-pub returns-in-Leaf : goal.returns-in-Leaf
-returns-in-Leaf c =
+pub returns-in-Some : goal.returns-in-Some
+returns-in-Some c =
     let v = c.args.self.now in
-    leaf_is v.heap.now (type_code v.value_type) v.address v.held c.in-Leaf.leaf_type _ (ap type_code c.in-Leaf.is) c.leaf_at.ensures
+    leaf_is v.heap.now (type_code v.value_type) v.address v.held c.in-Some.leaf_type _ (leaf_type_code v.value_type c.in-Some.leaf_type (sym c.leaf_type.ensures ∙ c.in-Some.is)) c.leaf_at.ensures
 
 pub invariant_of-result : goal.invariant_of-result
 invariant_of-result c =

@@ -2,9 +2,9 @@ use Rattle.std.proofs.Common.{◌≡◌, ◌∷◌, [], sym, ap, ◌∙◌, rule
 use Rattle.serde_json.specs.Data.{item}
 use Rattle.tv_value.specs.PreTokenized.{tokens_left}
 use Rattle.tv_value.specs.TokenRef.{ref_of}
-use Rattle.tv_json.specs.JsonOf.{tokens_json}
-use Rattle.tv_json.proofs.ItemsBefore.{items_before, items_before-no_items, items_push}
-use Rattle.tv_json.proofs.json_value.token_values.Goals as goal
+use Rattle.tv_value.specs.JsonOf.{tokens_json}
+use Rattle.tv_value.proofs.JsonParts.{items_before, items_before-no_items, items_push}
+use Rattle.tv_value.proofs.json_value.token_values.Goals as goal
 
 pub loop-token-preserved : goal.loop-token-preserved
 loop-token-preserved c =

@@ -3,9 +3,9 @@ use Rattle.serde_json.specs.Data.{no_members}
 use Rattle.serde_json.specs.View.{members_view}
 use Rattle.tv_format.specs.Size.{size, elements_size, entries_size}
 use Rattle.tv_format.specs.Tree.{elements, entries}
-use Rattle.tv_json.specs.JsonOf.{elements_json, entries_json}
-use Rattle.tv_json.proofs.ItemsBefore.{items_before}
-use Rattle.tv_json.proofs.json_value.+nested_value.Given as goal
+use Rattle.tv_value.specs.JsonOf.{elements_json, entries_json}
+use Rattle.tv_value.proofs.JsonParts.{items_before}
+use Rattle.tv_value.proofs.json_value.+nested_value.Given as goal
 
 abbrev pub decreases-nested_value : goal.decreases-nested_value
 decreases-nested_value g l = size (g.N.Nested.tree l.value.now)

@@ -7,10 +7,9 @@ use Rattle.serde_json.specs.Data.{item, no_members}
 use Rattle.serde_json.specs.View.{view as data_of, members_view}
 use Rattle.tv_format.specs.Size.{size, elements_size, entries_size}
 use Rattle.tv_format.specs.Tree.{array, object, elements, entries}
-use Rattle.tv_json.specs.JsonOf.{json_of, elements_json, entries_json}
-use Rattle.tv_json.proofs.ItemsBefore.{items_before, items_before-no_items, items_push}
-use Rattle.tv_json.proofs.WrittenParts.{member_put}
-use Rattle.tv_json.proofs.json_value.+nested_value.Goals as goal
+use Rattle.tv_value.specs.JsonOf.{json_of, elements_json, entries_json}
+use Rattle.tv_value.proofs.JsonParts.{items_before, items_before-no_items, items_push, member_put}
+use Rattle.tv_value.proofs.json_value.+nested_value.Goals as goal
 
 pub item_values-loop-item-preserved : goal.item_values-loop-item-preserved
 item_values-loop-item-preserved g t c =

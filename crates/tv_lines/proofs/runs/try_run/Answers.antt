@@ -2,7 +2,7 @@ use Rattle.std.proofs.Common.{◌≡◌, ◌-◌, ◌^◌, rules}
 use Rattle.tv_lines.proofs.Halting.{taken_more, most_taken}
 use Rattle.tv_lines.proofs.LineSteps.{first_of}
 use Rattle.tv_lines.proofs.Progress.{broken_lines, broken_refusal, broken_early, on_err}
-use Rattle.tv_lines.proofs.runs.answer_source.Goals as goal
+use Rattle.tv_lines.proofs.runs.try_run.Goals as goal
 
 pub returns-in_err-reader-clause-err : goal.returns-in_err-reader-clause-err
 returns-in_err-reader-clause-err g c = λ s k. on_err _ (broken_early _ _)

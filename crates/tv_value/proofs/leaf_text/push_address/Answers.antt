@@ -1,8 +1,8 @@
 use Rattle.std.proofs.Common.{rules, ◌≡◌, ◌++◌, OnOk, string_bytes, ℕ, ◌<◌, ◌^◌, length, get_or, sym, ap, subst}
 use Rattle.std.specs.Net.Addr.{ipv6_bits, ipv6_segments}
-use Rattle.tv_json.specs.JsonOf.{address_text, segments_text}
+use Rattle.tv_value.specs.JsonOf.{address_text, segments_text}
 use Rattle.tv_value.proofs.AddressBytes.{segments_of-ipv6_bits}
-use Rattle.tv_json.proofs.leaf_text.push_address.Goals as goal
+use Rattle.tv_value.proofs.leaf_text.push_address.Goals as goal
 
 pub returns : goal.returns
 returns c =

@@ -3,29 +3,29 @@
 ghost use Rattle.std.specs.Prelude.{◌≡◌, ◌↔◌, IfOk, IsErrOf, OnOk};
 ghost use Rattle.serde_json.specs.Data.{no_members, put};
 ghost use Rattle.serde_json.specs.View.{view as data_of, items_view, members_view};
-ghost use Rattle.tv_json.specs.JsonOf.{json_of, content_json, leaf_json, count_json, token_json};
-ghost use Rattle.tv_json.specs.JsonOf.{tokens_json, tokenized_json, elements_json, entries_json};
+ghost use Rattle.tv_value.specs.JsonOf.{json_of, content_json, leaf_json, count_json, token_json};
+ghost use Rattle.tv_value.specs.JsonOf.{tokens_json, tokenized_json, elements_json, entries_json};
 ghost use Rattle.tv_value.specs.LeafParts.{content_of};
 ghost use Rattle.tv_value.specs.Lent.{leaf_of, nested_tree};
 ghost use Rattle.tv_value.specs.Nesting.{NestsWithin};
 ghost use Rattle.tv_value.specs.PreTokenized.{text_of, tokens_of, tokens_left};
 ghost use Rattle.tv_value.specs.TokenRef.{ref_of};
 ghost use Rattle.tv_value.specs.Owned.{owned_tree};
-ghost use Rattle.tv_format.specs.Tree.{Tree, elements, entries};
+ghost use Rattle.tv_format.specs.Tree.{elements, entries};
 
+use crate::content::LeafContent;
+use crate::copy_error::CopyError;
+use crate::ip_addr::address_of;
+use crate::leaf::ReferenceValueLeaf;
 use crate::leaf_text::{push_address, push_base64, push_date, push_facet};
+use crate::nested::{Lent, Nested, NestedValue};
+use crate::nesting::{MAX_DEPTH, nests_within};
+use crate::owned_value::OwnedValue;
+use crate::pre_tokenized::{PreTokenizedStr, TokenIter, TokenRef};
+use crate::value::Value;
 use serde_json::{Map, Value as JsonValue};
 use std::alloc::{AllocError, Global};
 use std::convert::AsStr;
-use tv_value::content::LeafContent;
-use tv_value::copy_error::CopyError;
-use tv_value::ip_addr::address_of;
-use tv_value::leaf::ReferenceValueLeaf;
-use tv_value::nested::{Lent, Nested, NestedValue};
-use tv_value::nesting::{MAX_DEPTH, nests_within};
-use tv_value::owned_value::OwnedValue;
-use tv_value::pre_tokenized::{PreTokenizedStr, TokenIter, TokenRef};
-use tv_value::value::Value;
 
 // Puts a member in.
 fn put_member(
@@ -204,22 +204,15 @@ pub fn to_json_value_within<'a, V: Value<'a>>(
     Ok(json)
 }
 
-/// What has a JSON value. (Not in tantivy.)
-pub trait ToJsonValue {
-    ghost tree: { Self → Tree };
-
+impl OwnedValue {
     /// The JSON value, see the function `to_json_value`. Errors: `TooDeep` exactly where the value nests deeper than `MAX_DEPTH` lists, before
     /// anything is made, else `Memory` where memory was refused.
-    fn to_json_value(&self, alloc: Global) -> Result<JsonValue, CopyError>
-        ensures made { IfOk result (λ made. data_of made ≡ json_of (tree self.now)) }
-        ensures within { OnOk result (NestsWithin MAX_DEPTH (tree self.now)) }
-        ensures deep { IsErrOf result CopyError.TooDeep ↔ (¬ NestsWithin MAX_DEPTH (tree self.now)) };
-}
-
-impl ToJsonValue for OwnedValue {
-    ghost tree = { owned_tree };
-
-    fn to_json_value(&self, alloc: Global) -> Result<JsonValue, CopyError> {
+    pub fn to_json_value(&self, alloc: Global) -> Result<JsonValue, CopyError>
+        ensures made { IfOk result (λ made. data_of made ≡ json_of (owned_tree self.now)) }
+        ensures within { OnOk result (NestsWithin MAX_DEPTH (owned_tree self.now)) }
+        ensures deep { IsErrOf result CopyError.TooDeep
+            ↔ (¬ NestsWithin MAX_DEPTH (owned_tree self.now)) }
+    {
         to_json_value(alloc, self)
     }
 }

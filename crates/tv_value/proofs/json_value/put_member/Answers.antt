@@ -2,7 +2,7 @@ use Rattle.std.proofs.Common.{◌≡◌, ap, ◌∙◌, rules, string_bytes}
 use Rattle.serde_json.specs.Data.{put}
 use Rattle.serde_json.specs.View.{view as data_of, members_view}
 use Rattle.serde_json.proofs.Views.{members_view-insert_entry}
-use Rattle.tv_json.proofs.json_value.put_member.Goals as goal
+use Rattle.tv_value.proofs.json_value.put_member.Goals as goal
 
 pub returns : goal.returns
 returns c =
