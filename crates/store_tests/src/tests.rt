@@ -9,3 +9,4 @@ mod failing_writes;
 mod laws;
 mod limits;
 mod reused;
+mod surface;

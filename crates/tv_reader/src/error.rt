@@ -36,9 +36,6 @@ pub enum DeserializeError {
     /// What was read and announced so far needs more room than a document's heap has, 4294967295 bytes.
     #[error("the values need more room than 4294967295 bytes")]
     HeapFull,
-    /// More lists would be open at once than the reader allows. (Not in tantivy.)
-    #[error("more lists would be open at once than the reader allows")]
-    TooDeep,
     /// Memory was refused.
     #[error("memory was refused")]
     Memory,
@@ -48,6 +45,9 @@ pub enum DeserializeError {
     /// An earlier read through the same reader was refused.
     #[error("an earlier read was refused")]
     AlreadyFailed,
+    /// More lists would be open at once than the reader allows. (Not in tantivy.)
+    #[error("more lists would be open at once than the reader allows")]
+    TooDeep,
 }
 
 impl DeserializeError {
