@@ -313,7 +313,7 @@ fn parse_each_into(alloc: Global, workload: &Workload) -> Result<Round> {
     let mut document = CompactDoc::new(alloc);
     let mut buffers = ParseBuffers::new(alloc);
     for line in &workload.lines {
-        let read = document.parse_json_into(alloc, &workload.schema, line.as_str(), &mut buffers);
+        let read = document.parse_json_into(&workload.schema, line.as_str(), &mut buffers);
         if read.is_ok() {
             round.made(document.node_data().len());
         }

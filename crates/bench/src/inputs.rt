@@ -80,7 +80,7 @@ impl Inputs {
 
 /// The JSON of a schema.
 pub fn json_of(alloc: Global, schema: &Schema) -> Result<String> {
-    let json = schema.to_json_value(alloc)?;
+    let json = schema.to_json_value()?;
     let text = json.to_string(alloc);
     drop(json);
     Ok(text?)

@@ -69,9 +69,9 @@ fn of_steps(alloc: Global, call: &[&str]) -> Result<String> {
 
 // The encoded text of a facet, the printed text, the steps, and whether it is the root.
 fn shown(alloc: Global, facet: &Facet) -> Result<String> {
-    let printed = facet.to_path_string(alloc)?;
+    let printed = facet.to_path_string()?;
     check_printed(alloc, facet, printed.as_str())?;
-    check_copy(alloc, facet)?;
+    check_copy(facet)?;
     let encoded = words::quoted(alloc, facet.encoded_str())?;
     let printed = words::quoted(alloc, printed.as_str())?;
     let steps = steps(alloc, facet)?;
@@ -81,7 +81,7 @@ fn shown(alloc: Global, facet: &Facet) -> Result<String> {
 
 // The steps of a facet.
 fn steps(alloc: Global, facet: &Facet) -> Result<String> {
-    let steps = facet.to_path(alloc)?;
+    let steps = facet.to_path()?;
     words::quoted_all(alloc, steps.as_slice())
 }
 
@@ -96,8 +96,8 @@ fn check_printed(alloc: Global, facet: &Facet, printed: &str) -> Result<()> {
 }
 
 // Checks that a copy is equal and has the same hash.
-fn check_copy(alloc: Global, facet: &Facet) -> Result<()> {
-    let copy = facet.try_clone(alloc)?;
+fn check_copy(facet: &Facet) -> Result<()> {
+    let copy = facet.try_clone()?;
     ensure!(
         copy == *facet && words::hash(&copy) == words::hash(facet),
         "a copy of a facet differs"

@@ -345,7 +345,7 @@ fn shown(alloc: Global, field_type: &FieldType) -> Result<String> {
 
 // The options of a field as they stand in the JSON of its schema.
 fn json(alloc: Global, field_type: &FieldType) -> Result<String> {
-    let schema = schema_of(alloc, field_type)?.to_json_value(alloc)?;
+    let schema = schema_of(alloc, field_type)?.to_json_value()?;
     let answer = options_of(alloc, &schema);
     drop(schema);
     answer

@@ -53,7 +53,7 @@ fn described_again(alloc: Global, schema: &Schema) -> Result<String> {
 
 /// The JSON of a schema.
 pub fn printed(alloc: Global, schema: &Schema) -> Result<String> {
-    words::json_text(alloc, schema.to_json_value(alloc)?)
+    words::json_text(alloc, schema.to_json_value()?)
 }
 
 // The schema whose fields are added by the calls of their types.
@@ -75,7 +75,7 @@ fn add_fields(alloc: Global, builder: &mut SchemaBuilder, schema: &Schema) -> Re
 
 // Checks that a copy of an entry is the same, and that the call of its type makes the same.
 fn check_entry(alloc: Global, entry: &FieldEntry) -> Result<()> {
-    let is_copied = words::is_equal(entry, entry.try_clone(alloc)?);
+    let is_copied = words::is_equal(entry, entry.try_clone()?);
     let name = String::from_str(alloc, entry.name())?;
     let made = new_entry(name, entry.field_type().try_clone(alloc)?)?;
     let is_made = words::is_equal(entry, made);

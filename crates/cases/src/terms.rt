@@ -163,7 +163,7 @@ fn append_value(term: &mut Term, value: &OwnedValue) -> Result<Result<(), AllocE
 
 // The bytes of a term, its field, and the value that is read back from a copy.
 fn shown(alloc: Global, term: &Term) -> Result<String> {
-    check_copy(alloc, term)?;
+    check_copy(term)?;
     let mut answer = parts(alloc, term)?;
     push_json_path(alloc, &mut answer, term)?;
     Ok(answer)
@@ -185,15 +185,15 @@ fn copied_value(alloc: Global, term: &Term) -> Result<String> {
 
 // Appends the path of a term of a JSON field.
 fn push_json_path(alloc: Global, answer: &mut String, term: &Term) -> Result<()> {
-    if let Some(path) = term.get_json_path(alloc)? {
+    if let Some(path) = term.get_json_path()? {
         push_parts(alloc, answer, &[("path", Part::Text(path.as_str()))])?;
     }
     Ok(())
 }
 
 // Checks that a copy of a term is equal and has the same hash.
-fn check_copy(alloc: Global, term: &Term) -> Result<()> {
-    let copy = term.try_clone(alloc)?;
+fn check_copy(term: &Term) -> Result<()> {
+    let copy = term.try_clone()?;
     let is_copied = copy == *term && words::hash(&copy) == words::hash(term);
     ensure!(is_copied, "a copy of a term differs");
     Ok(())
@@ -246,7 +246,7 @@ fn full_path(alloc: Global, call: &[&str]) -> Result<String> {
     let term = wrapped(alloc, digits)?;
     let schema = schema(alloc, description)?;
     ensure!(schema.has_field(term.field()), "a field of the schema");
-    words::quoted(alloc, term.get_full_path(alloc, &schema)?.as_str())
+    words::quoted(alloc, term.get_full_path(&schema)?.as_str())
 }
 
 // How two terms compare.

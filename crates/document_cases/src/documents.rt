@@ -212,13 +212,13 @@ fn same(alloc: Global, calls: &[&str]) -> Result<String> {
     let (one, other) = calls.split_at(place.context("two documents")?);
     let one = builder::document(alloc, one)?;
     let other = builder::document(alloc, other.get(1..).context("a document")?)?;
-    words::plain(alloc, &one.same_as(alloc, &other)?)
+    words::plain(alloc, &one.same_as(&other)?)
 }
 
 // A copy of a document. The document has to be the same when its memory is shrunk.
 fn copy(alloc: Global, calls: &[&str]) -> Result<String> {
     let mut document = builder::document(alloc, calls)?;
-    let copy = shown(alloc, &document.try_clone(alloc)?)?;
+    let copy = shown(alloc, &document.try_clone()?)?;
     document.shrink_to_fit();
     ensure!(shown(alloc, &document)? == copy, "the copy differs");
     Ok(copy)

@@ -60,7 +60,7 @@ fn sorted(alloc: Global, schema: &Schema, call: &[&str]) -> Result<String> {
     terms.sort_dedup();
     let mut digits = Vec::new(alloc);
     for index in 0..terms.len() {
-        if let Some(term) = terms.term(alloc, index)? {
+        if let Some(term) = terms.term(index)? {
             digits.push(hex::encode(alloc, term.serialized_term())?)?;
         }
     }

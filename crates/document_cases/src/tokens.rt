@@ -70,7 +70,7 @@ fn shown(alloc: Global, text: PreTokenizedStr<'_>, length: usize) -> Result<Stri
 
 // Appends a text with its tokens as JSON, and drops it.
 fn push_kept(alloc: Global, answer: &mut String, kept: PreTokenizedString) -> Result<()> {
-    let checked = check_copies(alloc, &kept);
+    let checked = check_copies(&kept);
     let value = OwnedValue::PreTokStr(kept);
     let outcome = push_json(alloc, answer, &value);
     drop(value);
@@ -79,11 +79,11 @@ fn push_kept(alloc: Global, answer: &mut String, kept: PreTokenizedString) -> Re
 }
 
 // Checks that copies of a text and of its tokens are equal to these.
-fn check_copies(alloc: Global, kept: &PreTokenizedString) -> Result<()> {
-    let is_copied = words::is_equal(kept, kept.try_clone(alloc)?);
+fn check_copies(kept: &PreTokenizedString) -> Result<()> {
+    let is_copied = words::is_equal(kept, kept.try_clone()?);
     ensure!(is_copied, "a copy of a text is not equal");
     for token in kept.tokens.iter() {
-        let is_copied = words::is_equal(token, token.try_clone(alloc)?);
+        let is_copied = words::is_equal(token, token.try_clone()?);
         ensure!(is_copied, "a copy of a token is not equal");
     }
     Ok(())

@@ -56,7 +56,7 @@ fn schema_with(alloc: Global, words: &[&str]) -> Result<Schema, Failure> {
 
 // The JSON of a schema.
 fn json_of(alloc: Global, schema: &Schema) -> Result<String, AllocError> {
-    schema.to_json_value(alloc)?.to_string(alloc)
+    schema.to_json_value()?.to_string(alloc)
 }
 
 // Prints the JSON of a schema with the fields that are given.

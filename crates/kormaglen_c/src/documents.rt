@@ -84,7 +84,7 @@ fn parse(
     ensures { ParsesOr schema.now line.now handle.new.document result }
 {
     let mut document = taken(alloc, handle)?;
-    tv_blocks::parse_line(alloc, schema, line, document.as_mut(), buffers)?;
+    tv_blocks::parse_line(schema, line, document.as_mut(), buffers)?;
     handle.keep(alloc, document);
     Ok(0)
 }

@@ -24,5 +24,5 @@ pub fn facets_are_printed(facet: &Facet, alloc: Global) -> Result<String, AllocE
     if facet.encoded_str() == "\\" {
         return String::from_str(alloc, "/\\\\");
     }
-    facet.to_path_string(alloc)
+    facet.to_path_string()
 }

@@ -213,24 +213,26 @@ impl Facet {
     }
 
     /// The encoded text, split at U+0000: the steps, and for the root one empty text. Errors: memory was refused.
-    pub fn to_path(&self, alloc: Global) -> Result<Vec<&str>, AllocError>
+    pub fn to_path(&self) -> Result<Vec<&str>, AllocError>
         ensures { IfOk result (λ parts. map (λ part. part.now) parts.items ≡ path self.now) }
     {
+        let alloc = *self.encoded.allocator();
         self.encoded_str().split(FACET_SEP_CHAR).collect(alloc)
     }
 
     /// The text that names this facet, as it is printed: a slash before each step, and a backslash before each slash and each
     /// backslash of a step. Errors: memory was refused.
-    pub fn to_path_string(&self, alloc: Global) -> Result<String, AllocError>
+    pub fn to_path_string(&self) -> Result<String, AllocError>
         ensures { IfOk result (λ text. string_bytes text ≡ printed self.now) }
     {
-        self.to_string(alloc)
+        self.to_string(*self.encoded.allocator())
     }
 
     /// The same facet, in memory of its own. Errors: memory was refused.
-    pub fn try_clone(&self, alloc: Global) -> Result<Facet, AllocError>
+    pub fn try_clone(&self) -> Result<Facet, AllocError>
         ensures { IfOk result (λ facet. facet ≡ self.now) }
     {
+        let alloc = *self.encoded.allocator();
         Ok(Facet {
             encoded: String::from_str(alloc, self.encoded.as_str())?,
         })

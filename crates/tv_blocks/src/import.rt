@@ -75,7 +75,6 @@ impl LineOutcome {
 
 // Appends the line's stored document to the block, and says what became of the line.
 fn import_line(
-    alloc: Global,
     schema: &Schema,
     line: &[u8],
     document: &mut CompactDoc,
@@ -84,7 +83,7 @@ fn import_line(
 ) -> Result<LineOutcome, AllocError>
     ensures { IfOk result (AppendsImported schema.now line.now block.old.bytes.items block.new.bytes.items) }
 {
-    match parse_line(alloc, schema, line, document, buffers) {
+    match parse_line(schema, line, document, buffers) {
         Ok(()) => store_document(schema, document, block),
         Err(BlockError::BadLine(refusal)) => Ok(LineOutcome::Refused(refusal)),
         Err(_) => Err(AllocError),
@@ -128,7 +127,7 @@ fn import_each(
     let mut left = lines;
     while !left.is_empty() {
         let (line, behind) = first_line(left);
-        let outcome = import_line(alloc, schema, line, &mut document, buffers, block)?;
+        let outcome = import_line(schema, line, &mut document, buffers, block)?;
         answers.push(outcome.answer())?;
         left = behind;
     }

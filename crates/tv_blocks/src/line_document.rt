@@ -10,7 +10,6 @@ ghost use Rattle.tv_schema.specs.Schema.{field_named};
 
 use crate::block_error::BlockError;
 use crate::line_refusal::{LineRefusal, ValueRefusal};
-use std::alloc::Global;
 use tv_doc::doc_parsing_error::DocParsingError;
 use tv_doc::document::CompactDoc;
 use tv_doc::parse_buffers::ParseBuffers;
@@ -61,7 +60,6 @@ fn unparsed(schema: &Schema, error: &DocParsingError) -> BlockError
 /// Errors: `BadLine` where the line is no JSON object, for the first value that the type of its field refuses, and where the values have no
 /// room; `Memory`. The document then has no pairs.
 pub fn parse_line(
-    alloc: Global,
     schema: &Schema,
     line: &[u8],
     document: &mut CompactDoc,
@@ -76,7 +74,7 @@ pub fn parse_line(
         document.clear();
         return Err(BlockError::BadLine(LineRefusal::InvalidJson));
     };
-    match document.parse_json_into(alloc, schema, json, buffers) {
+    match document.parse_json_into(schema, json, buffers) {
         Ok(()) => Ok(()),
         Err(error) => Err(unparsed(schema, &error)),
     }

@@ -57,6 +57,6 @@ pub fn read_schema(alloc: Global, text: &[u8]) -> Result<Schema, BlockError>
 pub fn print_schema(alloc: Global, schema: &Schema, text: &mut [u8]) -> Result<u64, BlockError>
     ensures { FillsBuffer (IsSchemaText schema.now) (λ error. ⊥) text.old text.new result }
 {
-    let json = schema.to_json_value(alloc)?.to_string(alloc)?;
+    let json = schema.to_json_value()?.to_string(alloc)?;
     put_whole(json.as_bytes(), text)
 }

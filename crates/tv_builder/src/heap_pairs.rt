@@ -120,9 +120,10 @@ impl HeapPairs {
     }
 
     /// A copy. The only error is that memory was refused.
-    pub fn try_clone(&self, alloc: Global) -> Result<HeapPairs, AllocError>
+    pub fn try_clone(&self) -> Result<HeapPairs, AllocError>
         ensures { IfOk result (λ copy. IsUnchanged self.now copy) }
     {
+        let alloc = *self.heap.allocator();
         let heap = Vec::from_slice(alloc, self.heap.as_slice())?;
         let pairs = Vec::from_slice(alloc, self.pairs.as_slice())?;
         Ok(HeapPairs { heap, pairs })

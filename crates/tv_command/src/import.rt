@@ -77,7 +77,6 @@ pub struct ImportRules {
 
 // Puts the document of a text in place of one that is there.
 fn parse_text(
-    alloc: Global,
     schema: &Schema,
     text: &str,
     strict: bool,
@@ -88,9 +87,9 @@ fn parse_text(
     ensures belongs { OnOk result (Belongs schema.now (document_of document.new)) }
 {
     if strict {
-        return document.parse_json_strict_into(alloc, schema, text, buffers);
+        return document.parse_json_strict_into(schema, text, buffers);
     }
-    match document.parse_json_into(alloc, schema, text, buffers) {
+    match document.parse_json_into(schema, text, buffers) {
         Ok(()) => Ok(()),
         Err(error) => Err(StrictParsingError::Parsing(error)),
     }
@@ -98,7 +97,6 @@ fn parse_text(
 
 // Puts the document of a line in place of one that is there, or says why there is none. The only error is that memory was refused.
 fn parse_line(
-    alloc: Global,
     schema: &Schema,
     line: &[u8],
     strict: bool,
@@ -110,7 +108,7 @@ fn parse_line(
     let Ok(text) = str::from_utf8(line) else {
         return Ok(Some(LineError::NotUtf8));
     };
-    match parse_text(alloc, schema, text, strict, document, buffers) {
+    match parse_text(schema, text, strict, document, buffers) {
         Ok(()) => Ok(None),
         Err(StrictParsingError::Parsing(DocParsingError::Memory)) => Err(AllocError),
         Err(error) => Ok(Some(LineError::Refused(error))),
@@ -155,7 +153,6 @@ fn append<K: ByteSink>(sink: &mut K, bytes: &[u8]) -> Result<u64, ImportError>
 ///
 /// A line ends at a line feed, and the last may lack it.
 pub struct LineImporter {
-    alloc: Global,
     rules: ImportRules,
     taken: u64,
     line: Vec<u8>,
@@ -167,7 +164,6 @@ pub struct LineImporter {
 impl Drop for LineImporter {
     fn drop(self) {
         let LineImporter {
-            alloc: _,
             rules: _,
             taken: _,
             line: _,
@@ -185,7 +181,6 @@ impl LineImporter {
         ensures taken { result.taken ≡ 0 }
     {
         LineImporter {
-            alloc,
             rules,
             taken: 0,
             line: Vec::new(alloc),
@@ -227,14 +222,7 @@ impl LineImporter {
             return Ok(None);
         }
         let (line, strict) = (self.line.as_slice(), self.rules.strict);
-        match parse_line(
-            self.alloc,
-            schema,
-            line,
-            strict,
-            &mut self.document,
-            &mut self.buffers,
-        )? {
+        match parse_line(schema, line, strict, &mut self.document, &mut self.buffers)? {
             Some(error) => Ok(Some(LineOutcome::Refused(error))),
             None => {
                 put_stored(schema, self.rules.version, &self.document, &mut self.stored)?;

@@ -18,7 +18,6 @@ use crate::lent_borrowed::LentBorrowed;
 use crate::named_field::NamedField;
 use crate::parse_buffers::{Adding, ParseBuffers};
 use crate::text_refusal::IS_NO_OBJECT;
-use std::alloc::Global;
 use tv_field::FieldType;
 use tv_field::json_value::{
     JsonRefusal, JsonScratch, lend_bytes_text, lend_date_text, lend_facet_text, lend_ip_addr_text,
@@ -208,7 +207,6 @@ impl CompactDoc {
     // some pairs may be left, and the buffers have why the text is refused, or no reason where it isn't read so, see `read_borrowed`.
     pub(crate) fn parse_borrowed(
         &mut self,
-        alloc: Global,
         schema: &Schema,
         text: &str,
         buffers: &mut ParseBuffers,
@@ -216,6 +214,7 @@ impl CompactDoc {
         ensures { ParsesOrTells schema.now text.now self.new result buffers.new.adding.refused }
     {
         self.clear();
+        let alloc = self.allocator();
         let adding = &mut buffers.adding;
         adding.refused = None;
         let mut met_float = false;

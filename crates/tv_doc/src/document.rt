@@ -104,10 +104,10 @@ impl CompactDoc {
 
     /// A copy: the same pairs, and their values at the same places of the same heap. The only error is that memory was
     /// refused.
-    pub fn try_clone(&self, alloc: Global) -> Result<CompactDoc, AllocError>
+    pub fn try_clone(&self) -> Result<CompactDoc, AllocError>
         ensures { IfOk result (λ copy. IsUnchanged self.now copy) }
     {
-        let values = self.values.try_clone(alloc)?;
+        let values = self.values.try_clone()?;
         Ok(CompactDoc { values })
     }
 

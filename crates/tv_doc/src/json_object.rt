@@ -140,7 +140,6 @@ fn add_object(
 // Puts the document of the JSON object that the text encodes in place of one, and reads the text as the JSON library's value, unless it is refused
 // already.
 fn parse_value(
-    alloc: Global,
     document: &mut CompactDoc,
     adding: &mut Adding,
     schema: &Schema,
@@ -153,6 +152,7 @@ fn parse_value(
         return Err(error);
     }
     document.clear();
+    let alloc = document.allocator();
     match Value::from_str(alloc, text) {
         Ok(json) => match json {
             Value::Object(object) => add_object(document, &mut adding.scratch, schema, object),
@@ -186,7 +186,7 @@ impl CompactDoc {
     {
         let mut document = CompactDoc::new(alloc);
         let mut buffers = ParseBuffers::for_one(alloc);
-        match document.parse_json_into(alloc, schema, text, &mut buffers) {
+        match document.parse_json_into(schema, text, &mut buffers) {
             Ok(()) => Ok(document),
             Err(error) => Err(error),
         }
@@ -203,7 +203,7 @@ impl CompactDoc {
     ///     let mut buffers = ParseBuffers::new(alloc);
     ///     let mut values: usize = 0;
     ///     for line in lines {
-    ///         document.parse_json_into(alloc, schema, line, &mut buffers)?;
+    ///         document.parse_json_into(schema, line, &mut buffers)?;
     ///         values = values.saturating_add(document.len());
     ///     }
     ///     Ok(values)
@@ -211,17 +211,16 @@ impl CompactDoc {
     /// ```
     pub fn parse_json_into(
         &mut self,
-        alloc: Global,
         schema: &Schema,
         text: &str,
         buffers: &mut ParseBuffers,
     ) -> Result<(), DocParsingError>
         ensures { ParsesInto schema.now text.now self.new result }
     {
-        if let Some(()) = self.parse_borrowed(alloc, schema, text, buffers) {
+        if let Some(()) = self.parse_borrowed(schema, text, buffers) {
             return Ok(());
         }
-        match parse_value(alloc, self, &mut buffers.adding, schema, text) {
+        match parse_value(self, &mut buffers.adding, schema, text) {
             Ok(()) => Ok(()),
             Err(error) => {
                 self.clear();

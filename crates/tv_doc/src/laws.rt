@@ -82,7 +82,6 @@ pub fn builders_hold_their_state()
 ///
 /// Errors: `HeapFull`, only where the heap has no room for the value, and `Memory`.
 pub fn built_values_are_as_added<'a, V: Value<'a>>(
-    alloc: Global,
     document: &CompactDoc,
     field: Field,
     value: &V,
@@ -92,9 +91,9 @@ pub fn built_values_are_as_added<'a, V: Value<'a>>(
     ensures no_room { IsErrOf result HeapFull → IsFull document.now (V.tree value.now) }
     ensures errors { IfErr result (λ error. (error ≡ HeapFull) ⊎ (error ≡ Memory)) }
 {
-    let mut added = document.try_clone(alloc)?;
+    let mut added = document.try_clone()?;
     added.add_field_value(field, value)?;
-    let mut builder = TreeBuilder::new(document.try_clone(alloc)?);
+    let mut builder = TreeBuilder::new(document.try_clone()?);
     builder.tree(value)?;
     builder.finish(field)?;
     Ok((added, builder.into_doc()))

@@ -157,7 +157,7 @@ impl CompactDoc {
     {
         let mut document = CompactDoc::new(alloc);
         let mut buffers = ParseBuffers::for_one(alloc);
-        match document.parse_json_strict_into(alloc, schema, text, &mut buffers) {
+        match document.parse_json_strict_into(schema, text, &mut buffers) {
             Ok(()) => Ok(document),
             Err(error) => Err(error),
         }
@@ -169,14 +169,14 @@ impl CompactDoc {
     /// Errors: those of `parse_json_strict`. The document then has no pairs.
     pub fn parse_json_strict_into(
         &mut self,
-        alloc: Global,
         schema: &Schema,
         text: &str,
         buffers: &mut ParseBuffers,
     ) -> Result<(), StrictParsingError>
         ensures { ParsesStrictInto schema.now text.now self.new result }
     {
-        let parsed = self.parse_json_into(alloc, schema, text, buffers);
+        let alloc = self.allocator();
+        let parsed = self.parse_json_into(schema, text, buffers);
         match check_parsed(alloc, schema, text, buffers, parsed) {
             Ok(()) => Ok(()),
             Err(error) => {

@@ -5,7 +5,7 @@ ghost use Rattle.tv_field.specs.Entry.{is_valid_name};
 
 use crate::field_type::FieldType;
 use crate::schema_error::SchemaError;
-use std::alloc::{AllocError, Global};
+use std::alloc::AllocError;
 use std::marker::Model;
 use tv_options::{
     BytesOptions, DateOptions, FacetOptions, IpAddrOptions, JsonObjectOptions, NumericOptions,
@@ -190,9 +190,10 @@ impl FieldEntry {
     }
 
     /// A copy. The only error is that memory is refused.
-    pub fn try_clone(&self, alloc: Global) -> Result<FieldEntry, AllocError>
+    pub fn try_clone(&self) -> Result<FieldEntry, AllocError>
         ensures { IfOk result (λ copy. copy ≡ self.now) }
     {
+        let alloc = *self.name.allocator();
         Ok(FieldEntry {
             name: String::from_str(alloc, self.name.as_str())?,
             field_type: self.field_type.try_clone(alloc)?,

@@ -111,7 +111,7 @@ impl TermList {
     /// The term at this place, counted from 0, in memory of its own, or `None` where there are no more than this many terms.
     ///
     /// Errors: `Memory`. Where there are no more than this many terms, no memory is asked for.
-    pub fn term(&self, alloc: Global, index: usize) -> Result<Option<Term>, TermError>
+    pub fn term(&self, index: usize) -> Result<Option<Term>, TermError>
         ensures found { IfOk result (λ found. found ≡ slice_get self.now index) }
         ensures missing { length self.now ≤ index → result ≡ Ok None }
         ensures memory { OnlyMemory result }
@@ -119,7 +119,7 @@ impl TermList {
         match self.places.get(index) {
             Some(place) => {
                 let bytes = term_at(self.bytes.as_slice(), *place);
-                Ok(Some(Term::wrap(alloc, bytes)?))
+                Ok(Some(Term::wrap(*self.bytes.allocator(), bytes)?))
             }
             None => Ok(None),
         }

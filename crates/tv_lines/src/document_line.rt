@@ -171,7 +171,7 @@ fn append_answer(
     };
     match memory
         .document
-        .parse_json_into(alloc, schema, json, &mut memory.buffers)
+        .parse_json_into(schema, json, &mut memory.buffers)
     {
         Ok(()) => append_document(alloc, schema, &memory.document, &mut memory.parts, text),
         Err(error) => Err(refusal(&error)),

@@ -25,10 +25,10 @@ use tv_field::schema_error::SchemaError;
 impl Schema {
     /// The schema as JSON: an array of the entries in the order of their numbers, each an object of `name`, `options`
     /// and `type`. The only error is that memory is refused.
-    pub fn to_json_value(&self, alloc: Global) -> Result<Value, AllocError>
+    pub fn to_json_value(&self) -> Result<Value, AllocError>
         ensures { IfOk result (λ value. view value ≡ schema_json self.now) }
     {
-        write::schema_json(alloc, self.table.entries())
+        write::schema_json(self.table.allocator(), self.table.entries())
     }
 
     /// The schema that the JSON value describes, in the form in which `to_json_value` prints one. Keys that aren't named

@@ -257,7 +257,7 @@ fn check_name(table: &FieldTable, name: &str) -> Result<(), SchemaError>
 ///
 /// ```
 /// pub fn printed(alloc: Global, schema: &Schema) -> Result<String> {
-///     Ok(schema.to_json_value(alloc)?.to_string(alloc)?)
+///     Ok(schema.to_json_value()?.to_string(alloc)?)
 /// }
 ///
 /// pub fn parsed(alloc: Global, text: &str) -> Result<Schema> {

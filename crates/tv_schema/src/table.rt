@@ -70,6 +70,11 @@ impl FieldTable {
         self.entries.as_slice()
     }
 
+    // The allocator from which its memory is taken.
+    pub(crate) fn allocator(&self) -> Global {
+        *self.entries.allocator()
+    }
+
     pub(crate) fn entry(&self, number: usize) -> &FieldEntry
         requires { number < length self.now }
         ensures { slice_get self.now number ≡ Some result.now }
@@ -103,7 +108,7 @@ impl FieldTable {
     {
         let number = self.entries.len() as u32;
         let longest = self.longest.max(entry.name().len());
-        let name = String::from_str(*self.entries.allocator(), entry.name())?;
+        let name = String::from_str(self.allocator(), entry.name())?;
         self.entries.push(entry)?;
         if self.numbers.insert(name, number).is_err() {
             let _ = self.entries.pop();

@@ -137,7 +137,7 @@ pub fn json_paths_are_read_back(
 {
     let mut term = Term::from_field_json_path(alloc, field, path, expand_dots)?;
     term.append_type_and_str(text)?;
-    Ok(term.get_json_path(alloc)?)
+    Ok(term.get_json_path()?)
 }
 
 /// A text that was appended to a JSON term is read back.

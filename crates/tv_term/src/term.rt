@@ -285,9 +285,10 @@ impl Term {
     }
 
     /// The same term, in memory of its own.
-    pub fn try_clone(&self, alloc: Global) -> Result<Term, TermError>
+    pub fn try_clone(&self) -> Result<Term, TermError>
         ensures { GivesExactly self.now result }
     {
+        let alloc = *self.bytes.allocator();
         Ok(Term {
             bytes: Vec::from_slice(alloc, self.bytes.as_slice())?,
         })
@@ -448,11 +449,11 @@ impl Term {
     /// separates its segments. `None` where the type is another, no U+0000 ends a path, or the path isn't UTF-8.
     ///
     /// Errors: memory was refused.
-    pub fn get_json_path(&self, alloc: Global) -> Result<Option<String>, AllocError>
+    pub fn get_json_path(&self) -> Result<Option<String>, AllocError>
         ensures { IfOk result (λ found. ReadsPath self.now (option_map string_bytes found)) }
     {
         match self.value().json_path() {
-            Some(path) => Ok(Some(String::from_str(alloc, path)?)),
+            Some(path) => Ok(Some(String::from_str(*self.bytes.allocator(), path)?)),
             None => Ok(None),
         }
     }
@@ -461,12 +462,12 @@ impl Term {
     /// schema, as `has_field` tests.
     ///
     /// Errors: memory was refused.
-    pub fn get_full_path(&self, alloc: Global, schema: &Schema) -> Result<String, AllocError>
+    pub fn get_full_path(&self, schema: &Schema) -> Result<String, AllocError>
         requires { field_of self.now < length schema.now }
         ensures { IfOk result (λ path. IsFullPathIn schema.now self.now (string_bytes path)) }
     {
         let name = schema.get_field_entry(self.field()).name();
-        dotted(alloc, name, self.value().json_path())
+        dotted(*self.bytes.allocator(), name, self.value().json_path())
     }
 }
 

@@ -3,7 +3,7 @@
 ghost use Rattle.std.specs.Prelude.{◌≡◌, ◌<◌, ◌^◌, IfOk};
 
 use crate::pre_tokenized::PreTokenizedStr;
-use std::alloc::{AllocError, Global};
+use std::alloc::AllocError;
 
 /// A token of a text. Offsets are in bytes of that text.
 #[derive(Debug, PartialEq, Eq, Drop)]
@@ -26,9 +26,10 @@ impl Token {
     ghost use Rattle.tv_value.specs.HeldTokens.{token_of};
 
     /// A copy. AllocError where memory runs out.
-    pub fn try_clone(&self, alloc: Global) -> Result<Token, AllocError>
+    pub fn try_clone(&self) -> Result<Token, AllocError>
         ensures { IfOk result (λ copy. token_of copy ≡ token_of self.now) }
     {
+        let alloc = *self.text.allocator();
         Ok(Token {
             offset_from: self.offset_from,
             offset_to: self.offset_to,
@@ -54,11 +55,12 @@ impl PreTokenizedString {
     ghost use Rattle.tv_value.specs.HeldTokens.{token_of};
 
     /// A copy. AllocError where memory runs out.
-    pub fn try_clone(&self, alloc: Global) -> Result<PreTokenizedString, AllocError>
+    pub fn try_clone(&self) -> Result<PreTokenizedString, AllocError>
         ensures text { IfOk result (λ copy. string_bytes copy.text ≡ string_bytes self.now.text) }
         ensures tokens { IfOk result
             (λ copy. map token_of copy.tokens.items ≡ map token_of self.now.tokens.items) }
     {
+        let alloc = *self.text.allocator();
         PreTokenizedStr::from_string(self).to_owned_string(alloc)
     }
 }

@@ -19,7 +19,7 @@ fn facets_of(
     let mut buffers = ParseBuffers::new(alloc);
     let mut facets = Vec::new(alloc);
     for (number, line) in lines.iter().enumerate() {
-        document.parse_json_into(alloc, schema, line, &mut buffers)?;
+        document.parse_json_into(schema, line, &mut buffers)?;
         for value in document.get_all(field) {
             if let Some(encoded) = value.as_facet() {
                 let bytes = Vec::from_slice(alloc, encoded.as_bytes())?;

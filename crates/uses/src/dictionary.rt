@@ -12,7 +12,7 @@ pub fn dictionary(alloc: Global, schema: &Schema, lines: &[&str]) -> Result<Vec<
     let mut buffers = ParseBuffers::new(alloc);
     let mut terms = TermList::new(alloc);
     for line in lines {
-        document.parse_json_into(alloc, schema, line, &mut buffers)?;
+        document.parse_json_into(schema, line, &mut buffers)?;
         term_values(alloc, schema, &document, &mut terms)?;
     }
     terms.sort_dedup();

@@ -31,7 +31,7 @@ pub fn values_parsed(alloc: Global, schema: &Schema, lines: &[&str]) -> Result<u
     let mut buffers = ParseBuffers::new(alloc);
     let mut values: usize = 0;
     for line in lines {
-        document.parse_json_into(alloc, schema, line, &mut buffers)?;
+        document.parse_json_into(schema, line, &mut buffers)?;
         values = values.saturating_add(document.len());
     }
     Ok(values)

@@ -16,7 +16,7 @@ pub fn documents_of_input<R: Input + AllocGlobal>(rt: &R, schema: &Schema) -> Re
     let mut buffers = ParseBuffers::new(alloc);
     let mut count: u64 = 0;
     for line in BufReader::new(alloc, rt.reader())?.lines(alloc) {
-        document.parse_json_into(alloc, schema, line?.as_str(), &mut buffers)?;
+        document.parse_json_into(schema, line?.as_str(), &mut buffers)?;
         count = count.saturating_add(1);
     }
     Ok(count)

@@ -19,7 +19,7 @@ pub fn import(
     let mut buffers = ParseBuffers::new(alloc);
     let mut refused = String::new(alloc);
     for (place, line) in lines.iter().enumerate() {
-        if let Err(error) = document.parse_json_into(alloc, schema, line, &mut buffers) {
+        if let Err(error) = document.parse_json_into(schema, line, &mut buffers) {
             writeln!(refused, "line {place}: {error}")?;
             continue;
         }

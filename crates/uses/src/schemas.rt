@@ -16,7 +16,7 @@ pub fn people(alloc: Global) -> Result<Schema> {
 
 /// The schema as JSON, in tantivy's form.
 pub fn printed(alloc: Global, schema: &Schema) -> Result<String> {
-    Ok(schema.to_json_value(alloc)?.to_string(alloc)?)
+    Ok(schema.to_json_value()?.to_string(alloc)?)
 }
 
 /// The schema of such JSON.

@@ -61,11 +61,11 @@ pub fn terms_of_field<'t>(alloc: Global, terms: &'t [Term], field: Field) -> Res
 }
 
 /// The path of a term with the name of its field, and its value, where that is a text.
-pub fn shown(alloc: Global, schema: &Schema, term: &Term) -> Result<String> {
+pub fn shown(schema: &Schema, term: &Term) -> Result<String> {
     if !schema.has_field(term.field()) {
         return Err(anyhow!("a field is not the schema's"));
     }
-    let mut shown = term.get_full_path(alloc, schema)?;
+    let mut shown = term.get_full_path(schema)?;
     write!(shown, " {:?}", term.typ())?;
     Ok(shown)
 }

@@ -140,7 +140,7 @@ impl Call {
             Call::Serialize => serialize(alloc, sample),
             Call::Migrate => migrated(alloc, sample),
             Call::Print => print(alloc, sample),
-            Call::Compare => compare(alloc, sample),
+            Call::Compare => compare(sample),
             Call::ReadSchema => read_schema(alloc, sample),
             Call::FindFields => find_fields(alloc, sample),
             Call::FindPath => find_path(sample),
@@ -188,9 +188,9 @@ fn migrated(alloc: Global, sample: &Sample) -> Result<usize> {
     Ok(sink.as_slice().len())
 }
 
-fn compare(alloc: Global, sample: &Sample) -> Result<usize> {
+fn compare(sample: &Sample) -> Result<usize> {
     let document = &sample.document;
-    if document.same_as(alloc, document)? {
+    if document.same_as(document)? {
         Ok(document.len())
     } else {
         Err(anyhow!("a document differs from itself"))

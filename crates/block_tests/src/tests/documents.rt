@@ -37,7 +37,7 @@ fn parsed(
     line: &[u8],
     document: &mut TantivyDocument,
 ) -> Result<(), BlockError> {
-    parse_line(alloc, schema, line, document, &mut ParseBuffers::new(alloc))
+    parse_line(schema, line, document, &mut ParseBuffers::new(alloc))
 }
 
 // What is said of a line.

@@ -35,7 +35,7 @@ fn is_made_anew(
     Ok(
         document.len() == fresh.len()
             && document.node_data() == fresh.node_data()
-            && document.same_as(alloc, &fresh)?,
+            && document.same_as(&fresh)?,
     )
 }
 
@@ -47,7 +47,7 @@ fn documents_are_parsed_in_place(rt: HostRuntime) -> Result<(), Fail> {
     let mut buffers = ParseBuffers::new(alloc);
     let mut pairs = 0;
     for text in TEXTS {
-        document.parse_json_into(alloc, &schema, text, &mut buffers)?;
+        document.parse_json_into(&schema, text, &mut buffers)?;
         assert!(rt; is_made_anew(alloc, &schema, text, &document)?);
         pairs = document.len().max(pairs);
     }
@@ -61,15 +61,15 @@ fn a_document_has_no_pairs_after_a_refusal(rt: HostRuntime) -> Result<(), Fail> 
     let schema = schema(alloc)?;
     let mut document = CompactDoc::new(alloc);
     let mut buffers = ParseBuffers::new(alloc);
-    document.parse_json_into(alloc, &schema, TEXTS[0], &mut buffers)?;
+    document.parse_json_into(&schema, TEXTS[0], &mut buffers)?;
     let float = "{\"a\": 1, \"j\": {\"b\": [0.5]}, \"u\": 3}";
-    let refused = document.parse_json_into(alloc, &schema, float, &mut buffers);
+    let refused = document.parse_json_into(&schema, float, &mut buffers);
     let is_float = matches!(
         refused,
         Err(DocParsingError::ValueError(_, ValueParsingError::FloatNumber { .. }))
     );
     assert!(rt; is_float && document.is_empty() && document.node_data().is_empty());
-    document.parse_json_into(alloc, &schema, TEXTS[2], &mut buffers)?;
+    document.parse_json_into(&schema, TEXTS[2], &mut buffers)?;
     assert!(rt; document.len() == 2);
     Ok(())
 }

@@ -22,7 +22,7 @@ fn reads_block<S: ByteSource>(
 ) -> Result<bool, DeserializeError> {
     let mut reader = BlockReader::new(alloc, DocStoreVersion::V2);
     for document in documents {
-        if !reader.advance(source)? || !reader.document().same_as(alloc, document)? {
+        if !reader.advance(source)? || !reader.document().same_as(document)? {
             return Ok(false);
         }
         if reader.document().node_data() != document.node_data() {

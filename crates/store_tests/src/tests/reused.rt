@@ -23,7 +23,7 @@ fn is_read_in_place(
         document.len() == len
             && document.node_data() == fresh.node_data()
             && source.rest().len() == other.rest().len()
-            && document.same_as(alloc, &fresh)?,
+            && document.same_as(&fresh)?,
     )
 }
 

@@ -28,6 +28,6 @@ pub fn printed_schema_is_read_back(alloc: Global, schema: &Schema) -> Result<Sch
     ensures err { IfErr result (λ error. error ≡ Memory) }
 {
     let _fields = schema.num_fields();
-    let description = schema.to_json_value(alloc)?;
+    let description = schema.to_json_value()?;
     Schema::from_json_value(alloc, &description)
 }
