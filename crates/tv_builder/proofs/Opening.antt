@@ -63,7 +63,7 @@ empty_put old new own kind p none w =
 
 pub empty_put_not : (old new own : List ℕ) (kind : ListKind) (e : AddError) → own ≡ [] → ListPutNot 4294967295 old own new e → PutNot 4294967295 old (list_tree kind []) new e
 empty_put_not old new own kind e none w =
-    record { prefix = w.prefix; why = subst (λ z. WhyUnwritten 4294967295 z e) (ap (λ z. old ++ short_sized z) none ∙ sym (made_heap kind old [] (list_tree kind []) (none_make kind))) w.why }
+    record { prefix = w.prefix; why = subst (λ z. WhyUnwritten 4294967295 z e) (ap (λ z. old ++ short_sized z) none ∙ sym (made_heap kind old [] (list_tree kind []) (none_make kind))) w.why; fits = w.fits }
 
 -- ---- a list of which some child is awaited
 

@@ -200,7 +200,7 @@ list_closes kind old before heap places new later whole left n p s none is w kep
 
 -- a refusal at a child, at a key and at the list itself
 pub list_refused : {most : ℕ} (kind : ListKind) (old before heap places new : List ℕ) (whole t : Tree) (left ts : List Tree) (e : AddError) → ListOpen most kind old before whole heap places left → left ≡ t ∷ ts → PutNot most heap t new e → PutNot most old whole new e
-list_refused {most} kind old before heap places new whole t left ts e s is w = record { prefix = prefix_then old heap new s.put.prefix w.prefix; why = unwritten_as most _ _ e longer_is w.why }
+list_refused {most} kind old before heap places new whole t left ts e s is w = record { prefix = prefix_then old heap new s.put.prefix w.prefix; why = unwritten_as most _ _ e longer_is w.why; fits = w.fits }
   where
     all : List Tree
     all = s.done ++ left
@@ -223,7 +223,7 @@ key_refused (Some k) kind old before heap places new whole u cs ds e s is w = li
 
 pub own_refused : {most : ℕ} (kind : ListKind) (old before heap places new : List ℕ) (whole : Tree) (left : List Tree) (n : ℕ) (e : AddError) → ListOpen most kind old before whole heap places left → left ≡ [] → n ≡ length before → ListPutNot most heap (drop n places) new e
     → PutNot most old whole new e
-own_refused {most} kind old before heap places new whole left n e s none is w = record { prefix = prefix_then old heap new s.put.prefix w.prefix; why = subst (λ z. WhyUnwritten most z e) (sym same) w.why }
+own_refused {most} kind old before heap places new whole left n e s none is w = record { prefix = prefix_then old heap new s.put.prefix w.prefix; why = subst (λ z. WhyUnwritten most z e) (sym same) w.why; fits = w.fits }
   where
     same : tree_heap old whole ≡ heap ++ short_sized (drop n places)
     same = made_heap kind old s.done whole (all_made kind old before heap places whole left s none) ∙ (λ i. sym s.put.heap i ++ short_sized (sym (own_places old before heap places s.done n s.put is) i))
@@ -238,7 +238,7 @@ list_puts (Err e) kind old before heap places new later whole left n s none is o
 
 -- memory was refused
 pub memory_not : {most : ℕ} (old new : List ℕ) (t : Tree) → IsPrefix old new → PutNot most old t new Memory
-memory_not old new t f = record { prefix = f; why = tt }
+memory_not old new t f = record { prefix = f; why = tt; fits = λ (h : Memory ≡ HeapFull). absurd (cc) }
 
 -- a leaf writes no places
 pub leaf_puts : (most : ℕ) (r : Result Place AddError) (old places : List ℕ) (t : Tree) (new : List ℕ) → IfOk r (λ p. Put most old t new p) → IfErr r (λ e. PutNot most old t new e) → Puts most old places t new places r

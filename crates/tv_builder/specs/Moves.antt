@@ -44,7 +44,7 @@ pub record GivesNot (old : Building) (p : Place) (new : Building) (e : BuildErro
 
 -- ---- the calls
 
--- whether a value of this room, which is known where 32 bits hold it, ends at most here after this many bytes
+-- whether a value of this room, which is known where 32 bits hold it, ends at `most` at the latest after this many bytes
 abbrev pub FitsRoom : ℕ → Option ℕ → ℕ → Bool → Type 0
 FitsRoom most None len b = b ≡ false
 FitsRoom most (Some n) len b = IsTrue b ↔ (len + n ≤ most)

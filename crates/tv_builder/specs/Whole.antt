@@ -34,9 +34,11 @@ abbrev pub WhyUnwritten : ℕ → List ℕ → AddError → Type 0
 WhyUnwritten most heap HeapFull = most < length heap
 WhyUnwritten most heap Memory = Unit {0}
 
+-- after the first of these it isn't longer
 pub record PutNot (most : ℕ) (old : List ℕ) (t : Tree) (new : List ℕ) (e : AddError) : Type 0 where
   pub prefix : IsPrefix old new
   pub why : WhyUnwritten most (tree_heap old t) e
+  pub fits : e ≡ HeapFull → length new ≤ most
 
 -- one of them, where the places of other children are as they were
 abbrev pub Puts : ℕ → List ℕ → List ℕ → Tree → List ℕ → List ℕ → Result Place AddError → Type 0
@@ -66,6 +68,7 @@ pub record ListPut (most : ℕ) (old : List ℕ) (kind : ListKind) (own new : Li
 pub record ListPutNot (most : ℕ) (old own new : List ℕ) (e : AddError) : Type 0 where
   pub prefix : IsPrefix old new
   pub why : WhyUnwritten most (old ++ short_sized own) e
+  pub fits : e ≡ HeapFull → length new ≤ most
   pub memory : e ≡ Memory → length (old ++ short_sized own) ≤ most
 
 -- how a builder's call says why what it was to write isn't written

@@ -63,8 +63,8 @@ pub(crate) fn put_single(
 ) -> Result<(), AddError>
     requires fits { length heap.old.items ≤ most }
     requires most { most ≤ 4294967295 }
-    ensures ok { OnOk result (ChildPut most heap.old.items places.old.items (leaf_tree (leaf_of value.now))
-        heap.new.items places.new.items) }
+    ensures ok { OnOk result (ChildPut most heap.old.items places.old.items
+        (leaf_tree (leaf_of value.now)) heap.new.items places.new.items) }
     ensures err { IfErr result
         (λ e. PutNot most heap.old.items (leaf_tree (leaf_of value.now)) heap.new.items e) }
 {
@@ -109,7 +109,8 @@ pub(crate) fn put_list(
     requires most { most ≤ 4294967295 }
     requires first { first ≤ length places.old.items }
     ensures ok { IfOk result
-        (λ place. ListPut most heap.old.items kind (drop first places.old.items) heap.new.items place) }
+        (λ place. ListPut most heap.old.items kind (drop first places.old.items) heap.new.items
+        place) }
     ensures places { OnOk result (places.new.items ≡ take first places.old.items) }
     ensures err { IfErr result
         (λ e. ListPutNot most heap.old.items (drop first places.old.items) heap.new.items e) }
