@@ -146,7 +146,7 @@ refused_as old new here well fits after (Err x) e is d = subst (λ z. Does old n
 -- ---- a whole value, or a key
 
 pub does_value : (old mid new : Building) (p : Place) (t : Tree) (here fits : Type 0) (after : State → State) (r : Result (Unit {0}) BuildError) → here → fits
-    → ((base : List ℕ) (s : State) → ShowsBehind base old s → Takes base old (after s) t) → Put old.heap.items t mid.heap.items p → frames_of mid ≡ frames_of old → mid.places.items ≡ old.places.items → mid.open ≡ old.open
+    → ((base : List ℕ) (s : State) → ShowsBehind base old s → Takes base old (after s) t) → Put 4294967295 old.heap.items t mid.heap.items p → frames_of mid ≡ frames_of old → mid.places.items ≡ old.places.items → mid.open ≡ old.open
     → OnOk r (GivesPlace mid p new) → IfErr r (λ e. GivesNot mid p new e) → Does old new here (Unit {0}) fits after r
 does_value old mid new p t here fits after r is holds takes w frames places open_is ok err =
     let f = put_grows old.heap.items t mid.heap.items p w in
@@ -170,7 +170,7 @@ does_value old mid new p t here fits after r is holds takes w frames places open
 
 -- it isn't written
 pub value_not : (old new : Building) (t : Tree) (here fits : Type 0) (after : State → State) (e : AddError) → here → (e ≡ adds.Memory → fits) → ((base : List ℕ) (s : State) → ShowsBehind base old s → Takes base old (after s) t)
-    → PutNot old.heap.items t new.heap.items e → Does old new here (Unit {0}) fits after (Err (as_refused e))
+    → PutNot 4294967295 old.heap.items t new.heap.items e → Does old new here (Unit {0}) fits after (Err (as_refused e))
 value_not old new t here fits after e is holds takes w = answer e holds w.why
   where
     whole : Given
@@ -179,7 +179,7 @@ value_not old new t here fits after e is holds takes w = answer e holds w.why
     more : length (tree_heap old.heap.items t) ≤ length whole.heap
     more = prefix_length _ _ (given_prefix (frames_of old) (tree_heap old.heap.items t) old.places.items (tree_place old.heap.items t))
 
-    answer : (x : AddError) → (x ≡ adds.Memory → fits) → WhyUnwritten (tree_heap old.heap.items t) x → Does old new here (Unit {0}) fits after (Err (as_refused x))
+    answer : (x : AddError) → (x ≡ adds.Memory → fits) → WhyUnwritten 4294967295 (tree_heap old.heap.items t) x → Does old new here (Unit {0}) fits after (Err (as_refused x))
     answer adds.HeapFull k h = (
       is,
       tt,

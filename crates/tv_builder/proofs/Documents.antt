@@ -70,14 +70,14 @@ tree_behind heap (leaf l) some other = leaf_behind (length heap) l some other
 tree_behind heap (array ts) some other = prefix_length heap (elements_heap heap ts) (elements_prefix heap ts)
 tree_behind heap (object es) some other = prefix_length heap (entries_heap heap es) (entries_prefix heap es)
 
-placed_reads : (old new : List ℕ) (at : Place) (t : Tree) → Put old t new at → ReadsTree new (type_code at.value_type) at.address t
+placed_reads : (old new : List ℕ) (at : Place) (t : Tree) → Put 4294967295 old t new at → ReadsTree new (type_code at.value_type) at.address t
 placed_reads old new at t w = let placed = w.placed in placed.reads
 
 -- it grew by the tree's room at most
-put_within_room : (old new : List ℕ) (at : Place) (t : Tree) → Put old t new at → length new ≤ length old + room t
+put_within_room : (old new : List ℕ) (at : Place) (t : Tree) → Put 4294967295 old t new at → length new ≤ length old + room t
 put_within_room old new at t w = omega (arith, ap length w.heap, tree_within_room old t (omega (arith, w.fits, ap length w.heap)))
 
-put_behind : (old new : List ℕ) (at : Place) (t : Tree) → Put old t new at → type_code at.value_type ≢ 0 → type_code at.value_type ≢ 9 → length old ≤ at.address
+put_behind : (old new : List ℕ) (at : Place) (t : Tree) → Put 4294967295 old t new at → type_code at.value_type ≢ 0 → type_code at.value_type ≢ 9 → length old ≤ at.address
 put_behind old new at t w = subst (λ (q : Place). type_code q.value_type ≢ 0 → type_code q.value_type ≢ 9 → length old ≤ q.address) (sym w.place) (tree_behind old t)
 
 -- the document without pairs
@@ -85,7 +85,7 @@ unfoldable pub empty : (heap : List ℕ) (ps : List HeapPair) → ps ≡ [] → 
 empty heap ps e = ([], ∣ subst (λ z. ReadsPairs heap z []) (sym e) tt ∣₁)
 
 -- the document with one pair more
-pub pushed : (old : HeapPairs) (heap : List ℕ) (ps : List HeapPair) (at : Place) (field : ℕ) (t : Tree) → field < 2 ^ 32 → Put (heap_of old) t heap at → ps ≡ old.pairs.items ++ pair_at field at ∷ [] → Holds heap ps
+pub pushed : (old : HeapPairs) (heap : List ℕ) (ps : List HeapPair) (at : Place) (field : ℕ) (t : Tree) → field < 2 ^ 32 → Put 4294967295 (heap_of old) t heap at → ps ≡ old.pairs.items ++ pair_at field at ∷ [] → Holds heap ps
 pushed old heap ps at field t fits w e =
     let prefix = put_grows (heap_of old) t heap at w in (
       document_of old ++ (field, t) ∷ [],
@@ -100,12 +100,12 @@ pub heap_then : (heap : List ℕ) (d : Document) (pair : ℕ × Tree) → docume
 heap_then heap [] pair = refl
 heap_then heap (x ∷ d) pair = heap_then (tree_heap heap x.1) d pair
 
-pub pushed_bytes : (old : HeapPairs) (heap : List ℕ) (ps : List HeapPair) (at : Place) (field : ℕ) (t : Tree) (fits : field < 2 ^ 32) (w : Put (heap_of old) t heap at) (e : ps ≡ old.pairs.items ++ pair_at field at ∷ [])
+pub pushed_bytes : (old : HeapPairs) (heap : List ℕ) (ps : List HeapPair) (at : Place) (field : ℕ) (t : Tree) (fits : field < 2 ^ 32) (w : Put 4294967295 (heap_of old) t heap at) (e : ps ≡ old.pairs.items ++ pair_at field at ∷ [])
     → heap ≡ document_heap [] ((pushed old heap ps at field t fits w e).0)
 unfolding pushed
 pushed_bytes old heap ps at field t fits w e = w.heap ∙ ap (λ h. tree_heap h t) old.bytes ∙ sym (heap_then [] (document_of old) (field, t))
 
-pub added : (old new : HeapPairs) (at : Place) (field : ℕ) (t : Tree) → field < 2 ^ 32 → Put (heap_of old) t (heap_of new) at → new.pairs.items ≡ old.pairs.items ++ pair_at field at ∷ [] → Added old new field t
+pub added : (old new : HeapPairs) (at : Place) (field : ℕ) (t : Tree) → field < 2 ^ 32 → Put 4294967295 (heap_of old) t (heap_of new) at → new.pairs.items ≡ old.pairs.items ++ pair_at field at ∷ [] → Added old new field t
 unfolding pushed
 added old new at field t fits w e =
     let prefix = put_grows (heap_of old) t (heap_of new) at w in

@@ -37,7 +37,7 @@ pub record ReadPut {T : Type 0} (Child : List ℕ → T → Type 0) (trees : Lis
   pub done : List T
   pub counted : length done ≡ count
   pub encoded : Begins (λ b. Each Child b done) behind rest
-  pub put : ChildrenPut old before (trees done) heap places
+  pub put : ChildrenPut 4294967295 old before (trees done) heap places
 
 pub none_read : {T : Type 0} (Child : List ℕ → T → Type 0) (trees : List T → List Tree) (total : ℕ) (bytes behind heap places : List ℕ) → trees [] ≡ [] → length heap ≤ 4294967295 → Begins (λ b. VNum b total) bytes behind
     → ReadPut Child trees total 0 bytes behind heap places heap places
@@ -47,11 +47,11 @@ none_read Child trees total bytes behind heap places none fits number = record {
   done = [];
   counted = refl;
   encoded = begins_nothing behind refl;
-  put = subst (λ z. ChildrenPut heap places z heap places) (sym none) (none_put heap places fits);
+  put = subst (λ z. ChildrenPut 4294967295 heap places z heap places) (sym none) (none_put heap places fits (omega arith));
 }
 
 pub one_read : {T : Type 0} (Child : List ℕ → T → Type 0) (trees : List T → List Tree) (total n : ℕ) (bytes rest after old before heap places new later : List ℕ) (child : T) (s : ReadPut Child trees total n bytes rest old before heap places)
-    → Begins (λ b. Child b child) rest after → ChildrenPut old before (trees (s.done ++ child ∷ [])) new later → ReadPut Child trees total (n + 1) bytes after old before new later
+    → Begins (λ b. Child b child) rest after → ChildrenPut 4294967295 old before (trees (s.done ++ child ∷ [])) new later → ReadPut Child trees total (n + 1) bytes after old before new later
 one_read Child trees total n bytes rest after old before heap places new later child s encoded put = record {
   behind = s.behind;
   number = s.number;
@@ -78,7 +78,7 @@ pub one_item : (v : Version) (announced n : ℕ) (bytes rest after old before he
 one_item v announced n bytes rest after old before heap places new later p s w e =
     one_read (Item v) (λ ts. ts) announced n bytes rest after old before heap places new later w.tree s w.encoded (one_child_more old before heap places new later s.done w.tree s.put (p, w.put, e))
 
-pub array_encoded : (v : Version) (announced n m : ℕ) (bytes rest old before heap places new : List ℕ) (p : Place) → announced ≡ n → ItemsPut v announced n bytes rest old before heap places → m ≡ length before → ListPut heap Array (drop m places) new p
+pub array_encoded : (v : Version) (announced n m : ℕ) (bytes rest old before heap places new : List ℕ) (p : Place) → announced ≡ n → ItemsPut v announced n bytes rest old before heap places → m ≡ length before → ListPut 4294967295 heap Array (drop m places) new p
     → EncodedPut v (12 ∷ bytes) rest old new p
 array_encoded v announced n m bytes rest old before heap places new p all_read s is w =
     let many : announced ≡ element_count (elements s.done) = all_read ∙ sym s.counted ∙ sym (elements_counted NoLegacy v s.done) in
@@ -110,13 +110,13 @@ abbrev pub MembersPut : Version → ℕ → ℕ → List ℕ → List ℕ → Li
 MembersPut v announced = ReadPut (Member v) flat_entries (entry_total v announced)
 
 pub one_member : (v : Version) (announced n : ℕ) (bytes rest between after old before heap places mid now new later k : List ℕ) (p : Place) → MembersPut v announced n bytes rest old before heap places → Begins (λ b. Key v b k) rest between
-    → ChildPut heap places (leaf (text k)) mid now → EncodedPut v between after mid new p → later ≡ now ++ place_bytes p → MembersPut v announced (n + 1) bytes after old before new later
+    → ChildPut 4294967295 heap places (leaf (text k)) mid now → EncodedPut v between after mid new p → later ≡ now ++ place_bytes p → MembersPut v announced (n + 1) bytes after old before new later
 one_member v announced n bytes rest between after old before heap places mid now new later k p s key named w e =
     let keyed = one_child_more old before heap places mid now (flat_entries s.done) (leaf (text k)) s.put named in
     let both = one_child_more old before mid now new later (flat_entries s.done ++ leaf (text k) ∷ []) w.tree keyed (p, w.put, e) in
-    one_read (Member v) flat_entries (entry_total v announced) n bytes rest after old before heap places new later (k, w.tree) s (begins_then rest between after key w.encoded) (subst (λ z. ChildrenPut old before z new later) (flat_push s.done k w.tree) both)
+    one_read (Member v) flat_entries (entry_total v announced) n bytes rest after old before heap places new later (k, w.tree) s (begins_then rest between after key w.encoded) (subst (λ z. ChildrenPut 4294967295 old before z new later) (flat_push s.done k w.tree) both)
 
-pub object_encoded : (v : Version) (announced n m : ℕ) (bytes rest old before heap places new : List ℕ) (p : Place) → announced ≡ n → MembersPut v announced n bytes rest old before heap places → m ≡ length before → ListPut heap Object (drop m places) new p
+pub object_encoded : (v : Version) (announced n m : ℕ) (bytes rest old before heap places new : List ℕ) (p : Place) → announced ≡ n → MembersPut v announced n bytes rest old before heap places → m ≡ length before → ListPut 4294967295 heap Object (drop m places) new p
     → EncodedPut v (13 ∷ bytes) rest old new p
 object_encoded v announced n m bytes rest old before heap places new p all_read s is w =
     let many : entry_total v announced ≡ entry_total v (entry_count (entries s.done)) = ap (entry_total v) (all_read ∙ sym s.counted ∙ sym (entries_counted NoLegacy v s.done)) in

@@ -59,7 +59,7 @@ test_same f = let e : f.finished + 1 ≡ suc f.finished = omega arith in ap (λ 
 
 -- or a list can't be written
 pub gives_not : (old new : Building) (p : Place) (heap places own : List ℕ) (frames rest : List Frame) (f : Frame) (pending : ℕ) (whole : Option Place) (bytes : Option OpenBytes) (q : Place) (e : AddError)
-    → GivesSoFar old p heap places frames pending whole bytes q → frames ≡ rest ++ f ∷ [] → lacks (one_more f) ≡ false → own ≡ places ++ place_bytes q → ListPutNot heap (drop f.first own) new.heap.items e
+    → GivesSoFar old p heap places frames pending whole bytes q → frames ≡ rest ++ f ∷ [] → lacks (one_more f) ≡ false → own ≡ places ++ place_bytes q → ListPutNot 4294967295 heap (drop f.first own) new.heap.items e
     → GivesNot old p new (as_refused e)
 gives_not old new p heap places own frames rest f pending whole bytes q e s is test own_is w = record { prefix = prefix_then old.heap.items heap new.heap.items s.grows w.prefix; why = why e w.why }
   where
@@ -71,7 +71,7 @@ gives_not old new p heap places own frames rest f pending whole bytes q e s is t
         let grown = prefix_length closed _ (given_prefix (reverse rest) closed (take f.first places) (record { value_type = list_type f.kind; address = length heap })) in
         omega (arith, grown, ap (λ (z : Given). length z.heap) g, ap (λ z. length (heap ++ short_sized (drop f.first z))) own_is)
 
-    why : (x : AddError) → WhyUnwritten (heap ++ short_sized (drop f.first own)) x → WhyNot (given_to old p).heap (as_refused x)
+    why : (x : AddError) → WhyUnwritten 4294967295 (heap ++ short_sized (drop f.first own)) x → WhyNot (given_to old p).heap (as_refused x)
     why adds.HeapFull h = omega (arith, h, more)
     why adds.Memory h = tt
 

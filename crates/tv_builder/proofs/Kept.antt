@@ -23,7 +23,7 @@ use Rattle.tv_builder.proofs.Documents.{unchanged, added, pushed, pushed_bytes, 
 use Rattle.tv_builder.proofs.Putting.{put_grows, leaf_put}
 
 -- the room that was found is the tree's, and it is free
-pub room_fits : (found : Option ℕ) (len n : ℕ) (fits : Bool) → SomeIff found (n < 2 ^ 32) n → FitsRoom found len fits → fits ≡ true → len + n ≤ 4294967295
+pub room_fits : (found : Option ℕ) (len n : ℕ) (fits : Bool) → SomeIff found (n < 2 ^ 32) n → FitsRoom 4294967295 found len fits → fits ≡ true → len + n ≤ 4294967295
 room_fits (Some m) len n fits is h e = omega (arith, is.1, h.0 e)
 room_fits None len n fits is h e = absurd (let f : false ≡ true = sym h ∙ e in cc)
 
@@ -48,7 +48,7 @@ cut_unchanged old new mid len prefix len_is cut same_pairs = unchanged old new (
 pub record Written (old : HeapPairs) (mid : List ℕ) (len field : ℕ) (t : Tree) (at : Place) : Type 0 where
   pub len_is : len ≡ length (heap_of old)
   pub field_fits : field < 2 ^ 32
-  pub put : Put (heap_of old) t mid at
+  pub put : Put 4294967295 (heap_of old) t mid at
 
 -- a value without children was
 pub leaf_written : (old : HeapPairs) (mid : List ℕ) (len field : ℕ) (value : ReferenceValueLeaf) (at : Place) → len ≡ length (heap_of old) → field < 2 ^ 32 → length (heap_of old) + leaf_room (leaf_of value) ≤ 4294967295
@@ -64,8 +64,8 @@ leaf_written old mid len field value at len_is fits free grows place wrote =
           (omega (arith, small, ap length grows, length-append (heap_of old) (leaf_bytes (leaf_of value)))) wrote;
     }
 
-put_at : (old : HeapPairs) (mid heap : List ℕ) (len field : ℕ) (t : Tree) (at : Place) → Written old mid len field t at → heap ≡ mid → Put (heap_of old) t heap at
-put_at old mid heap len field t at w same = subst (λ h. Put (heap_of old) t h at) (sym same) w.put
+put_at : (old : HeapPairs) (mid heap : List ℕ) (len field : ℕ) (t : Tree) (at : Place) → Written old mid len field t at → heap ≡ mid → Put 4294967295 (heap_of old) t heap at
+put_at old mid heap len field t at w same = subst (λ h. Put 4294967295 (heap_of old) t h at) (sym same) w.put
 
 pub kept_fields : (old : HeapPairs) (mid heap : List ℕ) (ps : List HeapPair) (len field : ℕ) (t : Tree) (at : Place) (result : Result (Unit {0}) AddError) → Written old mid len field t at
     → KeepsPair mid heap old.pairs.items ps len field at result → Fields heap ps

@@ -56,14 +56,14 @@ empty_taken b kind n none await base s h = subst (λ z. Takes base b z (list_tre
 none_make : (kind : ListKind) → Makes kind [] (list_tree kind [])
 none_make kind = record { count = 0; counted = no_total kind; children = no_children kind; tree = refl }
 
-pub empty_put : (old new own : List ℕ) (kind : ListKind) (p : Place) → own ≡ [] → ListPut old kind own new p → Put old (list_tree kind []) new p
+pub empty_put : (old new own : List ℕ) (kind : ListKind) (p : Place) → own ≡ [] → ListPut 4294967295 old kind own new p → Put 4294967295 old (list_tree kind []) new p
 empty_put old new own kind p none w =
     let fits : length old ≤ 4294967295 = omega (arith, w.fits, ap length w.heap, length-append old (short_sized own)) in
-    all_put kind old [] old [] new [] (list_tree kind []) 0 p (none_make kind) (none_put old [] fits) refl (subst (λ z. ListPut old kind z new p) none w)
+    all_put kind old [] old [] new [] (list_tree kind []) 0 p (none_make kind) (none_put old [] fits (omega arith)) refl (subst (λ z. ListPut 4294967295 old kind z new p) none w)
 
-pub empty_put_not : (old new own : List ℕ) (kind : ListKind) (e : AddError) → own ≡ [] → ListPutNot old own new e → PutNot old (list_tree kind []) new e
+pub empty_put_not : (old new own : List ℕ) (kind : ListKind) (e : AddError) → own ≡ [] → ListPutNot 4294967295 old own new e → PutNot 4294967295 old (list_tree kind []) new e
 empty_put_not old new own kind e none w =
-    record { prefix = w.prefix; why = subst (λ z. WhyUnwritten z e) (ap (λ z. old ++ short_sized z) none ∙ sym (made_heap kind old [] (list_tree kind []) (none_make kind))) w.why }
+    record { prefix = w.prefix; why = subst (λ z. WhyUnwritten 4294967295 z e) (ap (λ z. old ++ short_sized z) none ∙ sym (made_heap kind old [] (list_tree kind []) (none_make kind))) w.why; fits = w.fits }
 
 -- ---- a list of which some child is awaited
 

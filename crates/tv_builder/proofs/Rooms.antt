@@ -1,8 +1,9 @@
 -- The room of a value is at most ten times the bytes that writing it adds to a heap.
-use Rattle.std.proofs.Common.{◌≡◌, ℕ, ◌+◌, ◌*◌, ◌^◌, ◌<◌, ◌≤◌, Bool, true, false, Option, Some, None, SomeIff, ap, List, [], ◌∷◌, ◌++◌, length, length-append, arith, inl, inr}
+use Rattle.std.proofs.Common.{◌≡◌, ℕ, ◌+◌, ◌-◌, ◌*◌, ◌/◌, ◌^◌, min, ◌<◌, ◌≤◌, Bool, true, false, Option, Some, None, SomeIff, ap, List, [], ◌∷◌, ◌++◌, length, length-append, arith, inl, inr}
 use Rattle.std.specs.Prelude.{IsTrue, ◌↔◌}
 use Rattle.std.specs.List.{flat_map, sum_by}
 use Rattle.std.specs.Int.{w64, cast_unsigned}
+use Rattle.std.proofs.Math.Nat.{min-le_left}
 use Rattle.std.proofs.lemmas.Bool.{cases_lt}
 use Rattle.std.proofs.lemmas.List.Sums.{sum_by-cons}
 use Rattle.tv_base.specs.Number.{vnum}
@@ -99,15 +100,22 @@ mutual
 
 -- ---- a value that was written, and whose room is to be free
 
-pub paid_within : (old : List ℕ) (t : Tree) (new : List ℕ) (p : Place) → Put old t new p → 10 * length new ≤ 4294967295 + 9 * length old → PutWithin old t new p
-paid_within old t new p w h = record { put = w; within = omega (arith, h, tree_paid old t, ap length w.heap) }
+-- a tenth of what is free was written at most
+pub paid_within : {most : ℕ} (old : List ℕ) (t : Tree) (new : List ℕ) (p : Place) → length old ≤ 4294967295 → most ≡ length old + min ((4294967295 - length old) / 10) 1048576 → Put most old t new p → PutWithin old t new p
+paid_within {most} old t new p small is w =
+    let tenth : 10 * most ≤ 4294967295 + 9 * length old = omega (arith, is, small, min-le_left ((4294967295 - length old) / 10) 1048576) in
+    let paid = tree_paid old t in
+    record {
+      put = record { heap = w.heap; place = w.place; fits = omega (arith, tenth, paid, w.fits, ap length w.heap); placed = w.placed };
+      within = omega (arith, tenth, paid, w.fits, ap length w.heap);
+    }
 
 -- ---- what was found doesn't fit
 
-pub no_room : (b : Bool) (m : ℕ) → IsTrue b ↔ (m ≤ 4294967295) → b ≡ false → 4294967295 < m
-no_room true m h e = absurd (let f : true ≡ false = e in cc)
-no_room false m h e = elim (cases_lt 4294967295 m) [ inl p ↦ p | inr p ↦ absurd (let f : false ≡ true = h.1 (omega (arith, p)) in cc) ]
+pub no_room : {most : ℕ} (b : Bool) (m : ℕ) → IsTrue b ↔ (m ≤ most) → b ≡ false → most < m
+no_room {most} true m h e = absurd (let f : true ≡ false = e in cc)
+no_room {most} false m h e = elim (cases_lt most m) [ inl p ↦ p | inr p ↦ absurd (let f : false ≡ true = h.1 (omega (arith, p)) in cc) ]
 
-pub over : (found : Option ℕ) (len n : ℕ) (fits : Bool) → SomeIff found (n < 2 ^ 32) n → FitsRoom found len fits → fits ≡ false → 4294967295 < len + n
-over (Some m) len n fits is h e = omega (arith, is.1, no_room fits (len + m) h e)
-over None len n fits is h e = elim (cases_lt n (2 ^ 32)) [ inl p ↦ absurd (is p) | inr p ↦ omega (arith, p) ]
+pub over : {most : ℕ} (found : Option ℕ) (len n : ℕ) (fits : Bool) → most ≤ 4294967295 → SomeIff found (n < 2 ^ 32) n → FitsRoom most found len fits → fits ≡ false → most < len + n
+over (Some m) len n fits small is h e = omega (arith, is.1, no_room fits (len + m) h e)
+over None len n fits small is h e = elim (cases_lt n (2 ^ 32)) [ inl p ↦ absurd (is p) | inr p ↦ omega (arith, p) ]

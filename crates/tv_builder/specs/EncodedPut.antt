@@ -10,4 +10,4 @@ use Rattle.tv_heap.specs.declared.place.Place.{Place}
 pub record EncodedPut (v : Version) (whole rest old new : List ℕ) (p : Place) : Type 0 where
   pub tree : Tree
   pub encoded : Begins (λ b. Encodes NoLegacy v b tree) whole rest
-  pub put : Put old tree new p
+  pub put : Put 4294967295 old tree new p

@@ -44,10 +44,10 @@ pub record GivesNot (old : Building) (p : Place) (new : Building) (e : BuildErro
 
 -- ---- the calls
 
--- whether a value of this room, which is known where 32 bits hold it, fits after this many bytes
-abbrev pub FitsRoom : Option ℕ → ℕ → Bool → Type 0
-FitsRoom None len b = b ≡ false
-FitsRoom (Some n) len b = IsTrue b ↔ (len + n ≤ 4294967295)
+-- whether a value of this room, which is known where 32 bits hold it, ends at `most` at the latest after this many bytes
+abbrev pub FitsRoom : ℕ → Option ℕ → ℕ → Bool → Type 0
+FitsRoom most None len b = b ≡ false
+FitsRoom most (Some n) len b = IsTrue b ↔ (len + n ≤ most)
 
 -- this holds of the state that is held
 abbrev pub InState : Building → (State → Type 0) → Type 0

@@ -28,14 +28,14 @@ IsOfKind lists.Object (object es) = Unit {0}
 IsOfKind _ _ = ⊥
 
 -- A child is written at the end of a heap, and its place after others.
-abbrev pub ChildPut : List ℕ → List ℕ → Tree → List ℕ → List ℕ → Type 0
-ChildPut old before t new left = (p : Place) × Put old t new p × (left ≡ before ++ place_bytes p)
+abbrev pub ChildPut : ℕ → List ℕ → List ℕ → Tree → List ℕ → List ℕ → Type 0
+ChildPut most old before t new left = (p : Place) × Put most old t new p × (left ≡ before ++ place_bytes p)
 
 -- a key, if there is one
-abbrev pub KeyPut : List ℕ → List ℕ → Option (List ℕ) → List ℕ → List ℕ → Type 0
-KeyPut old before None new left = (new ≡ old) × (left ≡ before)
-KeyPut old before (Some k) new left = ChildPut old before (leaf (text k)) new left
+abbrev pub KeyPut : ℕ → List ℕ → List ℕ → Option (List ℕ) → List ℕ → List ℕ → Type 0
+KeyPut most old before None new left = (new ≡ old) × (left ≡ before)
+KeyPut most old before (Some k) new left = ChildPut most old before (leaf (text k)) new left
 
-abbrev pub KeyNotPut : List ℕ → Option (List ℕ) → List ℕ → AddError → Type 0
-KeyNotPut old None new e = ⊥
-KeyNotPut old (Some k) new e = PutNot old (leaf (text k)) new e
+abbrev pub KeyNotPut : ℕ → List ℕ → Option (List ℕ) → List ℕ → AddError → Type 0
+KeyNotPut most old None new e = ⊥
+KeyNotPut most old (Some k) new e = PutNot most old (leaf (text k)) new e

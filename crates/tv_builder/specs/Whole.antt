@@ -17,35 +17,37 @@ use Rattle.tv_builder.specs.Kinds.{list_type}
 use Rattle.tv_builder.specs.Shows.{Placed}
 use Rattle.tv_builder.specs.TreeBytes.{tree_heap, tree_place}
 
--- it is written, and it fits
-pub record Put (old : List ℕ) (t : Tree) (new : List ℕ) (p : Place) : Type 0 where
+-- it is written, and the heap is at most this long
+pub record Put (most : ℕ) (old : List ℕ) (t : Tree) (new : List ℕ) (p : Place) : Type 0 where
   pub heap : new ≡ tree_heap old t
   pub place : p ≡ tree_place old t
-  pub fits : length new ≤ 4294967295
+  pub fits : length new ≤ most
   pub placed : Placed new p t
 
 -- the leaf of this type that holds this is written, and it fits
 pub record PutWith (old : List ℕ) (t : LeafType) (c : Content) (new : List ℕ) (p : Place) : Type 0 where
   pub prefix : IsPrefix old new
-  pub put : (l : Leaf) → type_of l ≡ t → content l ≡ c → Put old (leaf l) new p
+  pub put : (l : Leaf) → type_of l ≡ t → content l ≡ c → Put 4294967295 old (leaf l) new p
 
--- the heap would be too long, or memory was refused
-abbrev pub WhyUnwritten : List ℕ → AddError → Type 0
-WhyUnwritten heap HeapFull = 4294967295 < length heap
-WhyUnwritten heap Memory = Unit {0}
+-- the heap would be longer, or memory was refused
+abbrev pub WhyUnwritten : ℕ → List ℕ → AddError → Type 0
+WhyUnwritten most heap HeapFull = most < length heap
+WhyUnwritten most heap Memory = Unit {0}
 
-pub record PutNot (old : List ℕ) (t : Tree) (new : List ℕ) (e : AddError) : Type 0 where
+-- after the first of these it isn't longer
+pub record PutNot (most : ℕ) (old : List ℕ) (t : Tree) (new : List ℕ) (e : AddError) : Type 0 where
   pub prefix : IsPrefix old new
-  pub why : WhyUnwritten (tree_heap old t) e
+  pub why : WhyUnwritten most (tree_heap old t) e
+  pub fits : e ≡ HeapFull → length new ≤ most
 
 -- one of them, where the places of other children are as they were
-abbrev pub Puts : List ℕ → List ℕ → Tree → List ℕ → List ℕ → Result Place AddError → Type 0
-Puts old places t new left (Ok p) = Put old t new p × (left ≡ places)
-Puts old places t new left (Err e) = PutNot old t new e
+abbrev pub Puts : ℕ → List ℕ → List ℕ → Tree → List ℕ → List ℕ → Result Place AddError → Type 0
+Puts most old places t new left (Ok p) = Put most old t new p × (left ≡ places)
+Puts most old places t new left (Err e) = PutNot most old t new e
 
 -- its room, and not only its bytes, is free after the heap
 pub record PutWithin (old : List ℕ) (t : Tree) (new : List ℕ) (p : Place) : Type 0 where
-  pub put : Put old t new p
+  pub put : Put 4294967295 old t new p
   pub within : length old + room t ≤ 4294967295
 
 -- it isn't, or memory was refused
@@ -58,15 +60,16 @@ pub record PutNotWithin (old : List ℕ) (t : Tree) (new : List ℕ) (e : AddErr
   pub why : WhyNotWithin old t e
 
 -- the same of a list's own bytes
-pub record ListPut (old : List ℕ) (kind : ListKind) (own new : List ℕ) (p : Place) : Type 0 where
+pub record ListPut (most : ℕ) (old : List ℕ) (kind : ListKind) (own new : List ℕ) (p : Place) : Type 0 where
   pub heap : new ≡ old ++ short_sized own
   pub place : p ≡ record { value_type = list_type kind; address = length old }
-  pub fits : length new ≤ 4294967295
+  pub fits : length new ≤ most
 
-pub record ListPutNot (old own new : List ℕ) (e : AddError) : Type 0 where
+pub record ListPutNot (most : ℕ) (old own new : List ℕ) (e : AddError) : Type 0 where
   pub prefix : IsPrefix old new
-  pub why : WhyUnwritten (old ++ short_sized own) e
-  pub memory : e ≡ Memory → length (old ++ short_sized own) ≤ 4294967295
+  pub why : WhyUnwritten most (old ++ short_sized own) e
+  pub fits : e ≡ HeapFull → length new ≤ most
+  pub memory : e ≡ Memory → length (old ++ short_sized own) ≤ most
 
 -- how a builder's call says why what it was to write isn't written
 abbrev pub as_refused : AddError → BuildError

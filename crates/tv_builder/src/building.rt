@@ -14,6 +14,7 @@ use crate::list_kind::ListKind;
 use crate::whole::{put_leaf, put_list, put_tree};
 use std::alloc::Global;
 use tv_heap::place::Place;
+use tv_heap::room::MAX_HEAP_LEN;
 use tv_heap::write::push_place;
 use tv_value::encode::push_number;
 use tv_value::leaf::ReferenceValueLeaf;
@@ -118,7 +119,7 @@ impl Building {
         let Awaits::Value = self.awaits() else {
             return Err(BuildError::OutOfPlace);
         };
-        let place = put_leaf(&mut self.heap, value)?;
+        let place = put_leaf(&mut self.heap, value, MAX_HEAP_LEN)?;
         self.give(place)
     }
 
@@ -133,7 +134,7 @@ impl Building {
         };
         let alloc = *self.heap.allocator();
         let (heap, places) = (&mut self.heap, &mut self.places);
-        let place = put_tree(alloc, heap, places, lend(value), MAX_DEPTH)?;
+        let place = put_tree(alloc, heap, places, lend(value), MAX_DEPTH, MAX_HEAP_LEN)?;
         self.give(place)
     }
 
@@ -148,7 +149,7 @@ impl Building {
         };
         let first = self.places.len();
         if announced == 0 {
-            let place = put_list(&mut self.heap, &mut self.places, kind, first)?;
+            let place = put_list(&mut self.heap, &mut self.places, kind, first, MAX_HEAP_LEN)?;
             return self.give(place);
         }
         self.frames.push(Frame {
@@ -169,7 +170,11 @@ impl Building {
         let Awaits::Key = self.awaits() else {
             return Err(BuildError::OutOfPlace);
         };
-        let place = put_leaf(&mut self.heap, &ReferenceValueLeaf::Str(content))?;
+        let place = put_leaf(
+            &mut self.heap,
+            &ReferenceValueLeaf::Str(content),
+            MAX_HEAP_LEN,
+        )?;
         self.give(place)
     }
 
@@ -182,7 +187,7 @@ impl Building {
         if !self.awaits_head(kind) {
             return Err(BuildError::OutOfPlace);
         }
-        if !has_room(self.heap.len(), announced) {
+        if !has_room(self.heap.len(), announced, MAX_HEAP_LEN) {
             return Err(BuildError::HeapFull);
         }
         let address = self.heap.len() as u32;
@@ -281,7 +286,8 @@ impl Building {
                 self.frames.push(frame)?;
                 return Ok(());
             }
-            finished = put_list(&mut self.heap, &mut self.places, frame.kind, frame.first)?;
+            let (heap, places) = (&mut self.heap, &mut self.places);
+            finished = put_list(heap, places, frame.kind, frame.first, MAX_HEAP_LEN)?;
             self.pending -= frame.finished;
         }
         self.complete = Some(finished);

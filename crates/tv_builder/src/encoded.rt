@@ -12,6 +12,7 @@ use tv_format::leaf_type::{Form, LeafType};
 use tv_format::type_codes::{ARRAY_CODE, OBJECT_CODE};
 use tv_format::version::WriteVersion;
 use tv_heap::place::Place;
+use tv_heap::room::MAX_HEAP_LEN;
 use tv_heap::write::push_place;
 use tv_value::content::LeafContent;
 use tv_value::in_place::{
@@ -140,7 +141,7 @@ fn put_encoded_array<'a>(
         };
         rest = after;
     }
-    let Ok(place) = put_list(heap, places, ListKind::Array, first) else {
+    let Ok(place) = put_list(heap, places, ListKind::Array, first, MAX_HEAP_LEN) else {
         return None;
     };
     Some((rest, place))
@@ -182,7 +183,7 @@ fn put_encoded_object<'a>(
         };
         rest = after;
     }
-    let Ok(place) = put_list(heap, places, ListKind::Object, first) else {
+    let Ok(place) = put_list(heap, places, ListKind::Object, first, MAX_HEAP_LEN) else {
         return None;
     };
     Some((rest, place))

@@ -1,6 +1,6 @@
 //! Whether what is to be written fits after a heap.
 
-ghost use Rattle.std.specs.Prelude.{◌+◌, ◌*◌, ◌≤◌, ◌↔◌, length, IsTrue};
+ghost use Rattle.std.specs.Prelude.{◌≡◌, ◌+◌, ◌-◌, ◌/◌, ◌≤◌, ◌↔◌, length, min, IsTrue};
 ghost use Rattle.tv_base.specs.Number.{vnum};
 ghost use Rattle.tv_builder.specs.Moves.{FitsRoom};
 ghost use Rattle.tv_heap.specs.Room.{room};
@@ -10,36 +10,40 @@ use tv_heap::len::number_len;
 use tv_heap::room::{MAX_HEAP_LEN, room};
 use tv_value::value::Value;
 
-// Whether this many bytes after their length fit after a heap of this length.
+// At most this many bytes are written of a value before its room is counted.
+pub(crate) const MAX_UNCOUNTED: u64 = 1048576;
+
+// Whether a heap of this length is at most `most` bytes long after this many bytes more and their length.
 #[inline(always)]
-pub(crate) fn has_room(len: usize, content: u64) -> bool
-    requires { len ≤ 4294967295 }
-    ensures { IsTrue result ↔ (len + (length (vnum content) + content) ≤ 4294967295) }
+pub(crate) fn has_room(len: usize, content: u64, most: u64) -> bool
+    requires len { len ≤ most }
+    requires most { most ≤ 4294967295 }
+    ensures { IsTrue result ↔ (len + (length (vnum content) + content) ≤ most) }
 {
-    content <= MAX_HEAP_LEN
-        && len as u64 + (u64::from(number_len(content)) + content) <= MAX_HEAP_LEN
+    content <= most && len as u64 + (u64::from(number_len(content)) + content) <= most
 }
 
-// Whether a value of this room fits after a heap of this length.
+// Whether a heap of this length is at most `most` bytes long after a value of this room.
 #[inline(always)]
-pub(crate) fn has_value_room(len: usize, room: Option<u32>) -> bool
-    requires { len ≤ 4294967295 }
-    ensures { FitsRoom room len result }
+pub(crate) fn has_value_room(len: usize, room: Option<u32>, most: u64) -> bool
+    requires { len ≤ most }
+    ensures { FitsRoom most room len result }
 {
     match room {
-        Some(room) => u64::from(room) <= MAX_HEAP_LEN - len as u64,
+        Some(room) => u64::from(room) <= most - len as u64,
         None => false,
     }
 }
 
-// Whether ten times what was written after a heap of this length would fit there: no value's room is more than that.
+// How long a heap of this length may become by a value whose room isn't counted. What is written is at most a tenth of what is free, so the
+// value's room, which is at most ten times as much, is free.
 #[inline(always)]
-pub(crate) fn has_ten_times(len: usize, with_value: usize) -> bool
-    requires before { len ≤ 4294967295 }
-    requires behind { with_value ≤ 4294967295 }
-    ensures { IsTrue result ↔ (10 * with_value ≤ 4294967295 + 9 * len) }
+pub(crate) fn uncounted_most(len: usize) -> u64
+    requires { len ≤ 4294967295 }
+    ensures { result ≡ len + min ((4294967295 - len) / 10) 1048576 }
 {
-    10 * with_value as u64 <= MAX_HEAP_LEN + 9 * len as u64
+    let len = len as u64;
+    len + ((MAX_HEAP_LEN - len) / 10).min(MAX_UNCOUNTED)
 }
 
 // Whether the room of a value is free after a heap of this length. The value is walked.
@@ -48,5 +52,5 @@ pub(crate) fn has_tree_room<'a, V: Value<'a>>(alloc: Global, len: usize, value: 
     requires { len ≤ 4294967295 }
     ensures { IsTrue result ↔ (len + room (V.tree value.now) ≤ 4294967295) }
 {
-    has_value_room(len, room(alloc, value))
+    has_value_room(len, room(alloc, value), MAX_HEAP_LEN)
 }

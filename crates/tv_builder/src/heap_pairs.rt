@@ -17,7 +17,7 @@ use crate::whole::put_within;
 use std::alloc::{AllocError, Global};
 use tv_format::version::WriteVersion;
 use tv_heap::place::Place;
-use tv_heap::room::leaf_room;
+use tv_heap::room::{MAX_HEAP_LEN, leaf_room};
 use tv_heap::write::write_leaf;
 use tv_value::leaf::ReferenceValueLeaf;
 use tv_value::nesting::MAX_DEPTH;
@@ -147,7 +147,7 @@ impl HeapPairs {
         ensures { Adds self.old self.new field (leaf (leaf_of value.now)) result }
     {
         let len = self.heap.len();
-        if !has_value_room(len, leaf_room(value)) {
+        if !has_value_room(len, leaf_room(value), MAX_HEAP_LEN) {
             return Err(AddError::HeapFull);
         }
         let Ok(place) = write_leaf(&mut self.heap, value) else {

@@ -69,45 +69,49 @@ fn push_list<N: Nested>(
     Ok(())
 }
 
-// Writes the key of a child, if it has one, and its place after others.
+// Writes the key of a child, if it has one, where the heap is then at most `most` bytes long, and its place after others.
 fn put_key<K: AsStr + Drop>(
     heap: &mut Vec<u8>,
     places: &mut Vec<u8>,
     key: Option<K>,
+    most: u64,
 ) -> Result<(), AddError>
-    requires { length heap.old.items ≤ 4294967295 }
-    ensures ok { OnOk result (KeyPut heap.old.items places.old.items (option_map K.text key)
+    requires fits { length heap.old.items ≤ most }
+    requires most { most ≤ 4294967295 }
+    ensures ok { OnOk result (KeyPut most heap.old.items places.old.items (option_map K.text key)
         heap.new.items places.new.items) }
     ensures err { IfErr result
-        (λ e. KeyNotPut heap.old.items (option_map K.text key) heap.new.items e) }
+        (λ e. KeyNotPut most heap.old.items (option_map K.text key) heap.new.items e) }
 {
     match key {
         None => Ok(()),
-        Some(key) => put_single(heap, places, &ReferenceValueLeaf::Str(key.as_str())),
+        Some(key) => put_single(heap, places, &ReferenceValueLeaf::Str(key.as_str()), most),
     }
 }
 
-// Writes a value after its children, however deep they nest, and returns its place. `places` is afterwards as it was. After an error the
-// old heap is still a prefix of the new, and what `places` holds is unspecified.
+// Writes a value after its children, however deep they nest, where the heap is then at most `most` bytes long, and returns its place. `places` is
+// afterwards as it was. After an error the old heap is still a prefix of the new, and what `places` holds is unspecified.
 #[inline(never)]
 pub(crate) fn put_nested<N: Nested>(
     alloc: Global,
     heap: &mut Vec<u8>,
     places: &mut Vec<u8>,
     value: NestedValue<'_, N>,
+    most: u64,
 ) -> Result<Place, AddError>
-    requires { length heap.old.items ≤ 4294967295 }
+    requires fits { length heap.old.items ≤ most }
+    requires most { most ≤ 4294967295 }
     ensures { let t = nested_tree N.array_rest N.object_rest value.entry in
-        Puts heap.old.items places.old.items t heap.new.items places.new.items result }
+        Puts most heap.old.items places.old.items t heap.new.items places.new.items result }
 {
     let mut around = Vec::new(alloc);
     let mut list = match open_list(value, places.len()) {
         Ok(list) => list,
-        Err(single) => return put_leaf(heap, &single),
+        Err(single) => return put_leaf(heap, &single, most),
     };
     'lists: loop {
         if let Some((key, child)) = list.children.next() {
-            put_key(heap, places, key)?;
+            put_key(heap, places, key, most)?;
             match open_list(child.as_nested(), places.len()) {
                 Ok(inner) => {
                     push_list(&mut around, list)?;
@@ -115,12 +119,12 @@ pub(crate) fn put_nested<N: Nested>(
                     continue 'lists;
                 }
                 Err(single) => {
-                    put_single(heap, places, &single)?;
+                    put_single(heap, places, &single, most)?;
                     continue 'lists;
                 }
             }
         }
-        let place = put_list(heap, places, list.kind, list.first)?;
+        let place = put_list(heap, places, list.kind, list.first, most)?;
         let Some(outer) = around.pop() else {
             return Ok(place);
         };

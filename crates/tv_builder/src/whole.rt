@@ -11,7 +11,7 @@ ghost use Rattle.tv_builder.specs.Whole.{ListPut, ListPutNot, PutWith};
 ghost use Rattle.tv_value.specs.LeafParts.{content_of};
 
 use crate::add_error::AddError;
-use crate::fits::{has_room, has_ten_times, has_tree_room, has_value_room};
+use crate::fits::{MAX_UNCOUNTED, has_room, has_tree_room, has_value_room, uncounted_most};
 use crate::list_kind::ListKind;
 use crate::nested::put_nested;
 use std::alloc::Global;
@@ -19,6 +19,7 @@ use std::convert::AsStr;
 use tv_format::leaf_type::LeafType;
 use tv_heap::len::{content_len, leaf_len};
 use tv_heap::place::Place;
+use tv_heap::room::MAX_HEAP_LEN;
 use tv_heap::write::{push_place, write_content, write_leaf, write_list};
 use tv_value::content::LeafContent;
 use tv_value::leaf::ReferenceValueLeaf;
@@ -26,42 +27,48 @@ use tv_value::nested::{Nested, NestedValue, lend};
 use tv_value::nesting::MAX_DEPTH;
 use tv_value::value::Value;
 
-// Writes a value without children, and returns its place. After an error the old heap is still a prefix of the new.
+// Writes a value without children, where the heap is then at most `most` bytes long, and returns its place. After an error the old heap is still
+// a prefix of the new.
 #[inline(always)]
 pub(crate) fn put_leaf(
     heap: &mut Vec<u8>,
     value: &ReferenceValueLeaf<'_>,
+    most: u64,
 ) -> Result<Place, AddError>
-    requires { length heap.old.items ≤ 4294967295 }
+    requires fits { length heap.old.items ≤ most }
+    requires most { most ≤ 4294967295 }
     ensures ok { IfOk result
-        (λ place. Put heap.old.items (leaf_tree (leaf_of value.now)) heap.new.items place) }
+        (λ place. Put most heap.old.items (leaf_tree (leaf_of value.now)) heap.new.items place) }
     ensures err { IfErr result
-        (λ e. PutNot heap.old.items (leaf_tree (leaf_of value.now)) heap.new.items e) }
+        (λ e. PutNot most heap.old.items (leaf_tree (leaf_of value.now)) heap.new.items e) }
     ensures memory { IfErr result
         (λ e. e ≡ AddError.Memory
-        → length (heap.old.items ++ leaf_bytes (leaf_of value.now)) ≤ 4294967295) }
+        → length (heap.old.items ++ leaf_bytes (leaf_of value.now)) ≤ most) }
 {
-    if !has_value_room(heap.len(), leaf_len(value)) {
+    if !has_value_room(heap.len(), leaf_len(value), most) {
         return Err(AddError::HeapFull);
     }
     let place = write_leaf(heap, value)?;
     Ok(place)
 }
 
-// Writes a value without children, and its place after others. After an error the old heap is still a prefix of the new.
+// Writes a value without children, where the heap is then at most `most` bytes long, and its place after others. After an error the old heap is
+// still a prefix of the new.
 #[inline(always)]
 pub(crate) fn put_single(
     heap: &mut Vec<u8>,
     places: &mut Vec<u8>,
     value: &ReferenceValueLeaf<'_>,
+    most: u64,
 ) -> Result<(), AddError>
-    requires { length heap.old.items ≤ 4294967295 }
-    ensures ok { OnOk result (ChildPut heap.old.items places.old.items (leaf_tree (leaf_of value.now))
-        heap.new.items places.new.items) }
+    requires fits { length heap.old.items ≤ most }
+    requires most { most ≤ 4294967295 }
+    ensures ok { OnOk result (ChildPut most heap.old.items places.old.items
+        (leaf_tree (leaf_of value.now)) heap.new.items places.new.items) }
     ensures err { IfErr result
-        (λ e. PutNot heap.old.items (leaf_tree (leaf_of value.now)) heap.new.items e) }
+        (λ e. PutNot most heap.old.items (leaf_tree (leaf_of value.now)) heap.new.items e) }
 {
-    let place = put_leaf(heap, value)?;
+    let place = put_leaf(heap, value, most)?;
     push_place(places, place)?;
     Ok(())
 }
@@ -79,7 +86,7 @@ pub(crate) fn put_content(
         (PutWith heap.old.items leaf_type (content_of content.entry) heap.new.items) }
     ensures prefix { IsPrefix heap.old.items heap.new.items }
 {
-    if !has_value_room(heap.len(), content_len(content)) {
+    if !has_value_room(heap.len(), content_len(content), MAX_HEAP_LEN) {
         return None;
     }
     match write_content(heap, leaf_type, content) {
@@ -88,25 +95,28 @@ pub(crate) fn put_content(
     }
 }
 
-// Writes a list after its children, whose places are those from `first` on, takes these off, and returns its own place. After an
-// error the old heap is still a prefix of the new, and what `places` holds is unspecified.
+// Writes a list after its children, where the heap is then at most `most` bytes long. The children's places are those from `first` on, and are
+// taken off. Returns the list's place. After an error the old heap is still a prefix of the new, and what `places` holds is unspecified.
 #[inline(always)]
 pub(crate) fn put_list(
     heap: &mut Vec<u8>,
     places: &mut Vec<u8>,
     kind: ListKind,
     first: usize,
+    most: u64,
 ) -> Result<Place, AddError>
-    requires fits { length heap.old.items ≤ 4294967295 }
+    requires fits { length heap.old.items ≤ most }
+    requires most { most ≤ 4294967295 }
     requires first { first ≤ length places.old.items }
     ensures ok { IfOk result
-        (λ place. ListPut heap.old.items kind (drop first places.old.items) heap.new.items place) }
+        (λ place. ListPut most heap.old.items kind (drop first places.old.items) heap.new.items
+        place) }
     ensures places { OnOk result (places.new.items ≡ take first places.old.items) }
     ensures err { IfErr result
-        (λ e. ListPutNot heap.old.items (drop first places.old.items) heap.new.items e) }
+        (λ e. ListPutNot most heap.old.items (drop first places.old.items) heap.new.items e) }
 {
     let len = places.len() - first;
-    if !has_room(heap.len(), len as u64) {
+    if !has_room(heap.len(), len as u64, most) {
         return Err(AddError::HeapFull);
     }
     let address = write_list(heap, places, first)?;
@@ -116,9 +126,9 @@ pub(crate) fn put_list(
     })
 }
 
-// Writes a value after its children, and returns its place. The places of children whose list is not yet written stand at the
-// end of `places`, which is afterwards as it was. `levels` is how deep its lists may nest for no stack in memory to be taken. After an
-// error the old heap is still a prefix of the new, and what `places` holds is unspecified.
+// Writes a value after its children, where the heap is then at most `most` bytes long, and returns its place. The places of children whose list
+// is not yet written stand at the end of `places`, which is afterwards as it was. `levels` is how deep its lists may nest for no stack in memory
+// to be taken. After an error the old heap is still a prefix of the new, and what `places` holds is unspecified.
 #[inline(always)]
 #[cycle(parts)]
 pub(crate) fn put_tree<N: Nested>(
@@ -127,15 +137,19 @@ pub(crate) fn put_tree<N: Nested>(
     places: &mut Vec<u8>,
     value: NestedValue<'_, N>,
     levels: u32,
+    most: u64,
 ) -> Result<Place, AddError>
-    requires { length heap.old.items ≤ 4294967295 }
+    requires fits { length heap.old.items ≤ most }
+    requires most { most ≤ 4294967295 }
     ensures { let t = nested_tree N.array_rest N.object_rest value.entry in
-        Puts heap.old.items places.old.items t heap.new.items places.new.items result }
+        Puts most heap.old.items places.old.items t heap.new.items places.new.items result }
 {
     match value {
-        NestedValue::Leaf(single) => put_leaf(heap, &single),
-        NestedValue::Array(items) => put_array::<N>(alloc, heap, places, items, levels),
-        NestedValue::Object(members) => { put_object::<N>(alloc, heap, places, members, levels) }
+        NestedValue::Leaf(single) => put_leaf(heap, &single, most),
+        NestedValue::Array(items) => { put_array::<N>(alloc, heap, places, items, levels, most) },
+        NestedValue::Object(members) => {
+            put_object::<N>(alloc, heap, places, members, levels, most)
+        }
     }
 }
 
@@ -148,29 +162,31 @@ fn put_array<N: Nested>(
     places: &mut Vec<u8>,
     items: N::ArrayIter,
     levels: u32,
+    most: u64,
 ) -> Result<Place, AddError>
-    requires { length heap.old.items ≤ 4294967295 }
+    requires fits { length heap.old.items ≤ most }
+    requires most { most ≤ 4294967295 }
     ensures { let t = array (elements (N.array_rest items)) in
-        Puts heap.old.items places.old.items t heap.new.items places.new.items result }
+        Puts most heap.old.items places.old.items t heap.new.items places.new.items result }
 {
     if levels == 0 {
-        return put_nested(alloc, heap, places, NestedValue::<N>::Array(items));
+        return put_nested(alloc, heap, places, NestedValue::<N>::Array(items), most);
     }
     let first = places.len();
     for item in items {
         match item.as_nested() {
             NestedValue::Leaf(single) => {
-                put_single(heap, places, &single)?;
+                put_single(heap, places, &single, most)?;
                 continue;
             }
             list => {
-                let place = put_tree(alloc, heap, places, list, levels - 1)?;
+                let place = put_tree(alloc, heap, places, list, levels - 1, most)?;
                 push_place(places, place)?;
                 continue;
             }
         }
     }
-    put_list(heap, places, ListKind::Array, first)
+    put_list(heap, places, ListKind::Array, first, most)
 }
 
 // Writes an object after its keys and values.
@@ -182,37 +198,39 @@ fn put_object<N: Nested>(
     places: &mut Vec<u8>,
     members: N::ObjectIter,
     levels: u32,
+    most: u64,
 ) -> Result<Place, AddError>
-    requires { length heap.old.items ≤ 4294967295 }
+    requires fits { length heap.old.items ≤ most }
+    requires most { most ≤ 4294967295 }
     ensures { let t = object (entries (N.object_rest members)) in
-        Puts heap.old.items places.old.items t heap.new.items places.new.items result }
+        Puts most heap.old.items places.old.items t heap.new.items places.new.items result }
 {
     if levels == 0 {
-        return put_nested(alloc, heap, places, NestedValue::<N>::Object(members));
+        return put_nested(alloc, heap, places, NestedValue::<N>::Object(members), most);
     }
     let first = places.len();
     for (key, item) in members {
-        put_single(heap, places, &ReferenceValueLeaf::Str(key.as_str()))?;
+        put_single(heap, places, &ReferenceValueLeaf::Str(key.as_str()), most)?;
         match item.as_nested() {
             NestedValue::Leaf(single) => {
-                put_single(heap, places, &single)?;
+                put_single(heap, places, &single, most)?;
                 continue;
             }
             list => {
-                let place = put_tree(alloc, heap, places, list, levels - 1)?;
+                let place = put_tree(alloc, heap, places, list, levels - 1, most)?;
                 push_place(places, place)?;
                 continue;
             }
         }
     }
-    put_list(heap, places, ListKind::Object, first)
+    put_list(heap, places, ListKind::Object, first, most)
 }
 
 // Writes a value after a heap where its room is free there, and returns its place.
 //
 // `HeapFull` where the heap's length and the value's room are together above 4294967295; else `Memory` where memory is refused. The old
-// heap is then still a prefix of the new. The value is walked once, and for its room only where ten times its bytes would not fit, or
-// where writing it failed.
+// heap is then still a prefix of the new. The value is walked once, unless more than 1 MiB or more than a tenth of the free bytes would be
+// written, or memory was refused: then its room is counted, and what has room is written anew.
 #[inline(always)]
 pub(crate) fn put_within<'a, V: Value<'a>>(
     alloc: Global,
@@ -226,23 +244,50 @@ pub(crate) fn put_within<'a, V: Value<'a>>(
         (λ e. PutNotWithin heap.old.items (V.tree value.now) heap.new.items e) }
 {
     let len = heap.len();
+    let capacity = heap.capacity();
     let mut places = Vec::new(alloc);
-    match put_tree(alloc, heap, &mut places, lend(value), MAX_DEPTH) {
-        Ok(place) => {
-            if has_ten_times(len, heap.len()) {
-                return Ok(place);
-            }
-            if !has_tree_room(alloc, len, value) {
-                return Err(AddError::HeapFull);
-            }
-            Ok(place)
-        }
+    match put_tree(
+        alloc,
+        heap,
+        &mut places,
+        lend(value),
+        MAX_DEPTH,
+        uncounted_most(len),
+    ) {
+        Ok(place) => Ok(place),
         Err(_) => {
-            if has_tree_room(alloc, len, value) {
-                Err(AddError::Memory)
-            } else {
-                Err(AddError::HeapFull)
-            }
+            heap.truncate(len);
+            put_counted(alloc, heap, &mut places, value, capacity)
         }
+    }
+}
+
+// Writes a value after a heap where its room, which is counted first, is free there, and returns its place. Where it isn't free, memory is given
+// back that the heap has taken beyond `capacity` and 1 MiB more.
+#[cold]
+#[inline(never)]
+fn put_counted<'a, V: Value<'a>>(
+    alloc: Global,
+    heap: &mut Vec<u8>,
+    places: &mut Vec<u8>,
+    value: &V,
+    capacity: usize,
+) -> Result<Place, AddError>
+    requires { length heap.old.items ≤ 4294967295 }
+    ensures ok { IfOk result
+        (λ place. PutWithin heap.old.items (V.tree value.now) heap.new.items place) }
+    ensures err { IfErr result
+        (λ e. PutNotWithin heap.old.items (V.tree value.now) heap.new.items e) }
+{
+    if !has_tree_room(alloc, heap.len(), value) {
+        if heap.capacity().saturating_sub(capacity) as u64 > MAX_UNCOUNTED {
+            heap.shrink_to(capacity);
+        }
+        return Err(AddError::HeapFull);
+    }
+    places.clear();
+    match put_tree(alloc, heap, places, lend(value), MAX_DEPTH, MAX_HEAP_LEN) {
+        Ok(place) => Ok(place),
+        Err(_) => Err(AddError::Memory),
     }
 }

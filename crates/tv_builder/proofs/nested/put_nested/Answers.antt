@@ -19,8 +19,8 @@ lists-init g c =
     let old = c.args.heap.now.items in
     let start = c.args.places.now.items in
     let t = nested_tree items members c.args.value in
-    let alone = subst (λ os. Around {N = g.row.N.Denot} {K = g.row.N-Key.Denot} items members old start t os old start t) (sym (ap reverse c.new-around.ensures.items)) (refl, refl, refl) in
-    opens _ _ _ _ _ _ c.requires alone (omega (arith, c.in-Ok.ensures.first, c.len.ensures, c.args.places.now.ok.0)) c.in-Ok.ensures.kind c.in-Ok.ensures.children
+    let alone = subst (λ os. Around {N = g.row.N.Denot} {K = g.row.N-Key.Denot} c.args.most items members old start t os old start t) (sym (ap reverse c.new-around.ensures.items)) (refl, refl, refl) in
+    opens _ _ _ _ _ _ c.requires.fits c.requires.most alone (omega (arith, c.in-Ok.ensures.first, c.len.ensures, c.args.places.now.ok.0)) c.in-Ok.ensures.kind c.in-Ok.ensures.children
 
 -- ---- a child
 
@@ -33,13 +33,13 @@ returns-in_err-put_key g c =
 pub put_single-requires : goal.put_single-requires
 put_single-requires g c =
     let next = child_next _ _ _ _ _ _ _ _ _ _ _ c.lists.invariant c.in-Some.ensures.steps c.in_ok-put_key.ensures.ok in
-    next.list.put.fits
+    record { fits = next.list.put.fits; most = c.requires.most }
 
 pub returns-in_err-put_single-in-Err-open_list : goal.returns-in_err-put_single-in-Err-open_list
 returns-in_err-put_single-in-Err-open_list g c =
     let next = child_next _ _ _ _ _ _ _ _ _ _ _ c.lists.invariant c.in-Some.ensures.steps c.in_ok-put_key.ensures.ok in
     let single = sym c.as_nested.ensures ∙ c.in-Err-open_list.ensures.leaf in
-    let not = subst (λ z. PutNot c.put_key.new.heap.items z c.put_single.new.heap.items c.in_err-put_single-in-Err-open_list.field-0.0) (sym single) c.in_err-put_single-in-Err-open_list.ensures.err in
+    let not = subst (λ z. PutNot c.args.most c.put_key.new.heap.items z c.put_single.new.heap.items c.in_err-put_single-in-Err-open_list.field-0.0) (sym single) c.in_err-put_single-in-Err-open_list.ensures.err in
     refused _ _ _ _ _ _ _ c.from_residual-in_err-put_single-in-Err-open_list.ensures.1 (around_refused _ _ _ _ _ _ _ _ _ _ _ next.around (list_refused _ _ _ _ _ _ _ _ _ _ _ next.list refl not))
 
 pub lists-smaller-in-Err-open_list : goal.lists-smaller-in-Err-open_list
@@ -49,7 +49,7 @@ pub lists-preserved-in-Err-open_list : goal.lists-preserved-in-Err-open_list
 lists-preserved-in-Err-open_list g c =
     let next = child_next _ _ _ _ _ _ _ _ _ _ _ c.lists.invariant c.in-Some.ensures.steps c.in_ok-put_key.ensures.ok in
     let single = sym c.as_nested.ensures ∙ c.in-Err-open_list.ensures.leaf in
-    goes_on _ _ _ _ _ _ _ _ _ next refl (subst (λ z. ChildPut c.put_key.new.heap.items c.put_key.new.places.items z c.put_single.new.heap.items c.put_single.new.places.items) (sym single) c.in_ok-put_single-in-Err-open_list.ensures.ok)
+    goes_on _ _ _ _ _ _ _ _ _ next refl (subst (λ z. ChildPut c.args.most c.put_key.new.heap.items c.put_key.new.places.items z c.put_single.new.heap.items c.put_single.new.places.items) (sym single) c.in_ok-put_single-in-Err-open_list.ensures.ok)
 
 -- ---- a list within
 
@@ -70,10 +70,10 @@ lists-preserved-in-Ok-open_list g c =
     let items = g.N.Nested.array_rest in
     let members = g.N.Nested.object_rest in
     let next = child_next _ _ _ _ _ _ _ _ _ _ _ c.lists.invariant c.in-Some.ensures.steps c.in_ok-put_key.ensures.ok in
-    let around = Around {N = g.row.N.Denot} {K = g.row.N-Key.Denot} items members c.args.heap.now.items c.args.places.now.items (nested_tree items members c.args.value) in
+    let around = Around {N = g.row.N.Denot} {K = g.row.N-Key.Denot} c.args.most items members c.args.heap.now.items c.args.places.now.items (nested_tree items members c.args.value) in
     let inner = subst (λ os. around os c.put_key.new.heap.items c.put_key.new.places.items (g.N.Nested.tree c.in-Some.child)) (sym (pushed _ _ _ c.in_ok-push_list-in-Ok-open_list.ensures)) next in
     let seen = subst (around (reverse c.push_list.new.lists.items) c.put_key.new.heap.items c.put_key.new.places.items) (sym c.as_nested.ensures) inner in
-    opens _ _ _ _ _ _ next.list.put.fits seen (omega (arith, c.in-Ok-open_list.ensures.first, c.len-in-Some.ensures, c.put_key.new.places.ok.0)) c.in-Ok-open_list.ensures.kind c.in-Ok-open_list.ensures.children
+    opens _ _ _ _ _ _ next.list.put.fits c.requires.most seen (omega (arith, c.in-Ok-open_list.ensures.first, c.len-in-Some.ensures, c.put_key.new.places.ok.0)) c.in-Ok-open_list.ensures.kind c.in-Ok-open_list.ensures.children
 
 -- ---- the end of a list
 

@@ -17,14 +17,14 @@ put_array-loop-item-init g t c =
     let old = c.args.heap.now.items in
     let start = c.args.places.now.items in
     let whole = ap g.N.Nested.array_rest c.into_iter-item-iterator.ensures.into_iter_gives in
-    subst (λ z. ListOpen Array old start (array (elements all)) old start z × (elements_size (elements z) ≤ elements_size (elements all))) (sym whole) (list_opens _ _ _ _ _ c.requires (items_make all), omega arith)
+    subst (λ z. ListOpen c.args.most Array old start (array (elements all)) old start z × (elements_size (elements z) ≤ elements_size (elements all))) (sym whole) (list_opens _ _ _ _ _ c.requires.fits c.requires.most (items_make all), omega arith)
 
 pub put_array-put_tree-requires : goal.put_array-put_tree-requires
 put_array-put_tree-requires g t c = λ κs within.
     let l = c.loop-item in
     let step = ap (λ z. elements_size (elements z)) (g.met.N.Nested.array_steps _ _ _ c.in-Some.ensures.steps) in
     let smaller : size (nested_tree g.N.Nested.array_rest g.N.Nested.object_rest c.as_nested.result) < elements_size (elements (g.N.Nested.array_rest c.args.items)) = omega (arith, step, ap size c.as_nested.ensures, l.invariant.1) in
-    let fits : length l.heap.items ≤ 4294967295 = l.invariant.0.put.fits in
+    let fits : length l.heap.items ≤ c.args.most = l.invariant.0.put.fits in
     search (rules, smaller, fits)
 
 pub put_array-returns-in_err-place-in_default : goal.put_array-returns-in_err-place-in_default
@@ -82,7 +82,7 @@ put_object-loop-key-init g t c =
     let old = c.args.heap.now.items in
     let start = c.args.places.now.items in
     let whole = ap g.N.Nested.object_rest c.into_iter-key-iterator.ensures.into_iter_gives in
-    subst (λ z. ListOpen Object old start (object (entries all)) old start (flat_entries z) × (entries_size (entries z) ≤ entries_size (entries all))) (sym whole) (list_opens _ _ _ _ _ c.requires (members_make all), omega arith)
+    subst (λ z. ListOpen c.args.most Object old start (object (entries all)) old start (flat_entries z) × (entries_size (entries z) ≤ entries_size (entries all))) (sym whole) (list_opens _ _ _ _ _ c.requires.fits c.requires.most (members_make all), omega arith)
 
 pub put_object-returns-in_err-put_single : goal.put_object-returns-in_err-put_single
 put_object-returns-in_err-put_single g t c =
@@ -146,14 +146,14 @@ put_object-returns g t c =
 pub put_tree-returns-in-Leaf : goal.put_tree-returns-in-Leaf
 put_tree-returns-in-Leaf g t c =
     let tree = nested_tree g.N.Nested.array_rest g.N.Nested.object_rest in
-    subst (λ z. Puts c.args.heap.now.items c.args.places.now.items (tree z) c.put_leaf.new.heap.items c.args.places.now.items c.put_leaf.result) (sym c.in-Leaf.is) (leaf_puts _ _ _ _ _ c.put_leaf.ensures.ok c.put_leaf.ensures.err)
+    subst (λ z. Puts c.args.most c.args.heap.now.items c.args.places.now.items (tree z) c.put_leaf.new.heap.items c.args.places.now.items c.put_leaf.result) (sym c.in-Leaf.is) (leaf_puts c.args.most _ _ _ _ _ c.put_leaf.ensures.ok c.put_leaf.ensures.err)
 
 pub put_tree-returns-in-Array : goal.put_tree-returns-in-Array
 put_tree-returns-in-Array g t c =
     let tree = nested_tree g.N.Nested.array_rest g.N.Nested.object_rest in
-    subst (λ z. Puts c.args.heap.now.items c.args.places.now.items (tree z) c.put_array.new.heap.items c.put_array.new.places.items c.put_array.result) (sym c.in-Array.is) c.put_array.ensures
+    subst (λ z. Puts c.args.most c.args.heap.now.items c.args.places.now.items (tree z) c.put_array.new.heap.items c.put_array.new.places.items c.put_array.result) (sym c.in-Array.is) c.put_array.ensures
 
 pub put_tree-returns-in-Object : goal.put_tree-returns-in-Object
 put_tree-returns-in-Object g t c =
     let tree = nested_tree g.N.Nested.array_rest g.N.Nested.object_rest in
-    subst (λ z. Puts c.args.heap.now.items c.args.places.now.items (tree z) c.put_object.new.heap.items c.put_object.new.places.items c.put_object.result) (sym c.in-Object.is) c.put_object.ensures
+    subst (λ z. Puts c.args.most c.args.heap.now.items c.args.places.now.items (tree z) c.put_object.new.heap.items c.put_object.new.places.items c.put_object.result) (sym c.in-Object.is) c.put_object.ensures

@@ -13,7 +13,7 @@ returns-in_err-place g c =
     let t = g.V.Value.tree c.args.value.now in
     let await = sym c.in-Value.ensures in
     let e = c.in_err-place in
-    let not = subst (λ z. PutNot b.heap.items z c.put_tree.new.heap.items e.field-0.0) c.lend.ensures e.ensures in
+    let not = subst (λ z. PutNot 4294967295 b.heap.items z c.put_tree.new.heap.items e.field-0.0) c.lend.ensures e.ensures in
     refused_as _ _ _ _ _ _ _ e.field-0.0 c.from_residual.ensures.1 (value_not b (record b { heap = c.put_tree.new.heap; places = c.put_tree.new.places }) t _ _ _ e.field-0.0 await (λ x. tt) (value_taken b t await) not)
 
 pub returns : goal.returns
@@ -22,5 +22,5 @@ returns g c =
     let t = g.V.Value.tree c.args.value.now in
     let await = sym c.in-Value.ensures in
     let x = c.in_ok-place in
-    let wrote = subst (λ z. Put b.heap.items z c.put_tree.new.heap.items x.place) c.lend.ensures x.ensures.0 in
+    let wrote = subst (λ z. Put 4294967295 b.heap.items z c.put_tree.new.heap.items x.place) c.lend.ensures x.ensures.0 in
     does_value b _ c.give.new.self x.place t _ _ _ c.give.result await tt (value_taken b t await) wrote refl x.ensures.1 refl c.give.ensures.ok c.give.ensures.err
