@@ -15,12 +15,12 @@ ghost use Rattle.tv_value.specs.PreTokenized.{text_of, tokens_of, tokens_left};
 ghost use Rattle.tv_value.specs.TokenRef.{ref_of};
 ghost use Rattle.tv_format.specs.Tree.{elements, entries};
 
-use tv_value::leaf_text::{push_address, push_base64, push_date, push_facet};
 use json::Writer;
 use std::alloc::{AllocError, Global};
 use tv_value::content::LeafContent;
 use tv_value::ip_addr::address_of;
 use tv_value::leaf::ReferenceValueLeaf;
+use tv_value::leaf_text::{push_address, push_base64, push_date, push_facet};
 use tv_value::nested::{Nested, NestedValue};
 use tv_value::pre_tokenized::{PreTokenizedStr, TokenIter, TokenRef};
 
