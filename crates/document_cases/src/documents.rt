@@ -1,6 +1,6 @@
 //! Documents: from JSON, as JSON, by names, and compared.
 
-use crate::{builder, json_values, parts};
+use crate::{builder, json_values, parts, repeated};
 use anyhow::{Context, Result, anyhow, ensure};
 use case_words as words;
 use case_words::schemas::schema;
@@ -34,6 +34,7 @@ pub fn answer(alloc: Global, call: &[&str]) -> Result<String> {
         "get" => get(alloc, call),
         "sorted" => sorted(alloc, call),
         "values" => values(alloc, call),
+        "repeated" => repeated::added(alloc, call),
         _ => Err(anyhow!("an unknown call about documents")),
     }
 }
@@ -43,10 +44,15 @@ pub fn shown(alloc: Global, document: &CompactDoc) -> Result<String> {
     if document.is_empty() {
         return Ok(String::from_str(alloc, "-")?);
     }
-    let mut text = match document.node_data() {
+    let text = match document.node_data() {
         [] => String::from_str(alloc, "-")?,
         heap => hex::encode(alloc, heap)?,
     };
+    with_pairs(text, document)
+}
+
+/// The field, the type's code and the address of each of the document's pairs, after a text.
+pub fn with_pairs(mut text: String, document: &CompactDoc) -> Result<String> {
     let mut place = 0;
     for (field, _) in document.field_values() {
         let number = field.field_id();

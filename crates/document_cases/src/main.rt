@@ -8,6 +8,7 @@ mod documents;
 mod heap;
 mod json_values;
 mod parts;
+mod repeated;
 mod rows;
 mod terms;
 mod tokens;

@@ -1,4 +1,4 @@
-//! Sources and sinks, values and terms; documents with values of a type of the test's own, very many lists, and memory that is refused.
+//! Sources and sinks, values and terms; documents with very many lists, and memory that is refused.
 
 mod buffered;
 mod bytes;
@@ -9,5 +9,4 @@ mod memory;
 mod owned_values;
 mod parsed;
 mod printed;
-mod repeated;
 mod terms;

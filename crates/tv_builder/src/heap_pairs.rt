@@ -62,8 +62,8 @@ fn keep_pair(
 
 /// Pairs of a field and a value, in order, and the heap in which the values stand. (Not in tantivy.)
 ///
-/// An addition is refused with `HeapFull` where the heap's length and the value's room are together above 4294967295; else with `Memory`
-/// where memory is refused. After each of these the pairs and the heap are unchanged.
+/// An addition is refused with `HeapFull` where the heap's length and the value's room are together above 4294967295, before more than 1 MiB
+/// of the value is written; else with `Memory` where memory is refused. After each of these the pairs and the heap are unchanged.
 #[derive(Debug, Drop)]
 pub struct HeapPairs {
     /// The bytes in which the values stand.

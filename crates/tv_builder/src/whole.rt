@@ -245,15 +245,9 @@ pub(crate) fn put_within<'a, V: Value<'a>>(
 {
     let len = heap.len();
     let capacity = heap.capacity();
+    let most = uncounted_most(len);
     let mut places = Vec::new(alloc);
-    match put_tree(
-        alloc,
-        heap,
-        &mut places,
-        lend(value),
-        MAX_DEPTH,
-        uncounted_most(len),
-    ) {
+    match put_tree(alloc, heap, &mut places, lend(value), MAX_DEPTH, most) {
         Ok(place) => Ok(place),
         Err(_) => {
             heap.truncate(len);

@@ -1,12 +1,15 @@
-//! A value whose bytes are borrowed many times, and which takes no memory.
+//! A value whose bytes are borrowed many times, and which takes no memory; and what adding it leaves.
 
 ghost use Rattle.std.specs.Prelude.{[], cond, replicate};
 ghost use Rattle.std.specs.Iterator.{YieldsFirstBy, at_most, item_count};
 ghost use Rattle.tv_value.specs.Lent.{entry_of};
 ghost use Rattle.tv_format.specs.Tree.{leaf, bytes, array, elements};
 
-use std::test::Fail;
-use tv_doc::add_error::AddError;
+use crate::documents;
+use anyhow::Result;
+use case_words as words;
+use std::alloc::Global;
+use std::fmt::Write;
 use tv_doc::document::CompactDoc;
 use tv_value::field::Field;
 use tv_value::leaf::ReferenceValueLeaf;
@@ -104,19 +107,24 @@ impl<'a> Value<'a> for Repeated<'a> {
     }
 }
 
-#[test]
-fn too_much_room_is_refused(rt: HostRuntime) -> Result<(), Fail> {
-    let content = vec![in rt.alloc(); 7u8; 1048576]?;
+/// The length of a document's heap, and its pairs, after a number and an array are added, in which zeros of a length are borrowed a number of
+/// times.
+pub fn added(alloc: Global, call: &[&str]) -> Result<String> {
+    let (times, length) = words::two(call)?;
+    let zeros = vec![in alloc; 0; words::number(length)?]?;
     let value = Repeated {
-        content: content.as_slice(),
+        content: zeros.as_slice(),
         is_array: true,
-        times: 4096,
+        times: words::number(times)?,
     };
-    let mut document = CompactDoc::new(rt.alloc());
-    document.add_u64(Field::from_field_id(0), 1)?;
-    let refused = document.add_field_value(Field::from_field_id(0), &value);
-    assert!(rt; refused == Err(AddError::HeapFull));
-    assert!(rt; document.len() == 1);
-    assert!(rt; document.node_data() == b"\x01\0\0\0\0\0\0\0".as_slice());
-    Ok(())
+    let field = Field::from_field_id(0);
+    let mut document = CompactDoc::new(alloc);
+    document.add_u64(field, 1)?;
+    let mut answer = String::new(alloc);
+    if let Err(error) = document.add_field_value(field, &value) {
+        write!(answer, "error {error:?} ")?;
+    }
+    let length = document.node_data().len();
+    write!(answer, "{length}")?;
+    documents::with_pairs(answer, &document)
 }
