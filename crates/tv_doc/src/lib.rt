@@ -22,7 +22,7 @@ mod recent_fields;
 mod same;
 pub mod strict_json;
 pub mod strict_parsing_error;
-mod text_refusal;
+pub mod text_refusal;
 
 pub use tv_builder::add_error;
 pub use tv_json::{json_expected, json_fault};
