@@ -43,7 +43,7 @@ pub enum LineError {
     #[error("no JSON object: {0:?}: {1}")]
     NoObject(String, JsonFault),
     /// A number isn't whole, or doesn't fit 64 bits. This is the name of its field, and the number or the object that it stands in.
-    #[error("field {0:?}: {}", NotWhole(.1))]
+    #[error("field {:?}: {}", .0, NotWhole(.1))]
     Float(String, Value),
     /// A key or a value of the line is refused for another reason.
     #[error("{0}")]
