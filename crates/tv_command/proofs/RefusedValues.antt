@@ -94,7 +94,7 @@ both_accepted (v ∷ vs) ws h k =
     let rest = both_accepted vs ws (h.1.1, h.1.4) k in
     ((v.field, h.1.0) ∷ rest.0, (h.1.0, rest.0, h.1.2, refl, rest.1))
 
-pub found_behind : (vs ws : List FieldJson) (found : Option Value) → AreAccepted vs → FindsRefused ws found → FindsRefused (vs ++ ws) found
+found_behind : (vs ws : List FieldJson) (found : Option Value) → AreAccepted vs → FindsRefused ws found → FindsRefused (vs ++ ws) found
 found_behind vs ws None h k = both_accepted vs ws h k
 found_behind vs ws (Some json) h k = record {
   before = vs ++ k.before;
@@ -107,7 +107,7 @@ found_behind vs ws (Some json) h k = record {
   value = k.value;
 }
 
-pub found_before : (vs ws : List FieldJson) (json : Value) → FindsRefused vs (Some json) → FindsRefused (vs ++ ws) (Some json)
+found_before : (vs ws : List FieldJson) (json : Value) → FindsRefused vs (Some json) → FindsRefused (vs ++ ws) (Some json)
 found_before vs ws json k = record {
   before = k.before;
   at = k.at;
@@ -118,6 +118,24 @@ found_before vs ws json k = record {
   refused = k.refused;
   value = k.value;
 }
+
+-- what is found among the rest is what is found among all
+pub record StandsFor (all rest : List FieldJson) : Type 0 where
+  pub for : (found : Option Value) → FindsRefused rest found → FindsRefused all found
+
+pub none_passed : (all : List FieldJson) → StandsFor all all
+none_passed all = record { for = λ found h. h }
+
+pub passed : (all rest values others : List FieldJson) → StandsFor all rest → rest ≡ values ++ others → AreAccepted values → StandsFor all others
+passed all rest values others s parted h =
+    record { for = λ found k. s.for found (subst (λ vs. FindsRefused vs found) (sym parted) (found_behind values others found h k)) }
+
+pub found_there : (all rest values others : List FieldJson) (json : Value) → StandsFor all rest → rest ≡ values ++ others → FindsRefused values (Some json) → FindsRefused all (Some json)
+found_there all rest values others json s parted h =
+    s.for (Some json) (subst (λ vs. FindsRefused vs (Some json)) (sym parted) (found_before values others json h))
+
+pub all_passed : (all rest : List FieldJson) → StandsFor all rest → rest ≡ [] → AreAccepted all
+all_passed all rest s none = s.for None (subst AreAccepted (sym none) ([], refl))
 
 pub accepted_alone : (v : FieldJson) (t : Tree) → Table v.field_type v.value (Ok t) → AreAccepted (v ∷ [])
 accepted_alone v t h = ((v.field, t) ∷ [], (t, [], h, refl, refl))

@@ -127,7 +127,7 @@ fn no_object(alloc: Global, text: &str, start: String) -> Result<LineError, Allo
 }
 
 // Says which value of the field with this name is refused, since a number isn't whole. The only error is that memory was refused.
-fn float(
+fn refused_number(
     alloc: Global,
     schema: &Schema,
     text: &str,
@@ -158,7 +158,7 @@ fn told(
     match error {
         DocParsingError::InvalidJson(start) => no_object(alloc, text, start),
         DocParsingError::ValueError(name, ValueParsingError::FloatNumber) => {
-            float(alloc, schema, text, name)
+            refused_number(alloc, schema, text, name)
         }
         DocParsingError::Memory => Err(AllocError),
         other => Ok(LineError::Refused(StrictParsingError::Parsing(other))),
