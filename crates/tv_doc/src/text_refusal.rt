@@ -45,9 +45,15 @@ pub fn text_fault(alloc: Global, text: &str) -> Result<Option<JsonFault>, AllocE
     ensures { IfOk result (TellsFault text.now) }
 {
     match Value::from_str(alloc, text) {
-        Ok(Value::Object(_)) => Ok(None),
-        Ok(_) => Ok(Some(IS_NO_OBJECT)),
-        Err(error) if error.is_memory() => Err(AllocError),
-        Err(_) => Ok(Some(fault_of(text))),
+        Ok(json) => match json {
+            Value::Object(_) => Ok(None),
+            _ => Ok(Some(IS_NO_OBJECT)),
+        },
+        Err(error) => {
+            if error.is_memory() {
+                return Err(AllocError);
+            }
+            Ok(Some(fault_of(text)))
+        }
     }
 }
