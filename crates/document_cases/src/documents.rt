@@ -12,6 +12,7 @@ use tv_doc::document::CompactDoc;
 use tv_doc::document_trait::Document;
 use tv_doc::laws::named_documents_are_converted_back;
 use tv_doc::named::NamedFieldDocument;
+use tv_doc::text_refusal::text_fault;
 use tv_field::ValueParsingError;
 use tv_heap::value::CompactDocValue;
 use tv_json::compact::push_json;
@@ -93,7 +94,7 @@ fn parse(alloc: Global, call: &[&str]) -> Result<String> {
     }
 }
 
-// The message about a JSON object that is refused.
+// The message about a text that is no JSON object, or about a value that is refused.
 fn why(alloc: Global, call: &[&str]) -> Result<String> {
     let (description, json) = words::two(call)?;
     let schema = schema(alloc, description)?;
@@ -101,7 +102,7 @@ fn why(alloc: Global, call: &[&str]) -> Result<String> {
     drop(schema);
     match outcome {
         Ok(document) => parsed(alloc, document),
-        Err(error) => printed(alloc, error),
+        Err(error) => printed(alloc, json, error),
     }
 }
 
@@ -113,13 +114,17 @@ fn strict(alloc: Global, call: &[&str]) -> Result<String> {
     drop(schema);
     match outcome {
         Ok(document) => parsed(alloc, document),
-        Err(error) => printed(alloc, error),
+        Err(error) => printed(alloc, json, error),
     }
 }
 
-// The text of an error. It is dropped.
-fn printed<E: Display + Drop>(alloc: Global, error: E) -> Result<String> {
-    let text = format!(in alloc; "{error}");
+// The text of the error about a text of JSON, and where and why that is no object, if it is none. The error is dropped.
+fn printed<E: Display + Drop>(alloc: Global, json: &str, error: E) -> Result<String> {
+    let text = match text_fault(alloc, json) {
+        Ok(Some(fault)) => format!(in alloc; "{error}: {fault}"),
+        Ok(None) => format!(in alloc; "{error}"),
+        Err(refused) => Err(refused),
+    };
     drop(error);
     Ok(text?)
 }
@@ -154,7 +159,7 @@ fn refused(alloc: Global, error: DocParsingError) -> Result<String> {
 // Why there is no document of a JSON object.
 fn refusal(alloc: Global, error: &DocParsingError) -> Result<String> {
     match error {
-        DocParsingError::InvalidJson(start, _) => invalid_json(alloc, start.as_str()),
+        DocParsingError::InvalidJson(start) => invalid_json(alloc, start.as_str()),
         DocParsingError::ValueError(name, error) => refused_value(alloc, name.as_str(), error),
         other => words::error(alloc, other),
     }

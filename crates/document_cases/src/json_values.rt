@@ -55,7 +55,7 @@ pub fn refusal(alloc: Global, error: &ValueParsingError) -> Result<String> {
         ValueParsingError::InvalidBase64 { base64 } => {
             format!(in alloc; "InvalidBase64 {base64:?}")
         }
-        ValueParsingError::FloatNumber { .. } => String::from_str(alloc, "FloatNumber"),
+        ValueParsingError::FloatNumber => String::from_str(alloc, "FloatNumber"),
         ValueParsingError::Memory => String::from_str(alloc, "Memory"),
     };
     Ok(text?)

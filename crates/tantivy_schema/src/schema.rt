@@ -23,13 +23,14 @@ pub use tv_doc::json_expected::{JsonExpected, JsonWord, LowSurrogatePart};
 pub use tv_doc::json_fault::{JsonFault, JsonFaultKind};
 pub use tv_doc::named::NamedFieldDocument;
 pub use tv_doc::strict_parsing_error::StrictParsingError;
+pub use tv_doc::text_refusal::text_fault;
 pub use tv_facets::{
     DocumentFacet, FacetCount, FacetCountsError, count_child_documents, count_child_facets,
     greatest_counts,
 };
 pub use tv_field::json_value::JsonRefusal;
 pub use tv_field::{
-    FieldEntry, FieldType, ParseCause, SchemaError, ValueParsingError, is_valid_field_name,
+    FieldEntry, FieldType, NotWhole, ParseCause, SchemaError, ValueParsingError, is_valid_field_name,
 };
 pub use tv_indexing::{
     TermIter, TermList, TermValuesError, TextTermsError, bounds_of_text, range_between_texts,

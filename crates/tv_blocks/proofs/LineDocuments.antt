@@ -9,6 +9,7 @@ use Rattle.serde_json.specs.Data.{Data, Items, Members}
 use Rattle.tv_blocks.specs.LineRefusals.{IsUnparsed, bad_value_of, line_error, refused_for, value_refusal}
 use Rattle.tv_blocks.specs.LineRefusals.RefusesLine.{bad_value, no_object, no_room}
 use Rattle.tv_blocks.specs.declared.block_error.BlockError.{BlockError}
+use Rattle.tv_doc.proofs.JsonDocuments.{full_row}
 use Rattle.tv_doc.specs.JsonObject.{FieldJson, Parses, item_values, object_values, values_at, values_for, values_of_entry}
 use Rattle.tv_doc.specs.declared.doc_parsing_error.DocParsingError.{DocParsingError}
 use Rattle.tv_doc.specs.declared.doc_parsing_error.DocParsingError.TheVariants as errors
@@ -66,11 +67,11 @@ said_for (values.OverflowError expected json) why is = ap (λ w. Some (refused_f
 said_for (values.TypeError expected json) why is = ap (λ w. Some (refused_for w)) (same_Some _ _ is)
 said_for (values.ParseError cause json) why is = ap (λ w. Some (refused_for w)) (same_Some _ _ is)
 said_for (values.InvalidBase64 text) why is = ap (λ w. Some (refused_for w)) (same_Some _ _ is)
-said_for (values.FloatNumber json) why is = ap (λ w. Some (refused_for w)) (same_Some _ _ is)
+said_for values.FloatNumber why is = ap (λ w. Some (refused_for w)) (same_Some _ _ is)
 said_for values.Memory why is = absurd cc
 
 error_unparsed : (schema : List Entry) (line : List ℕ) (e : DocParsingError) → IsUtf8 line → Parses schema line (Err e) → IsUnparsed schema line (line_error schema e)
-error_unparsed schema line (errors.InvalidJson start fault) utf8 h = no_object (λ members is. h.0 members is.1) refl
+error_unparsed schema line (errors.InvalidJson start) utf8 h = no_object (λ members is. h.0 members is.1) refl
 error_unparsed schema line (errors.ValueError name e) utf8 h =
     let stop = h.2.2 in
     let why = stop.refused in
@@ -78,9 +79,9 @@ error_unparsed schema line (errors.ValueError name e) utf8 h =
     subst (λ o. IsUnparsed schema line (bad_value_of o (value_refusal e))) (sym field)
     (subst (λ o. IsUnparsed schema line (bad_value_of (Some stop.at.field) o)) (sym (said_for e why.0 why.2))
     (bad_value h.0 stop.before stop.behind stop.at stop.added.pairs why.0 (utf8, h.1) stop.joined stop.added.by_table why.3 refl))
-error_unparsed schema line errors.HeapFull utf8 h =
+error_unparsed schema line (errors.Add e) utf8 h =
     let stop = h.2.2 in
-    let why = stop.refused in
+    let why = full_row stop.at stop.mid e stop.refused in
     let pairs = stop.added.pairs in
     no_room h.0 (stop.before ++ stop.at ∷ []) stop.behind (pairs ++ (stop.at.field, why.0) ∷ []) (utf8, h.1)
     (stop.joined ∙ sym (append_assoc stop.before (stop.at ∷ []) stop.behind)) (pairs-snoc stop.before stop.at why.0 pairs stop.added.by_table why.1)

@@ -31,7 +31,7 @@ refused_for (overflow expected d) = refusals.Overflow
 refused_for (mismatch expected d) = refusals.WrongType
 refused_for (bad_text cause d) = refusals.BadText
 refused_for (bad_base64 text) = refusals.BadBase64
-refused_for (float_number d) = refusals.FloatNumber
+refused_for float_number = refusals.FloatNumber
 
 -- The line is no JSON object, or this is why its first value that is refused is so, or its values up to one have no room.
 pub data RefusesLine (schema : List Entry) (line : List ℕ) (said : LineRefusal) : Type 0 where
@@ -76,7 +76,7 @@ value_refusal (values.OverflowError expected json) = Some refusals.Overflow
 value_refusal (values.TypeError expected json) = Some refusals.WrongType
 value_refusal (values.ParseError cause json) = Some refusals.BadText
 value_refusal (values.InvalidBase64 text) = Some refusals.BadBase64
-value_refusal (values.FloatNumber json) = Some refusals.FloatNumber
+value_refusal values.FloatNumber = Some refusals.FloatNumber
 value_refusal values.Memory = None
 
 -- what is said of a value of the field that has a name
@@ -87,7 +87,7 @@ bad_value_of None said = errors.Memory
 
 -- what is said where parsing a line returns an error
 abbrev pub line_error : List Entry → DocParsingError → BlockError
-line_error schema (parsing.InvalidJson start fault) = errors.BadLine lines.InvalidJson
+line_error schema (parsing.InvalidJson start) = errors.BadLine lines.InvalidJson
 line_error schema (parsing.ValueError name e) = bad_value_of (field_named schema (string_bytes name)) (value_refusal e)
-line_error schema parsing.HeapFull = errors.BadLine lines.HeapFull
+line_error schema (parsing.Add e) = errors.BadLine lines.HeapFull
 line_error schema parsing.Memory = errors.Memory

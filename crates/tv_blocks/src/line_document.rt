@@ -25,7 +25,7 @@ fn value_refusal(error: &ValueParsingError) -> Option<ValueRefusal>
         ValueParsingError::TypeError { .. } => Some(ValueRefusal::WrongType),
         ValueParsingError::ParseError { .. } => Some(ValueRefusal::BadText),
         ValueParsingError::InvalidBase64 { .. } => Some(ValueRefusal::BadBase64),
-        ValueParsingError::FloatNumber { .. } => Some(ValueRefusal::FloatNumber),
+        ValueParsingError::FloatNumber => Some(ValueRefusal::FloatNumber),
         ValueParsingError::Memory => None,
     }
 }
@@ -48,9 +48,9 @@ fn unparsed(schema: &Schema, error: &DocParsingError) -> BlockError
     ensures { result ≡ line_error schema.now error.now }
 {
     match error {
-        DocParsingError::InvalidJson(_, _) => BlockError::BadLine(LineRefusal::InvalidJson),
+        DocParsingError::InvalidJson(_) => BlockError::BadLine(LineRefusal::InvalidJson),
         DocParsingError::ValueError(name, error) => bad_value(schema, name, error),
-        DocParsingError::HeapFull => BlockError::BadLine(LineRefusal::HeapFull),
+        DocParsingError::Add(_) => BlockError::BadLine(LineRefusal::HeapFull),
         DocParsingError::Memory => BlockError::Memory,
     }
 }

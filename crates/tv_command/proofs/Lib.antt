@@ -2,6 +2,8 @@ mod Checks
 mod NextDocuments
 mod Prints
 mod Pieces
+mod RefusedValues
+mod Told
 mod Lines
 mod WholeImports
 mod Finds

@@ -1,26 +1,33 @@
 -- What becomes of the next line of an input: its document is stored, or there is a reason why it makes none.
-use Rattle.std.specs.Prelude.{◌≡◌, ◌≢◌, ◌+◌, ◌⊎◌, ℕ, Bool, true, false, List, [], ◌++◌, Option, Some, None, Result, Ok, Err, IsUtf8, length}
+use Rattle.std.specs.Prelude.{◌≡◌, ◌≢◌, ◌+◌, ◌⊎◌, ℕ, Bool, true, false, List, [], ◌++◌, Option, Some, None, Result, Ok, Err, IsUtf8, length, string_bytes}
+use Rattle.serde_json.specs.View.{view}
+use Rattle.serde_json.specs.declared.value.Value.{Value}
 use Rattle.tv_base.specs.Sink.{AppendsPrefix}
 use Rattle.tv_base.specs.Stop.{Stop}
 use Rattle.tv_base.specs.Stop.Stop.{Failed, Short}
+use Rattle.tv_command.specs.RefusedValues.{IsFloatOf}
 use Rattle.tv_command.specs.declared.import.ImportError.{ImportError}
 use Rattle.tv_command.specs.declared.import.ImportError.TheVariants as errors
 use Rattle.tv_command.specs.declared.import.ImportRules.{ImportRules}
 use Rattle.tv_command.specs.declared.import.LineError.{LineError}
-use Rattle.tv_command.specs.declared.import.LineError.TheVariants.{NotUtf8, Refused}
+use Rattle.tv_command.specs.declared.import.LineError.TheVariants.{Float, NoObject, NotUtf8, Refused}
 use Rattle.tv_command.specs.declared.import.LineOutcome.{LineOutcome}
 use Rattle.tv_command.specs.declared.import.LineOutcome.TheVariants as outcome
 use Rattle.tv_doc.specs.Belongs.{Belongs}
 use Rattle.tv_doc.specs.Document.{document_of}
 use Rattle.tv_doc.specs.JsonObject.{Parses}
 use Rattle.tv_doc.specs.StrictJson.{ParsesStrictly}
-use Rattle.tv_doc.specs.declared.doc_parsing_error.DocParsingError.TheVariants.{Memory}
+use Rattle.tv_doc.specs.TextFault.{IsFault}
+use Rattle.tv_doc.specs.declared.doc_parsing_error.DocParsingError.{DocParsingError}
+use Rattle.tv_doc.specs.declared.doc_parsing_error.DocParsingError.TheVariants as parsing
 use Rattle.tv_doc.specs.declared.document.CompactDoc.{CompactDoc}
 use Rattle.tv_doc.specs.declared.strict_parsing_error.StrictParsingError.{StrictParsingError}
 use Rattle.tv_doc.specs.declared.strict_parsing_error.StrictParsingError.TheVariants.{Parsing}
 use Rattle.tv_field.specs.Entry.{Entry}
+use Rattle.tv_field.specs.declared.value_parsing_error.ValueParsingError.TheVariants.{FloatNumber}
 use Rattle.tv_format.specs.Short.{short_document}
 use Rattle.tv_format.specs.WriteVersion.{written_version}
+use Rattle.tv_json.specs.declared.json_fault.JsonFault.{JsonFault}
 use Rattle.tv_lines.specs.Lines.{FirstLine}
 use Rattle.tv_store.specs.Stored.{stored}
 
@@ -31,10 +38,20 @@ ParsesBy schema false text (Ok made) = Parses schema text (Ok made)
 ParsesBy schema false text (Err (Parsing e)) = Parses schema text (Err e)
 ParsesBy schema false text (Err e) = ⊥
 
+-- the error has all that is told of it: it is not a text that is no object, whose place is told too, nor a float, nor want of memory
+abbrev pub IsToldWhole : StrictParsingError → Type 0
+IsToldWhole (Parsing (parsing.InvalidJson start)) = ⊥
+IsToldWhole (Parsing (parsing.ValueError name FloatNumber)) = ⊥
+IsToldWhole (Parsing parsing.Memory) = ⊥
+IsToldWhole _ = Unit {0}
+
 -- why a line makes no document
 abbrev pub IsLineError : List Entry → Bool → List ℕ → LineError → Type 0
 IsLineError schema strict line NotUtf8 = ¬ IsUtf8 line
-IsLineError schema strict line (Refused e) = IsUtf8 line × ParsesBy schema strict line (Err e) × (e ≢ Parsing Memory)
+IsLineError schema strict line (NoObject start fault) = IsUtf8 line × ParsesBy schema strict line (Err (Parsing (parsing.InvalidJson start))) × IsFault line fault
+IsLineError schema strict line (Float name json) =
+    IsUtf8 line × ParsesBy schema strict line (Err (Parsing (parsing.ValueError name FloatNumber))) × IsFloatOf schema line (string_bytes name) (view json)
+IsLineError schema strict line (Refused e) = IsUtf8 line × ParsesBy schema strict line (Err e) × IsToldWhole e
 
 -- the line makes a document, and this is the stored encoding of it
 abbrev pub IsStoredLine : List Entry → ImportRules → List ℕ → List ℕ → Type 0
@@ -85,3 +102,10 @@ HasTaken input line left false = (input ≡ []) × (left ≡ Some [])
 abbrev pub IsParsed : List Entry → Bool → List ℕ → CompactDoc → Option LineError → Type 0
 IsParsed schema strict line made None = IsUtf8 line × ParsesBy schema strict line (Ok made) × Belongs schema (document_of made)
 IsParsed schema strict line made (Some e) = IsLineError schema strict line e
+
+-- the line is refused for this error, and this is told of it
+abbrev pub Tells : List Entry → List ℕ → DocParsingError → LineError → Type 0
+Tells schema line (parsing.InvalidJson start) said = (fault : JsonFault) × (said ≡ NoObject start fault) × IsFault line fault
+Tells schema line (parsing.ValueError name FloatNumber) said = (json : Value) × (said ≡ Float name json) × IsFloatOf schema line (string_bytes name) (view json)
+Tells schema line parsing.Memory said = ⊥
+Tells schema line e said = said ≡ Refused (Parsing e)

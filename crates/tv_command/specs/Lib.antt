@@ -1,3 +1,4 @@
+pub mod RefusedValues
 pub mod Importing
 pub mod Pieces
 pub mod WholeImports

@@ -1,23 +1,34 @@
 //! Lines of JSON to stored documents.
 
-ghost use Rattle.std.specs.Prelude.{◌≡◌, ◌++◌, IfOk, IfSome, OnErr, OnOk, length};
+ghost use Rattle.std.specs.Prelude.{◌≡◌, ◌++◌, Err, IfOk, IfSome, OnErr, OnOk, length, string_bytes};
+ghost use Rattle.serde_json.specs.View.{view};
+ghost use Rattle.serde_json.specs.declared.value.Value.{Value};
 ghost use Rattle.tv_base.specs.Sink.{AppendsPrefix};
 ghost use Rattle.tv_base.specs.Stop.{Counts};
-ghost use Rattle.tv_command.specs.Importing.{CountsTaken, Imports, IsParsed, LeavesBegun, ParsesBy, import_stop};
+ghost use Rattle.tv_command.specs.Importing.{CountsTaken, Imports, IsParsed, LeavesBegun, ParsesBy, Tells, import_stop};
+ghost use Rattle.tv_command.specs.RefusedValues.{IsFloatOf};
 ghost use Rattle.tv_doc.specs.Belongs.{Belongs};
 ghost use Rattle.tv_doc.specs.Document.{document_of};
 ghost use Rattle.tv_doc.specs.InPlace.{in_place};
+ghost use Rattle.tv_doc.specs.JsonObject.{IsNoObject, Parses};
+ghost use Rattle.tv_doc.specs.TextFault.{IsFault};
+ghost use Rattle.tv_json.specs.declared.json_fault.JsonFault.{JsonFault};
 ghost use Rattle.tv_format.specs.Short.{short_document};
 ghost use Rattle.tv_format.specs.WriteVersion.{written_version};
 ghost use Rattle.tv_store.specs.Stored.{stored};
 
 use crate::line::take_line;
+use crate::refused_value::refused_value;
+use serde_json::Value;
 use std::alloc::{AllocError, Global};
 use std::io;
 use std::io::BufRead;
 use tantivy_schema::common::{ByteSink, VecSink};
 use tantivy_schema::schema::document::{BinaryDocumentSerializer, ParseBuffers};
-use tantivy_schema::schema::{DocParsingError, Schema, StrictParsingError, TantivyDocument};
+use tantivy_schema::schema::{
+    DocParsingError, JsonFault, NotWhole, Schema, StrictParsingError, TantivyDocument,
+    ValueParsingError, text_fault,
+};
 use tantivy_schema::store::WriteVersion;
 use thiserror::Error;
 use tv_base::write::write_all;
@@ -28,7 +39,13 @@ pub enum LineError {
     /// The line is not UTF-8.
     #[error("it is not UTF-8")]
     NotUtf8,
-    /// The line is no JSON object, or a key or a value of it is refused.
+    /// The line is no JSON object. These are its first 20 characters, and where and why it is none.
+    #[error("no JSON object: {0:?}: {1}")]
+    NoObject(String, JsonFault),
+    /// A number isn't whole, or doesn't fit 64 bits. This is the name of its field, and the number or the object that it stands in.
+    #[error("field {:?}: {}", .0, NotWhole(.1))]
+    Float(String, Value),
+    /// A key or a value of the line is refused for another reason.
     #[error("{0}")]
     Refused(StrictParsingError),
 }
@@ -95,6 +112,58 @@ fn parse_text(
     }
 }
 
+// Says where and why a text is no JSON object. The only error is that memory was refused.
+fn no_object(alloc: Global, text: &str, start: String) -> Result<LineError, AllocError>
+    requires { IsNoObject text.now }
+    ensures { IfOk result
+        (λ said. (fault : JsonFault) × (said ≡ LineError.NoObject start fault)
+        × IsFault text.now fault) }
+{
+    match text_fault(alloc, text)? {
+        Some(fault) => Ok(LineError::NoObject(start, fault)),
+        None => unreachable!(),
+    }
+}
+
+// Says which value of the field with this name is refused, since a number isn't whole. The only error is that memory was refused.
+fn refused_number(
+    alloc: Global,
+    schema: &Schema,
+    text: &str,
+    name: String,
+) -> Result<LineError, AllocError>
+    requires { Parses schema.now text.now
+        (Err (DocParsingError.ValueError name ValueParsingError.FloatNumber)) }
+    ensures { IfOk result
+        (λ said. (json : Value) × (said ≡ LineError.Float name json)
+        × IsFloatOf schema.now text.now (string_bytes name) (view json)) }
+{
+    match refused_value(alloc, schema, text)? {
+        Some(json) => Ok(LineError::Float(name, json)),
+        None => unreachable!(),
+    }
+}
+
+// Says why there is no document of a text. The only error is that memory was refused.
+fn told(
+    alloc: Global,
+    schema: &Schema,
+    text: &str,
+    error: DocParsingError,
+) -> Result<LineError, AllocError>
+    requires { Parses schema.now text.now (Err error) }
+    ensures { IfOk result (Tells schema.now text.now error) }
+{
+    match error {
+        DocParsingError::InvalidJson(start) => no_object(alloc, text, start),
+        DocParsingError::ValueError(name, ValueParsingError::FloatNumber) => {
+            refused_number(alloc, schema, text, name)
+        }
+        DocParsingError::Memory => Err(AllocError),
+        other => Ok(LineError::Refused(StrictParsingError::Parsing(other))),
+    }
+}
+
 // Puts the document of a line in place of one that is there, or says why there is none. The only error is that memory was refused.
 fn parse_line(
     schema: &Schema,
@@ -110,7 +179,7 @@ fn parse_line(
     };
     match parse_text(schema, text, strict, document, buffers) {
         Ok(()) => Ok(None),
-        Err(StrictParsingError::Parsing(DocParsingError::Memory)) => Err(AllocError),
+        Err(StrictParsingError::Parsing(error)) => Ok(Some(told(alloc, schema, text, error)?)),
         Err(error) => Ok(Some(LineError::Refused(error))),
     }
 }

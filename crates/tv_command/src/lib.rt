@@ -11,6 +11,7 @@ pub mod import;
 pub mod imports;
 mod line;
 pub mod migrate;
+mod refused_value;
 pub mod report;
 pub mod runs;
 pub mod watch;

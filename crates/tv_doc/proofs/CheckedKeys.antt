@@ -30,9 +30,9 @@ refused_key schema keys before behind key old new (RepeatedKey start) joined not
   told = h.3;
 }
 refused_key schema keys before behind key old new (Parsing error.Memory) joined noted fine h = tt
-refused_key schema keys before behind key old new (Parsing (error.InvalidJson start fault)) joined noted fine h = absurd h
+refused_key schema keys before behind key old new (Parsing (error.InvalidJson start)) joined noted fine h = absurd h
 refused_key schema keys before behind key old new (Parsing (error.ValueError name e)) joined noted fine h = absurd h
-refused_key schema keys before behind key old new (Parsing error.HeapFull) joined noted fine h = absurd h
+refused_key schema keys before behind key old new (Parsing (error.Add refused)) joined noted fine h = absurd h
 
 -- what holds of the members' keys holds of the text's
 of_members : (text : List ℕ) (P : List (List ℕ) → Type 0) → IsObject text
@@ -58,23 +58,23 @@ read_behind schema text t ts r first h is =
 -- ---- what a refused value is reported after
 
 object_of_value : (schema : List Entry) (text : List ℕ) (e : DocParsingError) → is_of_value e ≡ true → Parses schema text (Err e) → IsObject text
-object_of_value schema text (error.InvalidJson start fault) of h = absurd (cc)
+object_of_value schema text (error.InvalidJson start) of h = absurd (cc)
 object_of_value schema text (error.ValueError name e) of h = (h.0, h.1)
-object_of_value schema text error.HeapFull of h = (h.0, h.1)
+object_of_value schema text (error.Add refused) of h = (h.0, h.1)
 object_of_value schema text error.Memory of h = absurd (cc)
 
 key_refused : (schema : List Entry) (text : List ℕ) (e : StrictParsingError) → OfItsKeys text (ChecksKeys schema (Err e)) → ParsesStrictly schema text (Err e)
 key_refused schema text (UnknownKey start) h = h
 key_refused schema text (RepeatedKey start) h = h
 key_refused schema text (Parsing error.Memory) h = tt
-key_refused schema text (Parsing (error.InvalidJson start fault)) h = absurd h.2
+key_refused schema text (Parsing (error.InvalidJson start)) h = absurd h.2
 key_refused schema text (Parsing (error.ValueError name e)) h = absurd h.2
-key_refused schema text (Parsing error.HeapFull) h = absurd h.2
+key_refused schema text (Parsing (error.Add refused)) h = absurd h.2
 
 value_refused : (schema : List Entry) (text : List ℕ) (e : DocParsingError) → is_of_value e ≡ true → Parses schema text (Err e) → OfItsKeys text (NameFieldsOnce schema) → ParsesStrictly schema text (Err (Parsing e))
-value_refused schema text (error.InvalidJson start fault) of h keys = absurd (cc)
+value_refused schema text (error.InvalidJson start) of h keys = absurd (cc)
 value_refused schema text (error.ValueError name e) of h keys = (h, keys)
-value_refused schema text error.HeapFull of h keys = (h, keys)
+value_refused schema text (error.Add refused) of h keys = (h, keys)
 value_refused schema text error.Memory of h keys = absurd (cc)
 
 -- A refused key comes before the error of a value.

@@ -14,7 +14,7 @@ use Rattle.tv_doc.specs.AdditionError.{addition_error}
 use Rattle.tv_doc.specs.Additions.{Accepts, IsEmpty}
 use Rattle.tv_doc.specs.Document.{IsUnchanged, RefusesAddition}
 use Rattle.tv_doc.specs.InPlace.{in_place}
-use Rattle.tv_doc.specs.JsonObject.{FieldJson, Pairs, IsRefused, StopsAt, IsValueError, MakesDocument, Parses, ParsesOrTells, AddsFieldValues, AddsOrTells, AddsValues, object_values}
+use Rattle.tv_doc.specs.JsonObject.{FieldJson, Pairs, IsRefused, RefusesRow, StopsAt, IsValueError, MakesDocument, Parses, ParsesOrTells, AddsFieldValues, AddsOrTells, AddsValues, object_values}
 use Rattle.tv_doc.specs.JsonObject.IsShort.{for_pair, for_value, for_error}
 use Rattle.tv_builder.specs.declared.add_error.AddError.{AddError}
 use Rattle.tv_builder.specs.declared.add_error.AddError.TheVariants.{HeapFull, Memory}
@@ -27,6 +27,11 @@ use Rattle.tv_doc.proofs.Additions.{unchanged_same, each_from, each_append, each
 pub refused_addition : (v : FieldJson) (d : CompactDoc) (t : Tree) (e : AddError) → Table v.field_type v.value (Ok t) → RefusesAddition d t e → IsRefused v d (addition_error e)
 refused_addition v d t HeapFull table why = (t, table, why)
 refused_addition v d t Memory table why = for_pair t table why
+
+-- one that is refused for want of room
+pub full_row : (v : FieldJson) (d : CompactDoc) (e : AddError) → IsRefused v d (error.Add e) → RefusesRow v d HeapFull
+full_row v d HeapFull h = h
+full_row v d Memory h = absurd h
 
 -- a value that its field's type refuses, or for which memory is refused
 short_value : (v : FieldJson) (d : CompactDoc) (r : JsonRefusal) → IfSome (refusal_of v.value r) (λ x. Table v.field_type v.value (Err x))
@@ -42,8 +47,8 @@ pub refused_value : (v : FieldJson) (d : CompactDoc) (r : JsonRefusal) (e : DocP
     → IfSome (refusal_of v.value r) (λ x. Table v.field_type v.value (Err x)) → (r ≡ refusal.Memory → TakesMemory v.field_type v.value) → IsRefused v d e
 refused_value v d r (error.ValueError copy e) (refusal, named, is, for) h short =
     (refusal, named, is, subst (λ o. IfSome o (λ x. Table v.field_type v.value (Err x))) for h)
-refused_value v d r error.HeapFull wrong h short = absurd wrong
-refused_value v d r (error.InvalidJson text fault) wrong h short = absurd wrong
+refused_value v d r (error.Add e) wrong h short = absurd wrong
+refused_value v d r (error.InvalidJson text) wrong h short = absurd wrong
 refused_value v d r error.Memory right h short = short_value v d r h short
 
 none_added : (d : CompactDoc) → AddsFieldValues [] d d
@@ -129,9 +134,9 @@ makes_document values start made none h =
 -- why no document is made of an object that is read
 stopped : (schema : List Entry) (text : List ℕ) (ms : Members) (start : CompactDoc) (e : DocParsingError) → read text ≡ Some (object ms) → IsEmpty start
     → (e ≢ error.Memory → StopsAt (object_values schema ms) start e) → Parses schema text (Err e)
-stopped schema text ms start (error.InvalidJson from fault) is none h = absurd (h (λ same. cc)).refused
+stopped schema text ms start (error.InvalidJson from) is none h = absurd (h (λ same. cc)).refused
 stopped schema text ms start (error.ValueError name e) is none h = (ms, is, (start, none, h (λ same. cc)))
-stopped schema text ms start error.HeapFull is none h = (ms, is, (start, none, h (λ same. cc)))
+stopped schema text ms start (error.Add refused) is none h = (ms, is, (start, none, h (λ same. cc)))
 stopped schema text ms start error.Memory is none h = tt
 
 -- an object that is read, and the document that is made of it in an empty one

@@ -2,8 +2,8 @@
 use Rattle.tv_builder.specs.declared.add_error.AddError.{AddError}
 use Rattle.tv_builder.specs.declared.add_error.AddError.TheVariants as add_error
 use Rattle.tv_doc.specs.declared.doc_parsing_error.DocParsingError.{DocParsingError}
-use Rattle.tv_doc.specs.declared.doc_parsing_error.DocParsingError.TheVariants.{HeapFull, Memory}
+use Rattle.tv_doc.specs.declared.doc_parsing_error.DocParsingError.TheVariants.{Add, Memory}
 
 abbrev pub addition_error : AddError → DocParsingError
 addition_error add_error.Memory = Memory
-addition_error add_error.HeapFull = HeapFull
+addition_error add_error.HeapFull = Add add_error.HeapFull

@@ -23,8 +23,6 @@ use Rattle.tv_doc.specs.Additions.{AddsEach, IsEmpty, IsMade}
 use Rattle.tv_doc.specs.Belongs.{Belongs}
 use Rattle.tv_doc.specs.Document.{document_of, RefusesAddition}
 use Rattle.tv_doc.specs.InPlace.{in_place}
-use Rattle.tv_doc.specs.TextFault.{IsFault}
-use Rattle.tv_json.specs.declared.json_fault.JsonFault.{JsonFault}
 use Rattle.tv_builder.specs.declared.add_error.AddError.{AddError}
 use Rattle.tv_builder.specs.declared.add_error.AddError.TheVariants as add_error
 use Rattle.tv_doc.specs.declared.doc_parsing_error.DocParsingError.{DocParsingError}
@@ -91,8 +89,9 @@ RefusesRow v d e = (tree : Tree) × Table v.field_type v.value (Ok tree) × Refu
 abbrev pub IsRefused : FieldJson → CompactDoc → DocParsingError → Type 0
 IsRefused v d (error.ValueError name e) =
     (refusal : TableRefusal) × (string_bytes name ≡ v.name) × (error_of e ≡ Some refusal) × Table v.field_type v.value (Err refusal)
-IsRefused v d error.HeapFull = RefusesRow v d add_error.HeapFull
-IsRefused v d (error.InvalidJson text fault) = ⊥
+IsRefused v d (error.Add add_error.HeapFull) = RefusesRow v d add_error.HeapFull
+IsRefused v d (error.Add add_error.Memory) = ⊥
+IsRefused v d (error.InvalidJson text) = ⊥
 IsRefused v d error.Memory = IsShort v d
 
 -- the error for a value that the type of the field with this name refuses for this
@@ -138,21 +137,21 @@ MakesDocument values (Ok made) = Pairs values (document_of made) × IsMade made
 MakesDocument values (Err e) = RefusesValues values e
 
 -- the error for a text that is no JSON object
-abbrev pub IsInvalidJson : List ℕ → JsonFault → DocParsingError → Type 0
-IsInvalidJson text fault (error.InvalidJson start told) = (string_bytes start ≡ take_chars 20 text) × (told ≡ fault)
-IsInvalidJson text fault error.Memory = Unit {0}
-IsInvalidJson text fault e = ⊥
+abbrev pub IsInvalidJson : List ℕ → DocParsingError → Type 0
+IsInvalidJson text (error.InvalidJson start) = string_bytes start ≡ take_chars 20 text
+IsInvalidJson text error.Memory = Unit {0}
+IsInvalidJson text e = ⊥
 
 -- the text is no JSON object
 abbrev pub IsNoObject : List ℕ → Type 0
 IsNoObject text = (members : Members) → ¬ (read text ≡ Some (json.object members))
 
--- The document is that of the object that the text encodes, or the text is refused with its first 20 characters and a place in it. Where
--- memory is refused, that may be as the text is read.
+-- The document is that of the object that the text encodes, or the text is refused with its first 20 characters. Where memory is refused, that may
+-- be as the text is read.
 abbrev pub Parses : List Entry → List ℕ → Result CompactDoc DocParsingError → Type 0
 Parses schema text (Ok made) =
     (members : Members) × (read text ≡ Some (json.object members)) × MakesDocument (object_values schema members) (Ok made)
-Parses schema text (Err (error.InvalidJson start fault)) = IsNoObject text × (string_bytes start ≡ take_chars 20 text) × IsFault text fault
+Parses schema text (Err (error.InvalidJson start)) = IsNoObject text × (string_bytes start ≡ take_chars 20 text)
 Parses schema text (Err error.Memory) = Unit {0}
 Parses schema text (Err e) = (members : Members) × (read text ≡ Some (json.object members)) × RefusesValues (object_values schema members) e
 

@@ -21,6 +21,7 @@ use Rattle.tv_doc.specs.FieldValues.{values_of}
 use Rattle.tv_doc.specs.Named.{IsNamed, Named, NamedNestWithin, field_names}
 use Rattle.tv_heap.specs.Room.{document_room}
 use Rattle.tv_builder.specs.declared.add_error.AddError.{AddError}
+use Rattle.tv_builder.specs.declared.add_error.AddError.TheVariants as adding
 use Rattle.tv_doc.specs.declared.doc_parsing_error.DocParsingError.{DocParsingError}
 use Rattle.tv_doc.specs.declared.doc_parsing_error.DocParsingError.TheVariants as errors
 use Rattle.tv_doc.specs.declared.document.CompactDoc.{CompactDoc}
@@ -83,8 +84,9 @@ pub record KeepsNamed (schema : List Entry) (d : Document) (named : Named) : Typ
 -- heap has.
 abbrev pub IsConversionError : Document → DocParsingError → Type 0
 IsConversionError d errors.Memory = Unit {0}
-IsConversionError d errors.HeapFull = 4294967295 < document_room d
-IsConversionError d (errors.InvalidJson text fault) = ⊥
+IsConversionError d (errors.Add adding.HeapFull) = 4294967295 < document_room d
+IsConversionError d (errors.Add adding.Memory) = ⊥
+IsConversionError d (errors.InvalidJson text) = ⊥
 IsConversionError d (errors.ValueError name e) = ⊥
 
 -- The error of both: that one, or memory was refused for the values by name, or one of them nests too deep.

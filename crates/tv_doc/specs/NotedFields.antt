@@ -36,9 +36,9 @@ ChecksKeys schema (Err (Parsing e)) keys = ⊥
 
 -- the error is that of a value, so that the text is an object
 abbrev pub is_of_value : DocParsingError → Bool
-is_of_value (error.InvalidJson start fault) = false
+is_of_value (error.InvalidJson start) = false
 is_of_value (error.ValueError name e) = true
-is_of_value error.HeapFull = true
+is_of_value (error.Add e) = true
 is_of_value error.Memory = false
 
 -- what the text's strict reading is, where this is its reading

@@ -77,7 +77,7 @@ ParsesStrictly schema text (Ok made) = Parses schema text (Ok made) × OfItsKeys
 ParsesStrictly schema text (Err (UnknownKey start)) = OfItsKeys text (FirstIsUnknown schema (string_bytes start))
 ParsesStrictly schema text (Err (RepeatedKey start)) = OfItsKeys text (FirstIsRepeated schema (string_bytes start))
 ParsesStrictly schema text (Err (Parsing error.Memory)) = Unit {0}
-ParsesStrictly schema text (Err (Parsing (error.InvalidJson start fault))) = Parses schema text (Err (error.InvalidJson start fault))
+ParsesStrictly schema text (Err (Parsing (error.InvalidJson start))) = Parses schema text (Err (error.InvalidJson start))
 ParsesStrictly schema text (Err (Parsing e)) = Parses schema text (Err e) × OfItsKeys text (NameFieldsOnce schema)
 
 -- ---- the words of the public contracts

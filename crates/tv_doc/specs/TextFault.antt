@@ -3,8 +3,11 @@
 -- The words of the public contracts:
 -- `IsFault`: `place`: the text goes wrong at the offset by the syntax of JSON, for this reason, and not before (`IsFaultOf` of `tv_json`); or it is JSON by its
 -- syntax, with the first number there that is too large for a float; or it is JSON. `object`: that there is no object is said exactly where the text is JSON.
-use Rattle.std.specs.Prelude.{◌≡◌, ◌⊎◌, ◌↔◌, ℕ, List, length, IsSome}
+-- `TellsFault`: the text is no object, and this is where and why (`IsFault`); where nothing is told, it is an object.
+use Rattle.std.specs.Prelude.{◌≡◌, ◌⊎◌, ◌↔◌, ℕ, List, length, Option, Some, None, IsSome}
 use Rattle.serde_json.specs.Read.{read}
+use Rattle.tv_doc.specs.JsonObject.{IsNoObject}
+use Rattle.tv_doc.specs.StrictJson.{IsObject}
 use Rattle.tv_json.specs.Faults.{IsSyntax, IsFaultOf}
 use Rattle.tv_json.specs.LargeNumber.{IsFirstLargeNumber, NoLargeNumber}
 use Rattle.tv_json.specs.declared.json_fault.JsonFault.{JsonFault}
@@ -25,3 +28,8 @@ IsPlace text fault kind.NoObject = fault.offset ≡ 0
 pub record IsFault (text : List ℕ) (fault : JsonFault) : Type 0 where
   pub place : IsPlace text fault fault.kind
   pub object : (fault.kind ≡ kind.NoObject) ↔ IsSome (read text)
+
+-- where and why the text is no object, if it is none
+abbrev pub TellsFault : List ℕ → Option JsonFault → Type 0
+TellsFault text None = IsObject text
+TellsFault text (Some fault) = IsNoObject text × IsFault text fault

@@ -17,7 +17,6 @@ use crate::json_object::{add_value, invalid_json};
 use crate::lent_borrowed::LentBorrowed;
 use crate::named_field::NamedField;
 use crate::parse_buffers::{Adding, ParseBuffers};
-use crate::text_refusal::IS_NO_OBJECT;
 use tv_field::FieldType;
 use tv_field::json_value::{
     JsonRefusal, JsonScratch, lend_bytes_text, lend_date_text, lend_facet_text, lend_ip_addr_text,
@@ -223,7 +222,7 @@ impl CompactDoc {
                 let reading = Reading { schema, met_float };
                 add_members(self, adding, &reading, members.as_slice())
             }
-            _ => adding.refuse(invalid_json(alloc, text, IS_NO_OBJECT)),
+            _ => adding.refuse(invalid_json(alloc, text)),
         }
     }
 }

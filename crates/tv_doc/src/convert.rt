@@ -50,8 +50,8 @@ fn add_named(
 
 impl CompactDoc {
     /// The document of values by name: for each name that is a field's, in byte order, its values in order. Other names are skipped.
-    /// They are added one after the other. Errors, for the first value that is refused, are those of `add_field_value`: `HeapFull` where
-    /// the length of the heap so far and the value's room are together above 4294967295; `Memory` where memory was refused.
+    /// They are added one after the other. Errors, for the first value that is refused, are those of `add_field_value`: `Add(AddError::HeapFull)`
+    /// where the length of the heap so far and the value's room are together above 4294967295; `Memory` where memory was refused.
     pub fn convert_named_doc(
         alloc: Global,
         schema: &Schema,

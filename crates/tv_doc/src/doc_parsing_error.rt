@@ -4,7 +4,6 @@ ghost use Rattle.std.specs.Prelude.{◌≡◌};
 ghost use Rattle.tv_doc.specs.declared.doc_parsing_error.DocParsingError.TheVariants.{Memory};
 
 use crate::add_error::AddError;
-use crate::json_fault::JsonFault;
 use std::alloc::AllocError;
 use thiserror::Error;
 use tv_field::ValueParsingError;
@@ -12,16 +11,16 @@ use tv_field::ValueParsingError;
 /// Why there is no document of a JSON object.
 #[derive(Debug, PartialEq, Drop, Error)]
 pub enum DocParsingError {
-    /// The text is no JSON object. These are its first 20 characters, and where and why it is none.
-    #[error("no JSON object: {0:?}: {1}")]
-    InvalidJson(String, JsonFault),
+    /// The text is no JSON object. These are its first 20 characters. `text_fault` says where and why it is none.
+    #[error("no JSON object: {0:?}")]
+    InvalidJson(String),
     /// The value of the field with this name is refused.
     #[error("field {0:?}: {1}")]
     ValueError(String, ValueParsingError),
-    /// The values need more room than 4294967295 bytes.
-    #[error("the values need more room than 4294967295 bytes")]
-    HeapFull,
-    /// Memory was refused.
+    /// An addition was refused for want of room: always `AddError::HeapFull`.
+    #[error("{0}")]
+    Add(AddError),
+    /// Memory was refused, for an addition or for what the field's type makes of the value too.
     #[error("memory was refused")]
     Memory,
 }
@@ -42,7 +41,7 @@ impl From<AddError> for DocParsingError {
     fn from(refused: AddError) -> DocParsingError {
         match refused {
             AddError::Memory => DocParsingError::Memory,
-            AddError::HeapFull => DocParsingError::HeapFull,
+            AddError::HeapFull => DocParsingError::Add(refused),
         }
     }
 }

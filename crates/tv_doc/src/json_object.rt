@@ -12,10 +12,8 @@ ghost use Rattle.tv_doc.specs.InPlace.{in_place};
 use crate::add_error::AddError;
 use crate::doc_parsing_error::DocParsingError;
 use crate::document::CompactDoc;
-use crate::json_fault::JsonFault;
 use crate::named_field::NamedField;
 use crate::parse_buffers::{Adding, ParseBuffers};
-use crate::text_refusal::{IS_NO_OBJECT, fault_of};
 use serde_json::{Map, Value};
 use std::alloc::Global;
 use tv_base::text_start::text_start;
@@ -112,11 +110,11 @@ fn add_member(
 }
 
 // The error for a text that is no JSON object.
-pub(crate) fn invalid_json(alloc: Global, text: &str, fault: JsonFault) -> DocParsingError
-    ensures { IsInvalidJson text.now fault result }
+pub(crate) fn invalid_json(alloc: Global, text: &str) -> DocParsingError
+    ensures { IsInvalidJson text.now result }
 {
     match text_start(alloc, text, 20) {
-        Ok(start) => DocParsingError::InvalidJson(start, fault),
+        Ok(start) => DocParsingError::InvalidJson(start),
         Err(_) => DocParsingError::Memory,
     }
 }
@@ -156,20 +154,20 @@ fn parse_value(
     match Value::from_str(alloc, text) {
         Ok(json) => match json {
             Value::Object(object) => add_object(document, &mut adding.scratch, schema, object),
-            _ => Err(invalid_json(alloc, text, IS_NO_OBJECT)),
+            _ => Err(invalid_json(alloc, text)),
         },
         Err(error) => {
             if error.is_memory() {
                 return Err(DocParsingError::Memory);
             }
-            Err(invalid_json(alloc, text, fault_of(text)))
+            Err(invalid_json(alloc, text))
         }
     }
 }
 
 impl CompactDoc {
     /// The document of the JSON object that the text encodes, see `from_json_object`. Errors: `InvalidJson` with the text's first 20
-    /// characters, and where and why it is refused, where it isn't JSON or no object, or lists in it nest deeper than 127; else those of
+    /// characters, where it isn't JSON or no object, or lists in it nest deeper than 127, see `text_fault` for where and why; else those of
     /// `from_json_object`.
     ///
     /// ```
@@ -233,7 +231,7 @@ impl CompactDoc {
     /// is to the field's type, or the values of its items where it is an array. Other keys are skipped. The values are added one after the
     /// other. Errors, for the first value that is refused:
     /// - `ValueError` with the field's name: the field's type refuses it, see `FieldType::value_from_json`,
-    /// - `HeapFull`: the length of the heap so far and the value's room are together above 4294967295, see `add_text`,
+    /// - `Add(AddError::HeapFull)`: the length of the heap so far and the value's room are together above 4294967295, see `add_text`,
     /// - `Memory`: memory was refused, for the pair, for what the type makes of the value before, or for the field's name in `ValueError`.
     pub fn from_json_object(
         alloc: Global,

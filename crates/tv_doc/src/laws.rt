@@ -55,7 +55,7 @@ pub fn named_values_make_the_same_pairs()
 
 /// What `convert_named_doc` makes of what `to_named_doc` makes of a document: each field of the schema has its values in their order, and
 /// each pair's field is one of the schema. Errors: `Named(TooDeep)` only where a value of a field of the schema nests deeper than
-/// `MAX_DEPTH` lists, `Converted(HeapFull)` only where the document's own values need more room than 4294967295 bytes, and `Named(Memory)`
+/// `MAX_DEPTH` lists, `Converted(Add(HeapFull))` only where the document's own values need more room than 4294967295 bytes, and `Named(Memory)`
 /// and `Converted(Memory)` where memory was refused.
 pub fn named_documents_are_converted_back(
     alloc: Global,

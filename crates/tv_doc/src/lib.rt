@@ -22,7 +22,7 @@ mod recent_fields;
 mod same;
 pub mod strict_json;
 pub mod strict_parsing_error;
-mod text_refusal;
+pub mod text_refusal;
 
 pub use builder::{Awaits, BuildError, BytesKind, TreeBuilder};
 pub use doc_parsing_error::DocParsingError;

@@ -104,8 +104,8 @@ fn comes_of_value(error: &DocParsingError) -> bool
     ensures { result ≡ is_of_value error.now }
 {
     match error {
-        DocParsingError::ValueError(_, _) | DocParsingError::HeapFull => true,
-        DocParsingError::InvalidJson(_, _) | DocParsingError::Memory => false,
+        DocParsingError::ValueError(_, _) | DocParsingError::Add(_) => true,
+        DocParsingError::InvalidJson(_) | DocParsingError::Memory => false,
     }
 }
 

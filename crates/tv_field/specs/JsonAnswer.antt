@@ -35,7 +35,7 @@ refusal_of d (refusal.Overflow expected) = Some (overflow expected.now d)
 refusal_of d (refusal.Mismatch expected) = Some (mismatch expected.now d)
 refusal_of d (refusal.Parse cause) = Some (bad_text cause d)
 refusal_of d refusal.InvalidBase64 = Some (bad_base64 (string_in d))
-refusal_of d refusal.FloatNumber = Some (float_number d)
+refusal_of d refusal.FloatNumber = Some float_number
 refusal_of d refusal.Memory = None
 
 -- the outcome for the value that was lent satisfies P, unless memory was refused
@@ -49,7 +49,7 @@ error_of (error.OverflowError expected value) = Some (overflow expected.now (vie
 error_of (error.TypeError expected value) = Some (mismatch expected.now (view value))
 error_of (error.ParseError cause value) = Some (bad_text cause (view value))
 error_of (error.InvalidBase64 text) = Some (bad_base64 (string_bytes text))
-error_of (error.FloatNumber value) = Some (float_number (view value))
+error_of error.FloatNumber = Some float_number
 error_of error.Memory = None
 
 -- and of a value that is owned

@@ -26,13 +26,13 @@ use Rattle.tv_field.specs.declared.field_type.FieldType.TheVariants as types
 use Rattle.tv_field.specs.declared.value_parsing_error.ParseCause.{ParseCause}
 use Rattle.tv_field.specs.declared.value_parsing_error.ParseCause.TheVariants as cause
 
--- why a value is refused: mostly what is wanted, and the value that stands there
+-- Why a value is refused: mostly what is wanted, and the value that stands there. A number that isn't whole is refused for that alone.
 pub data TableRefusal : Type 0 where
   overflow : List ℕ → Data → TableRefusal
   mismatch : List ℕ → Data → TableRefusal
   bad_text : ParseCause → Data → TableRefusal
   bad_base64 : List ℕ → TableRefusal
-  float_number : Data → TableRefusal
+  float_number : TableRefusal
 
 abbrev pub Outcome : Type 0
 Outcome = Result Tree TableRefusal
@@ -55,7 +55,7 @@ leaf_or None r = Err r
 abbrev pub decimal_text : Num → Outcome
 decimal_text (json.unsigned n) = Ok (leaf (text (decimal n)))
 decimal_text (json.negative z) = Ok (leaf (text (signed_decimal z)))
-decimal_text (json.float x) = Err (float_number (json.number (json.float x)))
+decimal_text (json.float x) = Err float_number
 
 abbrev pub truth_text : Bool → List ℕ
 truth_text true = true_text
@@ -148,12 +148,12 @@ bytes_row d = mismatched (type_name tags.Bytes) d
 
 -- ---- JSON objects
 
-abbrev pub whole_or_float : Option Tree → Data → Outcome
-whole_or_float (Some t) d = Ok t
-whole_or_float None d = Err (float_number d)
+abbrev pub whole_or_float : Option Tree → Outcome
+whole_or_float (Some t) = Ok t
+whole_or_float None = Err float_number
 
 abbrev pub json_row : Data → Outcome
-json_row (json.object ms) = whole_or_float (json_tree (json.object ms)) (json.object ms)
+json_row (json.object ms) = whole_or_float (json_tree (json.object ms))
 json_row (json.string s) = mismatched (codes "a json object") (json.string s)
 json_row (json.number n) = mismatched (codes "a json object") (json.number n)
 json_row d = mismatched (type_name tags.Json) d

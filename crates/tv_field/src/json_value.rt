@@ -396,7 +396,7 @@ fn lend_str<'a>(
 impl JsonRefusal {
     ghost use Rattle.tv_field.specs.JsonAnswer.{RefusesJson};
 
-    /// The same as an error that holds the value that was refused. (Not in tantivy.)
+    /// The same as an error, which holds the value that was refused, but for `FloatNumber` and `Memory`. (Not in tantivy.)
     pub fn with_json(self, alloc: Global, json: Value) -> ValueParsingError
         ensures { RefusesJson (data_of json) self result }
     {
@@ -410,7 +410,7 @@ impl JsonRefusal {
                     base64: String::new(alloc),
                 },
             },
-            JsonRefusal::FloatNumber => ValueParsingError::FloatNumber { json },
+            JsonRefusal::FloatNumber => ValueParsingError::FloatNumber,
             JsonRefusal::Memory => ValueParsingError::Memory,
         }
     }
@@ -443,7 +443,7 @@ impl FieldType {
         Ok(LentFieldValue::Leaf(leaf))
     }
 
-    /// The value of a field of this type that a JSON value is. Errors, each with the value that was refused:
+    /// The value of a field of this type that a JSON value is. Errors, all but the last two with the value that was refused:
     /// - `TypeError`: it is of another kind than the type wants, or a text of no such value,
     /// - `OverflowError`: a number doesn't fit the type,
     /// - `ParseError`: the text is no IP address or no facet, or its date's nanoseconds don't fit 64 bits,

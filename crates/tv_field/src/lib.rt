@@ -11,4 +11,4 @@ pub mod value_parsing_error;
 pub use field_entry::{FieldEntry, is_valid_field_name};
 pub use field_type::FieldType;
 pub use schema_error::SchemaError;
-pub use value_parsing_error::{ParseCause, ValueParsingError};
+pub use value_parsing_error::{NotWhole, ParseCause, ValueParsingError};

@@ -58,10 +58,7 @@ pub enum ValueParsingError {
         base64: String,
     },
     /// A number isn't whole, or doesn't fit 64 bits.
-    FloatNumber {
-        /// The number, or the object that it stands in.
-        json: Value,
-    },
+    FloatNumber,
     /// Memory was refused.
     Memory,
 }
@@ -102,23 +99,29 @@ impl fmt::Display for TextStart<'_> {
     }
 }
 
-// What is said of a float, or of an object in which one stands.
-fn write_float<W: fmt::Write>(f: &mut fmt::Formatter<W>, json: &Value) -> fmt::Result {
-    let has = match json {
-        Value::Number(_) => "",
-        _ => " has a number that",
-    };
-    write!(f, "{}{has} is not a whole number of 64 bits", Start(json))
+/// What is said of a float, or of an object in which one stands, with at most 40 characters of it: `12.5 is not a whole number of 64 bits`.
+/// (Not in tantivy.)
+#[derive(Drop)]
+pub struct NotWhole<'a>(pub &'a Value);
+
+impl fmt::Display for NotWhole<'_> {
+    fn fmt<W: fmt::Write>(&self, f: &mut fmt::Formatter<W>) -> fmt::Result {
+        let has = match self.0 {
+            Value::Number(_) => "",
+            _ => " has a number that",
+        };
+        write!(f, "{}{has} is not a whole number of 64 bits", Start(self.0))
+    }
 }
 
-/// `-5 is out of range, u64 is expected`, `the string "abc" is given, where a u64 or a u64 as string is expected`, `"1.2.3" is no IP address`,
-/// `12.5 is not a whole number of 64 bits`.
+/// `-5 is out of range, u64 is expected`, `12.5 is not a whole number of 64 bits`, `the string "abc" is given, where a u64 or a u64 as string is
+/// expected`, `"1.2.3" is no IP address`, `a number is not a whole number of 64 bits`.
 impl fmt::Display for ValueParsingError {
     fn fmt<W: fmt::Write>(&self, f: &mut fmt::Formatter<W>) -> fmt::Result {
         match self {
-            ValueParsingError::OverflowError { json, .. } if has_float(json) => write_float(
-                f, json,
-            ),
+            ValueParsingError::OverflowError { json, .. } if has_float(json) => {
+                write!(f, "{}", NotWhole(json))
+            }
             ValueParsingError::OverflowError { expected, json } => {
                 write!(f, "{} is out of range, {expected} is expected", Start(json))
             }
@@ -137,7 +140,9 @@ impl fmt::Display for ValueParsingError {
                 let text = InlineText::<LONGEST>::of(TextStart(base64.as_str()));
                 write!(f, "{:?} is not in base64", text.as_str())
             }
-            ValueParsingError::FloatNumber { json } => write_float(f, json),
+            ValueParsingError::FloatNumber => {
+                f.write_str("a number is not a whole number of 64 bits")
+            }
             ValueParsingError::Memory => f.write_str("memory was refused"),
         }
     }

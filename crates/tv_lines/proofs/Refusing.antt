@@ -8,6 +8,7 @@ use Rattle.std.proofs.lemmas.Option.{same_Some}
 use Rattle.tv_heap.specs.Room.{room, document_room}
 use Rattle.tv_doc.specs.Additions.{AddsEach, IsEmpty}
 use Rattle.tv_doc.proofs.Additions.{from_empty, within_room}
+use Rattle.tv_doc.proofs.JsonDocuments.{full_row}
 use Rattle.tv_doc.specs.Document.{document_of, IsFull}
 use Rattle.tv_doc.specs.JsonObject.{FieldJson, object_values, Pairs, Parses}
 use Rattle.tv_doc.specs.declared.doc_parsing_error.DocParsingError.{DocParsingError}
@@ -33,7 +34,7 @@ named_by (values.OverflowError expected json) refusal is = rw (← same_Some _ _
 named_by (values.TypeError expected json) refusal is = rw (← same_Some _ _ is)
 named_by (values.ParseError cause json) refusal is = rw (← same_Some _ _ is)
 named_by (values.InvalidBase64 text) refusal is = rw (← same_Some _ _ is)
-named_by (values.FloatNumber json) refusal is = rw (← same_Some _ _ is)
+named_by values.FloatNumber refusal is = rw (← same_Some _ _ is)
 named_by values.Memory refusal is = absurd (cc)
 
 pub pairs-snoc : (before : List FieldJson) (at : FieldJson) (tree : Tree) (pairs : Document) → Pairs before pairs → Table at.field_type at.value (Ok tree)
@@ -51,14 +52,14 @@ full_room pairs start mid field t none adds full =
 -- ---- the answer for an error
 
 pub refusal_answers : (schema : List Entry) (line : List ℕ) (error : DocParsingError) → IsUtf8 line → Parses schema line (Err error) → Answer schema line (error_text error)
-refusal_answers schema line (errors.InvalidJson start fault) utf8 h = answered (no_object (λ members is. h.0 members is.1) refl)
+refusal_answers schema line (errors.InvalidJson start) utf8 h = answered (no_object (λ members is. h.0 members is.1) refl)
 refusal_answers schema line (errors.ValueError name e) utf8 h =
     let stop = h.2.2 in
     let why = stop.refused in
     answered (refused h.0 stop.before stop.behind stop.at stop.added.pairs (utf8, h.1) stop.joined stop.added.by_table (why.0, why.3, named_by e why.0 why.2))
-refusal_answers schema line errors.HeapFull utf8 h =
+refusal_answers schema line (errors.Add e) utf8 h =
     let stop = h.2.2 in
-    let why = stop.refused in
+    let why = full_row stop.at stop.mid e stop.refused in
     let pairs = stop.added.pairs in
     no_room h.0 (stop.before ++ stop.at ∷ []) stop.behind (pairs ++ (stop.at.field, why.0) ∷ []) (utf8, h.1)
     (stop.joined ∙ sym (append_assoc stop.before (stop.at ∷ []) stop.behind)) (pairs-snoc stop.before stop.at why.0 pairs stop.added.by_table why.1)

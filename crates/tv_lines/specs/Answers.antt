@@ -50,7 +50,7 @@ refusal_name (overflow expected d) = codes "OverflowError"
 refusal_name (mismatch expected d) = codes "TypeError"
 refusal_name (bad_text cause d) = codes "ParseError"
 refusal_name (bad_base64 text) = codes "InvalidBase64"
-refusal_name (float_number d) = codes "FloatNumber"
+refusal_name float_number = codes "FloatNumber"
 
 -- the text for a value that the table of its field's type refuses
 abbrev pub RefusalText : FieldJson → List ℕ → Type 0

@@ -16,13 +16,13 @@ value_error_text (values.OverflowError expected json) = codes "error ValueError 
 value_error_text (values.TypeError expected json) = codes "error ValueError TypeError"
 value_error_text (values.ParseError cause json) = codes "error ValueError ParseError"
 value_error_text (values.InvalidBase64 text) = codes "error ValueError InvalidBase64"
-value_error_text (values.FloatNumber json) = codes "error ValueError FloatNumber"
+value_error_text values.FloatNumber = codes "error ValueError FloatNumber"
 value_error_text values.Memory = codes "error Memory"
 
 abbrev pub error_text : DocParsingError → List ℕ
-error_text (errors.InvalidJson start fault) = codes "error InvalidJson"
+error_text (errors.InvalidJson start) = codes "error InvalidJson"
 error_text (errors.ValueError name error) = value_error_text error
-error_text errors.HeapFull = codes "error HeapFull"
+error_text (errors.Add refused) = codes "error HeapFull"
 error_text errors.Memory = codes "error Memory"
 
 -- memory was refused, or the pairs have no room

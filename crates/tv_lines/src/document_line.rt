@@ -73,7 +73,7 @@ fn value_refusal(error: &ValueParsingError) -> &'static str
         ValueParsingError::TypeError { .. } => "error ValueError TypeError",
         ValueParsingError::ParseError { .. } => "error ValueError ParseError",
         ValueParsingError::InvalidBase64 { .. } => "error ValueError InvalidBase64",
-        ValueParsingError::FloatNumber { .. } => "error ValueError FloatNumber",
+        ValueParsingError::FloatNumber => "error ValueError FloatNumber",
         ValueParsingError::Memory => "error Memory",
     }
 }
@@ -83,9 +83,9 @@ fn refusal(error: &DocParsingError) -> &'static str
     ensures { result.now ≡ error_text error.now }
 {
     match error {
-        DocParsingError::InvalidJson(_, _) => "error InvalidJson",
+        DocParsingError::InvalidJson(_) => "error InvalidJson",
         DocParsingError::ValueError(_, error) => value_refusal(error),
-        DocParsingError::HeapFull => "error HeapFull",
+        DocParsingError::Add(_) => "error HeapFull",
         DocParsingError::Memory => "error Memory",
     }
 }

@@ -3,7 +3,7 @@
 use anyhow::Result;
 use std::alloc::Global;
 use tantivy_schema::schema::document::{Document, ParseBuffers, ReferenceValueLeaf, TreeBuilder};
-use tantivy_schema::schema::{Facet, Field, Schema, TantivyDocument, Value};
+use tantivy_schema::schema::{Facet, Field, Schema, TantivyDocument, Value, text_fault};
 
 /// A document, value by value.
 pub fn added(alloc: Global, schema: &Schema) -> Result<TantivyDocument> {
@@ -18,6 +18,14 @@ pub fn added(alloc: Global, schema: &Schema) -> Result<TantivyDocument> {
 /// The document of a JSON object. A key that names no field is left out.
 pub fn parsed(alloc: Global, schema: &Schema, json: &str) -> Result<TantivyDocument> {
     Ok(TantivyDocument::parse_json(alloc, schema, json)?)
+}
+
+/// Where a text is no JSON object, and what was expected there, in words. None where it is one.
+pub fn fault_in_words(alloc: Global, json: &str) -> Result<Option<String>> {
+    match text_fault(alloc, json)? {
+        Some(fault) => Ok(Some(format!(in alloc; "{fault}")?)),
+        None => Ok(None),
+    }
 }
 
 /// The document of a JSON object, where each key has to name a field, and none may stand twice.

@@ -1,10 +1,13 @@
 //! Documents that are made of JSON in place of one that is there.
 
-use std::alloc::Global;
+use std::alloc::{AllocError, Global};
 use std::test::Fail;
 use tv_doc::doc_parsing_error::DocParsingError;
 use tv_doc::document::CompactDoc;
+use tv_doc::json_expected::JsonExpected;
+use tv_doc::json_fault::JsonFaultKind;
 use tv_doc::parse_buffers::ParseBuffers;
+use tv_doc::text_refusal::text_fault;
 use tv_field::{SchemaError, ValueParsingError};
 use tv_options::STORED;
 use tv_schema::Schema;
@@ -66,7 +69,7 @@ fn a_document_has_no_pairs_after_a_refusal(rt: HostRuntime) -> Result<(), Fail> 
     let refused = document.parse_json_into(&schema, float, &mut buffers);
     let is_float = matches!(
         refused,
-        Err(DocParsingError::ValueError(_, ValueParsingError::FloatNumber { .. }))
+        Err(DocParsingError::ValueError(_, ValueParsingError::FloatNumber))
     );
     assert!(rt; is_float && document.is_empty() && document.node_data().is_empty());
     document.parse_json_into(&schema, TEXTS[2], &mut buffers)?;
@@ -74,19 +77,32 @@ fn a_document_has_no_pairs_after_a_refusal(rt: HostRuntime) -> Result<(), Fail> 
     Ok(())
 }
 
-// Where a text is refused, if it is no JSON object.
-fn refused_at(alloc: Global, schema: &Schema, text: &str) -> Option<usize> {
-    match CompactDoc::parse_json(alloc, schema, text) {
-        Err(DocParsingError::InvalidJson(_, fault)) => Some(fault.offset),
-        _ => None,
-    }
+// Where and why a text is refused, if it is no JSON object.
+fn refused_at(alloc: Global, text: &str) -> Result<Option<(usize, JsonFaultKind)>, AllocError> {
+    Ok(text_fault(alloc, text)?.map(|fault| (fault.offset, fault.kind)))
 }
 
 #[test]
 fn a_place_counts_the_lines_before_it(rt: HostRuntime) -> Result<(), Fail> {
     let alloc = rt.alloc();
-    let schema = schema(alloc)?;
-    assert!(rt; refused_at(alloc, &schema, "{\n\n\"u\": x}") == Some(8));
-    assert!(rt; refused_at(alloc, &schema, "{\n\"u\": 1\n") == Some(9));
+    let value = JsonFaultKind::Unexpected(JsonExpected::Value);
+    assert!(rt; refused_at(alloc, "{\n\n\"u\": x}")? == Some((8, value)));
+    let member = JsonFaultKind::EndsEarly(JsonExpected::CommaOrObjectEnd);
+    assert!(rt; refused_at(alloc, "{\n\"u\": 1\n")? == Some((9, member)));
+    Ok(())
+}
+
+#[test]
+fn a_text_is_an_object_or_there_is_a_fault(rt: HostRuntime) -> Result<(), Fail> {
+    let alloc = rt.alloc();
+    assert!(rt; refused_at(alloc, "[true]")? == Some((0, JsonFaultKind::NoObject)));
+    let mut nested = String::from_str(alloc, "{\"j\":")?;
+    for _ in 0..127 {
+        nested.push('[')?;
+    }
+    assert!(rt; refused_at(alloc, nested.as_str())? == Some((131, JsonFaultKind::TooDeep)));
+    for text in TEXTS {
+        assert!(rt; refused_at(alloc, text)?.is_none());
+    }
     Ok(())
 }

@@ -52,6 +52,7 @@ pub use tv_doc::named::{FieldNames, NamedFieldDocument};
 pub use tv_doc::named_back_error::NamedBackError;
 pub use tv_doc::parse_buffers::ParseBuffers;
 pub use tv_doc::strict_parsing_error::StrictParsingError;
+pub use tv_doc::text_refusal::text_fault;
 pub use tv_format::leaf_type::LeafType;
 pub use tv_heap::value::{CompactDocArrayIter, CompactDocObjectIter, CompactDocValue};
 pub use tv_json::compact::push_json;
