@@ -179,7 +179,9 @@ fn parse_line(
     };
     match parse_text(schema, text, strict, document, buffers) {
         Ok(()) => Ok(None),
-        Err(StrictParsingError::Parsing(error)) => Ok(Some(told(alloc, schema, text, error)?)),
+        Err(StrictParsingError::Parsing(error)) => {
+            Ok(Some(told(document.allocator(), schema, text, error)?))
+        }
         Err(error) => Ok(Some(LineError::Refused(error))),
     }
 }
