@@ -3,6 +3,7 @@ use Rattle.std.proofs.lemmas.Grind.{common_steps}
 use Rattle.serde_json.specs.Find.{as_array}
 use Rattle.serde_json.proofs.Views.{view-Array}
 use Rattle.serde_json.specs.View.{view as data_of, items_view}
+use Rattle.serde_json.specs.declared.value.Value.{the_lemmas}
 use Rattle.tv_command.proofs.RefusedValues.{value_alone}
 use Rattle.tv_command.specs.RefusedValues.{FindsRefused}
 use Rattle.tv_doc.proofs.PlainValues.{values_of_items}
@@ -23,6 +24,6 @@ returns-in_default-json c =
     let schema = c.args.schema.now in
     let name = c.args.name.now in
     let named : field_named schema name ≡ Some c.in-Ok.field.id = search rules in
-    let no_items : as_array (data_of c.args.json) ≡ None = first_of (search rules, grind (arith, common_steps)) in
+    let no_items : as_array (data_of c.args.json) ≡ None = first_of (search (rules, the_lemmas), grind (arith, common_steps, the_lemmas)) in
     let alone = value_alone schema name c.in-Ok.field.id c.get_field_entry.result.now c.field_type-field_type.result.now _ (data_of c.args.json) named c.get_field_entry.ensures c.field_type-field_type.ensures no_items in
     subst (λ vs. IfOk c.refused_one.result (FindsRefused vs)) alone (c.refused_one.ensures name c.in-Ok.field.id)

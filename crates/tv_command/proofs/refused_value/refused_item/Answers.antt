@@ -1,4 +1,5 @@
-use Rattle.std.proofs.Common.{◌∷◌, [], List, ap, subst}
+use Rattle.std.proofs.Common.{◌∷◌, [], List, ap, arith, subst}
+use Rattle.std.proofs.lemmas.List.{nil_from_length}
 use Rattle.std.specs.Vec.Iter.{into_iter_items}
 use Rattle.serde_json.specs.View.{view as data_of, items_view}
 use Rattle.serde_json.specs.declared.value.Value.{Value}
@@ -26,4 +27,4 @@ loop-item-preserved c = λ name field.
 pub returns : goal.returns
 returns c = λ name field.
     let values : List Value → List FieldJson = λ xs. item_values name field c.args.field_type.now (items_view xs) in
-    all_passed _ (values (into_iter_items c.loop-item.item-iterator)) (c.loop-item.invariant name field) (ap values c.in-None.ensures.steps.0)
+    all_passed _ (values (into_iter_items c.loop-item.item-iterator)) (c.loop-item.invariant name field) (ap values (nil_from_length (into_iter_items c.loop-item.item-iterator) (omega (arith, c.in-None.ensures.steps.0))))
