@@ -30,7 +30,8 @@ pub use tv_facets::{
 };
 pub use tv_field::json_value::JsonRefusal;
 pub use tv_field::{
-    FieldEntry, FieldType, NotWhole, ParseCause, SchemaError, ValueParsingError, is_valid_field_name,
+    FieldEntry, FieldType, NotWhole, ParseCause, SchemaError, ValueParsingError,
+    is_valid_field_name,
 };
 pub use tv_indexing::{
     TermIter, TermList, TermValuesError, TextTermsError, bounds_of_text, range_between_texts,

@@ -1,5 +1,5 @@
 -- The first value of a line that its field's type refuses, and what is told of it.
-use Rattle.std.proofs.Common.{◌≡◌, ◌⊎◌, ℕ, Bool, String, Global, string_bytes, true, false, List, [], ◌∷◌, ◌++◌, Option, Some, None, Ok, Err, slice_get, refl, sym, ap, subst, ◌∙◌, inl, inr, append_assoc}
+use Rattle.std.proofs.Common.{◌≡◌, ℕ, Bool, String, Global, string_bytes, true, false, List, [], ◌∷◌, ◌++◌, Option, Some, None, Ok, Err, slice_get, refl, sym, ap, subst, ◌∙◌, inl, inr, append_assoc}
 use Rattle.std.proofs.lemmas.Option.{same_Some}
 use Rattle.serde_json.specs.Data as json
 use Rattle.serde_json.specs.Data.{Data, Members, object}
@@ -15,7 +15,7 @@ use Rattle.tv_field.specs.Entry.{Entry}
 use Rattle.tv_field.specs.JsonAnswer.{refusal_of}
 use Rattle.tv_field.specs.declared.json_value.JsonRefusal.{JsonRefusal}
 use Rattle.tv_field.specs.declared.json_value.JsonRefusal.TheVariants as refusal
-use Rattle.tv_field.specs.JsonTable.{Outcome, TableRefusal, float_number, Chooses, I64Row, IpRow, IpText, SignedText, Table, U64Row, UnsignedText}
+use Rattle.tv_field.specs.JsonTable.{Outcome, TableRefusal, Chooses, I64Row, IpRow, IpText, SignedText, Table, U64Row, UnsignedText}
 use Rattle.tv_field.specs.declared.field_type.FieldType.{FieldType}
 use Rattle.tv_field.specs.declared.field_type.FieldType.TheVariants as types
 use Rattle.tv_field.specs.declared.value_parsing_error.ValueParsingError.TheVariants.{FloatNumber}

@@ -158,9 +158,9 @@ fn refused_value_told(
 {
     match error {
         ValueParsingError::FloatNumber => refused_number(alloc, schema, text, name),
-        other => Ok(LineError::Refused(StrictParsingError::Parsing(
-            DocParsingError::ValueError(name, other),
-        ))),
+        other => Ok(LineError::Refused(StrictParsingError::Parsing(DocParsingError::ValueError(
+            name, other,
+        )))),
     }
 }
 

@@ -2,7 +2,7 @@ use Rattle.std.proofs.Common.{◌≡◌, IfOk, None, Some, ap, ◌∙◌, arith,
 use Rattle.std.proofs.lemmas.Grind.{common_steps}
 use Rattle.serde_json.specs.Find.{as_array}
 use Rattle.serde_json.proofs.Views.{view-Array}
-use Rattle.serde_json.specs.View.{view as data_of, items_view}
+use Rattle.serde_json.specs.View.{view as data_of}
 use Rattle.serde_json.specs.declared.value.Value.{the_lemmas}
 use Rattle.tv_command.proofs.RefusedValues.{value_alone}
 use Rattle.tv_command.specs.RefusedValues.{FindsRefused}

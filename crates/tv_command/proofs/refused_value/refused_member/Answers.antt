@@ -1,4 +1,4 @@
-use Rattle.std.proofs.Common.{◌≡◌, List, String, ap, ℕ, string_bytes, subst}
+use Rattle.std.proofs.Common.{List, String, ap, ℕ, string_bytes, subst}
 use Rattle.serde_json.specs.View.{view as data_of, members_view}
 use Rattle.serde_json.specs.declared.value.Value.{Value}
 use Rattle.std.specs.declared.alloc.Global.{Global}

@@ -1,6 +1,5 @@
-use Rattle.std.proofs.Common.{◌≡◌, IfOk, Some, sym, ap, ◌∙◌, subst}
+use Rattle.std.proofs.Common.{IfOk, Some, ap, ◌∙◌, subst}
 use Rattle.serde_json.proofs.Views.{view-Object}
-use Rattle.serde_json.specs.Data.{object}
 use Rattle.serde_json.specs.View.{view, members_view}
 use Rattle.tv_command.proofs.RefusedValues.{object_is}
 use Rattle.tv_command.specs.RefusedValues.{FindsRefused}
