@@ -1,16 +1,21 @@
 -- The first value of a line that its field's type refuses, and what is told of it.
-use Rattle.std.proofs.Common.{◌≡◌, ◌⊎◌, ℕ, Bool, String, Global, string_bytes, true, false, List, [], ◌∷◌, ◌++◌, Option, Some, None, Ok, Err, refl, sym, ap, subst, ◌∙◌, inl, inr, append_assoc}
+use Rattle.std.proofs.Common.{◌≡◌, ℕ, Bool, String, Global, string_bytes, true, false, List, [], ◌∷◌, ◌++◌, Option, Some, None, Ok, Err, slice_get, refl, sym, ap, subst, ◌∙◌, inl, inr, append_assoc}
 use Rattle.std.proofs.lemmas.Option.{same_Some}
 use Rattle.serde_json.specs.Data as json
 use Rattle.serde_json.specs.Data.{Data, Members, object}
+use Rattle.serde_json.specs.Find.{as_array}
 use Rattle.serde_json.specs.Read.{read}
 use Rattle.serde_json.specs.View.{view}
 use Rattle.serde_json.specs.declared.value.Value.{Value}
 use Rattle.tv_command.specs.RefusedValues.{AreAccepted, FindsRefused, FirstRefused, IsFloatOf}
-use Rattle.tv_doc.specs.JsonObject.{FieldJson, Pairs, Parses, object_values}
+use Rattle.tv_doc.specs.JsonObject.{FieldJson, Pairs, Parses, object_values, values_at, values_for}
 use Rattle.tv_doc.specs.declared.doc_parsing_error.DocParsingError.TheVariants.{ValueError}
+use Rattle.std.specs.Option.{IfSome}
 use Rattle.tv_field.specs.Entry.{Entry}
-use Rattle.tv_field.specs.JsonTable.{Outcome, TableRefusal, float_number, Chooses, I64Row, IpRow, IpText, SignedText, Table, U64Row, UnsignedText}
+use Rattle.tv_field.specs.JsonAnswer.{refusal_of}
+use Rattle.tv_field.specs.declared.json_value.JsonRefusal.{JsonRefusal}
+use Rattle.tv_field.specs.declared.json_value.JsonRefusal.TheVariants as refusal
+use Rattle.tv_field.specs.JsonTable.{Outcome, TableRefusal, Chooses, I64Row, IpRow, IpText, SignedText, Table, U64Row, UnsignedText}
 use Rattle.tv_field.specs.declared.field_type.FieldType.{FieldType}
 use Rattle.tv_field.specs.declared.field_type.FieldType.TheVariants as types
 use Rattle.tv_field.specs.declared.value_parsing_error.ValueParsingError.TheVariants.{FloatNumber}
@@ -21,8 +26,11 @@ use Rattle.tv_format.specs.Tree.{Leaf, Tree, Document}
 not_both : (o : Outcome) (t : Tree) (r : TableRefusal) → Ok t ≡ o → Err r ≡ o → ⊥
 not_both o t r h k = cc
 
+never_equal : (t : Tree) (r : TableRefusal) → Ok t ≡ Err r → ⊥
+never_equal t r e = cc
+
 chosen : (P : Type 0) (l : Leaf) (q : TableRefusal) (t : Tree) (r : TableRefusal) → Chooses P l q (Ok t) → Chooses P l q (Err r) → ⊥
-chosen P l q t r h k = elim h [ inl a ↦ elim k [ inl b ↦ not_both _ t r a.1 b.1 | inr b ↦ b.0 a.0 ] | inr a ↦ not_both _ t q a.1 refl ]
+chosen P l q t r h k = elim h [ inl a ↦ elim k [ inl b ↦ not_both _ t r a.1 b.1 | inr b ↦ b.0 a.0 ] | inr a ↦ never_equal t q a.1 ]
 
 unsigned_text : (coerce : Bool) (s : List ℕ) (t : Tree) (r : TableRefusal) → UnsignedText coerce s (Ok t) → UnsignedText coerce s (Err r) → ⊥
 unsigned_text true s t r h k = chosen _ _ _ t r h k
@@ -33,7 +41,7 @@ signed_text true s t r h k = chosen _ _ _ t r h k
 signed_text false s t r h k = not_both _ t r h k
 
 ip_text : (s : List ℕ) (t : Tree) (r : TableRefusal) → IpText s (Ok t) → IpText s (Err r) → ⊥
-ip_text s t r h k = elim h [ inl a ↦ elim k [ inl b ↦ not_both _ t r a.2 b.2 | inr b ↦ b.0 a.0 a.1 ] | inr a ↦ not_both _ t _ a.1 refl ]
+ip_text s t r h k = elim h [ inl a ↦ elim k [ inl b ↦ never_equal _ r (sym b.2) | inr b ↦ b.0 a.0 a.1 ] | inr a ↦ never_equal t _ a.1 ]
 
 unsigned_row : (coerce : Bool) (d : Data) (t : Tree) (r : TableRefusal) → U64Row coerce d (Ok t) → U64Row coerce d (Err r) → ⊥
 unsigned_row coerce (json.string s) t r h k = unsigned_text coerce s t r h k
@@ -143,9 +151,26 @@ accepted_alone v t h = ((v.field, t) ∷ [], (t, [], h, refl, refl))
 pub refused_alone : (v : FieldJson) (d : Data) (r : TableRefusal) → d ≡ v.value → Table v.field_type v.value (Err r) → FirstRefused (v ∷ []) d
 refused_alone v d r is h = record { before = []; at = v; behind = []; joined = refl; accepted = ([], refl); refusal = r; refused = h; value = is }
 
+pub refused_for : (v : FieldJson) (r : JsonRefusal) → (r ≡ refusal.Memory → ⊥) → IfSome (refusal_of v.value r) (λ x. Table v.field_type v.value (Err x)) → FirstRefused (v ∷ []) v.value
+refused_for v (refusal.Overflow expected) other h = refused_alone v v.value _ refl h
+refused_for v (refusal.Mismatch expected) other h = refused_alone v v.value _ refl h
+refused_for v (refusal.Parse cause) other h = refused_alone v v.value _ refl h
+refused_for v refusal.InvalidBase64 other h = refused_alone v v.value _ refl h
+refused_for v refusal.FloatNumber other h = refused_alone v v.value _ refl h
+refused_for v refusal.Memory other h = absurd (other refl)
+
+-- a value alone, which is no array, at the name of a field
+no_array : (name : List ℕ) (field : ℕ) (type : FieldType) (d : Data) → as_array d ≡ None → record { name = name; field = field; field_type = type; value = d } ∷ [] ≡ values_for name field type d
+no_array name field type (json.array ds) e = absurd (cc)
+no_array name field type d e = refl
+
+pub value_alone : (schema : List Entry) (name : List ℕ) (field : ℕ) (e : Entry) (f : FieldType) (named : Option ℕ) (d : Data) → named ≡ Some field → slice_get schema field ≡ Some e → f ≡ e.field_type → as_array d ≡ None
+    → record { name = name; field = field; field_type = f; value = d } ∷ [] ≡ values_at schema name named d
+value_alone schema name field e f named d is entry type single = rw is (rw entry (rw type (no_array name field e.field_type d single)))
+
 -- ---- floats
 
-object_is : (read' : Option Data) (ms ms' : Members) → read' ≡ Some (object ms) → read' ≡ Some (object ms') → ms ≡ ms'
+pub object_is : (o : Option Data) (ms ms' : Members) → o ≡ Some (object ms) → o ≡ Some (object ms') → ms ≡ ms'
 object_is o ms ms' e e' = let both : Some (object ms) ≡ Some (object ms') = sym e ∙ e' in cc
 
 -- the value that is found is the one for which the text was refused

@@ -1,13 +1,15 @@
 -- What is told of a line that is refused.
-use Rattle.std.proofs.Common.{◌≡◌, Bool, true, false, List, ℕ, Err, sym, subst}
+use Rattle.std.proofs.Common.{◌≡◌, Bool, true, false, List, ℕ, String, Global, Err, refl, sym, subst}
 use Rattle.std.specs.Prelude.{IsUtf8}
 use Rattle.tv_command.specs.Importing.{IsLineError, ParsesBy, Tells}
 use Rattle.tv_command.specs.declared.import.LineError.{LineError}
+use Rattle.tv_command.specs.declared.import.LineError.TheVariants.{Refused}
 use Rattle.tv_doc.specs.JsonObject.{Parses}
 use Rattle.tv_doc.specs.declared.doc_parsing_error.DocParsingError.{DocParsingError}
 use Rattle.tv_doc.specs.declared.doc_parsing_error.DocParsingError.TheVariants as errors
 use Rattle.tv_doc.specs.declared.strict_parsing_error.StrictParsingError.TheVariants.{Parsing}
 use Rattle.tv_field.specs.Entry.{Entry}
+use Rattle.tv_field.specs.declared.value_parsing_error.ValueParsingError.{ValueParsingError}
 use Rattle.tv_field.specs.declared.value_parsing_error.ValueParsingError.TheVariants as values
 
 pub parses_of : (schema : List Entry) (strict : Bool) (text : List ℕ) (e : DocParsingError) → ParsesBy schema strict text (Err (Parsing e)) → Parses schema text (Err e)
@@ -28,3 +30,11 @@ module _ (schema : List Entry) (strict : Bool) (line : List ℕ) (said : LineErr
   is_told (errors.ValueError name values.Memory) utf8 h is = subst (IsLineError schema strict line) (sym is) (utf8, h, tt)
   is_told (errors.Add e) utf8 h is = subst (IsLineError schema strict line) (sym is) (utf8, h, tt)
   is_told errors.Memory utf8 h never = absurd never
+
+pub value_told : (schema : List Entry) (line : List ℕ) (name : String Global) (e : ValueParsingError) → (e ≡ values.FloatNumber → ⊥) → Tells schema line (errors.ValueError name e) (Refused (Parsing (errors.ValueError name e)))
+value_told schema line name values.FloatNumber other = absurd (other refl)
+value_told schema line name (values.OverflowError expected json) other = refl
+value_told schema line name (values.TypeError expected json) other = refl
+value_told schema line name (values.ParseError cause json) other = refl
+value_told schema line name (values.InvalidBase64 text) other = refl
+value_told schema line name values.Memory other = refl

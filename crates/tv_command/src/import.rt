@@ -144,6 +144,25 @@ fn refused_number(
     }
 }
 
+// Says why a value of the field with this name is refused. The only error is that memory was refused.
+fn refused_value_told(
+    alloc: Global,
+    schema: &Schema,
+    text: &str,
+    name: String,
+    error: ValueParsingError,
+) -> Result<LineError, AllocError>
+    requires { Parses schema.now text.now (Err (DocParsingError.ValueError name error)) }
+    ensures { IfOk result (Tells schema.now text.now (DocParsingError.ValueError name error)) }
+{
+    match error {
+        ValueParsingError::FloatNumber => refused_number(alloc, schema, text, name),
+        other => Ok(LineError::Refused(StrictParsingError::Parsing(DocParsingError::ValueError(
+            name, other,
+        )))),
+    }
+}
+
 // Says why there is no document of a text. The only error is that memory was refused.
 fn told(
     alloc: Global,
@@ -156,11 +175,13 @@ fn told(
 {
     match error {
         DocParsingError::InvalidJson(start) => no_object(alloc, text, start),
-        DocParsingError::ValueError(name, ValueParsingError::FloatNumber) => {
-            refused_number(alloc, schema, text, name)
+        DocParsingError::ValueError(name, error) => {
+            refused_value_told(alloc, schema, text, name, error)
         }
+        DocParsingError::Add(refused) => Ok(LineError::Refused(StrictParsingError::Parsing(
+            DocParsingError::Add(refused),
+        ))),
         DocParsingError::Memory => Err(AllocError),
-        other => Ok(LineError::Refused(StrictParsingError::Parsing(other))),
     }
 }
 

@@ -25,9 +25,12 @@ fn refused_one(
         (item_values name field field_type.now (item (data_of json) no_items))) }
 {
     match field_type.lend_json(&json, scratch) {
-        Ok(LentFieldValue::Leaf(_) | LentFieldValue::Object(_)) => Ok(None),
-        Err(JsonRefusal::Memory) => Err(AllocError),
-        Err(_) => Ok(Some(json)),
+        Ok(LentFieldValue::Leaf(_)) => Ok(None),
+        Ok(LentFieldValue::Object(_)) => Ok(None),
+        Err(refusal) => match refusal {
+            JsonRefusal::Memory => Err(AllocError),
+            _ => Ok(Some(json)),
+        },
     }
 }
 
@@ -94,12 +97,17 @@ pub(crate) fn refused_value(
     ensures { (members : Members) → read text.now ≡ Some (object_of members) → IfOk result
         (FindsRefused (object_values schema.now members)) }
 {
+    let mut scratch = JsonScratch::new(alloc);
     match Value::from_str(alloc, text) {
-        Ok(Value::Object(object)) => {
-            refused_member(schema, object, &mut JsonScratch::new(alloc))
+        Ok(json) => match json {
+            Value::Object(object) => refused_member(schema, object, &mut scratch),
+            _ => Ok(None),
+        },
+        Err(error) => {
+            if error.is_memory() {
+                return Err(AllocError);
+            }
+            Ok(None)
         }
-        Ok(_) => Ok(None),
-        Err(error) if error.is_memory() => Err(AllocError),
-        Err(_) => Ok(None),
     }
 }
