@@ -41,14 +41,14 @@ def compare_alone(schema: kormaglen.Schema, line: bytes, block: str, text: str) 
         sys.exit(f"{line!r}: the document of its values is another")
 
 
-def text_of(word: str) -> str:
-    """The text that a word of a row writes: as JSON has it, or its bytes in hexadecimal."""
-    return json.loads(word) if word.startswith('"') else bytes.fromhex(word).decode()
+def bytes_of(word: str) -> bytes:
+    """The bytes that a word of a row writes: as a text of JSON, or in hexadecimal."""
+    return json.loads(word).encode() if word.startswith('"') else bytes.fromhex(word)
 
 
-def compare_run(source: str, answers: str) -> tuple[int, int]:
+def compare_run(source: bytes, answers: str) -> tuple[int, int]:
     """The lines of a run, its schema's first, and what it prints. Returns how many documents' lines there are, and how many are stored."""
-    schema, *lines = source.encode().split(b"\n")
+    schema, *lines = source.split(b"\n")
     if lines and lines[-1] == b"":
         lines.pop()
     wanted = answers.split("\n")[:-1]
@@ -81,7 +81,7 @@ def main() -> None:
             for row, answer in zip(rows, answers, strict=True)
             if row.startswith("lines\twhole\tall\t") and answer.startswith("Done ")
         ]
-    counts = [compare_run(text_of(source), text_of(answer)) for source, answer in runs]
+    counts = [compare_run(bytes_of(source), bytes_of(answer).decode()) for source, answer in runs]
     lines, stored = (sum(each) for each in zip(*counts))
     print(f"{lines} lines of {len(runs)} runs, {stored} of them stored, agree")
 
