@@ -3,18 +3,16 @@
 ghost use Rattle.std.specs.Prelude.{◌≡◌, true, false, is_err, IfOk, IfErr, IsErrOf};
 ghost use Rattle.tv_base.specs.Stop.{Counts};
 ghost use Rattle.tv_doc.specs.Document.{document_of};
-ghost use Rattle.tv_store.specs.Pairs.{AddsPair};
 ghost use Rattle.tv_reader.specs.declared.error.DeserializeError.TheVariants as errors;
-ghost use Rattle.tv_store.specs.PairsGiven.{IsGiven, PairsRefused, document_stop};
-ghost use Rattle.tv_value.specs.Owned.{owned_tree};
+ghost use Rattle.tv_store.specs.PairsGiven.{IsGiven, PairsRefused};
+ghost use Rattle.tv_typed.specs.Typed.{document_stop};
 ghost use Rattle.tv_format.specs.Tree.{Document};
 
-use crate::error::{DeserializeError, addition_error};
+use crate::error::DeserializeError;
 use std::alloc::Global;
+use tv_builder::heap_pairs::HeapPairs;
 use tv_doc::document::CompactDoc;
 use tv_typed::document::DocumentDeserializer;
-use tv_value::field::Field;
-use tv_value::owned_value::OwnedValue;
 
 /// A document that is read of the pairs that something gives.
 pub trait DocumentDeserialize: Sized {
@@ -41,26 +39,12 @@ pub trait DocumentDeserialize: Sized {
         ensures same_reader { D.borrow_name deserializer.new ≡ D.borrow_name deserializer.old };
 }
 
-fn add_value(
-    document: &mut CompactDoc,
-    field: Field,
-    value: OwnedValue,
-) -> Result<(), DeserializeError>
-    ensures { AddsPair document.old document.new field.id (owned_tree value) result }
-{
-    match document.add_field_value(field, &&value) {
-        Ok(()) => Ok(()),
-        Err(error) => Err(addition_error(error)),
-    }
-}
-
 impl DocumentDeserialize for CompactDoc {
     ghost holds = { λ d pairs. document_of d ≡ pairs };
 
-    /// Reads the pairs, each value first into one that owns what it holds, up to the last.
+    /// Reads the pairs, up to the last, each value to any depth, straight into the document's heap.
     ///
-    /// Errors: those of `next_field`, `HeapFull` where the pairs so far need more room than 4294967295 bytes, and `Memory`. Each is
-    /// marked in what the pairs are read from.
+    /// Errors: those of `next_pair` of what gives the pairs, where each is marked.
     fn deserialize<D: DocumentDeserializer>(
         alloc: Global,
         deserializer: &mut D,
@@ -70,7 +54,7 @@ impl DocumentDeserialize for CompactDoc {
             (λ d. (pairs : Document) × (document_of d ≡ pairs)
             × IsGiven D.gives D.remaining deserializer.old pairs deserializer.new) }
         ensures refused { D.is_known deserializer.old
-            → IfErr result (PairsRefused D.gives D.refuses deserializer.old) }
+            → IfErr result (PairsRefused D.gives D.refuses_into deserializer.old) }
         ensures marks_failure { D.has_failed deserializer.new ≡ is_err result }
         ensures counts { D.has_failed deserializer.old ≡ false
             → Counts document_stop result (D.failures deserializer.old)
@@ -80,13 +64,12 @@ impl DocumentDeserialize for CompactDoc {
             × (D.failures deserializer.new ≡ D.failures deserializer.old) }
         ensures same_reader { D.borrow_name deserializer.new ≡ D.borrow_name deserializer.old }
     {
-        let mut document = CompactDoc::new(alloc);
-        while let Some((field, value)) = deserializer.next_field::<OwnedValue>(alloc)? {
-            if let Err(error) = add_value(&mut document, field, value) {
-                deserializer.refuse();
-                return Err(error);
+        let mut pairs = HeapPairs::new(alloc);
+        let mut bytes = Vec::new(alloc);
+        loop {
+            if !deserializer.next_pair(alloc, &mut pairs, &mut bytes)? {
+                return Ok(CompactDoc::from_pairs(pairs));
             }
         }
-        Ok(document)
     }
 }

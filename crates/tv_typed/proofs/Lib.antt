@@ -8,3 +8,4 @@ pub mod VisitSteps
 pub mod TreeTypeSteps
 pub mod LegacySteps
 pub mod DepthSteps
+pub mod IntoSteps

@@ -185,7 +185,7 @@ mismatch_found : {F : List ℕ → Refusal → Type 0} (expected actual : ValueT
 mismatch_found types.String actual old new count h = told_refuses _ _ old new is_no_text h
 mismatch_found _ actual old new count h = absurd h
 
-mismatch_counts : (expected actual : ValueType) (old new : Failures) → CountsStop (key_stop expected actual) old new → new ≡ old
+pub mismatch_counts : (expected actual : ValueType) (old new : Failures) → CountsStop (key_stop expected actual) old new → new ≡ old
 mismatch_counts types.String actual old new h = h
 mismatch_counts _ actual old new h = absurd h
 

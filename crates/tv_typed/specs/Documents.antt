@@ -1,5 +1,5 @@
 -- Documents whose pairs are read one after the other.
-use Rattle.std.specs.Prelude.{◌≡◌, ℕ, suc, false, List, [], ◌∷◌, Option, Some, None, Err}
+use Rattle.std.specs.Prelude.{◌≡◌, ℕ, suc, Bool, false, true, List, [], ◌∷◌, ◌++◌, Option, Some, None, Ok, Err}
 use Rattle.tv_base.specs.declared.source.ByteSource.{Ghosts}
 use Rattle.tv_base.specs.declared.cause.Cause.{Cause}
 use Rattle.tv_base.specs.Parts.{Begins, Then}
@@ -11,6 +11,10 @@ use Rattle.tv_format.specs.InputError.{Corrupt}
 use Rattle.tv_format.specs.Encoding.{EncodesPair}
 use Rattle.tv_format.specs.Tree.{Tree, Document}
 use Rattle.tv_format.specs.Version.{Version}
+use Rattle.tv_builder.specs.declared.heap_pairs.HeapPairs.{HeapPairs}
+use Rattle.tv_reader.specs.Error.{StoreMayStop}
+use Rattle.tv_reader.specs.Finds.{FindsIf}
+use Rattle.tv_reading.specs.PairValue.{CanStand, FindsValue, FindsNoValue, ValueHasNoRoom}
 use Rattle.tv_value.specs.declared.field.Field.{Field}
 use Rattle.tv_reader.specs.Version.{version_of}
 use Rattle.tv_reader.specs.declared.error.DeserializeError.{DeserializeError}
@@ -18,7 +22,7 @@ use Rattle.tv_reader.specs.declared.error.DeserializeError.TheVariants as errors
 use Rattle.tv_reader.specs.declared.value_type.ValueType.{ValueType}
 use Rattle.tv_typed.specs.Depths.{AtField, AtItem, WhereTooDeepBy}
 use Rattle.tv_typed.specs.Lists.{NextItemRefused}
-use Rattle.tv_typed.specs.Typed.{DeserializesBy}
+use Rattle.tv_typed.specs.Typed.{DeserializesBy, ReadsIf}
 use Rattle.tv_typed.specs.Values.{EncodesAs, GivesError, NextRefused}
 use Rattle.tv_typed.specs.declared.store_reader.StoreReader.{StoreReader}
 
@@ -52,6 +56,17 @@ abbrev pub GivesAll : {D : Type 0} → (D → ℕ × Tree → D → Type 0) → 
 GivesAll gives first [] last = last ≡ first
 GivesAll {D} gives first (pair ∷ pairs) last = (next : D) × gives first pair next × GivesAll gives next pairs last
 
+-- these pairs were given in turn, from some state on
+abbrev pub WereGiven : {D : Type 0} → (D → ℕ × Tree → D → Type 0) → Document → D → Type 0
+WereGiven {D} gives pairs last = (first : D) × GivesAll gives first pairs last
+
+-- False where all were given, and nothing changes then; else true. Where its pairs are known, and those that stand there were given by it, the next one stands
+-- after them.
+abbrev pub NextPair : {D : Type 0} → (D → ℕ) → (D → Type 0) → (D → ℕ × Tree → D → Type 0) → D → D → Document → Document → Bool → Type 0
+NextPair remaining is_known gives old new before after false = (remaining old ≡ 0) × (new ≡ old) × (after ≡ before)
+NextPair remaining is_known gives old new before after true =
+    (remaining old ≡ suc (remaining new)) × (is_known old → WereGiven gives before old → is_known new × ((pair : ℕ × Tree) × gives old pair new × (after ≡ before ++ pair ∷ [])))
+
 -- ---- the pairs of a store
 
 -- nothing was refused, a prefix of the bytes that were left encodes the pair, and the rest is left
@@ -71,3 +86,23 @@ pub record RefusesPairBy {S : Type 0} (is_known : S → Type 0) (left : S → Li
 -- the same, as contracts say it, of a source
 abbrev pub RefusesPair : {S : Type 0} → Ghosts S → ℕ → ℕ → StoreReader S → (Version → ValueType → List ℕ → DeserializeError → Type 0) → (Version → ℕ → ValueType → List ℕ → List ℕ → Type 0) → DeserializeError → Type 0
 RefusesPair source position announced old refused deep e = RefusesPairBy source.is_known source.left source.failures position announced old refused deep e
+
+-- Where the bytes that are left are known, and these pairs can stand before, the next pair stands after them.
+abbrev pub GivesIntoBy : {S : Type 0} (is_known : S → Type 0) (left : S → List ℕ) (old new : StoreReader S) → Document → Document → Type 0
+GivesIntoBy is_known left old new before after =
+    is_known old.source → CanStand (version_of old.version) before → is_known new.source × ((pair : ℕ × Tree) × GivesPair left old pair new × (after ≡ before ++ pair ∷ []))
+
+-- Why no pair is read into a heap after these ones: no field is read; or one is, and after it no value, for want of room only where what has come of it has none.
+pub data RefusesIntoBy {S : Type 0} (is_known : S → Type 0) (left : S → List ℕ) (failures : S → Failures) (old : StoreReader S) (before : Document) (e : DeserializeError) : Type 0 where
+  in_field : (new : StoreReader S) → ReadsIf {X = ℕ} StoreMayStop is_known left failures old new (Err e) (Fixed 4) FieldEnds → RefusesIntoBy is_known left failures old before e
+  in_value : (field : ℕ) (mid : StoreReader S) (end : S) (count : ℕ) → ReadsIf StoreMayStop is_known left failures old mid (Ok field) (Fixed 4) FieldEnds
+      → FindsIf {X = HeapPairs} StoreMayStop is_known left failures mid.source mid.count end count (Err e) (FindsValue (version_of old.version) before field) (FindsNoValue (version_of old.version) before)
+      → (is_known mid.source → e ≡ errors.HeapFull → CanStand (version_of old.version) before → ValueHasNoRoom (version_of old.version) before (left mid.source)) → RefusesIntoBy is_known left failures old before e
+
+-- ---- the same, as contracts say it, of a source
+
+abbrev pub GivesInto : {S : Type 0} → Ghosts S → StoreReader S → StoreReader S → Document → Document → Type 0
+GivesInto source old new before after = GivesIntoBy source.is_known source.left old new before after
+
+abbrev pub RefusesInto : {S : Type 0} → Ghosts S → StoreReader S → Document → DeserializeError → Type 0
+RefusesInto source old before e = RefusesIntoBy source.is_known source.left source.failures old before e

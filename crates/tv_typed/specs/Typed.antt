@@ -27,6 +27,11 @@ typed_stop (errors.UnsupportedVersion m n) = Never
 typed_stop errors.AlreadyFailed = Never
 typed_stop errors.TooDeep = Short
 
+-- Why no document is read of pairs that are given: as of one value, but that the pairs may have no room.
+abbrev pub document_stop : DeserializeError → Stop DeserializeError
+document_stop errors.HeapFull = Short
+document_stop e = typed_stop e
+
 -- After a refusal a reader reads nothing more, and takes nothing. Before one, the bytes that were taken encode what is read, or show
 -- why nothing is; a refusal is marked; and an error comes only where it may.
 pub record ReadsIf {S X : Type 0} (May : DeserializeError → ℕ → Type 0) (is_known : S → Type 0) (left : S → List ℕ) (failures : S → Failures) (old new : StoreReader S) (result : Result X DeserializeError) (Encodes : List ℕ → X → Type 0) (HasError : List ℕ → DeserializeError → Type 0) : Type 0 where

@@ -6,26 +6,32 @@ ghost use Rattle.std.specs.Borrow.{sem, RestsIfErr};
 ghost use Rattle.tv_base.specs.Number.{Fixed, VNum};
 ghost use Rattle.tv_base.specs.Source.{Failures};
 ghost use Rattle.tv_base.specs.Stop.{Counts};
+ghost use Rattle.tv_builder.specs.HeldPairs.{document_of};
 ghost use Rattle.tv_reader.specs.Version.{version_of};
 ghost use Rattle.tv_reader.specs.declared.error.DeserializeError.{DeserializeError};
 ghost use Rattle.tv_reader.specs.declared.error.DeserializeError.TheVariants as errors;
 ghost use Rattle.tv_reader.specs.declared.value_type.ValueType.{ValueType};
-ghost use Rattle.tv_format.specs.Tree.{Tree};
+ghost use Rattle.tv_format.specs.Tree.{Tree, Document};
 ghost use Rattle.tv_format.specs.Version.{Version};
 ghost use Rattle.tv_typed.specs.Depths.{AtField, AtItem, WhereGiven, WhereRead, WhereTooDeep};
+ghost use Rattle.tv_reading.specs.PairValue.{CanStand};
 ghost use Rattle.tv_typed.specs.Documents.{NextField, GivesPair, RefusesPair, EncodesField};
 ghost use Rattle.tv_typed.specs.Documents.{FieldEnds, FieldRefused, NumberRefused};
+ghost use Rattle.tv_typed.specs.Documents.{NextPair, GivesInto, RefusesInto};
 ghost use Rattle.tv_typed.specs.Lists.{NextItem, NextItemRefused, gives_some};
-ghost use Rattle.tv_typed.specs.Typed.{typed_stop, ReadsThrough, Deserializes};
+ghost use Rattle.tv_typed.specs.Typed.{typed_stop, document_stop, ReadsThrough, Deserializes};
 ghost use Rattle.tv_typed.specs.contracts.store_reader.StoreReader.{the_row};
 
 use crate::de::ValueDeserialize;
 use crate::store_reader::StoreReader;
 use std::alloc::Global;
+use std::mem::replace;
 use tv_base::ByteSource;
 use tv_base::take::take_vint;
+use tv_builder::heap_pairs::HeapPairs;
 use tv_reader::DeserializeError;
 use tv_reader::fields::take_field;
+use tv_reading::document::take_pair_value;
 use tv_value::field::Field;
 
 /// What gives the pairs of a document, one after the other.
@@ -46,6 +52,9 @@ pub trait DocumentDeserializer: Drop {
     /// stands where a value of any type in it is too deep.
     ghost refuses: { Self → (Version → ValueType → List ℕ → DeserializeError → Type 0)
         → (Version → ℕ → ValueType → List ℕ → List ℕ → Type 0) → DeserializeError → Type 0 };
+
+    /// Which error may be returned in place of the next pair, where it is read into a heap after these pairs.
+    ghost refuses_into: { Self → Document → DeserializeError → Type 0 };
 
     /// Whether a read through it was refused, so that each later one returns `AlreadyFailed`.
     ghost has_failed: { Self → Bool };
@@ -75,10 +84,24 @@ pub trait DocumentDeserializer: Drop {
             → IsErrOf result errors.AlreadyFailed × (failures self.new ≡ failures self.old) }
         ensures same_reader { borrow_name self.new ≡ borrow_name self.old };
 
-    /// Marks what it reads from as refused: the pair that it gave last can't be kept.
-    fn refuse(&mut self)
-        ensures marks_failure { has_failed self.new ≡ true }
-        ensures counts { failures self.new ≡ failures self.old }
+    /// Reads the next pair into `pairs`, after those that it gave before, its value to any depth, straight into their heap. False where
+    /// all were given. `bytes` is a buffer for at most 4096 bytes, which may be lent to one call after the other.
+    ///
+    /// The errors are those that `refuses_into` allows. Each is marked, and `pairs` may then have lost what it held. (Not in tantivy.)
+    fn next_pair(
+        &mut self,
+        alloc: Global,
+        pairs: &mut HeapPairs,
+        bytes: &mut Vec<u8>,
+    ) -> Result<bool, DeserializeError>
+        ensures gives { IfOk result (NextPair remaining is_known gives self.old self.new
+            (document_of pairs.old) (document_of pairs.new)) }
+        ensures refuses { IfErr result (refuses_into self.old (document_of pairs.old)) }
+        ensures marks_failure { has_failed self.new ≡ is_err result }
+        ensures counts { has_failed self.old ≡ false
+            → Counts document_stop result (failures self.old) (failures self.new) }
+        ensures closed { has_failed self.old ≡ true
+            → IsErrOf result errors.AlreadyFailed × (failures self.new ≡ failures self.old) }
         ensures same_reader { borrow_name self.new ≡ borrow_name self.old };
 }
 
@@ -119,6 +142,31 @@ impl<S: ByteSource> StoreReader<S> {
         let field = self.field()?;
         let value = self.read::<V>(alloc)?;
         Ok((Field::from_field_id(field), value))
+    }
+
+    // Reads the next pair into a heap, after these pairs.
+    fn pair_into(
+        &mut self,
+        alloc: Global,
+        pairs: HeapPairs,
+        bytes: &mut Vec<u8>,
+    ) -> Result<HeapPairs, DeserializeError>
+        ensures gives { IfOk result (λ made. GivesInto S.ByteSource self.old self.new
+            (document_of pairs) (document_of made)) }
+        ensures refuses { IfErr result (RefusesInto S.ByteSource self.old (document_of pairs)) }
+        ensures marks_failure { self.new.has_failed ≡ is_err result }
+        ensures counts { self.old.has_failed ≡ false
+            → Counts document_stop result (S.failures self.old.source) (S.failures self.new.source) }
+        ensures closed { self.old.has_failed ≡ true
+            → IsErrOf result errors.AlreadyFailed
+            × (S.failures self.new.source ≡ S.failures self.old.source) }
+    {
+        let field = self.field()?;
+        let version = self.version;
+        let (source, count) = (&mut self.source, &mut self.count);
+        let answer = take_pair_value(alloc, pairs, source, count, version, field, bytes);
+        self.has_failed = answer.is_err();
+        answer
     }
 }
 
@@ -168,6 +216,8 @@ impl<'de, S: ByteSource> DocumentDeserializer for BinaryDocumentDeserializer<'de
 
     ghost refuses = { λ d refused deep. RefusesPair S.ByteSource d.position d.announced
         d.reader.now refused deep };
+
+    ghost refuses_into = { λ d before. RefusesInto S.ByteSource d.reader.now before };
 
     ghost has_failed = { λ d. d.reader.now.has_failed };
 
@@ -224,16 +274,42 @@ impl<'de, S: ByteSource> DocumentDeserializer for BinaryDocumentDeserializer<'de
         Ok(Some(pair))
     }
 
-    /// Marks the reader as refused. Nothing is taken.
-    fn refuse(&mut self)
+    /// Reads the next pair into `pairs`, its value to any depth, however deep the reader's limit is. False where as many were read as are
+    /// announced. `bytes` is a buffer for at most 4096 bytes.
+    ///
+    /// Errors: `CorruptedValue` and `TypeMismatch` with the first error in the bytes; `HeapFull` where what has come needs more room after
+    /// `pairs` than 4294967295 bytes; `Io`; `Memory`; and `AlreadyFailed` where an earlier read was refused. Each is marked in the reader.
+    /// After each but `AlreadyFailed` the `pairs` are lost, and there are none.
+    fn next_pair(
+        &mut self,
+        alloc: Global,
+        pairs: &mut HeapPairs,
+        bytes: &mut Vec<u8>,
+    ) -> Result<bool, DeserializeError>
+        ensures gives { IfOk result (NextPair (λ d. d.announced - d.position)
+            (λ d. S.is_known d.reader.now.source)
+            (λ old pair new. GivesPair S.left old.reader.now pair new.reader.now) self.old self.new
+            (document_of pairs.old) (document_of pairs.new)) }
+        ensures refuses { IfErr result (RefusesInto S.ByteSource self.old.reader.now (document_of pairs.old)) }
         ensures same_reader { self.new.reader.ghost_name ≡ self.old.reader.ghost_name }
         ensures announced { self.new.announced ≡ self.old.announced }
-        ensures position { self.new.position ≡ self.old.position }
-        ensures marks_failure { self.new.reader.now.has_failed ≡ true }
-        ensures counts { S.failures self.new.reader.now.source
-            ≡ S.failures self.old.reader.now.source }
-        ensures rest { self.new.reader.now ≡ record self.old.reader.now { has_failed = true } }
+        ensures position { IfOk result (λ more. self.new.position
+            ≡ self.old.position + (if more then 1 else 0)) }
+        ensures marks_failure { self.new.reader.now.has_failed ≡ is_err result }
+        ensures counts { self.old.reader.now.has_failed ≡ false
+            → Counts document_stop result (S.failures self.old.reader.now.source)
+            (S.failures self.new.reader.now.source) }
+        ensures closed { self.old.reader.now.has_failed ≡ true
+            → IsErrOf result errors.AlreadyFailed
+            × (S.failures self.new.reader.now.source ≡ S.failures self.old.reader.now.source) }
     {
-        self.reader.has_failed = true;
+        self.reader.go_on()?;
+        if self.position >= self.announced {
+            return Ok(false);
+        }
+        let before = replace(pairs, HeapPairs::new(alloc));
+        *pairs = self.reader.pair_into(alloc, before, bytes)?;
+        self.position += 1;
+        Ok(true)
     }
 }

@@ -2,12 +2,15 @@
 
 use std::alloc::{AllocError, Global};
 use std::test::Fail;
-use tv_base::VecSink;
+use tv_base::{SliceSource, VecSink};
 use tv_doc::document::CompactDoc;
 use tv_field::SchemaError;
 use tv_options::STORED;
 use tv_schema::{Schema, SchemaBuilder};
-use tv_store::BinaryDocumentSerializer;
+use tv_store::{
+    BinaryDocumentDeserializer, BinaryDocumentSerializer, DocStoreVersion, DocumentDeserialize,
+    StoreReader,
+};
 use tv_value::field::Field;
 use tv_value::owned_value::OwnedValue;
 use tv_value::value::Value;
@@ -81,5 +84,19 @@ fn deep_values_are_kept(rt: HostRuntime) -> Result<(), Fail> {
     assert!(rt; is_deep(&document));
     let bytes = deep_bytes(rt.alloc())?;
     assert!(rt; written(rt.alloc(), &document)?.as_slice() == bytes.as_slice());
+    Ok(())
+}
+
+#[test]
+fn deep_values_are_read_pair_by_pair(rt: HostRuntime) -> Result<(), Fail> {
+    let bytes = deep_bytes(rt.alloc())?;
+    // a limit of the reader is one of owned values alone
+    let version = DocStoreVersion::V2;
+    let mut reader = StoreReader::with_depth(SliceSource::new(&bytes), version, 1);
+    let mut pairs = BinaryDocumentDeserializer::from_reader(&mut reader)?;
+    let document = CompactDoc::deserialize(rt.alloc(), &mut pairs)?;
+    drop(pairs);
+    assert!(rt; is_deep(&document) && document.len() == 1);
+    assert!(rt; reader.bytes_read() == bytes.len() as u64);
     Ok(())
 }
