@@ -144,7 +144,7 @@ pub use Rattle.tv_store.specs.Documents
 pub use Rattle.tv_store.specs.Reading
 pub use Rattle.tv_store.specs.Migrate
 pub use Rattle.tv_store.specs.BlockMigration
-pub use Rattle.tv_store.specs.Error as StoreError
+pub use Rattle.tv_writer.specs.Error as StoreError
 pub use Rattle.tv_store.specs.Decoder
 pub use Rattle.tv_store.specs.Blocks
 pub use Rattle.tv_store.specs.Limits

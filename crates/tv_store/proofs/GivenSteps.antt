@@ -1,7 +1,6 @@
 -- Pairs that are given, one after the other.
-use Rattle.std.proofs.Common.{◌≡◌, ℕ, suc, Bool, true, false, List, [], ◌∷◌, ◌++◌, refl, sym, subst}
+use Rattle.std.proofs.Common.{◌≡◌, ℕ, Bool, true, false, List, [], ◌∷◌, ◌++◌, refl, sym, subst}
 use Rattle.tv_format.specs.Tree.{Tree, Document}
-use Rattle.tv_store.specs.PairsGiven.{IsGiven}
 use Rattle.tv_typed.specs.Documents.{NextPair, GivesAll}
 
 -- one more
@@ -11,11 +10,6 @@ gives_push gives first mid last (q ∷ pairs) pair p g = (p.0, p.1, gives_push g
 
 -- ---- the next pair
 
--- one less is left
-pub fewer_left : {D : Type 0} (remaining : D → ℕ) (is_known : D → Type 0) (gives : D → ℕ × Tree → D → Type 0) (old new : D) (before after : Document) (more : Bool) → more ≡ true → NextPair remaining is_known gives old new before after more → remaining old ≡ suc (remaining new)
-fewer_left remaining is_known gives old new before after true is h = h.0
-fewer_left remaining is_known gives old new before after false is h = absurd cc
-
 -- the pairs that stand there now were given
 pub next_given : {D : Type 0} (remaining : D → ℕ) (is_known : D → Type 0) (gives : D → ℕ × Tree → D → Type 0) (first old new : D) (before after : Document) (more : Bool) → more ≡ true → NextPair remaining is_known gives old new before after more → is_known old → GivesAll gives first before old
     → is_known new × GivesAll gives first after new
@@ -23,10 +17,3 @@ next_given remaining is_known gives first old new before after true is h told gi
     let next = h.1 told (first, given) in
     (next.0, subst (λ pairs. GivesAll gives first pairs new) (sym next.1.2) (gives_push gives first old new before next.1.0 given next.1.1))
 next_given remaining is_known gives first old new before after false is h told given = absurd cc
-
--- all were given, and nothing has changed then
-pub all_given : {D : Type 0} (remaining : D → ℕ) (is_known : D → Type 0) (gives : D → ℕ × Tree → D → Type 0) (first old new : D) (before after : Document) (more : Bool) → more ≡ false → NextPair remaining is_known gives old new before after more → GivesAll gives first before old
-    → IsGiven gives remaining first after new
-all_given remaining is_known gives first old new before after false is h given =
-    subst (λ last. GivesAll gives first after last × (remaining last ≡ 0)) (sym h.1.0) (subst (λ pairs. GivesAll gives first pairs old) (sym h.1.1) given, h.0)
-all_given remaining is_known gives first old new before after true is h given = absurd cc

@@ -1,10 +1,8 @@
-pub mod Error
 pub mod Stored
 pub mod Documents
 pub mod Reading
 pub mod Decoder
 pub mod Blocks
-pub mod Pairs
 pub mod PairsGiven
 pub mod RoundTrip
 pub mod Migrate
