@@ -18,7 +18,7 @@ use Rattle.tv_writer.specs.declared.serializers.Depth.TheVariants as depths
 abbrev pub WritesNothing : {S T : Type 0} → SerializeError → S → S → Result T SerializeError → Type 0
 WritesNothing error old new result = (result ≡ Err error) × (new ≡ old)
 
--- the same of a value that has no encoding, unless memory is refused before that is found
+-- a value that has no encoding is refused, or memory is before that is found; nothing is written
 abbrev pub RefusesOrLacksMemory : {S T : Type 0} → S → S → Result T SerializeError → Type 0
 RefusesOrLacksMemory old new result = WritesNothing TooMany old new result ⊎ WritesNothing Memory old new result
 

@@ -132,7 +132,7 @@ fn ended(awaited: u64) -> Result<(), SerializeError>
 }
 
 /// Writes values to a sink, each in its shortest encoding. A value is walked by recursion, so one that nests in more than `MAX_DEPTH` lists
-/// is refused, or in more than `limit_depth` asks for.
+/// is refused, or in more than `limit_depth` asks for. After `any_depth` none is refused for its depth.
 #[derive(Drop)]
 pub struct BinaryValueSerializer<'se, K: ByteSink> {
     sink: &'se mut K,
@@ -179,8 +179,8 @@ impl<'se, K: ByteSink> BinaryValueSerializer<'se, K> {
         }
     }
 
-    /// The same serializer, of values that nest to any depth: past `MAX_DEPTH` lists those that are open stand in memory of this allocator.
-    /// Nothing is written. (Not in tantivy.)
+    /// The same serializer, of values that nest to any depth. Of a value that nests in more than `MAX_DEPTH` lists, those that are open stand
+    /// in memory of `alloc`, which is given back before the call returns. Nothing is written. (Not in tantivy.)
     pub fn any_depth(self, alloc: Global) -> BinaryValueSerializer<'se, K>
         ensures same_sink { result.sink.ghost_name ≡ self.entry.sink.ghost_name }
         ensures sink { result.sink.now ≡ self.entry.sink.now }
@@ -193,11 +193,13 @@ impl<'se, K: ByteSink> BinaryValueSerializer<'se, K> {
         }
     }
 
-    /// Appends a value. It takes no memory.
+    /// Appends `value`. It takes memory only after `any_depth`, for a value that nests in more than `MAX_DEPTH` lists.
     ///
-    /// Errors: `TooDeep` exactly where it nests in more lists than the serializer writes, else `TooMany` where an array or an object in it
-    /// has 2^63 children or more, or a text or bytes that length, and after both nothing is written; else `Io` where the sink failed. The
-    /// sink then holds what it held before, and a beginning of the value; a later call appends to that.
+    /// Errors: `TooDeep` exactly where it nests in more lists than the serializer writes, which none does after `any_depth`; else `TooMany`
+    /// where an array or an object in it has 2^63 children or more, or a text or bytes that length, and after both nothing is written; else
+    /// `Io` where the sink failed. The sink then holds what it held before, and a beginning of the value; a later call appends to that.
+    /// `Memory` comes only where memory was refused, in place of `TooMany`, and then nothing is written, or while a value is written that
+    /// has an encoding, and then the sink holds as much as after `Io`, which may be nothing of the value.
     pub fn serialize_value<'a, V: Value<'a>>(&mut self, value: &V) -> Result<(), SerializeError>
         ensures same_sink { self.new.sink.ghost_name ≡ self.old.sink.ghost_name }
         ensures version { self.new.version ≡ self.old.version }
@@ -280,8 +282,8 @@ impl<'se, K: ByteSink> BinaryArraySerializer<'se, K> {
         }
     }
 
-    /// The same serializer, of values that nest to any depth: past `MAX_DEPTH` lists those that are open stand in memory of this allocator.
-    /// Nothing is written. (Not in tantivy.)
+    /// The same serializer, of values that nest to any depth. Of a value that nests in more than `MAX_DEPTH` lists, those that are open stand
+    /// in memory of `alloc`, which is given back before the call returns. Nothing is written. (Not in tantivy.)
     pub fn any_depth(self, alloc: Global) -> BinaryArraySerializer<'se, K>
         ensures same_sink { result.sink.ghost_name ≡ self.entry.sink.ghost_name }
         ensures sink { result.sink.now ≡ self.entry.sink.now }
@@ -295,7 +297,7 @@ impl<'se, K: ByteSink> BinaryArraySerializer<'se, K> {
         }
     }
 
-    /// Appends a value, of which one less is then awaited. It takes no memory.
+    /// Appends `value`, of which one less is then awaited. It takes memory where `BinaryValueSerializer` does.
     ///
     /// Errors: `WrongCount` where none is awaited, and nothing is written; else those of `BinaryValueSerializer`. After each as
     /// many are awaited as before.
@@ -413,8 +415,8 @@ impl<'se, K: ByteSink> BinaryObjectSerializer<'se, K> {
         }
     }
 
-    /// The same serializer, of values that nest to any depth: past `MAX_DEPTH` lists those that are open stand in memory of this allocator.
-    /// Nothing is written. (Not in tantivy.)
+    /// The same serializer, of values that nest to any depth. Of a value that nests in more than `MAX_DEPTH` lists, those that are open stand
+    /// in memory of `alloc`, which is given back before the call returns. Nothing is written. (Not in tantivy.)
     pub fn any_depth(self, alloc: Global) -> BinaryObjectSerializer<'se, K>
         ensures same_sink { result.sink.ghost_name ≡ self.entry.sink.ghost_name }
         ensures sink { result.sink.now ≡ self.entry.sink.now }
@@ -428,7 +430,7 @@ impl<'se, K: ByteSink> BinaryObjectSerializer<'se, K> {
         }
     }
 
-    /// Appends a key and a value, of which one less is then awaited. It takes no memory.
+    /// Appends `key` and `value`, of which one less is then awaited. It takes memory where `BinaryValueSerializer` does.
     ///
     /// Errors: `WrongCount` where none is awaited, and nothing is written; else those of `BinaryValueSerializer`, where the sink
     /// may hold a beginning of the key and the value. After each as many are awaited as before.
