@@ -1,3 +1,4 @@
 pub mod Encoded
 pub mod Coded
 pub mod WriterSteps
+pub mod OpenLists

@@ -1,16 +1,29 @@
 -- The children of lists, as they are written.
-use Rattle.std.specs.Prelude.{ℕ, List, [], ◌∷◌, ◌++◌, Option, Some, None}
+use Rattle.std.specs.Prelude.{ℕ, ◌<◌, ◌^◌, List, [], ◌∷◌, ◌++◌, map, Option, Some, None}
 use Rattle.std.specs.List.{AllByRecursion}
-use Rattle.tv_format.specs.Short.{short, short_key, IsText, IsValue}
-use Rattle.tv_format.specs.Tree.{Tree, leaf, array, object, element_count, entry_count}
-use Rattle.tv_format.specs.Version.{Version}
-use Rattle.tv_value.specs.Children.{Child}
+use Rattle.tv_base.specs.Number.{vnum}
+use Rattle.tv_format.specs.Short.{short, short_key, IsLeaf, IsText, IsValue}
+use Rattle.tv_format.specs.Tree.{Tree, leaf, array, object, element_count, entry_count, entry_list}
+use Rattle.tv_format.specs.Version.{Version, entry_total}
+use Rattle.tv_value.specs.Children.{Child, with_key}
 
 -- how many a value has
 abbrev pub child_count : Tree → ℕ
 child_count (leaf l) = 0
 child_count (array ts) = element_count ts
 child_count (object es) = entry_count es
+
+-- a value without children
+abbrev pub IsSingle : Tree → Type 0
+IsSingle (leaf l) = Unit {0}
+IsSingle (array ts) = ⊥
+IsSingle (object es) = ⊥
+
+-- of a list what stands before its children, and of another value all
+abbrev pub short_head : Version → Tree → List ℕ
+short_head v (leaf l) = short v (leaf l)
+short_head v (array ts) = 12 ∷ vnum (element_count ts)
+short_head v (object es) = 13 ∷ vnum (entry_total v (entry_count es))
 
 -- each in its shortest encoding, after its key, if it has one
 abbrev pub short_key_of : Version → Option (List ℕ) → List ℕ
@@ -32,3 +45,9 @@ IsKey (Some key) = IsText key
 
 abbrev pub AreKeys : List Child → Type 0
 AreKeys = AllByRecursion (λ child. IsKey child.0)
+
+-- a value has an encoding where the values in it have one
+abbrev pub HasHead : Tree → Type 0
+HasHead (leaf l) = IsLeaf l
+HasHead (array ts) = element_count ts < 2 ^ 63
+HasHead (object es) = (entry_count es < 2 ^ 63) × AreKeys (map with_key (entry_list es))

@@ -1,16 +1,30 @@
 -- What the serializers of values, arrays and objects do.
-use Rattle.std.specs.Prelude.{◌≡◌, ◌-◌, ℕ, List, Result, Ok, Err, IfErr, is_ok, if◌then◌else◌}
+use Rattle.std.specs.Borrow.{Bor}
+use Rattle.std.specs.Prelude.{◌≡◌, ◌-◌, ◌⊎◌, ◌++◌, ℕ, List, Option, Result, Ok, Err, IfErr, is_ok, if◌then◌else◌, option_map}
 use Rattle.tv_base.specs.declared.sink.ByteSink.{Ghosts}
-use Rattle.tv_format.specs.Short.{IsValue}
+use Rattle.tv_format.specs.Short.{short, IsValue}
 use Rattle.tv_format.specs.Tree.{Tree}
+use Rattle.tv_format.specs.Version.{Version}
 use Rattle.tv_value.specs.Nesting.{NestsWithin}
-use Rattle.tv_writer.specs.Error.{WritesStore, IsIo}
+use Rattle.tv_value.specs.declared.nesting.TheConstants.{MAX_DEPTH}
+use Rattle.tv_writer.specs.Children.{short_key_of}
+use Rattle.tv_writer.specs.Error.{WritesStore, IsIo, IsIoOrMemory}
 use Rattle.tv_writer.specs.declared.error.SerializeError.{SerializeError}
-use Rattle.tv_writer.specs.declared.error.SerializeError.TheVariants.{TooMany, TooDeep}
+use Rattle.tv_writer.specs.declared.error.SerializeError.TheVariants.{TooMany, TooDeep, Memory}
+use Rattle.tv_writer.specs.declared.serializers.Depth.{Depth}
+use Rattle.tv_writer.specs.declared.serializers.Depth.TheVariants as depths
 
 -- a refusal, which writes nothing
 abbrev pub WritesNothing : {S T : Type 0} → SerializeError → S → S → Result T SerializeError → Type 0
 WritesNothing error old new result = (result ≡ Err error) × (new ≡ old)
+
+-- a value that has no encoding is refused, or memory is before that is found; nothing is written
+abbrev pub RefusesOrLacksMemory : {S T : Type 0} → S → S → Result T SerializeError → Type 0
+RefusesOrLacksMemory old new result = WritesNothing TooMany old new result ⊎ WritesNothing Memory old new result
+
+-- a value after its key, if it has one
+abbrev pub short_child : Version → Option (Bor (List ℕ)) → Tree → List ℕ
+short_child v key t = short_key_of v (option_map (λ k. k.now) key) ++ short v t
 
 -- A write of this text returned the error: it left the sink so, with a failure more, of the kind that is reported.
 abbrev pub FailsToWrite : {S : Type 0} → Ghosts S → S → SerializeError → List ℕ → Type 0
@@ -23,6 +37,20 @@ pub record WritesWithin {S T : Type 0} (depth : ℕ) (t : Tree) (sink : Ghosts S
   pub io : NestsWithin depth t → IsValue t → IfErr result IsIo
   pub many : NestsWithin depth t → ¬ IsValue t → WritesNothing TooMany old new result
   pub deep : ¬ NestsWithin depth t → WritesNothing TooDeep old new result
+
+-- The text of a value that has an encoding is written, unless the sink fails or, where it nests in more than `MAX_DEPTH` lists, memory is
+-- refused. Any other is refused, and nothing is written.
+pub record WritesAnyDepth {S T : Type 0} (t : Tree) (sink : Ghosts S) (old new : S) (result : Result T SerializeError) (text : List ℕ) : Type 0 where
+  pub writes : IsValue t → WritesStore sink old new result (Ok text)
+  pub errors : IsValue t → IfErr result IsIoOrMemory
+  pub only_io : NestsWithin MAX_DEPTH t → IsValue t → IfErr result IsIo
+  pub many : NestsWithin MAX_DEPTH t → ¬ IsValue t → WritesNothing TooMany old new result
+  pub many_or_memory : ¬ IsValue t → RefusesOrLacksMemory old new result
+
+-- what is written of a value, by how deep those nest that are written
+abbrev pub WritesToDepth : {S T : Type 0} → Depth → Tree → Ghosts S → S → S → Result T SerializeError → List ℕ → Type 0
+WritesToDepth (depths.Within levels) t sink old new result text = WritesWithin levels t sink old new result text
+WritesToDepth (depths.Any alloc) t sink old new result text = WritesAnyDepth t sink old new result text
 
 -- how many are awaited after a call that gives one
 abbrev pub awaited_after : {T : Type 0} → ℕ → Result T SerializeError → ℕ

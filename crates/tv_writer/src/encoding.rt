@@ -5,7 +5,7 @@ ghost use Rattle.std.specs.Prelude.{option_map};
 ghost use Rattle.tv_value.specs.LeafParts.{content_of};
 ghost use Rattle.tv_value.specs.Lent.{nested_tree};
 ghost use Rattle.tv_format.specs.Short.{IsContent, IsText, IsSized, IsValue};
-ghost use Rattle.tv_writer.specs.Children.{IsKey};
+ghost use Rattle.tv_writer.specs.Children.{HasHead, IsKey};
 
 use std::convert::AsStr;
 use tv_value::content::LeafContent;
@@ -52,6 +52,26 @@ fn is_key<K: AsStr>(key: &Option<K>) -> bool
         None => true,
         Some(key) => is_text(key.as_str()),
     }
+}
+
+// Whether a value has one, for all that the values in it say: a leaf has one, or a list has few enough children, and their keys have one.
+#[tactic(auto, using(crate::proofs::WriterSteps::head_parts, crate::proofs::WriterSteps::has_head))]
+pub(crate) fn has_head<N: Nested>(value: NestedValue<'_, N>) -> bool
+    ensures { MatchBool result (HasHead (nested_tree N.array_rest N.object_rest value.entry))
+        (¬ HasHead (nested_tree N.array_rest N.object_rest value.entry)) }
+{
+    let children = match value.into_children() {
+        Ok(children) => children,
+        Err(leaf) => return is_content(leaf.content()),
+    };
+    let mut count = 0;
+    for (key, _) in children {
+        if count == MOST || !is_key(&key) {
+            return false;
+        }
+        count += 1;
+    }
+    true
 }
 
 // Whether a value and all its children have one.

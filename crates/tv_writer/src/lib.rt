@@ -1,6 +1,7 @@
 //! Writing values in their shortest encoding, and arrays and objects value by value.
 #![tactic(auto)]
 
+pub mod deep;
 pub mod encoding;
 pub mod error;
 pub mod leaf_writer;

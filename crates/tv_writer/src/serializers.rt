@@ -5,78 +5,119 @@ ghost use Rattle.std.specs.Prelude.{if◌then◌else◌};
 ghost use Rattle.tv_base.specs.Number.{vnum};
 ghost use Rattle.tv_base.specs.Writing.{Writes};
 ghost use Rattle.tv_writer.specs.Error as store;
-ghost use Rattle.tv_writer.specs.Error.{IsIo};
-ghost use Rattle.tv_writer.specs.Serialized.{FailsToWrite, WritesNothing, WritesWithin, awaited_after};
+ghost use Rattle.tv_writer.specs.Error.{IsIo, IsIoOrMemory};
+ghost use Rattle.tv_writer.specs.Serialized.{FailsToWrite, WritesNothing, WritesToDepth, awaited_after};
+ghost use Rattle.tv_writer.specs.Serialized.{RefusesOrLacksMemory, short_child};
 ghost use Rattle.tv_format.specs.Short.{short, short_key, IsValue};
 ghost use Rattle.tv_format.specs.Version.{entry_total};
 ghost use Rattle.tv_format.specs.WriteVersion.{written_version};
 
+use crate::deep::{has_encoding_deep, write_value_deep};
 use crate::encoding::has_encoding;
 use crate::error::SerializeError;
-use crate::value_writer::{write_key, write_value};
+use crate::value_writer::{write_child_key, write_value};
+use std::alloc::Global;
 use tv_base::write::write_vint;
 use tv_base::{ByteSink, WriteError};
 use tv_format::version::WriteVersion;
 use tv_value::nesting::{MAX_DEPTH, nests_within};
 use tv_value::value::Value;
 
-// A value that has an encoding and nests within this many lists. Any other is refused before anything is written.
-fn write_shortest<'a, K: ByteSink, V: Value<'a>>(
-    sink: &mut K,
-    value: &V,
-    version: WriteVersion,
-    depth: u32,
-) -> Result<(), SerializeError>
-    ensures { WritesWithin depth (V.tree value.now) K.ByteSink sink.old sink.new
-        result (short (written_version version) (V.tree value.now)) }
-{
-    if !nests_within(value, depth) {
-        return Err(SerializeError::TooDeep);
-    }
-    if !has_encoding(value) {
-        return Err(SerializeError::TooMany);
-    }
-    write_value(sink, value, version)?;
-    Ok(())
+// How deep the values nest that a serializer writes.
+#[derive(Clone, Copy)]
+enum Depth {
+    // Within this many lists. A value is walked by recursion.
+    Within(u32),
+    // To any depth. Past `MAX_DEPTH` lists those that are open stand in memory of this allocator.
+    Any(Global),
 }
 
-// A key and a value.
+// A key, if there is one, and a value.
 #[tactic(auto, using(tv_base::proofs::Written::Writes_then, tv_base::proofs::Written::Writes_prefix))]
 fn write_key_and_value<'a, K: ByteSink, V: Value<'a>>(
     sink: &mut K,
-    key: &str,
+    key: Option<&str>,
     value: &V,
     version: WriteVersion,
 ) -> Result<(), WriteError>
     requires { IsValue (V.tree value.now) }
     ensures { Writes K.ByteSink sink.old sink.new result
-        (short_key (written_version version) key.now
-        ++ short (written_version version) (V.tree value.now)) }
+        (short_child (written_version version) key.entry (V.tree value.now)) }
 {
-    write_key(sink, version, key)?;
+    write_child_key(sink, version, key)?;
     write_value(sink, value, version)
 }
 
-// A key and a value, where the value has an encoding and nests within this many lists.
-fn write_entry<'a, K: ByteSink, V: Value<'a>>(
+// A key, if there is one, and a value, where the value has an encoding.
+#[inline(always)]
+fn write_shallow<'a, K: ByteSink, V: Value<'a>>(
     sink: &mut K,
-    key: &str,
+    key: Option<&str>,
     value: &V,
     version: WriteVersion,
-    depth: u32,
 ) -> Result<(), SerializeError>
-    ensures { WritesWithin depth (V.tree value.now) K.ByteSink sink.old sink.new result
-        (short_key (written_version version) key.now
-        ++ short (written_version version) (V.tree value.now)) }
+    ensures writes { IsValue (V.tree value.now) → store.WritesStore K.ByteSink sink.old sink.new
+        result (Ok (short_child (written_version version) key.entry (V.tree value.now))) }
+    ensures io { IsValue (V.tree value.now) → IfErr result IsIo }
+    ensures many { ¬ IsValue (V.tree value.now)
+        → WritesNothing SerializeError.TooMany sink.old sink.new result }
 {
-    if !nests_within(value, depth) {
-        return Err(SerializeError::TooDeep);
-    }
     if !has_encoding(value) {
         return Err(SerializeError::TooMany);
     }
     write_key_and_value(sink, key, value, version)?;
     Ok(())
+}
+
+// The same of a value of any depth.
+fn write_deep<'a, K: ByteSink, V: Value<'a>>(
+    sink: &mut K,
+    key: Option<&str>,
+    value: &V,
+    version: WriteVersion,
+    alloc: Global,
+) -> Result<(), SerializeError>
+    ensures writes { IsValue (V.tree value.now) → store.WritesStore K.ByteSink sink.old sink.new
+        result (Ok (short_child (written_version version) key.entry (V.tree value.now))) }
+    ensures errors { IsValue (V.tree value.now) → IfErr result IsIoOrMemory }
+    ensures many { ¬ IsValue (V.tree value.now)
+        → RefusesOrLacksMemory sink.old sink.new result }
+{
+    match has_encoding_deep(alloc, value) {
+        Ok(true) => {}
+        Ok(false) => return Err(SerializeError::TooMany),
+        Err(_) => return Err(SerializeError::Memory),
+    }
+    write_child_key(sink, version, key)?;
+    write_value_deep(sink, alloc, version, value)
+}
+
+// A key, if there is one, and a value, where the value has an encoding and nests no deeper than is asked for. Any other is refused before
+// anything is written.
+fn write_shortest<'a, K: ByteSink, V: Value<'a>>(
+    sink: &mut K,
+    key: Option<&str>,
+    value: &V,
+    version: WriteVersion,
+    depth: Depth,
+) -> Result<(), SerializeError>
+    ensures { WritesToDepth depth (V.tree value.now) K.ByteSink sink.old sink.new
+        result (short_child (written_version version) key.entry (V.tree value.now)) }
+{
+    match depth {
+        Depth::Within(levels) => {
+            if !nests_within(value, levels) {
+                return Err(SerializeError::TooDeep);
+            }
+            write_shallow(sink, key, value, version)
+        }
+        Depth::Any(alloc) => {
+            if nests_within(value, MAX_DEPTH) {
+                return write_shallow(sink, key, value, version);
+            }
+            write_deep(sink, key, value, version, alloc)
+        }
+    }
 }
 
 // Whether all were given that were awaited.
@@ -91,12 +132,12 @@ fn ended(awaited: u64) -> Result<(), SerializeError>
 }
 
 /// Writes values to a sink, each in its shortest encoding. A value is walked by recursion, so one that nests in more than `MAX_DEPTH` lists
-/// is refused, or in more than `limit_depth` asks for.
+/// is refused, or in more than `limit_depth` asks for. After `any_depth` none is refused for its depth.
 #[derive(Drop)]
 pub struct BinaryValueSerializer<'se, K: ByteSink> {
     sink: &'se mut K,
     version: WriteVersion,
-    depth: u32,
+    depth: Depth,
 }
 
 impl<'se, K: ByteSink> BinaryValueSerializer<'se, K> {
@@ -105,7 +146,7 @@ impl<'se, K: ByteSink> BinaryValueSerializer<'se, K> {
         ensures same_sink { result.sink.ghost_name ≡ sink.entry.ghost_name }
         ensures sink { result.sink.now ≡ sink.old }
         ensures version { result.version ≡ WriteVersion.V2 }
-        ensures depth { result.depth ≡ MAX_DEPTH }
+        ensures depth { result.depth ≡ Depth.Within MAX_DEPTH }
     {
         BinaryValueSerializer::with_version(sink, WriteVersion::V2)
     }
@@ -115,12 +156,12 @@ impl<'se, K: ByteSink> BinaryValueSerializer<'se, K> {
         ensures same_sink { result.sink.ghost_name ≡ sink.entry.ghost_name }
         ensures sink { result.sink.now ≡ sink.old }
         ensures version { result.version ≡ version }
-        ensures depth { result.depth ≡ MAX_DEPTH }
+        ensures depth { result.depth ≡ Depth.Within MAX_DEPTH }
     {
         BinaryValueSerializer {
             sink,
             version,
-            depth: MAX_DEPTH,
+            depth: Depth::Within(MAX_DEPTH),
         }
     }
 
@@ -130,25 +171,44 @@ impl<'se, K: ByteSink> BinaryValueSerializer<'se, K> {
         ensures same_sink { result.sink.ghost_name ≡ self.entry.sink.ghost_name }
         ensures sink { result.sink.now ≡ self.entry.sink.now }
         ensures version { result.version ≡ self.entry.version }
-        ensures depth { result.depth ≡ depth }
+        ensures depth { result.depth ≡ Depth.Within depth }
     {
-        BinaryValueSerializer { depth, ..self }
+        BinaryValueSerializer {
+            depth: Depth::Within(depth),
+            ..self
+        }
     }
 
-    /// Appends a value. It takes no memory.
+    /// The same serializer, of values that nest to any depth. Of a value that nests in more than `MAX_DEPTH` lists, those that are open stand
+    /// in memory of `alloc`, which is given back before the call returns. Nothing is written. (Not in tantivy.)
+    pub fn any_depth(self, alloc: Global) -> BinaryValueSerializer<'se, K>
+        ensures same_sink { result.sink.ghost_name ≡ self.entry.sink.ghost_name }
+        ensures sink { result.sink.now ≡ self.entry.sink.now }
+        ensures version { result.version ≡ self.entry.version }
+        ensures depth { result.depth ≡ Depth.Any alloc }
+    {
+        BinaryValueSerializer {
+            depth: Depth::Any(alloc),
+            ..self
+        }
+    }
+
+    /// Appends `value`. It takes memory only after `any_depth`, for a value that nests in more than `MAX_DEPTH` lists.
     ///
-    /// Errors: `TooDeep` exactly where it nests in more lists than the serializer writes, else `TooMany` where an array or an object in it
-    /// has 2^63 children or more, or a text or bytes that length, and after both nothing is written; else `Io` where the sink failed. The
-    /// sink then holds what it held before, and a beginning of the value; a later call appends to that.
+    /// Errors: `TooDeep` exactly where it nests in more lists than the serializer writes, which none does after `any_depth`; else `TooMany`
+    /// where an array or an object in it has 2^63 children or more, or a text or bytes that length, and after both nothing is written; else
+    /// `Io` where the sink failed. The sink then holds what it held before, and a beginning of the value; a later call appends to that.
+    /// `Memory` comes only where memory was refused, in place of `TooMany`, and then nothing is written, or while a value is written that
+    /// has an encoding, and then the sink holds as much as after `Io`, which may be nothing of the value.
     pub fn serialize_value<'a, V: Value<'a>>(&mut self, value: &V) -> Result<(), SerializeError>
         ensures same_sink { self.new.sink.ghost_name ≡ self.old.sink.ghost_name }
         ensures version { self.new.version ≡ self.old.version }
         ensures depth { self.new.depth ≡ self.old.depth }
-        ensures writes { WritesWithin self.old.depth (V.tree value.now) K.ByteSink
+        ensures writes { WritesToDepth self.old.depth (V.tree value.now) K.ByteSink
             self.old.sink.now self.new.sink.now result
             (short (written_version self.old.version) (V.tree value.now)) }
     {
-        write_shortest(self.sink, value, self.version, self.depth)
+        write_shortest(self.sink, None, value, self.version, self.depth)
     }
 }
 
@@ -158,7 +218,7 @@ pub struct BinaryArraySerializer<'se, K: ByteSink> {
     sink: &'se mut K,
     awaited: u64,
     version: WriteVersion,
-    depth: u32,
+    depth: Depth,
 }
 
 impl<'se, K: ByteSink> BinaryArraySerializer<'se, K> {
@@ -176,7 +236,7 @@ impl<'se, K: ByteSink> BinaryArraySerializer<'se, K> {
             (Ok (vnum count))) }
         ensures awaited { IfOk result (λ made. made.awaited ≡ count) }
         ensures version { IfOk result (λ made. made.version ≡ WriteVersion.V2) }
-        ensures depth { IfOk result (λ made. made.depth ≡ MAX_DEPTH) }
+        ensures depth { IfOk result (λ made. made.depth ≡ Depth.Within MAX_DEPTH) }
         ensures io { IfErr result IsIo }
         ensures fails { IfErr result (λ e. FailsToWrite K.ByteSink sink.old e (vnum count)) }
     {
@@ -194,7 +254,7 @@ impl<'se, K: ByteSink> BinaryArraySerializer<'se, K> {
             (Ok (vnum count))) }
         ensures awaited { IfOk result (λ made. made.awaited ≡ count) }
         ensures version { IfOk result (λ made. made.version ≡ version) }
-        ensures depth { IfOk result (λ made. made.depth ≡ MAX_DEPTH) }
+        ensures depth { IfOk result (λ made. made.depth ≡ Depth.Within MAX_DEPTH) }
         ensures io { IfErr result IsIo }
         ensures fails { IfErr result (λ e. FailsToWrite K.ByteSink sink.old e (vnum count)) }
     {
@@ -203,7 +263,7 @@ impl<'se, K: ByteSink> BinaryArraySerializer<'se, K> {
             sink,
             awaited: count,
             version,
-            depth: MAX_DEPTH,
+            depth: Depth::Within(MAX_DEPTH),
         })
     }
 
@@ -214,12 +274,30 @@ impl<'se, K: ByteSink> BinaryArraySerializer<'se, K> {
         ensures sink { result.sink.now ≡ self.entry.sink.now }
         ensures awaited { result.awaited ≡ self.entry.awaited }
         ensures version { result.version ≡ self.entry.version }
-        ensures depth { result.depth ≡ depth }
+        ensures depth { result.depth ≡ Depth.Within depth }
     {
-        BinaryArraySerializer { depth, ..self }
+        BinaryArraySerializer {
+            depth: Depth::Within(depth),
+            ..self
+        }
     }
 
-    /// Appends a value, of which one less is then awaited. It takes no memory.
+    /// The same serializer, of values that nest to any depth. Of a value that nests in more than `MAX_DEPTH` lists, those that are open stand
+    /// in memory of `alloc`, which is given back before the call returns. Nothing is written. (Not in tantivy.)
+    pub fn any_depth(self, alloc: Global) -> BinaryArraySerializer<'se, K>
+        ensures same_sink { result.sink.ghost_name ≡ self.entry.sink.ghost_name }
+        ensures sink { result.sink.now ≡ self.entry.sink.now }
+        ensures awaited { result.awaited ≡ self.entry.awaited }
+        ensures version { result.version ≡ self.entry.version }
+        ensures depth { result.depth ≡ Depth.Any alloc }
+    {
+        BinaryArraySerializer {
+            depth: Depth::Any(alloc),
+            ..self
+        }
+    }
+
+    /// Appends `value`, of which one less is then awaited. It takes memory where `BinaryValueSerializer` does.
     ///
     /// Errors: `WrongCount` where none is awaited, and nothing is written; else those of `BinaryValueSerializer`. After each as
     /// many are awaited as before.
@@ -228,7 +306,7 @@ impl<'se, K: ByteSink> BinaryArraySerializer<'se, K> {
         ensures complete { self.old.awaited ≡ 0
             → WritesNothing SerializeError.WrongCount self.old.sink.now self.new.sink.now result }
         ensures writes { 0 < self.old.awaited
-            → WritesWithin self.old.depth (V.tree value.now) K.ByteSink
+            → WritesToDepth self.old.depth (V.tree value.now) K.ByteSink
             self.old.sink.now self.new.sink.now result
             (short (written_version self.old.version) (V.tree value.now)) }
         ensures awaited { self.new.awaited ≡ awaited_after self.old.awaited result }
@@ -238,7 +316,7 @@ impl<'se, K: ByteSink> BinaryArraySerializer<'se, K> {
         let Some(others) = self.awaited.checked_sub(1) else {
             return Err(SerializeError::WrongCount);
         };
-        write_shortest(self.sink, value, self.version, self.depth)?;
+        write_shortest(self.sink, None, value, self.version, self.depth)?;
         self.awaited = others;
         Ok(())
     }
@@ -260,7 +338,7 @@ pub struct BinaryObjectSerializer<'se, K: ByteSink> {
     sink: &'se mut K,
     awaited: u64,
     version: WriteVersion,
-    depth: u32,
+    depth: Depth,
 }
 
 impl<'se, K: ByteSink> BinaryObjectSerializer<'se, K> {
@@ -278,7 +356,7 @@ impl<'se, K: ByteSink> BinaryObjectSerializer<'se, K> {
             (Ok (vnum (2 * count)))) }
         ensures awaited { IfOk result (λ made. made.awaited ≡ count) }
         ensures version { IfOk result (λ made. made.version ≡ WriteVersion.V2) }
-        ensures depth { IfOk result (λ made. made.depth ≡ MAX_DEPTH) }
+        ensures depth { IfOk result (λ made. made.depth ≡ Depth.Within MAX_DEPTH) }
         ensures too_many { 2 ^ 64 ≤ 2 * count → result ≡ Err SerializeError.TooMany }
         ensures io { 2 * count < 2 ^ 64 → IfErr result IsIo }
         ensures fails { 2 * count < 2 ^ 64 → IfErr result
@@ -302,7 +380,7 @@ impl<'se, K: ByteSink> BinaryObjectSerializer<'se, K> {
             (Ok (vnum (entry_total (written_version version) count)))) }
         ensures awaited { IfOk result (λ made. made.awaited ≡ count) }
         ensures version { IfOk result (λ made. made.version ≡ version) }
-        ensures depth { IfOk result (λ made. made.depth ≡ MAX_DEPTH) }
+        ensures depth { IfOk result (λ made. made.depth ≡ Depth.Within MAX_DEPTH) }
         ensures too_many { 2 ^ 64 ≤ entry_total (written_version version) count
             → result ≡ Err SerializeError.TooMany }
         ensures io { entry_total (written_version version) count < 2 ^ 64 → IfErr result IsIo }
@@ -318,7 +396,7 @@ impl<'se, K: ByteSink> BinaryObjectSerializer<'se, K> {
             sink,
             awaited: count,
             version,
-            depth: MAX_DEPTH,
+            depth: Depth::Within(MAX_DEPTH),
         })
     }
 
@@ -329,12 +407,30 @@ impl<'se, K: ByteSink> BinaryObjectSerializer<'se, K> {
         ensures sink { result.sink.now ≡ self.entry.sink.now }
         ensures awaited { result.awaited ≡ self.entry.awaited }
         ensures version { result.version ≡ self.entry.version }
-        ensures depth { result.depth ≡ depth }
+        ensures depth { result.depth ≡ Depth.Within depth }
     {
-        BinaryObjectSerializer { depth, ..self }
+        BinaryObjectSerializer {
+            depth: Depth::Within(depth),
+            ..self
+        }
     }
 
-    /// Appends a key and a value, of which one less is then awaited. It takes no memory.
+    /// The same serializer, of values that nest to any depth. Of a value that nests in more than `MAX_DEPTH` lists, those that are open stand
+    /// in memory of `alloc`, which is given back before the call returns. Nothing is written. (Not in tantivy.)
+    pub fn any_depth(self, alloc: Global) -> BinaryObjectSerializer<'se, K>
+        ensures same_sink { result.sink.ghost_name ≡ self.entry.sink.ghost_name }
+        ensures sink { result.sink.now ≡ self.entry.sink.now }
+        ensures awaited { result.awaited ≡ self.entry.awaited }
+        ensures version { result.version ≡ self.entry.version }
+        ensures depth { result.depth ≡ Depth.Any alloc }
+    {
+        BinaryObjectSerializer {
+            depth: Depth::Any(alloc),
+            ..self
+        }
+    }
+
+    /// Appends `key` and `value`, of which one less is then awaited. It takes memory where `BinaryValueSerializer` does.
     ///
     /// Errors: `WrongCount` where none is awaited, and nothing is written; else those of `BinaryValueSerializer`, where the sink
     /// may hold a beginning of the key and the value. After each as many are awaited as before.
@@ -347,7 +443,7 @@ impl<'se, K: ByteSink> BinaryObjectSerializer<'se, K> {
         ensures complete { self.old.awaited ≡ 0
             → WritesNothing SerializeError.WrongCount self.old.sink.now self.new.sink.now result }
         ensures writes { 0 < self.old.awaited
-            → WritesWithin self.old.depth (V.tree value.now) K.ByteSink
+            → WritesToDepth self.old.depth (V.tree value.now) K.ByteSink
             self.old.sink.now self.new.sink.now result
             (short_key (written_version self.old.version) key.now
             ++ short (written_version self.old.version) (V.tree value.now)) }
@@ -358,7 +454,7 @@ impl<'se, K: ByteSink> BinaryObjectSerializer<'se, K> {
         let Some(others) = self.awaited.checked_sub(1) else {
             return Err(SerializeError::WrongCount);
         };
-        write_entry(self.sink, key, value, self.version, self.depth)?;
+        write_shortest(self.sink, Some(key), value, self.version, self.depth)?;
         self.awaited = others;
         Ok(())
     }

@@ -3,15 +3,16 @@
 //! Each function hands on the error of a failed write. The sink then holds what it held before, and a beginning of what was
 //! to be written.
 
-ghost use Rattle.std.specs.Prelude.{◌≡◌, ◌<◌, ◌^◌, ◌∷◌, option_map};
+ghost use Rattle.std.specs.Prelude.{◌≡◌, ◌<◌, ◌^◌, ◌∷◌, IfOk, MatchOption, option_map};
 ghost use Rattle.tv_base.specs.Number.{vnum};
 ghost use Rattle.tv_base.specs.Writing.{Writes};
 ghost use Rattle.tv_format.specs.Short.{short, short_key, IsValue};
 ghost use Rattle.tv_format.specs.Version.{entry_total};
 ghost use Rattle.tv_format.specs.WriteVersion.{written_version};
-ghost use Rattle.tv_value.specs.Children.{children_left};
+ghost use Rattle.tv_value.specs.Children.{IsListOf, children_left};
 ghost use Rattle.tv_value.specs.Lent.{nested_tree};
-ghost use Rattle.tv_writer.specs.Children.{AreValues, child_count, short_children, short_key_of};
+ghost use Rattle.tv_writer.specs.Children.{AreValues, IsSingle, child_count, short_children};
+ghost use Rattle.tv_writer.specs.Children.{short_head, short_key_of};
 
 use crate::leaf_writer::{write_coded_count, write_coded_text, write_leaf};
 use std::convert::AsStr;
@@ -64,7 +65,7 @@ pub fn write_object_head<K: ByteSink>(
 
 // How many children a value has.
 #[tactic(auto, using(crate::proofs::WriterSteps::list_counted, crate::proofs::WriterSteps::list_fits))]
-fn child_count<N: Nested>(value: NestedValue<'_, N>) -> u64
+pub(crate) fn child_count<N: Nested>(value: NestedValue<'_, N>) -> u64
     requires { IsValue (nested_tree N.array_rest N.object_rest value) }
     ensures { result ≡ child_count (nested_tree N.array_rest N.object_rest value.entry) }
 {
@@ -97,9 +98,43 @@ pub fn write_child_key<K: ByteSink, T: AsStr + Drop>(
     }
 }
 
+// A value of this many children, of a list its head alone: its code, and the number that it announces. Gives the children of the list.
+#[inline(always)]
+#[tactic(auto, using(tv_value::proofs::ListChildren::list_of_items, tv_value::proofs::ListChildren::list_of_members))]
+pub(crate) fn write_head<K: ByteSink, N: Nested>(
+    sink: &mut K,
+    value: NestedValue<'_, N>,
+    count: u64,
+    version: WriteVersion,
+) -> Result<Option<Children<N>>, WriteError>
+    requires valid { IsValue (nested_tree N.array_rest N.object_rest value) }
+    requires counted { count ≡ child_count (nested_tree N.array_rest N.object_rest value) }
+    ensures writes { Writes K.ByteSink sink.old sink.new result
+        (short_head (written_version version) (nested_tree N.array_rest N.object_rest value.entry)) }
+    ensures inner { IfOk result (λ met. MatchOption met
+        (IsSingle (nested_tree N.array_rest N.object_rest value.entry))
+        (λ children. IsListOf (children_left N.array_rest N.object_rest children)
+        (nested_tree N.array_rest N.object_rest value.entry))) }
+{
+    match value {
+        NestedValue::Leaf(leaf) => {
+            write_leaf(sink, &leaf)?;
+            Ok(None)
+        }
+        NestedValue::Array(items) => {
+            write_coded_count(sink, ARRAY_CODE, count)?;
+            Ok(Some(Children::Array(items)))
+        }
+        NestedValue::Object(members) => {
+            write_object_head(sink, version, count)?;
+            Ok(Some(Children::Object(members)))
+        }
+    }
+}
+
 // A value of this many children: its code, and what it holds.
 #[cycle(values)]
-#[tactic(auto, using(crate::proofs::WriterSteps::items_valid, crate::proofs::WriterSteps::members_valid, tv_value::proofs::ListChildren::items_size, tv_value::proofs::ListChildren::members_size))]
+#[tactic(auto, using(crate::proofs::WriterSteps::list_parts, tv_value::proofs::ListChildren::list_size))]
 fn write_nested<K: ByteSink, N: Nested>(
     sink: &mut K,
     value: NestedValue<'_, N>,
@@ -111,16 +146,9 @@ fn write_nested<K: ByteSink, N: Nested>(
     ensures { Writes K.ByteSink sink.old sink.new result
         (short (written_version version) (nested_tree N.array_rest N.object_rest value.entry)) }
 {
-    match value {
-        NestedValue::Leaf(leaf) => write_leaf(sink, &leaf),
-        NestedValue::Array(items) => {
-            write_coded_count(sink, ARRAY_CODE, count)?;
-            write_children(sink, Children::<N>::Array(items), version)
-        }
-        NestedValue::Object(members) => {
-            write_object_head(sink, version, count)?;
-            write_children(sink, Children::<N>::Object(members), version)
-        }
+    match write_head(sink, value, count, version)? {
+        None => Ok(()),
+        Some(children) => write_children(sink, children, version),
     }
 }
 

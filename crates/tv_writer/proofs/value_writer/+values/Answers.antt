@@ -1,12 +1,12 @@
-use Rattle.std.proofs.Common.{◌++◌, sym, ap, subst, arith}
+use Rattle.std.proofs.Common.{◌++◌, sym, ap, subst, arith, rules}
 use Rattle.std.proofs.lemmas.Result.{err_from_is_err_and}
-use Rattle.tv_base.proofs.Written.{Written-step, Written-fails, Written-start, Writes_some, Writes_both}
+use Rattle.tv_base.proofs.Written.{Written-step, Written-fails, Written-start, Writes_as, Writes_some, Writes_both}
 use Rattle.tv_format.specs.WriteVersion.{written_version}
 use Rattle.tv_format.specs.Short.{short}
-use Rattle.tv_value.specs.Children.{children_left, children_size}
+use Rattle.tv_value.specs.Children.{IsListOf, children_left, children_size}
 use Rattle.tv_value.specs.Lent.{nested_tree}
-use Rattle.tv_writer.specs.Children.{AreValues, short_children}
-use Rattle.tv_writer.proofs.WriterSteps.{array_parts, object_parts}
+use Rattle.tv_writer.specs.Children.{AreValues, IsSingle, short_children}
+use Rattle.tv_writer.proofs.WriterSteps.{head_first, list_short, single_short}
 use Rattle.tv_writer.proofs.value_writer.+values.Goals as goal
 
 pub write_children-loop-key-init : goal.write_children-loop-key-init
@@ -36,24 +36,21 @@ write_children-loop-key-preserved g t c =
       written = Written-step _ _ same behind c.in_ok-write_nested.ensures;
     }
 
-pub write_nested-returns-in_err-write_coded_count-in-Array : goal.write_nested-returns-in_err-write_coded_count-in-Array
-write_nested-returns-in_err-write_coded_count-in-Array g t c =
+pub write_nested-returns-in_err-write_head : goal.write_nested-returns-in_err-write_head
+write_nested-returns-in_err-write_head g t c =
     let p = err_from_is_err_and c.from_residual.result c.from_residual.ensures.1 in
-    let is = ap (nested_tree g.N.Nested.array_rest g.N.Nested.object_rest) c.in-Array.is in
-    rw (p.1, p.2) (Writes_some _ c.in_err-write_coded_count-in-Array.ensures (array_parts (written_version c.args.version) _ is c.requires.counted))
+    let rest = head_first (written_version c.args.version) (nested_tree g.N.Nested.array_rest g.N.Nested.object_rest c.args.value) in
+    rw (p.1, p.2) (Writes_some rest.0 c.in_err-write_head.ensures.writes rest.1)
 
-pub write_nested-returns-in_ok-write_coded_count-in-Array : goal.write_nested-returns-in_ok-write_coded_count-in-Array
-write_nested-returns-in_ok-write_coded_count-in-Array g t c =
-    let is = ap (nested_tree g.N.Nested.array_rest g.N.Nested.object_rest) c.in-Array.is in
-    Writes_both c.in_ok-write_coded_count-in-Array.ensures c.write_children.ensures (array_parts (written_version c.args.version) _ is c.requires.counted)
+pub write_nested-returns-in-None : goal.write_nested-returns-in-None
+write_nested-returns-in-None g t c =
+    let tree = nested_tree g.N.Nested.array_rest g.N.Nested.object_rest c.args.value in
+    let single : IsSingle tree = search rules in
+    let w = Writes_as c.in_ok-write_head.ensures.writes (sym (single_short (written_version c.args.version) tree single)) in
+    record { appends = w.appends; stays_known = w.stays_known; counts = w.counts }
 
-pub write_nested-returns-in_err-write_object_head-in-Object : goal.write_nested-returns-in_err-write_object_head-in-Object
-write_nested-returns-in_err-write_object_head-in-Object g t c =
-    let p = err_from_is_err_and c.from_residual-in_err-write_object_head-in-Object.result c.from_residual-in_err-write_object_head-in-Object.ensures.1 in
-    let is = ap (nested_tree g.N.Nested.array_rest g.N.Nested.object_rest) c.in-Object.is in
-    rw (p.1, p.2) (Writes_some _ c.in_err-write_object_head-in-Object.ensures (object_parts (written_version c.args.version) _ is c.requires.counted))
-
-pub write_nested-returns-in_ok-write_object_head-in-Object : goal.write_nested-returns-in_ok-write_object_head-in-Object
-write_nested-returns-in_ok-write_object_head-in-Object g t c =
-    let is = ap (nested_tree g.N.Nested.array_rest g.N.Nested.object_rest) c.in-Object.is in
-    Writes_both c.in_ok-write_object_head-in-Object.ensures c.write_children-in-Object.ensures (object_parts (written_version c.args.version) _ is c.requires.counted)
+pub write_nested-returns-in-Some : goal.write_nested-returns-in-Some
+write_nested-returns-in-Some g t c =
+    let tree = nested_tree g.N.Nested.array_rest g.N.Nested.object_rest c.args.value in
+    let list : IsListOf (children_left g.N.Nested.array_rest g.N.Nested.object_rest c.in-Some.children) tree = search rules in
+    Writes_both c.in_ok-write_head.ensures.writes c.write_children.ensures (list_short (written_version c.args.version) _ tree list)
