@@ -6,7 +6,7 @@ use crate::ending::{Ending, Failure, failed, wrong_use};
 use crate::faults::refuse_unstored;
 use crate::inputs::{schema_given, text};
 use crate::term_counts::TermCounts;
-use crate::visits::{Visit, visit_block};
+use crate::visits::{Visit, fields_within, visit_block};
 use clap::ArgMatches;
 use std::alloc::{AllocError, Global};
 use std::io::IsTerminal;
@@ -142,7 +142,8 @@ fn print_all(rt: &HostRuntime, given: &ArgMatches<'_>, counts: &TermCounts) -> R
 /// Counts documents by the children of a facet. Memory is kept for the children that are found, and for one document.
 pub(crate) fn facets(rt: &HostRuntime, given: &ArgMatches<'_>) -> Result<Ending, Failure> {
     let mut counting = begin(rt, given, &schema_given(rt, given)?)?;
-    visit_block(rt, given, &mut counting)?;
+    let wanted = fields_within(rt.alloc(), given, &[counting.field])?;
+    visit_block(rt, given, wanted, &mut counting)?;
     print_all(rt, given, &counting.counts)?;
     Ok(Ending::Done)
 }

@@ -8,11 +8,13 @@ use crate::faults::{Faults, refuse_unstored};
 use crate::files::{create, finish};
 use crate::inputs::{BlockSource, limits, schema_given, source, text, version};
 use crate::progress::Progress;
+use crate::visits::fields_within;
 use clap::ArgMatches;
 use std::alloc::{AllocError, Global};
 use std::io::{self, Eprint, Write};
 use tantivy_schema::common::{ByteSink, WriteSink};
 use tantivy_schema::schema::Schema;
+use tv_command::documents::Wanted;
 use tv_command::find::{FindError, Found, find_in_block};
 use tv_command::report::{DocumentReport, Report};
 use tv_query::{Query, QueryError, QueryReason};
@@ -84,16 +86,24 @@ fn report(rt: &HostRuntime, text: &str, error: &QueryError) -> Result<(), Failur
     Ok(())
 }
 
-// Appends the lines of the documents of a source that the query matches.
+// What is read of each document: all of it, or for their number alone what the query needs.
+fn wanted(alloc: Global, given: &ArgMatches<'_>, query: &Query) -> Result<Wanted, AllocError> {
+    if given.get_flag("count") {
+        return fields_within(alloc, given, query.fields());
+    }
+    Ok(Wanted::All(limits(given)))
+}
+
+// Appends the lines of what is wanted of the documents of a source that the query matches.
 fn find_from<K: ByteSink>(
     rt: &HostRuntime,
     given: &ArgMatches<'_>,
     schema: &Schema,
     query: &Query,
+    wanted: Wanted,
     source: &mut BlockSource,
     sink: &mut K,
 ) -> Result<Found, FindError<Failure>> {
-    let (version, limits) = (version(given, "version"), limits(given));
     let names = [text(given, "BLOCK")];
     let mut progress = Progress::beside(rt, given, &names, !given.get_flag("count"));
     let mut reports = match Faults::new(rt, names[0], progress.is_shown()) {
@@ -103,8 +113,8 @@ fn find_from<K: ByteSink>(
     let found = find_in_block(
         rt.alloc(),
         schema,
-        version,
-        limits,
+        version(given, "version"),
+        wanted,
         query,
         source,
         sink,
@@ -123,8 +133,9 @@ fn find_into<K: ByteSink>(
     query: &Query,
     sink: &mut K,
 ) -> Result<Found, Failure> {
+    let wanted = wanted(rt.alloc(), given, query)?;
     let mut source = source(rt, text(given, "BLOCK"))?;
-    match find_from(rt, given, schema, query, &mut source, sink) {
+    match find_from(rt, given, schema, query, wanted, &mut source, sink) {
         Ok(found) => Ok(found),
         Err(FindError::Work(error)) => Err(broken(rt.alloc(), given, "-", error)),
         Err(FindError::Report(failure)) => Err(failure),

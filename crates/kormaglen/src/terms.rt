@@ -7,7 +7,7 @@ use crate::inputs::{schema_given, text};
 use crate::progress::Progress;
 use crate::runs::{Runs, add_run, merged_all};
 use crate::term_counts::TermCounts;
-use crate::visits::{Visit, visit_block};
+use crate::visits::{Visit, fields_within, visit_block};
 use clap::ArgMatches;
 use std::alloc::Global;
 use std::env;
@@ -221,7 +221,8 @@ fn begin(rt: &HostRuntime, given: &ArgMatches<'_>) -> Result<Counting, Failure> 
 /// Prints the terms of a field in their order. Memory is kept for as many as `--memory` lets it, and for one document.
 pub(crate) fn terms(rt: &HostRuntime, given: &ArgMatches<'_>) -> Result<Ending, Failure> {
     let mut counting = begin(rt, given)?;
-    visit_block(rt, given, &mut counting)?;
+    let wanted = fields_within(rt.alloc(), given, &[counting.wanted.field()])?;
+    visit_block(rt, given, wanted, &mut counting)?;
     let counted = given.get_flag("counts");
     if counting.runs.is_empty() {
         print_counts(rt, &counting.counts, counted)?;

@@ -10,9 +10,8 @@ use Rattle.tv_command.proofs.Checks.{ReadSoFar, read_more, read_none, whole_befo
 use Rattle.tv_command.specs.Finding.{CountsFound, Finds, FindsAll, FindsEach, LeavesDocument, LeavesNext, LeavesSearch, StopsFinding, find_sink_stop, find_source_stop, is_faulty, is_found, named_terms, none, one_more}
 use Rattle.tv_command.specs.Exporting.{AppendsBegun}
 use Rattle.tv_command.specs.WorkErrors.{IsOfWriting}
-use Rattle.tv_command.specs.Reading.{EncodesWithin, ReadsOne, kept}
+use Rattle.tv_command.specs.Reading.{EncodesWithin, ReadsOne, kept, limits_of}
 use Rattle.tv_command.specs.declared.documents.Wanted.{Wanted}
-use Rattle.tv_command.specs.declared.documents.Wanted.TheVariants.{All}
 use Rattle.tv_command.specs.declared.find.DocumentOutcome.{DocumentOutcome}
 use Rattle.tv_command.specs.declared.find.DocumentOutcome.TheVariants as outcome
 use Rattle.tv_command.specs.declared.find.FindError.TheVariants as finding
@@ -29,7 +28,6 @@ use Rattle.tv_query.specs.Grammar.{Tree, steps_of}
 use Rattle.tv_query.specs.Matching.{Matches}
 use Rattle.tv_query.specs.declared.query.Step.{Step}
 use Rattle.tv_store.specs.Documents.{BeginsWithDocument}
-use Rattle.tv_store.specs.declared.limits.ReadLimits.{ReadLimits}
 use Rattle.tv_value.specs.declared.field.Field.{Field}
 
 -- ---- the terms of the named fields
@@ -57,28 +55,28 @@ not_true e = absurd (cc)
 -- ---- so far
 
 -- what is left of a document is left of the one that comes next
-leaves_next : (schema : List Entry) (v : Version) (limits : ReadLimits) (tree : Tree) (bytes left rest : List ℕ) (number start : ℕ) (old new : List ℕ) (d : Document) (e : WorkError) → BeginsWithDocument v bytes rest d → LeavesDocument schema tree d old new e
-    → LeavesNext schema v limits tree bytes left number start old new e
-leaves_next schema v limits tree bytes left rest number start old new d (errors.Write kind) begins leaves = (d, rest, begins, leaves)
-leaves_next schema v limits tree bytes left rest number start old new d errors.Memory begins leaves = (d, rest, begins, leaves)
-leaves_next schema v limits tree bytes left rest number start old new d (errors.Read e) begins leaves = absurd leaves
-leaves_next schema v limits tree bytes left rest number start old new d errors.TooMany begins leaves = absurd leaves
+leaves_next : (schema : List Entry) (v : Version) (wanted : Wanted) (tree : Tree) (bytes left rest : List ℕ) (number start : ℕ) (old new : List ℕ) (d : Document) (e : WorkError) → BeginsWithDocument v bytes rest d → LeavesDocument schema tree (kept wanted d) old new e
+    → LeavesNext schema v wanted tree bytes left number start old new e
+leaves_next schema v wanted tree bytes left rest number start old new d (errors.Write kind) begins leaves = (d, rest, begins, leaves)
+leaves_next schema v wanted tree bytes left rest number start old new d errors.Memory begins leaves = (d, rest, begins, leaves)
+leaves_next schema v wanted tree bytes left rest number start old new d (errors.Read e) begins leaves = absurd leaves
+leaves_next schema v wanted tree bytes left rest number start old new d errors.TooMany begins leaves = absurd leaves
 
 -- the documents before the rest, of this number, what became of each, and how many there are of each kind
-pub record FoundSoFar (schema : List Entry) (v : Version) (limits : ReadLimits) (tree : Tree) (block rest old now : List ℕ) (IsTold : Type 0) (begun ended : List DocumentReport) (number start : ℕ) (found : Found) : Type 0 where
-  pub read : ReadSoFar v limits block rest number start
+pub record FoundSoFar (schema : List Entry) (v : Version) (wanted : Wanted) (tree : Tree) (block rest old now : List ℕ) (IsTold : Type 0) (begun ended : List DocumentReport) (number start : ℕ) (found : Found) : Type 0 where
+  pub read : ReadSoFar v (limits_of wanted) block rest number start
   pub reports : List DocumentReport
-  pub each : FindsEach schema v limits tree block old read.before now reports
+  pub each : FindsEach schema v wanted tree block old read.before now reports
   pub told : IsTold → ended ≡ begun ++ reports
   pub counted : number ≡ length reports
   pub documents : found.documents ≡ number
   pub matching : found.found ≡ count_by (λ report. is_found report.outcome) reports
   pub faulty : found.faulty ≡ count_by (λ report. is_faulty report.outcome) reports
 
-pub found_none : (schema : List Entry) (v : Version) (limits : ReadLimits) (tree : Tree) (block old : List ℕ) (IsTold : Type 0) (begun : List DocumentReport) (start : ℕ) → start ≡ 0
-    → FoundSoFar schema v limits tree block block old old IsTold begun begun 0 start (record { documents = 0; found = 0; faulty = 0 })
-found_none schema v limits tree block old IsTold begun start is = record {
-  read = read_none v limits block start is;
+pub found_none : (schema : List Entry) (v : Version) (wanted : Wanted) (tree : Tree) (block old : List ℕ) (IsTold : Type 0) (begun : List DocumentReport) (start : ℕ) → start ≡ 0
+    → FoundSoFar schema v wanted tree block block old old IsTold begun begun 0 start (record { documents = 0; found = 0; faulty = 0 })
+found_none schema v wanted tree block old IsTold begun start is = record {
+  read = read_none v (limits_of wanted) block start is;
   reports = [];
   each = none;
   told = λ known. sym (append-nil begun);
@@ -119,17 +117,17 @@ one_counted outcome.Found old new c = c.0
 one_counted outcome.NotFound old new c = c.0
 one_counted (outcome.Faulty why) old new c = c.0
 
-module _ {schema : List Entry} {v : Version} {limits : ReadLimits} {tree : Tree} {block rest old now : List ℕ} {IsTold : Type 0} {begun told : List DocumentReport} {number start : ℕ} {found : Found} (m : FoundSoFar schema v limits tree block rest old now IsTold begun told number start found) where
+module _ {schema : List Entry} {v : Version} {wanted : Wanted} {tree : Tree} {block rest old now : List ℕ} {IsTold : Type 0} {begun told : List DocumentReport} {number start : ℕ} {found : Found} (m : FoundSoFar schema v wanted tree block rest old now IsTold begun told number start found) where
   -- the next document was read
-  read_as : {left : List ℕ} {same_v : Version} {same_wanted : Wanted} (shown : Document) → same_v ≡ v → same_wanted ≡ All limits → ReadsOne same_v same_wanted (λ d. shown ≡ kept same_wanted d) rest left (Ok true)
-      → ReadsOne v (All limits) (λ d. shown ≡ d) rest left (Ok true)
+  read_as : {left : List ℕ} {same_v : Version} {same_wanted : Wanted} (shown : Document) → same_v ≡ v → same_wanted ≡ wanted → ReadsOne same_v same_wanted (λ d. shown ≡ kept same_wanted d) rest left (Ok true)
+      → ReadsOne v wanted (λ d. shown ≡ kept wanted d) rest left (Ok true)
   read_as {left} {same_v} {same_wanted} shown version same read =
       subst (λ (w : Wanted). ReadsOne v w (λ d. shown ≡ kept w d) rest left (Ok true)) same (subst (λ (u : Version). ReadsOne u same_wanted (λ d. shown ≡ kept same_wanted d) rest left (Ok true)) version read)
 
   -- it was gone over, and told
-  pub found_next : {left after : List ℕ} {next : ℕ} {ended : List DocumentReport} {same_v : Version} {same_wanted : Wanted} (shown : Document) (said : DocumentOutcome) (report : DocumentReport) (count : Found) → same_v ≡ v → same_wanted ≡ All limits
+  pub found_next : {left after : List ℕ} {next : ℕ} {ended : List DocumentReport} {same_v : Version} {same_wanted : Wanted} (shown : Document) (said : DocumentOutcome) (report : DocumentReport) (count : Found) → same_v ≡ v → same_wanted ≡ wanted
       → ReadsOne same_v same_wanted (λ d. shown ≡ kept same_wanted d) rest left (Ok true) → length left < length rest → (start + length rest < 2 ^ 64 → next + length left ≡ start + length rest) → Finds schema tree shown now after said
-      → report.document ≡ number → report.start ≡ start → report.outcome ≡ said → CountsFound found said count → (IsTold → ended ≡ told ++ report ∷ []) → FoundSoFar schema v limits tree block left old after IsTold begun ended (number + 1) next count
+      → report.document ≡ number → report.start ≡ start → report.outcome ≡ said → CountsFound found said count → (IsTold → ended ≡ told ++ report ∷ []) → FoundSoFar schema v wanted tree block left old after IsTold begun ended (number + 1) next count
   found_next {left} {after} {next} {ended} shown said report count version same read fewer placed finds numbered placed_at is counts tells =
       let one = read_as shown version same read in
       record {
@@ -144,31 +142,31 @@ module _ {schema : List Entry} {v : Version} {limits : ReadLimits} {tree : Tree}
         faulty = counts_faulty m.reports report said found count counts is m.faulty;
       }
 
-  pub found_all : rest ≡ [] → FindsAll schema v limits tree block old now IsTold begun told found
+  pub found_all : rest ≡ [] → FindsAll schema v wanted tree block old now IsTold begun told found
   found_all ended = record {
     reports = m.reports;
-    each = subst (λ (l : List ℕ). FindsEach schema v limits tree block old l now m.reports) (sym (whole_before m.read ended)) m.each;
+    each = subst (λ (l : List ℕ). FindsEach schema v wanted tree block old l now m.reports) (sym (whole_before m.read ended)) m.each;
     told = m.told;
     documents = m.documents ∙ m.counted;
     matching = m.matching;
     faulty = m.faulty;
   }
 
-  pub found_stops : {E : Type 0} {left after : List ℕ} (e : WorkError) → LeavesNext schema v limits tree rest left (length m.reports) (length m.read.before) now after e → StopsFinding {E = E} schema v limits tree block left old after IsTold begun told (finding.Work e)
+  pub found_stops : {E : Type 0} {left after : List ℕ} (e : WorkError) → LeavesNext schema v wanted tree rest left (length m.reports) (length m.read.before) now after e → StopsFinding {E = E} schema v wanted tree block left old after IsTold begun told (finding.Work e)
   found_stops e next = record { before = m.read.before; after = rest; joined = m.read.joined; middle = now; reports = m.reports; each = m.each; told = m.told; next = next }
 
   -- it was read, and not gone over to the end
-  pub found_left : {E : Type 0} {left : List ℕ} (after : List ℕ) {same_v : Version} {same_wanted : Wanted} (shown : Document) (e : WorkError) → same_v ≡ v → same_wanted ≡ All limits → ReadsOne same_v same_wanted (λ d. shown ≡ kept same_wanted d) rest left (Ok true)
-      → LeavesDocument schema tree shown now after e → StopsFinding {E = E} schema v limits tree block left old after IsTold begun told (finding.Work e)
+  pub found_left : {E : Type 0} {left : List ℕ} (after : List ℕ) {same_v : Version} {same_wanted : Wanted} (shown : Document) (e : WorkError) → same_v ≡ v → same_wanted ≡ wanted → ReadsOne same_v same_wanted (λ d. shown ≡ kept same_wanted d) rest left (Ok true)
+      → LeavesDocument schema tree shown now after e → StopsFinding {E = E} schema v wanted tree block left old after IsTold begun told (finding.Work e)
   found_left {E} {left} after shown e version same read leaves =
       let one = read_as shown version same read in
       found_stops e
-      (leaves_next schema v limits tree rest left left (length m.reports) (length m.read.before) now after one.0 e (record { prefix = one.1.prefix; joined = one.1.joined; encoded = one.1.encoded.encoded })
+      (leaves_next schema v wanted tree rest left left (length m.reports) (length m.read.before) now after one.0 e (record { prefix = one.1.prefix; joined = one.1.joined; encoded = one.1.encoded.encoded })
       (subst (λ (d : Document). LeavesDocument schema tree d now after e) one.2 leaves))
 
   -- it was gone over, and not told
-  pub found_untold : {E : Type 0} {left : List ℕ} (after : List ℕ) {ended : List DocumentReport} {same_v : Version} {same_wanted : Wanted} (shown : Document) (said : DocumentOutcome) (e : E) → same_v ≡ v → same_wanted ≡ All limits
-      → ReadsOne same_v same_wanted (λ d. shown ≡ kept same_wanted d) rest left (Ok true) → Finds schema tree shown now after said → (IsTold → ended ≡ told) → StopsFinding {E = E} schema v limits tree block left old after IsTold begun ended (finding.Report e)
+  pub found_untold : {E : Type 0} {left : List ℕ} (after : List ℕ) {ended : List DocumentReport} {same_v : Version} {same_wanted : Wanted} (shown : Document) (said : DocumentOutcome) (e : E) → same_v ≡ v → same_wanted ≡ wanted
+      → ReadsOne same_v same_wanted (λ d. shown ≡ kept same_wanted d) rest left (Ok true) → Finds schema tree shown now after said → (IsTold → ended ≡ told) → StopsFinding {E = E} schema v wanted tree block left old after IsTold begun ended (finding.Report e)
   found_untold {E} {left} after shown said e version same read finds untold =
       let one = read_as shown version same read in
       record {

@@ -6,9 +6,9 @@ use Rattle.tv_base.specs.Stop.Stop.{Short}
 use Rattle.tv_blocks.specs.Blocks.{AppendsLine}
 use Rattle.tv_command.specs.Checking.{IsRefusedAt}
 use Rattle.tv_command.specs.Exporting.{AppendsBegun}
-use Rattle.tv_command.specs.Reading.{EncodesWithin}
+use Rattle.tv_command.specs.Reading.{EncodesWithin, kept, limits_of}
 use Rattle.tv_command.specs.WorkErrors.{sink_stop, source_stop}
-use Rattle.tv_command.specs.declared.documents.Wanted.TheVariants.{All}
+use Rattle.tv_command.specs.declared.documents.Wanted.{Wanted}
 use Rattle.tv_command.specs.declared.find.DocumentOutcome.{DocumentOutcome}
 use Rattle.tv_command.specs.declared.find.DocumentOutcome.TheVariants as outcome
 use Rattle.tv_command.specs.declared.find.FindError.{FindError}
@@ -26,7 +26,6 @@ use Rattle.tv_query.specs.Fields.{names_field}
 use Rattle.tv_query.specs.Grammar.{Tree, steps_of}
 use Rattle.tv_query.specs.Matching.{Matches}
 use Rattle.tv_store.specs.Documents.{BeginsWithDocument}
-use Rattle.tv_store.specs.declared.limits.ReadLimits.{ReadLimits}
 
 -- ---- a document
 
@@ -48,13 +47,13 @@ LeavesDocument schema tree d old new e = ⊥
 
 -- ---- documents
 
--- These bytes encode documents, one after the other, each within the limits, and each of these reports is true of one, with its number and the place where it
+-- These bytes encode documents, one after the other, each within the limits, and each of these reports is true of what is wanted of one, with its number and the place where it
 -- begins. They are the first of the block.
-pub data FindsEach (schema : List Entry) (v : Version) (limits : ReadLimits) (tree : Tree) (block old : List ℕ) : List ℕ → List ℕ → List DocumentReport → Type 0 where
-  none : FindsEach schema v limits tree block old [] old []
-  one_more : {before middle new : List ℕ} {reports : List DocumentReport} (bytes : List ℕ) (d : Document) (report : DocumentReport) → FindsEach schema v limits tree block old before middle reports
-      → EncodesWithin v limits bytes d → report.document ≡ length reports → (length block < 2 ^ 64 - 1 → report.start ≡ length before) → Finds schema tree d middle new report.outcome
-      → FindsEach schema v limits tree block old (before ++ bytes) new (reports ++ report ∷ [])
+pub data FindsEach (schema : List Entry) (v : Version) (wanted : Wanted) (tree : Tree) (block old : List ℕ) : List ℕ → List ℕ → List DocumentReport → Type 0 where
+  none : FindsEach schema v wanted tree block old [] old []
+  one_more : {before middle new : List ℕ} {reports : List DocumentReport} (bytes : List ℕ) (d : Document) (report : DocumentReport) → FindsEach schema v wanted tree block old before middle reports
+      → EncodesWithin v (limits_of wanted) bytes d → report.document ≡ length reports → (length block < 2 ^ 64 - 1 → report.start ≡ length before) → Finds schema tree (kept wanted d) middle new report.outcome
+      → FindsEach schema v wanted tree block old (before ++ bytes) new (reports ++ report ∷ [])
 
 abbrev pub is_found : DocumentOutcome → Bool
 is_found outcome.Found = true
@@ -67,9 +66,9 @@ is_faulty outcome.NotFound = false
 is_faulty (outcome.Faulty why) = true
 
 -- The block is documents. Where it is known what was told, that is what became of each, and of each kind there are as many as are said.
-pub record FindsAll (schema : List Entry) (v : Version) (limits : ReadLimits) (tree : Tree) (block old new : List ℕ) (IsTold : Type 0) (begun ended : List DocumentReport) (found : Found) : Type 0 where
+pub record FindsAll (schema : List Entry) (v : Version) (wanted : Wanted) (tree : Tree) (block old new : List ℕ) (IsTold : Type 0) (begun ended : List DocumentReport) (found : Found) : Type 0 where
   pub reports : List DocumentReport
-  pub each : FindsEach schema v limits tree block old block new reports
+  pub each : FindsEach schema v wanted tree block old block new reports
   pub told : IsTold → ended ≡ begun ++ reports
   pub documents : found.documents ≡ length reports
   pub matching : found.found ≡ count_by (λ report. is_found report.outcome) reports
@@ -77,28 +76,28 @@ pub record FindsAll (schema : List Entry) (v : Version) (limits : ReadLimits) (t
 
 -- What was appended of the document with which these bytes begin, and why the search went no further: nothing where it can't be read, or isn't. Before it come
 -- this many documents, in this number of bytes.
-abbrev pub LeavesNext : List Entry → Version → ReadLimits → Tree → List ℕ → List ℕ → ℕ → ℕ → List ℕ → List ℕ → WorkError → Type 0
-LeavesNext schema v limits tree bytes left number start old new (errors.Read e) = (new ≡ old) × (e.documents ≡ number) × IsRefusedAt v (All limits) bytes left start e
-LeavesNext schema v limits tree bytes left number start old new errors.TooMany = (new ≡ old) × (number ≡ 2 ^ 64 - 1)
-LeavesNext schema v limits tree bytes left number start old new e = (d : Document) × (rest : List ℕ) × BeginsWithDocument v bytes rest d × LeavesDocument schema tree d old new e
+abbrev pub LeavesNext : List Entry → Version → Wanted → Tree → List ℕ → List ℕ → ℕ → ℕ → List ℕ → List ℕ → WorkError → Type 0
+LeavesNext schema v wanted tree bytes left number start old new (errors.Read e) = (new ≡ old) × (e.documents ≡ number) × IsRefusedAt v wanted bytes left start e
+LeavesNext schema v wanted tree bytes left number start old new errors.TooMany = (new ≡ old) × (number ≡ 2 ^ 64 - 1)
+LeavesNext schema v wanted tree bytes left number start old new e = (d : Document) × (rest : List ℕ) × BeginsWithDocument v bytes rest d × LeavesDocument schema tree (kept wanted d) old new e
 
 -- the same, or it was gone over and only the report failed
-abbrev pub LeavesSearch : {E : Type 0} → List Entry → Version → ReadLimits → Tree → List ℕ → List ℕ → ℕ → ℕ → List ℕ → List ℕ → FindError E → Type 0
-LeavesSearch schema v limits tree bytes left number start old new (finding.Work e) = LeavesNext schema v limits tree bytes left number start old new e
-LeavesSearch schema v limits tree bytes left number start old new (finding.Report e) =
-    (d : Document) × (rest : List ℕ) × (said : DocumentOutcome) × BeginsWithDocument v bytes rest d × Finds schema tree d old new said
+abbrev pub LeavesSearch : {E : Type 0} → List Entry → Version → Wanted → Tree → List ℕ → List ℕ → ℕ → ℕ → List ℕ → List ℕ → FindError E → Type 0
+LeavesSearch schema v wanted tree bytes left number start old new (finding.Work e) = LeavesNext schema v wanted tree bytes left number start old new e
+LeavesSearch schema v wanted tree bytes left number start old new (finding.Report e) =
+    (d : Document) × (rest : List ℕ) × (said : DocumentOutcome) × BeginsWithDocument v bytes rest d × Finds schema tree (kept wanted d) old new said
 
 -- The documents before were gone over, and the one with which the rest of the block begins was not, or not to the end. `left` is what was left of the
 -- block.
-pub record StopsFinding {E : Type 0} (schema : List Entry) (v : Version) (limits : ReadLimits) (tree : Tree) (block left old new : List ℕ) (IsTold : Type 0) (begun ended : List DocumentReport) (error : FindError E) : Type 0 where
+pub record StopsFinding {E : Type 0} (schema : List Entry) (v : Version) (wanted : Wanted) (tree : Tree) (block left old new : List ℕ) (IsTold : Type 0) (begun ended : List DocumentReport) (error : FindError E) : Type 0 where
   pub before : List ℕ
   pub after : List ℕ
   pub joined : block ≡ before ++ after
   pub middle : List ℕ
   pub reports : List DocumentReport
-  pub each : FindsEach schema v limits tree block old before middle reports
+  pub each : FindsEach schema v wanted tree block old before middle reports
   pub told : IsTold → ended ≡ begun ++ reports
-  pub next : LeavesSearch schema v limits tree after left (length reports) (length before) middle new error
+  pub next : LeavesSearch schema v wanted tree after left (length reports) (length before) middle new error
 
 -- why a search broke off, as its source and its sink see it
 abbrev pub find_source_stop : {E : Type 0} → FindError E → Stop Refusal

@@ -20,7 +20,7 @@ use std::alloc::{AllocError, Global};
 use std::fmt::Display;
 use tantivy_schema::common::{ByteSink, ByteSource};
 use tantivy_schema::schema::{Schema, TantivyDocument};
-use tantivy_schema::store::{DocStoreVersion, ReadLimits};
+use tantivy_schema::store::DocStoreVersion;
 use thiserror::Error;
 use tv_indexing::{TermList, TermValuesError};
 use tv_query::{Query, QueryStack};
@@ -154,12 +154,12 @@ fn counted(found: Found, outcome: DocumentOutcome) -> Found
     }
 }
 
-/// Appends the lines of those documents of a block that the query matches, in order, as `export_block` prints them, and tells the report what became of each
-/// document, by its number and place. Returns how many documents there are, how many match, and how many can't be searched. `watch` is
-/// advanced after each document that was gone over, with the bytes from the first on. (Not in tantivy.)
+/// Appends the lines of those documents of a block that the query matches, in order, as `export_block` prints what is wanted of them, and tells the report what
+/// became of each document, by its number and place. Returns how many documents there are, how many match, and how many can't be searched.
+/// `watch` is advanced after each document that was gone over, with the bytes from the first on. (Not in tantivy.)
 ///
-/// A document matches by the terms of those fields that the query names, as `term_values_of_fields` gives them, and no others are made. One of which
-/// a value of these fields has no term is told as `Faulty`, with the error for the first such value, and passed over.
+/// Of what is wanted of a document, it matches by the terms of those fields that the query names, as `term_values_of_fields` gives them, and no others are
+/// made. One of which a value of these fields has no term is told as `Faulty`, with the error for the first such value, and passed over.
 ///
 /// Errors: `Work`, with `Read` for the first document that can't be read or passes a limit, with its number and place; with `Write` where a write
 /// failed; with `Memory`; or with `TooMany` after 2^64 - 1 documents. `Report` where a report failed, with its error. The sink then holds the
@@ -169,7 +169,7 @@ pub fn find_in_block<S: ByteSource, K: ByteSink, T: Report<DocumentReport>, W: W
     alloc: Global,
     schema: &Schema,
     version: DocStoreVersion,
-    limits: ReadLimits,
+    wanted: Wanted,
     query: &Query,
     source: &mut S,
     sink: &mut K,
@@ -178,12 +178,12 @@ pub fn find_in_block<S: ByteSource, K: ByteSink, T: Report<DocumentReport>, W: W
 ) -> Result<Found, FindError<T::Error>>
     ensures ok { S.is_known source.old → K.is_known sink.old → (tree : Tree)
         → query.now.steps.items ≡ steps_of tree → IfOk result
-        (FindsAll schema.now (version_of version) limits tree (S.left source.old)
+        (FindsAll schema.now (version_of version) wanted tree (S.left source.old)
         (K.held sink.old) (K.held sink.new)
         (T.is_known report.old) (T.told report.old) (T.told report.new)) }
     ensures err { S.is_known source.old → K.is_known sink.old → (tree : Tree)
         → query.now.steps.items ≡ steps_of tree → IfErr result
-        (StopsFinding schema.now (version_of version) limits tree (S.left source.old)
+        (StopsFinding schema.now (version_of version) wanted tree (S.left source.old)
         (S.left source.new) (K.held sink.old) (K.held sink.new)
         (T.is_known report.old) (T.told report.old) (T.told report.new)) }
     ensures all { S.is_known source.old → OnOk result (S.left source.new ≡ []) }
@@ -195,7 +195,7 @@ pub fn find_in_block<S: ByteSource, K: ByteSink, T: Report<DocumentReport>, W: W
     ensures sink_is_known { K.is_known sink.old → K.is_known sink.new }
     ensures report_is_known { T.is_known report.old → T.is_known report.new }
 {
-    let mut reader = DocumentReader::new(alloc, version, Wanted::All(limits));
+    let mut reader = DocumentReader::new(alloc, version, wanted);
     let mut buffers = FindBuffers {
         terms: TermList::new(alloc),
         stack: QueryStack::new(alloc),

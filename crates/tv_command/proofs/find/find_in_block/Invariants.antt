@@ -1,6 +1,5 @@
 use Rattle.std.proofs.Common.{◌≡◌, ◌≤◌, ◌+◌, false}
 use Rattle.tv_command.proofs.Finds.{FoundSoFar}
-use Rattle.tv_command.specs.declared.documents.Wanted.TheVariants.{All}
 use Rattle.tv_query.specs.Grammar.{Tree, steps_of}
 use Rattle.tv_reader.specs.Version.{version_of}
 use Rattle.tv_command.proofs.find.find_in_block.Given as goal
@@ -13,7 +12,7 @@ invariant-loop-number g l =
     record {
       not_failed : l.reader.reader.failed ≡ false;
       version : l.reader.reader.version ≡ l.fn.version;
-      wanted : l.reader.wanted ≡ All l.fn.limits;
+      wanted : l.reader.wanted ≡ l.fn.wanted;
       counted : l.reader.documents ≡ l.number;
       documents : l.found.documents ≡ l.number;
       few : l.found.found + l.found.faulty ≤ l.found.documents;
@@ -23,6 +22,6 @@ invariant-loop-number g l =
       source_failures : source.failures l.source ≡ source.failures l.initial.source;
       sink_failures : sink.failures l.sink ≡ sink.failures l.initial.sink;
       so_far : source.is_known l.initial.source → sink.is_known l.initial.sink → (tree : Tree) → l.query.steps.items ≡ steps_of tree
-          → FoundSoFar l.schema (version_of l.fn.version) l.fn.limits tree (source.left l.initial.source) (source.left l.source) (sink.held l.initial.sink) (sink.held l.sink)
+          → FoundSoFar l.schema (version_of l.fn.version) l.fn.wanted tree (source.left l.initial.source) (source.left l.source) (sink.held l.initial.sink) (sink.held l.sink)
           (report.is_known l.initial.report) (report.told l.initial.report) (report.told l.report) l.number l.reader.start l.found;
     }

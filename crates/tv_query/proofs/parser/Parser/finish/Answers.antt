@@ -11,8 +11,8 @@ returns-then-not-is_empty-clause-refused c = λ schema tokens depth at some.
     let not_empty : c.write_or.new.self.operators.items ≢ [] = rw c.as_slice.ensures.value at (not_empty c.as_slice.result.now c.if-not-is_empty.ensures) in
     rw c.if-parser.false (is_open a.0 a.1 a.2 a.3 not_empty, refl)
 
-pub returns-in_ok-of_steps-clause-made : goal.returns-in_ok-of_steps-clause-made
-returns-in_ok-of_steps-clause-made c = λ schema tokens depth at.
+pub returns-clause-made : goal.returns-clause-made
+returns-clause-made c = λ schema tokens depth at.
     let w = rw c.if-parser.false at at in
     let a = c.in_ok-write_or.ensures.written schema tokens depth w.0 w.1 in
     let empty : c.write_or.new.self.operators.items ≡ [] = sym c.as_slice.ensures.value ∙ is_empty c.as_slice.result.now c.if-not-is_empty.ensures in
