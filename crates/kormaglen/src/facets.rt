@@ -2,17 +2,18 @@
 
 use crate::bars::print_table;
 use crate::blocks::print_line;
-use crate::ending::{Ending, Failure, failed};
+use crate::ending::{Ending, Failure, failed, wrong_use};
+use crate::faults::refuse_unstored;
 use crate::inputs::{schema_given, text};
 use crate::term_counts::TermCounts;
-use crate::visits::{Visit, visit_block};
+use crate::visits::{Visit, fields_within, visit_block};
 use clap::ArgMatches;
 use std::alloc::{AllocError, Global};
 use std::io::IsTerminal;
 use tantivy_schema::schema::document::Document;
 use tantivy_schema::schema::{
-    DocumentFacet, Facet, FacetCount, Field, Schema, TantivyDocument, Value, count_child_documents,
-    greatest_counts,
+    DocumentFacet, Facet, FacetCount, Field, FieldType, Schema, TantivyDocument, Value,
+    count_child_documents, greatest_counts,
 };
 
 // Counts, for each child of a facet, how many documents have a facet of a field at or below it, by the child's encoded text.
@@ -77,13 +78,28 @@ fn print_counts(
     Ok(())
 }
 
+// The stored field of facets of a name.
+fn field_of(alloc: Global, schema: &Schema, name: &str) -> Result<Field, Failure> {
+    let field = match schema.get_field(name) {
+        Ok(field) => field,
+        Err(error) => return Err(wrong_use(alloc, name, error)),
+    };
+    let is_of_facets = schema.has_field(field)
+        && matches!(
+            schema.get_field_entry(field).field_type(),
+            FieldType::Facet(_)
+        );
+    if !is_of_facets {
+        return Err(wrong_use(alloc, name, "the field has no facets"));
+    }
+    refuse_unstored(alloc, schema, &[field])?;
+    Ok(field)
+}
+
 // What counts the documents by the children of the facet that the words name.
 fn begin(rt: &HostRuntime, given: &ArgMatches<'_>, schema: &Schema) -> Result<Counting, Failure> {
     let alloc = rt.alloc();
-    let field = match schema.get_field(text(given, "FIELD")) {
-        Ok(field) => field,
-        Err(error) => return Err(failed(alloc, text(given, "FIELD"), error)),
-    };
+    let field = field_of(alloc, schema, text(given, "FIELD"))?;
     match Facet::from_text(alloc, text(given, "FACET")) {
         Ok(ancestor) => Ok(Counting {
             alloc,
@@ -126,7 +142,8 @@ fn print_all(rt: &HostRuntime, given: &ArgMatches<'_>, counts: &TermCounts) -> R
 /// Counts documents by the children of a facet. Memory is kept for the children that are found, and for one document.
 pub(crate) fn facets(rt: &HostRuntime, given: &ArgMatches<'_>) -> Result<Ending, Failure> {
     let mut counting = begin(rt, given, &schema_given(rt, given)?)?;
-    visit_block(rt, given, &mut counting)?;
+    let wanted = fields_within(rt.alloc(), given, &[counting.field])?;
+    visit_block(rt, given, wanted, &mut counting)?;
     print_all(rt, given, &counting.counts)?;
     Ok(Ending::Done)
 }

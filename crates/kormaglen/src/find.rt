@@ -1,17 +1,22 @@
 //! `find`.
 
+ghost use Rattle.std.specs.Prelude.{[]};
+
 use crate::blocks::{broken, print_line};
 use crate::ending::{Ending, Failure};
+use crate::faults::{Faults, refuse_unstored};
 use crate::files::{create, finish};
 use crate::inputs::{BlockSource, limits, schema_given, source, text, version};
 use crate::progress::Progress;
+use crate::visits::fields_within;
 use clap::ArgMatches;
 use std::alloc::{AllocError, Global};
 use std::io::{self, Eprint, Write};
 use tantivy_schema::common::{ByteSink, WriteSink};
 use tantivy_schema::schema::Schema;
-use tv_command::find::{Found, find_in_block};
-use tv_command::work_error::WorkError;
+use tv_command::documents::Wanted;
+use tv_command::find::{FindError, Found, find_in_block};
+use tv_command::report::{DocumentReport, Report};
 use tv_query::{Query, QueryError, QueryReason};
 
 // Takes what is written, and keeps nothing.
@@ -25,6 +30,26 @@ impl Write for Unprinted {
 
     fn flush(&mut self) -> io::Result<()> {
         Ok(())
+    }
+}
+
+// The report of a search: the documents that can't be searched are told.
+#[derive(Drop)]
+struct Reports<'s> {
+    schema: &'s Schema,
+    faults: Faults,
+}
+
+// What was told isn't known.
+impl<'s> Report<DocumentReport> for Reports<'s> {
+    type Error = Failure;
+
+    ghost is_known = { λ _. ⊥ };
+
+    ghost told = { λ _. [] };
+
+    fn tell(&mut self, document: DocumentReport) -> Result<(), Failure> {
+        self.faults.tell(self.schema, document)
     }
 }
 
@@ -61,26 +86,39 @@ fn report(rt: &HostRuntime, text: &str, error: &QueryError) -> Result<(), Failur
     Ok(())
 }
 
-// Appends the lines of the documents of a source that the query matches.
+// What is read of each document: all of it, or for their number alone what the query needs.
+fn wanted(alloc: Global, given: &ArgMatches<'_>, query: &Query) -> Result<Wanted, AllocError> {
+    if given.get_flag("count") {
+        return fields_within(alloc, given, query.fields());
+    }
+    Ok(Wanted::All(limits(given)))
+}
+
+// Appends the lines of what is wanted of the documents of a source that the query matches.
 fn find_from<K: ByteSink>(
     rt: &HostRuntime,
     given: &ArgMatches<'_>,
     schema: &Schema,
     query: &Query,
+    wanted: Wanted,
     source: &mut BlockSource,
     sink: &mut K,
-) -> Result<Found, WorkError> {
-    let (version, limits) = (version(given, "version"), limits(given));
+) -> Result<Found, FindError<Failure>> {
     let names = [text(given, "BLOCK")];
     let mut progress = Progress::beside(rt, given, &names, !given.get_flag("count"));
+    let mut reports = match Faults::new(rt, names[0], progress.is_shown()) {
+        Ok(faults) => Reports { schema, faults },
+        Err(_) => return Err(FindError::Report(Failure::Memory)),
+    };
     let found = find_in_block(
         rt.alloc(),
         schema,
-        version,
-        limits,
+        version(given, "version"),
+        wanted,
         query,
         source,
         sink,
+        &mut reports,
         &mut progress,
     );
     progress.end();
@@ -95,10 +133,12 @@ fn find_into<K: ByteSink>(
     query: &Query,
     sink: &mut K,
 ) -> Result<Found, Failure> {
+    let wanted = wanted(rt.alloc(), given, query)?;
     let mut source = source(rt, text(given, "BLOCK"))?;
-    match find_from(rt, given, schema, query, &mut source, sink) {
+    match find_from(rt, given, schema, query, wanted, &mut source, sink) {
         Ok(found) => Ok(found),
-        Err(error) => Err(broken(rt.alloc(), given, "-", error)),
+        Err(FindError::Work(error)) => Err(broken(rt.alloc(), given, "-", error)),
+        Err(FindError::Report(failure)) => Err(failure),
     }
 }
 
@@ -108,10 +148,11 @@ fn print_number(
     given: &ArgMatches<'_>,
     schema: &Schema,
     query: &Query,
-) -> Result<(), Failure> {
+) -> Result<Found, Failure> {
     let mut sink = WriteSink::new(Unprinted);
-    let found = find_into(rt, given, schema, query, &mut sink)?.found;
-    print_line(rt, format!(in rt.alloc(); "{found}")?.as_str())
+    let found = find_into(rt, given, schema, query, &mut sink)?;
+    print_line(rt, format!(in rt.alloc(); "{}", found.found)?.as_str())?;
+    Ok(found)
 }
 
 // Prints the documents that the query matches, or their number.
@@ -120,13 +161,30 @@ fn print_found(
     given: &ArgMatches<'_>,
     schema: &Schema,
     query: &Query,
-) -> Result<(), Failure> {
+) -> Result<Found, Failure> {
     if given.get_flag("count") {
         return print_number(rt, given, schema, query);
     }
     let mut output = create(rt, "-")?;
-    find_into(rt, given, schema, query, output.sink())?;
-    finish(output)
+    let found = find_into(rt, given, schema, query, output.sink())?;
+    finish(output)?;
+    Ok(found)
+}
+
+// Prints what a query finds in a block that has the fields that it names.
+fn search(
+    rt: &HostRuntime,
+    given: &ArgMatches<'_>,
+    schema: &Schema,
+    query: &Query,
+) -> Result<Ending, Failure> {
+    refuse_unstored(rt.alloc(), schema, query.fields())?;
+    let found = print_found(rt, given, schema, query)?;
+    Ok(if found.faulty > 0 {
+        Ending::Refused
+    } else {
+        Ending::Done
+    })
 }
 
 // What a wrong query ends in: it is reported.
@@ -143,8 +201,7 @@ pub(crate) fn find(rt: &HostRuntime, given: &ArgMatches<'_>) -> Result<Ending, F
     let schema = schema_given(rt, given)?;
     let words = text(given, "QUERY");
     match Query::parse(rt.alloc(), &schema, words) {
-        Ok(query) => print_found(rt, given, &schema, &query)?,
-        Err(error) => return refused(rt, words, &error),
+        Ok(query) => search(rt, given, &schema, &query),
+        Err(error) => refused(rt, words, &error),
     }
-    Ok(Ending::Done)
 }

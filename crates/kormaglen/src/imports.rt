@@ -60,7 +60,7 @@ fn said(alloc: Global, name: &str, line: u64, error: LineError) -> Result<String
 }
 
 // What a file holds isn't known.
-impl Report for Reports {
+impl Report<LineReport> for Reports {
     type Error = Failure;
 
     ghost is_known = { λ _. ⊥ };

@@ -7,6 +7,7 @@ mod blocks;
 mod depth;
 mod ending;
 mod facets;
+mod faults;
 mod files;
 mod find;
 mod imports;

@@ -3,11 +3,12 @@
 use crate::blocks::print_line;
 use crate::depth::deepest_of;
 use crate::ending::{Ending, Failure};
-use crate::inputs::schema_given;
+use crate::inputs::{limits, schema_given};
 use crate::visits::{Visit, visit_block};
 use clap::ArgMatches;
 use std::alloc::{AllocError, Global};
 use tantivy_schema::schema::{Document, Schema, TantivyDocument};
+use tv_command::documents::Wanted;
 
 // What is counted of a block.
 struct Counts {
@@ -108,7 +109,7 @@ fn begin(alloc: Global, fields: usize) -> Result<Counts, AllocError> {
 pub(crate) fn stat(rt: &HostRuntime, given: &ArgMatches<'_>) -> Result<Ending, Failure> {
     let schema = schema_given(rt, given)?;
     let mut counts = begin(rt.alloc(), schema.num_fields())?;
-    visit_block(rt, given, &mut counts)?;
+    visit_block(rt, given, Wanted::All(limits(given)), &mut counts)?;
     print_counts(rt, &counts)?;
     print_fields(rt, &schema, counts.by_field.as_slice())?;
     Ok(Ending::Done)

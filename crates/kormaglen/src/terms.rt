@@ -2,14 +2,19 @@
 
 use crate::blocks::print_line;
 use crate::ending::{Ending, Failure, failed, wrong_use};
+use crate::faults::{Faults, refuse_unstored};
 use crate::inputs::{schema_given, text};
+use crate::progress::Progress;
 use crate::runs::{Runs, add_run, merged_all};
 use crate::term_counts::TermCounts;
-use crate::visits::{Visit, visit_block};
+use crate::visits::{Visit, fields_within, visit_block};
 use clap::ArgMatches;
 use std::alloc::Global;
 use std::env;
-use tantivy_schema::schema::{Schema, TantivyDocument, Term, TermList, term_values};
+use tantivy_schema::schema::{Schema, TantivyDocument, Term, TermList, TermValuesError};
+use tv_command::find::DocumentOutcome;
+use tv_command::report::DocumentReport;
+use tv_command::terms::put_terms;
 use tv_query::{QueryReason, Selection, Wanted};
 
 // Counts the terms of a document that are wanted.
@@ -27,12 +32,15 @@ fn count_terms(
     Ok(())
 }
 
-// Counts the terms of documents that are wanted. Those that are too many for memory go into runs.
+// Counts the terms of documents that are wanted, and tells those that can't be searched. Terms that are too many for memory go into runs.
 struct Counting {
     rt: HostRuntime,
-    block: String,
     schema: Schema,
     wanted: Selection,
+    // How many documents were visited, and how many bytes they take.
+    documents: u64,
+    bytes: u64,
+    faults: Faults,
     terms: TermList,
     counts: TermCounts,
     runs: Runs,
@@ -42,9 +50,11 @@ impl Drop for Counting {
     fn drop(self) {
         let Counting {
             rt: _,
-            block: _,
             schema: _,
             wanted: _,
+            documents: _,
+            bytes: _,
+            faults: _,
             terms: _,
             counts: _,
             runs: _,
@@ -57,16 +67,33 @@ impl Counting {
     fn put_away(&mut self) -> Result<(), Failure> {
         add_run(&self.rt, &mut self.runs, &mut self.counts)
     }
+
+    // Counts the terms of the next document, or tells that it can't be searched.
+    fn count(&mut self, document: &TantivyDocument) -> Result<(), Failure> {
+        let fields = [self.wanted.field()];
+        let alloc = self.rt.alloc();
+        match put_terms(alloc, &self.schema, &fields, document, &mut self.terms)? {
+            None => count_terms(&self.wanted, &mut self.terms, &mut self.counts),
+            Some(fault) => self.tell(fault),
+        }
+    }
+
+    // Tells that the next document can't be searched.
+    fn tell(&mut self, fault: TermValuesError) -> Result<(), Failure> {
+        let report = DocumentReport {
+            document: self.documents,
+            start: self.bytes,
+            outcome: DocumentOutcome::Faulty(fault),
+        };
+        self.faults.tell(&self.schema, report)
+    }
 }
 
 impl Visit for Counting {
-    fn visit(&mut self, document: &TantivyDocument, _bytes: u64) -> Result<(), Failure> {
-        let alloc = self.rt.alloc();
-        self.terms.clear();
-        if let Err(error) = term_values(alloc, &self.schema, document, &mut self.terms) {
-            return Err(failed(alloc, self.block.as_str(), error));
-        }
-        count_terms(&self.wanted, &mut self.terms, &mut self.counts)?;
+    fn visit(&mut self, document: &TantivyDocument, bytes: u64) -> Result<(), Failure> {
+        self.count(document)?;
+        self.documents = self.documents.saturating_add(1);
+        self.bytes = bytes;
         if self.counts.is_full() {
             self.put_away()?;
         }
@@ -90,7 +117,7 @@ fn wanted(alloc: Global, given: &ArgMatches<'_>, schema: &Schema) -> Result<Sele
     match Selection::of(alloc, schema, path, wanted) {
         Ok(selection) => Ok(selection),
         Err(QueryReason::Memory) => Err(Failure::Memory),
-        Err(reason) => Err(failed(alloc, path, reason)),
+        Err(reason) => Err(wrong_use(alloc, path, reason)),
     }
 }
 
@@ -176,11 +203,15 @@ fn begin(rt: &HostRuntime, given: &ArgMatches<'_>) -> Result<Counting, Failure> 
     let runs = Runs::new(alloc, folder(rt, given)?);
     let schema = schema_given(rt, given)?;
     let wanted = wanted(alloc, given, &schema)?;
+    refuse_unstored(alloc, &schema, &[wanted.field()])?;
+    let is_erasing = Progress::of(rt, given, &[]).is_shown();
     Ok(Counting {
         rt: *rt,
-        block: String::from_str(alloc, text(given, "BLOCK"))?,
         schema,
         wanted,
+        documents: 0,
+        bytes: 0,
+        faults: Faults::new(rt, text(given, "BLOCK"), is_erasing)?,
         terms: TermList::new(alloc),
         counts,
         runs,
@@ -190,7 +221,8 @@ fn begin(rt: &HostRuntime, given: &ArgMatches<'_>) -> Result<Counting, Failure> 
 /// Prints the terms of a field in their order. Memory is kept for as many as `--memory` lets it, and for one document.
 pub(crate) fn terms(rt: &HostRuntime, given: &ArgMatches<'_>) -> Result<Ending, Failure> {
     let mut counting = begin(rt, given)?;
-    visit_block(rt, given, &mut counting)?;
+    let wanted = fields_within(rt.alloc(), given, &[counting.wanted.field()])?;
+    visit_block(rt, given, wanted, &mut counting)?;
     let counted = given.get_flag("counts");
     if counting.runs.is_empty() {
         print_counts(rt, &counting.counts, counted)?;
@@ -198,5 +230,5 @@ pub(crate) fn terms(rt: &HostRuntime, given: &ArgMatches<'_>) -> Result<Ending, 
         counting.put_away()?;
         print_runs(rt, &mut counting.runs, counted)?;
     }
-    Ok(Ending::Done)
+    Ok(counting.faults.ending())
 }

@@ -4,8 +4,8 @@ use crate::ending::{Failure, failed};
 use crate::inputs::{BlockSource, limits, source, text, version};
 use crate::progress::Progress;
 use clap::ArgMatches;
-use std::alloc::Global;
-use tantivy_schema::schema::TantivyDocument;
+use std::alloc::{AllocError, Global};
+use tantivy_schema::schema::{Field, TantivyDocument};
 use tv_command::documents::{DocumentReader, Wanted};
 use tv_command::watch::Watch;
 
@@ -15,15 +15,28 @@ pub(crate) trait Visit {
     fn visit(&mut self, document: &TantivyDocument, bytes: u64) -> Result<(), Failure>;
 }
 
-// Shows the documents that a source has left to a visitor.
+/// What is read of each document by a command that needs these fields alone: all of it where the words set a limit, else their values.
+pub(crate) fn fields_within(
+    alloc: Global,
+    given: &ArgMatches<'_>,
+    fields: &[Field],
+) -> Result<Wanted, AllocError> {
+    let limits = limits(given);
+    if limits.bytes.is_some() || limits.depth.is_some() {
+        return Ok(Wanted::All(limits));
+    }
+    Ok(Wanted::Fields(Vec::from_slice(alloc, fields)?))
+}
+
+// Shows what is wanted of the documents that a source has left to a visitor.
 fn visit_left<V: Visit>(
     alloc: Global,
     given: &ArgMatches<'_>,
+    wanted: Wanted,
     source: &mut BlockSource,
     visitor: &mut V,
     progress: &mut Progress,
 ) -> Result<(), Failure> {
-    let wanted = Wanted::All(limits(given));
     let mut reader = DocumentReader::new(alloc, version(given, "version"), wanted);
     for _ in 0..u64::MAX {
         match reader.advance(source) {
@@ -37,16 +50,24 @@ fn visit_left<V: Visit>(
     Ok(())
 }
 
-/// Shows the documents of the block that the words name to a visitor, each within the limits, and how far that has come.
+/// Shows what is wanted of the documents of the block that the words name to a visitor, and how far that has come.
 pub(crate) fn visit_block<V: Visit>(
     rt: &HostRuntime,
     given: &ArgMatches<'_>,
+    wanted: Wanted,
     visitor: &mut V,
 ) -> Result<(), Failure> {
     let name = text(given, "BLOCK");
     let mut source = source(rt, name)?;
     let mut progress = Progress::of(rt, given, &[name]);
-    let visited = visit_left(rt.alloc(), given, &mut source, visitor, &mut progress);
+    let visited = visit_left(
+        rt.alloc(),
+        given,
+        wanted,
+        &mut source,
+        visitor,
+        &mut progress,
+    );
     progress.end();
     visited
 }

@@ -35,7 +35,6 @@ leaves_line entries v wanted bytes left rest number start old new d (errors.Writ
 leaves_line entries v wanted bytes left rest number start old new d errors.Memory is begins leaves = (d, rest, begins, leaves)
 leaves_line entries v wanted bytes left rest number start old new d (errors.Read e) is begins leaves = absurd is
 leaves_line entries v wanted bytes left rest number start old new d errors.TooMany is begins leaves = absurd is
-leaves_line entries v wanted bytes left rest number start old new d (errors.Terms why) is begins leaves = absurd is
 
 -- the documents before the rest, of this number, and their lines
 pub record PrintedSoFar (entries : List Entry) (v : Version) (wanted : Wanted) (block rest old now : List ℕ) (number start : ℕ) : Type 0 where
@@ -109,4 +108,3 @@ not_source (errors.Write kind) is same = same
 not_source errors.Memory is same = same
 not_source (errors.Read e) is same = absurd is
 not_source errors.TooMany is same = absurd is
-not_source (errors.Terms why) is same = absurd is

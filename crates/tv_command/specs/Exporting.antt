@@ -32,7 +32,6 @@ AppendsBegun schema d old new = (new ≡ old) ⊎ ((line : List ℕ) × AppendsL
 abbrev pub LeavesNext : List Entry → Version → Wanted → List ℕ → List ℕ → ℕ → ℕ → List ℕ → List ℕ → WorkError → Type 0
 LeavesNext schema v wanted bytes left number start old new (errors.Read e) = (new ≡ old) × (e.documents ≡ number) × IsRefusedAt v wanted bytes left start e
 LeavesNext schema v wanted bytes left number start old new errors.TooMany = (new ≡ old) × (number ≡ 2 ^ 64 - 1)
-LeavesNext schema v wanted bytes left number start old new (errors.Terms why) = ⊥
 LeavesNext schema v wanted bytes left number start old new e = (d : Document) × (rest : List ℕ) × BeginsWithDocument v bytes rest d × AppendsBegun schema (kept wanted d) old new
 
 -- The documents before were printed, and the one with which the rest of the block begins was not, or not whole. `left` is what was left of the block.

@@ -1,71 +1,117 @@
--- The documents of a block that a query wants, printed as lines of JSON.
-use Rattle.std.specs.Prelude.{◌≡◌, ◌-◌, ◌^◌, ◌+◌, ℕ, List, [], ◌∷◌, ◌++◌, Bool, true, false, Ok, Err, length}
+-- The documents of a block that a query wants, printed as lines of JSON, and what becomes of each document.
+use Rattle.std.specs.Prelude.{◌≡◌, ◌-◌, ◌^◌, ◌<◌, ◌+◌, ℕ, List, [], ◌∷◌, ◌++◌, Bool, true, false, Ok, Err, count_by, length}
+use Rattle.std.specs.List.{filter}
+use Rattle.tv_base.specs.Stop.{Stop}
+use Rattle.tv_base.specs.Stop.Stop.{Short}
 use Rattle.tv_blocks.specs.Blocks.{AppendsLine}
 use Rattle.tv_command.specs.Checking.{IsRefusedAt}
 use Rattle.tv_command.specs.Exporting.{AppendsBegun}
-use Rattle.tv_command.specs.Reading.{EncodesBlockWithin}
-use Rattle.tv_command.specs.declared.documents.Wanted.TheVariants.{All}
+use Rattle.tv_command.specs.Reading.{EncodesWithin, kept, limits_of}
+use Rattle.tv_command.specs.WorkErrors.{sink_stop, source_stop}
+use Rattle.tv_command.specs.declared.documents.Wanted.{Wanted}
+use Rattle.tv_command.specs.declared.find.DocumentOutcome.{DocumentOutcome}
+use Rattle.tv_command.specs.declared.find.DocumentOutcome.TheVariants as outcome
+use Rattle.tv_command.specs.declared.find.FindError.{FindError}
+use Rattle.tv_command.specs.declared.find.FindError.TheVariants as finding
 use Rattle.tv_command.specs.declared.find.Found.{Found}
+use Rattle.tv_command.specs.declared.report.DocumentReport.{DocumentReport}
 use Rattle.tv_command.specs.declared.work_error.WorkError.{WorkError}
 use Rattle.tv_command.specs.declared.work_error.WorkError.TheVariants as errors
 use Rattle.tv_field.specs.Entry.{Entry}
+use Rattle.tv_format.specs.InputError.{Refusal}
 use Rattle.tv_format.specs.Tree.{Document}
 use Rattle.tv_format.specs.Version.{Version}
 use Rattle.tv_indexing.specs.DocumentTerms.{Terms, document_terms}
-use Rattle.tv_query.specs.Grammar.{Tree}
+use Rattle.tv_query.specs.Fields.{names_field}
+use Rattle.tv_query.specs.Grammar.{Tree, steps_of}
 use Rattle.tv_query.specs.Matching.{Matches}
 use Rattle.tv_store.specs.Documents.{BeginsWithDocument}
-use Rattle.tv_store.specs.declared.limits.ReadLimits.{ReadLimits}
 
--- The document's terms match the query, and its line is appended; or they don't, and nothing is.
-abbrev pub Finds : List Entry → Tree → Document → List ℕ → List ℕ → Bool → Type 0
-Finds schema tree d old new true = (terms : List (List ℕ)) × (document_terms schema d ≡ Ok terms) × Matches terms tree × AppendsLine schema d old new
-Finds schema tree d old new false = (terms : List (List ℕ)) × (document_terms schema d ≡ Ok terms) × (¬ Matches terms tree) × (new ≡ old)
+-- ---- a document
 
--- the same of each document in order, of which this number match
-pub data FindsEach (schema : List Entry) (tree : Tree) (old : List ℕ) : List Document → List ℕ → ℕ → Type 0 where
-  none : FindsEach schema tree old [] old 0
-  one_more : {documents : List Document} {middle new : List ℕ} {number : ℕ} (d : Document) → FindsEach schema tree old documents middle number → Finds schema tree d middle new true
-      → FindsEach schema tree old (documents ++ d ∷ []) new (number + 1)
-  another : {documents : List Document} {middle new : List ℕ} {number : ℕ} (d : Document) → FindsEach schema tree old documents middle number → Finds schema tree d middle new false
-      → FindsEach schema tree old (documents ++ d ∷ []) new number
+-- the terms of the fields that the query names, or why there are none
+abbrev pub named_terms : List Entry → Tree → Document → Terms
+named_terms schema tree d = document_terms schema (filter (λ pair. names_field (steps_of tree) pair.0) d)
 
--- The block encodes this number of documents, and the lines of those that match were appended.
-abbrev pub FindsAll : List Entry → Version → ReadLimits → Tree → List ℕ → List ℕ → List ℕ → Found → Type 0
-FindsAll schema v limits tree block old new found =
-    (documents : List Document) × EncodesBlockWithin v limits block documents × FindsEach schema tree old documents new found.found × (found.documents ≡ length documents)
+-- What becomes of a document: these terms match the query, and its line is appended; or they don't, or there are none, and nothing is.
+abbrev pub Finds : List Entry → Tree → Document → List ℕ → List ℕ → DocumentOutcome → Type 0
+Finds schema tree d old new outcome.Found = (terms : List (List ℕ)) × (named_terms schema tree d ≡ Ok terms) × Matches terms tree × AppendsLine schema d old new
+Finds schema tree d old new outcome.NotFound = (terms : List (List ℕ)) × (named_terms schema tree d ≡ Ok terms) × (¬ Matches terms tree) × (new ≡ old)
+Finds schema tree d old new (outcome.Faulty why) = (named_terms schema tree d ≡ Err why) × (new ≡ old)
 
 -- what was appended of a document, and why no more
 abbrev pub LeavesDocument : List Entry → Tree → Document → List ℕ → List ℕ → WorkError → Type 0
-LeavesDocument schema tree d old new (errors.Terms why) = (document_terms schema d ≡ Err why) × (new ≡ old)
-LeavesDocument schema tree d old new (errors.Write kind) = (terms : List (List ℕ)) × (document_terms schema d ≡ Ok terms) × Matches terms tree × AppendsBegun schema d old new
+LeavesDocument schema tree d old new (errors.Write kind) = (terms : List (List ℕ)) × (named_terms schema tree d ≡ Ok terms) × Matches terms tree × AppendsBegun schema d old new
 LeavesDocument schema tree d old new errors.Memory = AppendsBegun schema d old new
 LeavesDocument schema tree d old new e = ⊥
 
--- The same of the document with which these bytes begin: nothing where it can't be read, or isn't. Before it come this many documents, in this number of
--- bytes.
-abbrev pub LeavesNext : List Entry → Version → ReadLimits → Tree → List ℕ → List ℕ → ℕ → ℕ → List ℕ → List ℕ → WorkError → Type 0
-LeavesNext schema v limits tree bytes left number start old new (errors.Read e) = (new ≡ old) × (e.documents ≡ number) × IsRefusedAt v (All limits) bytes left start e
-LeavesNext schema v limits tree bytes left number start old new errors.TooMany = (new ≡ old) × (number ≡ 2 ^ 64 - 1)
-LeavesNext schema v limits tree bytes left number start old new e = (d : Document) × (rest : List ℕ) × BeginsWithDocument v bytes rest d × LeavesDocument schema tree d old new e
+-- ---- documents
+
+-- These bytes encode documents, one after the other, each within the limits, and each of these reports is true of what is wanted of one, with its number and the place where it
+-- begins. They are the first of the block.
+pub data FindsEach (schema : List Entry) (v : Version) (wanted : Wanted) (tree : Tree) (block old : List ℕ) : List ℕ → List ℕ → List DocumentReport → Type 0 where
+  none : FindsEach schema v wanted tree block old [] old []
+  one_more : {before middle new : List ℕ} {reports : List DocumentReport} (bytes : List ℕ) (d : Document) (report : DocumentReport) → FindsEach schema v wanted tree block old before middle reports
+      → EncodesWithin v (limits_of wanted) bytes d → report.document ≡ length reports → (length block < 2 ^ 64 - 1 → report.start ≡ length before) → Finds schema tree (kept wanted d) middle new report.outcome
+      → FindsEach schema v wanted tree block old (before ++ bytes) new (reports ++ report ∷ [])
+
+abbrev pub is_found : DocumentOutcome → Bool
+is_found outcome.Found = true
+is_found outcome.NotFound = false
+is_found (outcome.Faulty why) = false
+
+abbrev pub is_faulty : DocumentOutcome → Bool
+is_faulty outcome.Found = false
+is_faulty outcome.NotFound = false
+is_faulty (outcome.Faulty why) = true
+
+-- The block is documents. Where it is known what was told, that is what became of each, and of each kind there are as many as are said.
+pub record FindsAll (schema : List Entry) (v : Version) (wanted : Wanted) (tree : Tree) (block old new : List ℕ) (IsTold : Type 0) (begun ended : List DocumentReport) (found : Found) : Type 0 where
+  pub reports : List DocumentReport
+  pub each : FindsEach schema v wanted tree block old block new reports
+  pub told : IsTold → ended ≡ begun ++ reports
+  pub documents : found.documents ≡ length reports
+  pub matching : found.found ≡ count_by (λ report. is_found report.outcome) reports
+  pub faulty : found.faulty ≡ count_by (λ report. is_faulty report.outcome) reports
+
+-- What was appended of the document with which these bytes begin, and why the search went no further: nothing where it can't be read, or isn't. Before it come
+-- this many documents, in this number of bytes.
+abbrev pub LeavesNext : List Entry → Version → Wanted → Tree → List ℕ → List ℕ → ℕ → ℕ → List ℕ → List ℕ → WorkError → Type 0
+LeavesNext schema v wanted tree bytes left number start old new (errors.Read e) = (new ≡ old) × (e.documents ≡ number) × IsRefusedAt v wanted bytes left start e
+LeavesNext schema v wanted tree bytes left number start old new errors.TooMany = (new ≡ old) × (number ≡ 2 ^ 64 - 1)
+LeavesNext schema v wanted tree bytes left number start old new e = (d : Document) × (rest : List ℕ) × BeginsWithDocument v bytes rest d × LeavesDocument schema tree (kept wanted d) old new e
+
+-- the same, or it was gone over and only the report failed
+abbrev pub LeavesSearch : {E : Type 0} → List Entry → Version → Wanted → Tree → List ℕ → List ℕ → ℕ → ℕ → List ℕ → List ℕ → FindError E → Type 0
+LeavesSearch schema v wanted tree bytes left number start old new (finding.Work e) = LeavesNext schema v wanted tree bytes left number start old new e
+LeavesSearch schema v wanted tree bytes left number start old new (finding.Report e) =
+    (d : Document) × (rest : List ℕ) × (said : DocumentOutcome) × BeginsWithDocument v bytes rest d × Finds schema tree (kept wanted d) old new said
 
 -- The documents before were gone over, and the one with which the rest of the block begins was not, or not to the end. `left` is what was left of the
 -- block.
-pub record StopsFinding (schema : List Entry) (v : Version) (limits : ReadLimits) (tree : Tree) (block left old new : List ℕ) (error : WorkError) : Type 0 where
+pub record StopsFinding {E : Type 0} (schema : List Entry) (v : Version) (wanted : Wanted) (tree : Tree) (block left old new : List ℕ) (IsTold : Type 0) (begun ended : List DocumentReport) (error : FindError E) : Type 0 where
   pub before : List ℕ
   pub after : List ℕ
   pub joined : block ≡ before ++ after
-  pub documents : List Document
-  pub encoded : EncodesBlockWithin v limits before documents
   pub middle : List ℕ
-  pub number : ℕ
-  pub found : FindsEach schema tree old documents middle number
-  pub next : LeavesNext schema v limits tree after left (length documents) (length before) middle new error
+  pub reports : List DocumentReport
+  pub each : FindsEach schema v wanted tree block old before middle reports
+  pub told : IsTold → ended ≡ begun ++ reports
+  pub next : LeavesSearch schema v wanted tree after left (length reports) (length before) middle new error
+
+-- why a search broke off, as its source and its sink see it
+abbrev pub find_source_stop : {E : Type 0} → FindError E → Stop Refusal
+find_source_stop (finding.Work e) = source_stop e
+find_source_stop (finding.Report e) = Short
+
+abbrev pub find_sink_stop : {E : Type 0} → FindError E → Stop Refusal
+find_sink_stop (finding.Work e) = sink_stop e
+find_sink_stop (finding.Report e) = Short
 
 -- ---- for private clauses
 
--- why a document's terms weren't taken
-abbrev pub RefusesTerms : Terms → WorkError → Type 0
-RefusesTerms answer (errors.Terms why) = answer ≡ Err why
-RefusesTerms answer errors.Memory = Unit {0}
-RefusesTerms answer e = ⊥
+-- one document more is counted
+abbrev pub CountsFound : Found → DocumentOutcome → Found → Type 0
+CountsFound old outcome.Found new = (new.documents ≡ old.documents + 1) × (new.found ≡ old.found + 1) × (new.faulty ≡ old.faulty)
+CountsFound old outcome.NotFound new = (new.documents ≡ old.documents + 1) × (new.found ≡ old.found) × (new.faulty ≡ old.faulty)
+CountsFound old (outcome.Faulty why) new = (new.documents ≡ old.documents + 1) × (new.found ≡ old.found) × (new.faulty ≡ old.faulty + 1)

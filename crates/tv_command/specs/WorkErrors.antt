@@ -16,11 +16,6 @@ abbrev pub sink_stop : WorkError → Stop Refusal
 sink_stop (errors.Write kind) = Failed kind
 sink_stop _ = Short
 
--- for another reason than that a document has no terms
-abbrev pub IsNotOfTerms : WorkError → Type 0
-IsNotOfTerms (errors.Terms why) = ⊥
-IsNotOfTerms _ = Unit {0}
-
 -- ---- for private clauses
 
 -- a write failed, or memory was refused
@@ -28,8 +23,3 @@ abbrev pub IsOfWriting : WorkError → Type 0
 IsOfWriting (errors.Write kind) = Unit {0}
 IsOfWriting errors.Memory = Unit {0}
 IsOfWriting _ = ⊥
-
--- the same, or a document has no terms
-abbrev pub IsOfDocument : WorkError → Type 0
-IsOfDocument (errors.Terms why) = Unit {0}
-IsOfDocument e = IsOfWriting e

@@ -5,7 +5,7 @@ ghost use Rattle.tv_base.specs.Sink.{AppendsPrefix};
 ghost use Rattle.tv_base.specs.Stop.{Counts};
 ghost use Rattle.tv_blocks.specs.Blocks.{AppendsLine};
 ghost use Rattle.tv_command.specs.Exporting.{AppendsBegun, BreaksOff, ExportsAll};
-ghost use Rattle.tv_command.specs.WorkErrors.{IsNotOfTerms, IsOfWriting, sink_stop, source_stop};
+ghost use Rattle.tv_command.specs.WorkErrors.{IsOfWriting, sink_stop, source_stop};
 ghost use Rattle.tv_doc.specs.Document.{document_of};
 ghost use Rattle.tv_reader.specs.Version.{version_of};
 
@@ -69,7 +69,6 @@ pub fn export_block<S: ByteSource, K: ByteSink, W: Watch>(
         → IfErr result
         (BreaksOff schema.now (version_of version) wanted (S.left source.old) (S.left source.new)
         (K.held sink.old) (K.held sink.new)) }
-    ensures errors { IfErr result IsNotOfTerms }
     ensures all { S.is_known source.old → OnOk result (S.left source.new ≡ []) }
     ensures source_failures { Counts source_stop result (S.failures source.old)
         (S.failures source.new) }

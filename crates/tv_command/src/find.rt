@@ -1,25 +1,40 @@
 //! The documents of a block that a query matches, as lines of JSON.
 
-ghost use Rattle.std.specs.Prelude.{◌≡◌, ◌+◌, ◌-◌, ◌<◌, ◌^◌, [], if◌then◌else◌};
-ghost use Rattle.std.specs.Prelude.{IfErr, IfOk, Ok, OnOk};
+ghost use Rattle.std.specs.Prelude.{◌≡◌, ◌+◌, ◌-◌, ◌<◌, ◌^◌, [], IfErr, IfOk, OnOk};
 ghost use Rattle.tv_base.specs.Stop.{Counts};
-ghost use Rattle.tv_command.specs.Finding.{Finds, FindsAll, LeavesDocument, RefusesTerms, StopsFinding};
-ghost use Rattle.tv_command.specs.WorkErrors.{IsOfDocument, sink_stop, source_stop};
+ghost use Rattle.tv_command.specs.Finding.{CountsFound, Finds, FindsAll, LeavesDocument, StopsFinding};
+ghost use Rattle.tv_command.specs.Finding.{find_sink_stop, find_source_stop, named_terms};
+ghost use Rattle.tv_command.specs.Terms.{PutsTerms};
+ghost use Rattle.tv_command.specs.WorkErrors.{IsOfWriting, sink_stop};
 ghost use Rattle.tv_doc.specs.Document.{document_of};
-ghost use Rattle.tv_indexing.specs.DocumentTerms.{document_terms};
 ghost use Rattle.tv_query.specs.Grammar.{Tree, steps_of};
 ghost use Rattle.tv_reader.specs.Version.{version_of};
 
 use crate::documents::{DocumentReader, Wanted};
 use crate::export::write_line;
+use crate::report::{DocumentReport, Report};
+use crate::terms::put_terms;
 use crate::watch::Watch;
 use crate::work_error::WorkError;
-use std::alloc::Global;
+use std::alloc::{AllocError, Global};
+use std::fmt::Display;
 use tantivy_schema::common::{ByteSink, ByteSource};
 use tantivy_schema::schema::{Schema, TantivyDocument};
-use tantivy_schema::store::{DocStoreVersion, ReadLimits};
-use tv_indexing::{TermList, TermValuesError, term_values};
+use tantivy_schema::store::DocStoreVersion;
+use thiserror::Error;
+use tv_indexing::{TermList, TermValuesError};
 use tv_query::{Query, QueryStack};
+
+/// What becomes of a document that is searched.
+#[derive(Clone, Copy)]
+pub enum DocumentOutcome {
+    /// The query matches it.
+    Found,
+    /// The query doesn't match it.
+    NotFound,
+    /// A value of a field that the query names has no term, for this reason, so that the document can't be searched.
+    Faulty(TermValuesError),
+}
 
 /// What was found in a block.
 #[derive(Clone, Copy)]
@@ -28,6 +43,20 @@ pub struct Found {
     pub documents: u64,
     /// How many of them the query matches.
     pub found: u64,
+    /// How many of them can't be searched.
+    pub faulty: u64,
+}
+
+/// Why a search breaks off.
+#[derive(Debug, Drop, Error)]
+#[error_bound(E: Display)]
+pub enum FindError<E> {
+    /// The next document can't be read, or its line can't be written.
+    #[error("{0}")]
+    Work(WorkError),
+    /// What became of the document can't be told.
+    #[error("{0}")]
+    Report(E),
 }
 
 // The memory that serves one document after the other.
@@ -47,27 +76,21 @@ impl Drop for FindBuffers {
     }
 }
 
-// Puts the terms of a document in place of those in the list.
-fn put_terms(
+// Puts the terms of the fields that the query names in place of those in the list, or says why there are none.
+fn put_named_terms(
     alloc: Global,
     schema: &Schema,
+    query: &Query,
     document: &TantivyDocument,
     terms: &mut TermList,
-) -> Result<(), WorkError>
-    ensures made { OnOk result
-        (document_terms schema.now (document_of document.now) ≡ Ok terms.new) }
-    ensures refused { IfErr result
-        (RefusesTerms (document_terms schema.now (document_of document.now))) }
+) -> Result<Option<TermValuesError>, AllocError>
+    ensures { (tree : Tree) → query.now.steps.items ≡ steps_of tree → IfOk result
+        (PutsTerms (named_terms schema.now tree (document_of document.now)) terms.new) }
 {
-    terms.clear();
-    match term_values(alloc, schema, document, terms) {
-        Ok(()) => Ok(()),
-        Err(TermValuesError::Memory) => Err(WorkError::Memory),
-        Err(error) => Err(WorkError::Terms(error)),
-    }
+    put_terms(alloc, schema, query.fields(), document, terms)
 }
 
-// Appends the line of a document that the query matches, and says whether it does.
+// Appends the line of a document that the query matches, and says what becomes of the document.
 fn find_in_document<K: ByteSink>(
     alloc: Global,
     schema: &Schema,
@@ -75,88 +98,145 @@ fn find_in_document<K: ByteSink>(
     document: &TantivyDocument,
     buffers: &mut FindBuffers,
     sink: &mut K,
-) -> Result<bool, WorkError>
+) -> Result<DocumentOutcome, WorkError>
     ensures ok { K.is_known sink.old → (tree : Tree) → query.now.steps.items ≡ steps_of tree
         → IfOk result (Finds schema.now tree (document_of document.now) (K.held sink.old)
         (K.held sink.new)) }
     ensures err { K.is_known sink.old → (tree : Tree) → query.now.steps.items ≡ steps_of tree
         → IfErr result (LeavesDocument schema.now tree (document_of document.now)
         (K.held sink.old) (K.held sink.new)) }
-    ensures errors { IfErr result IsOfDocument }
+    ensures errors { IfErr result IsOfWriting }
     ensures failures { Counts sink_stop result (K.failures sink.old) (K.failures sink.new) }
     ensures is_known { K.is_known sink.old → K.is_known sink.new }
 {
-    put_terms(alloc, schema, document, &mut buffers.terms)?;
+    match put_named_terms(alloc, schema, query, document, &mut buffers.terms)? {
+        Some(fault) => return Ok(DocumentOutcome::Faulty(fault)),
+        None => {}
+    }
     match query.matches(&buffers.terms, &mut buffers.stack) {
         Ok(true) => {
             write_line(alloc, schema, document, &mut buffers.text, sink)?;
-            Ok(true)
+            Ok(DocumentOutcome::Found)
         }
-        Ok(false) => Ok(false),
+        Ok(false) => Ok(DocumentOutcome::NotFound),
         Err(_) => Err(WorkError::Memory),
     }
 }
 
-// One more, where a document matches.
-fn counted(found: u64, matches: bool) -> u64
-    requires { found < 2 ^ 64 - 1 }
-    ensures { result ≡ (if matches then found + 1 else found) }
+// One document more.
+fn counted(found: Found, outcome: DocumentOutcome) -> Found
+    requires documents { found.documents < 2 ^ 64 - 1 }
+    requires kinds { found.found + found.faulty < 2 ^ 64 - 1 }
+    ensures { CountsFound found outcome result }
 {
-    if matches { found + 1 } else { found }
+    let Found {
+        documents,
+        found,
+        faulty,
+    } = found;
+    let documents = documents + 1;
+    match outcome {
+        DocumentOutcome::Found => Found {
+            documents,
+            found: found + 1,
+            faulty,
+        },
+        DocumentOutcome::NotFound => Found {
+            documents,
+            found,
+            faulty,
+        },
+        DocumentOutcome::Faulty(_) => Found {
+            documents,
+            found,
+            faulty: faulty + 1,
+        },
+    }
 }
 
-/// Appends the lines of those documents of a block that the query matches, in order, as `export_block` prints them, and returns how many
-/// documents there are and how many match. `watch` is advanced after each document that was gone over, with the bytes from the first on. (Not in tantivy.)
+/// Appends the lines of those documents of a block that the query matches, in order, as `export_block` prints what is wanted of them, and tells the report what
+/// became of each document, by its number and place. Returns how many documents there are, how many match, and how many can't be searched.
+/// `watch` is advanced after each document that was gone over, with the bytes from the first on. (Not in tantivy.)
 ///
-/// A document matches by its terms, as `term_values` gives them. Errors: `Read` for the first document that can't be read or passes a limit, with its
-/// number and place; `Terms` for the first that has no terms by the schema; `Write` where a write failed; `Memory`; `TooMany` after 2^64 - 1
-/// documents. The sink then holds the lines of the documents before that one which match, and after `Write` and `Memory` also a beginning of
-/// the line of that one.
-pub fn find_in_block<S: ByteSource, K: ByteSink, W: Watch>(
+/// Of what is wanted of a document, it matches by the terms of those fields that the query names, as `term_values_of_fields` gives them, and no others are
+/// made. One of which a value of these fields has no term is told as `Faulty`, with the error for the first such value, and passed over.
+///
+/// Errors: `Work`, with `Read` for the first document that can't be read or passes a limit, with its number and place; with `Write` where a write
+/// failed; with `Memory`; or with `TooMany` after 2^64 - 1 documents. `Report` where a report failed, with its error. The sink then holds the
+/// lines of the documents before that one which match, after `Write` and `Memory` also a beginning of the line of that one, and after `Report` all
+/// of it, if it matches. The report then has the documents before it.
+pub fn find_in_block<S: ByteSource, K: ByteSink, T: Report<DocumentReport>, W: Watch>(
     alloc: Global,
     schema: &Schema,
     version: DocStoreVersion,
-    limits: ReadLimits,
+    wanted: Wanted,
     query: &Query,
     source: &mut S,
     sink: &mut K,
+    report: &mut T,
     watch: &mut W,
-) -> Result<Found, WorkError>
+) -> Result<Found, FindError<T::Error>>
     ensures ok { S.is_known source.old → K.is_known sink.old → (tree : Tree)
         → query.now.steps.items ≡ steps_of tree → IfOk result
-        (FindsAll schema.now (version_of version) limits tree (S.left source.old)
-        (K.held sink.old) (K.held sink.new)) }
+        (FindsAll schema.now (version_of version) wanted tree (S.left source.old)
+        (K.held sink.old) (K.held sink.new)
+        (T.is_known report.old) (T.told report.old) (T.told report.new)) }
     ensures err { S.is_known source.old → K.is_known sink.old → (tree : Tree)
         → query.now.steps.items ≡ steps_of tree → IfErr result
-        (StopsFinding schema.now (version_of version) limits tree (S.left source.old)
-        (S.left source.new) (K.held sink.old) (K.held sink.new)) }
+        (StopsFinding schema.now (version_of version) wanted tree (S.left source.old)
+        (S.left source.new) (K.held sink.old) (K.held sink.new)
+        (T.is_known report.old) (T.told report.old) (T.told report.new)) }
     ensures all { S.is_known source.old → OnOk result (S.left source.new ≡ []) }
-    ensures source_failures { Counts source_stop result (S.failures source.old)
+    ensures source_failures { Counts find_source_stop result (S.failures source.old)
         (S.failures source.new) }
-    ensures sink_failures { Counts sink_stop result (K.failures sink.old) (K.failures sink.new) }
+    ensures sink_failures { Counts find_sink_stop result (K.failures sink.old)
+        (K.failures sink.new) }
     ensures source_is_known { S.is_known source.old → S.is_known source.new }
     ensures sink_is_known { K.is_known sink.old → K.is_known sink.new }
+    ensures report_is_known { T.is_known report.old → T.is_known report.new }
 {
-    let mut reader = DocumentReader::new(alloc, version, Wanted::All(limits));
+    let mut reader = DocumentReader::new(alloc, version, wanted);
     let mut buffers = FindBuffers {
         terms: TermList::new(alloc),
         stack: QueryStack::new(alloc),
         text: String::new(alloc),
     };
-    let mut found: u64 = 0;
-    for documents in 0..u64::MAX {
+    let mut found = Found {
+        documents: 0,
+        found: 0,
+        faulty: 0,
+    };
+    for number in 0..u64::MAX {
+        let start = reader.bytes();
         match reader.advance(source) {
             Ok(true) => {
                 let document = reader.document();
-                match find_in_document(alloc, schema, query, document, &mut buffers, sink) {
-                    Ok(matches) => found = counted(found, matches),
-                    Err(error) => return Err(error),
+                let outcome = match find_in_document(
+                    alloc,
+                    schema,
+                    query,
+                    document,
+                    &mut buffers,
+                    sink,
+                ) {
+                    Ok(outcome) => outcome,
+                    Err(error) => return Err(FindError::Work(error)),
+                };
+                found = counted(found, outcome);
+                let said = DocumentReport {
+                    document: number,
+                    start,
+                    outcome,
+                };
+                match report.tell(said) {
+                    Ok(()) => {}
+                    Err(error) => return Err(FindError::Report(error)),
                 }
                 watch.advance(reader.bytes());
             }
-            Ok(false) => return Ok(Found { documents, found }),
-            Err(error) => return Err(WorkError::Read(error)),
+            Ok(false) => return Ok(found),
+            Err(error) => return Err(FindError::Work(WorkError::Read(error))),
         }
     }
-    Err(WorkError::TooMany)
+    Err(FindError::Work(WorkError::TooMany))
 }

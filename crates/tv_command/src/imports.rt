@@ -61,7 +61,7 @@ fn counted(imported: Imported, outcome: &LineOutcome) -> Imported
 /// Errors: `Import` with an error of `LineImporter::advance`; `Report` where a report failed, with its error; `TooMany` after 2^64 - 1 lines. The sink
 /// then holds the documents of the lines before the one at which it broke off, after `Import` maybe also a beginning of its document, and after
 /// `Report` all of it. The report then has the lines before it.
-pub fn import_lines<R: BufRead, K: ByteSink, T: Report, W: Watch>(
+pub fn import_lines<R: BufRead, K: ByteSink, T: Report<LineReport>, W: Watch>(
     importer: &mut LineImporter,
     schema: &Schema,
     reader: &mut R,

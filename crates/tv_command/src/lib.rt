@@ -14,5 +14,6 @@ pub mod migrate;
 mod refused_value;
 pub mod report;
 pub mod runs;
+pub mod terms;
 pub mod watch;
 pub mod work_error;

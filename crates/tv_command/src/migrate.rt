@@ -4,7 +4,7 @@ ghost use Rattle.std.specs.Prelude.{◌≡◌, ◌-◌, ◌^◌, ◌<◌, [], If
 ghost use Rattle.tv_base.specs.Stop.{Counts};
 ghost use Rattle.tv_command.specs.Counting.{CountsAll};
 ghost use Rattle.tv_command.specs.Migrating.{BreaksOff, Stops};
-ghost use Rattle.tv_command.specs.WorkErrors.{IsNotOfTerms, sink_stop, source_stop};
+ghost use Rattle.tv_command.specs.WorkErrors.{sink_stop, source_stop};
 ghost use Rattle.tv_format.specs.WriteVersion.{written_version};
 ghost use Rattle.tv_reader.specs.Version.{version_of};
 ghost use Rattle.tv_store.specs.BlockMigration.{MigratesAll};
@@ -61,7 +61,6 @@ fn migrate_each<S: ByteSource, K: ByteSink, W: Watch, I: Input>(
     ensures all { CountsAll (S.is_known source.old.source.now) (S.left source.old.source.now)
         source.old.taken source.old.source.ghost_name I.name I.total
         → OnOk result (S.left source.new.source.now ≡ []) }
-    ensures errors { IfErr result IsNotOfTerms }
     ensures source_is_known { CountsAll (S.is_known source.old.source.now)
         (S.left source.old.source.now) source.old.taken source.old.source.ghost_name I.name I.total
         → CountsAll (S.is_known source.new.source.now) (S.left source.new.source.now)
@@ -106,7 +105,6 @@ pub fn migrate_block<S: ByteSource, K: ByteSink, W: Watch>(
     ensures source_failures { S.is_known source.old → length (S.left source.old) < 2 ^ 64 - 1
         → Counts source_stop result (S.failures source.old) (S.failures source.new) }
     ensures sink_failures { Counts sink_stop result (K.failures sink.old) (K.failures sink.new) }
-    ensures errors { IfErr result IsNotOfTerms }
     ensures source_is_known { S.is_known source.old → length (S.left source.old) < 2 ^ 64 - 1
         → S.is_known source.new }
     ensures sink_is_known { K.is_known sink.old → K.is_known sink.new }

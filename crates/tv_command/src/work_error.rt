@@ -6,7 +6,6 @@ use crate::documents::BlockError;
 use std::alloc::AllocError;
 use std::io;
 use thiserror::Error;
-use tv_indexing::TermValuesError;
 
 /// Why an export, a search or a migration breaks off. (Not in tantivy.)
 #[derive(Debug, Drop, Error)]
@@ -14,9 +13,6 @@ pub enum WorkError {
     /// The next document can't be read, or passes a limit.
     #[error("{0}")]
     Read(BlockError),
-    /// The document has no terms by the schema. Only a search returns this.
-    #[error("{0}")]
-    Terms(TermValuesError),
     /// A write failed, with this kind.
     #[error("writing failed: {0}")]
     Write(io::ErrorKind),

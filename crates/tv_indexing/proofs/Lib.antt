@@ -1,6 +1,7 @@
 pub mod Places
 pub mod Following
 pub mod Walks
+pub mod Wanted
 pub mod Steps
 pub mod TextLaws
 pub mod TextSteps

@@ -1,6 +1,7 @@
 -- The terms of a document's values, in the document's order.
-use Rattle.std.specs.Prelude.{◌≡◌, ◌==◌, ℕ, if◌then◌else◌, List, [], ◌∷◌, ◌++◌, Bool, Option, Some, None, Result, Ok, Err, slice_get}
-use Rattle.std.specs.List.{list_any}
+use Rattle.std.specs.Prelude.{◌≡◌, ◌==◌, ℕ, if◌then◌else◌, List, [], ◌∷◌, ◌++◌, Bool, true, Option, Some, None, Result, Ok, Err, slice_get}
+use Rattle.std.specs.Borrow.{Bor}
+use Rattle.std.specs.List.{filter, list_any}
 use Rattle.tv_base.specs.JsonPath.{joined}
 use Rattle.tv_date.specs.DateTime.{truncated}
 use Rattle.tv_date.specs.declared.date_time.DateTimePrecision.TheVariants.{Seconds}
@@ -94,7 +95,30 @@ abbrev pub document_terms : List Entry → Document → Terms
 document_terms schema [] = Ok []
 document_terms schema (pair ∷ pairs) = followed_by (pair_terms schema pair) (document_terms schema pairs)
 
+-- whether the field of this number is among these
+abbrev pub is_among : List Field → ℕ → Bool
+is_among fields number = list_any (λ f. f.id == number) fields
+
+-- those of the pairs whose field is among these
+abbrev pub fields_terms : List Entry → List Field → Document → Terms
+fields_terms schema fields d = document_terms schema (filter (λ pair. is_among fields pair.0) d)
+
 -- these were appended, and they aren't refused
 abbrev pub AreAppended : List (List ℕ) → List (List ℕ) → Terms → Type 0
 AreAppended old new (Ok made) = new ≡ old ++ made
 AreAppended old new (Err e) = ⊥
+
+-- ---- for private clauses
+
+-- the same, where none may be named, and then each is
+abbrev pub is_wanted : Option (Bor (List Field)) → ℕ → Bool
+is_wanted None number = true
+is_wanted (Some fields) number = is_among fields.now number
+
+abbrev pub wanted_pair_terms : List Entry → Option (Bor (List Field)) → ℕ × Tree → Terms
+wanted_pair_terms schema wanted pair = if is_wanted wanted pair.0 then pair_terms schema pair else Ok []
+
+-- the terms of these fields, or of all
+abbrev pub wanted_terms : List Entry → Option (Bor (List Field)) → Document → Terms
+wanted_terms schema None d = document_terms schema d
+wanted_terms schema (Some fields) d = fields_terms schema fields.now d

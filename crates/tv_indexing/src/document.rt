@@ -3,7 +3,9 @@
 ghost use Rattle.std.specs.Prelude.{◌≡◌, ◌≢◌, Err, IfErr, OnErr, OnOk};
 ghost use Rattle.tv_doc.specs.Document.{document_of};
 ghost use Rattle.tv_heap.specs.Value.{tree_of};
-ghost use Rattle.tv_indexing.specs.DocumentTerms.{AreAppended, document_terms, pair_terms};
+ghost use Rattle.tv_indexing.specs.DocumentTerms.{AreAppended, document_terms, fields_terms};
+ghost use Rattle.tv_indexing.specs.DocumentTerms.{is_among, is_wanted, pair_terms};
+ghost use Rattle.tv_indexing.specs.DocumentTerms.{wanted_pair_terms, wanted_terms};
 ghost use Rattle.tv_indexing.specs.JsonWalk.{Extends};
 ghost use Rattle.tv_indexing.specs.declared.term_values_error.TermValuesError.TheVariants.{Memory};
 
@@ -51,25 +53,96 @@ fn push_value<'a>(
     }
 }
 
-// Appends the terms of a document's values. After an error a beginning of them may be appended.
+/// Whether a field is among these, by looking through them. (Not in tantivy.)
+pub fn is_among(fields: &[Field], field: Field) -> bool
+    ensures { result ≡ is_among fields.now field.id }
+{
+    fields.iter().any(|one| one.field_id() == field.field_id())
+}
+
+// Whether a field is among the wanted ones: each is, where none are named.
+fn is_wanted(wanted: Option<&[Field]>, field: Field) -> bool
+    ensures { result ≡ is_wanted wanted.entry field.id }
+{
+    match wanted {
+        Some(fields) => is_among(fields, field),
+        None => true,
+    }
+}
+
+// Appends the terms of a value of a field, if that is wanted. After an error a beginning of them may be appended.
+fn push_wanted<'a>(
+    terms: &mut TermList,
+    schema: &Schema,
+    wanted: Option<&[Field]>,
+    path: &mut Vec<u8>,
+    around: &mut Vec<OpenList<'a>>,
+    field: Field,
+    value: CompactDocValue<'a>,
+) -> Result<(), TermValuesError>
+    ensures made { OnOk result
+        (AreAppended terms.old terms.new
+        (wanted_pair_terms schema.now wanted.entry (field.id, tree_of value.entry))) }
+    ensures refused { IfErr result
+        (λ e. e ≢ Memory
+        → wanted_pair_terms schema.now wanted.entry (field.id, tree_of value.entry) ≡ Err e) }
+    ensures kept { OnErr result (Extends terms.old terms.new) }
+{
+    if is_wanted(wanted, field) {
+        push_value(terms, schema, path, around, field, value)
+    } else {
+        Ok(())
+    }
+}
+
+// Appends the terms of a document's values, of the wanted fields or of all. After an error a beginning of them may be appended.
 fn push_document(
     alloc: Global,
     schema: &Schema,
+    wanted: Option<&[Field]>,
     document: &CompactDoc,
     terms: &mut TermList,
 ) -> Result<(), TermValuesError>
     ensures made { OnOk result
-        (AreAppended terms.old terms.new (document_terms schema.now (document_of document.now))) }
+        (AreAppended terms.old terms.new
+        (wanted_terms schema.now wanted.entry (document_of document.now))) }
     ensures refused { IfErr result
-        (λ e. e ≢ Memory → document_terms schema.now (document_of document.now) ≡ Err e) }
+        (λ e. e ≢ Memory
+        → wanted_terms schema.now wanted.entry (document_of document.now) ≡ Err e) }
     ensures kept { OnErr result (Extends terms.old terms.new) }
 {
     let mut path = Vec::new(alloc);
     let mut around = Vec::new(alloc);
     for (field, value) in document.field_values() {
-        push_value(terms, schema, &mut path, &mut around, field, value)?;
+        push_wanted(terms, schema, wanted, &mut path, &mut around, field, value)?;
     }
     Ok(())
+}
+
+// Appends the terms of a document's values, of the wanted fields or of all.
+fn append_terms(
+    alloc: Global,
+    schema: &Schema,
+    wanted: Option<&[Field]>,
+    document: &CompactDoc,
+    terms: &mut TermList,
+) -> Result<(), TermValuesError>
+    ensures made { OnOk result
+        (AreAppended terms.old terms.new
+        (wanted_terms schema.now wanted.entry (document_of document.now))) }
+    ensures refused { IfErr result
+        (λ e. e ≢ Memory
+        → wanted_terms schema.now wanted.entry (document_of document.now) ≡ Err e) }
+    ensures unchanged { OnErr result (terms.new ≡ terms.old) }
+{
+    let len = terms.len();
+    match push_document(alloc, schema, wanted, document, terms) {
+        Ok(()) => Ok(()),
+        Err(error) => {
+            terms.truncate(len);
+            Err(error)
+        }
+    }
 }
 
 /// Appends the terms of a document's values, in the document's order, as an index has them. (In tantivy they are made where a document is
@@ -117,12 +190,29 @@ pub fn term_values(
         (λ e. e ≢ Memory → document_terms schema.now (document_of document.now) ≡ Err e) }
     ensures unchanged { OnErr result (terms.new ≡ terms.old) }
 {
-    let len = terms.len();
-    match push_document(alloc, schema, document, terms) {
-        Ok(()) => Ok(()),
-        Err(error) => {
-            terms.truncate(len);
-            Err(error)
-        }
-    }
+    append_terms(alloc, schema, None, document, terms)
+}
+
+/// Appends the terms of those values of a document whose fields are named, in the document's order, as `term_values` appends those of all. A field
+/// may be named twice, or be in no document. (Not in tantivy.)
+///
+/// The values of other fields are passed over, whatever they are. The fields are looked through for each value.
+///
+/// Errors: those of `term_values`, of the named fields alone. After each the list is as it was.
+pub fn term_values_of_fields(
+    alloc: Global,
+    schema: &Schema,
+    fields: &[Field],
+    document: &CompactDoc,
+    terms: &mut TermList,
+) -> Result<(), TermValuesError>
+    ensures made { OnOk result
+        (AreAppended terms.old terms.new
+        (fields_terms schema.now fields.now (document_of document.now))) }
+    ensures refused { IfErr result
+        (λ e. e ≢ Memory
+        → fields_terms schema.now fields.now (document_of document.now) ≡ Err e) }
+    ensures unchanged { OnErr result (terms.new ≡ terms.old) }
+{
+    append_terms(alloc, schema, Some(fields), document, terms)
 }

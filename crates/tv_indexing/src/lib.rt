@@ -19,7 +19,7 @@ pub mod text_range;
 pub mod text_terms;
 pub mod text_terms_error;
 
-pub use document::term_values;
+pub use document::{term_values, term_values_of_fields};
 pub use json_ranges::{ranges_between_texts, ranges_of_text};
 pub use leaf::write_leaf;
 pub use term_list::{TermIter, TermList};

@@ -1,5 +1,6 @@
 mod Words
 mod Parsing
+mod Naming
 mod Wanting
 mod Running
 mod Reading

@@ -1,13 +1,14 @@
 -- The terms that a clause of a query wants.
 --
 -- The words of the public contract:
--- `Selects`: the terms that are wanted at a path. A text wants its terms, as `AnswersText` says; in a field of facets also the facets below, since tantivy
+-- `Selects`: the terms that are wanted at a path, and the path's field. A text wants its terms, as `AnswersText` says; in a field of facets also the facets below, since tantivy
 -- indexes with a facet those above it. A prefix wants the terms that begin with the first term of its text, in a field of texts, facets or JSON objects.
 -- A range wants the terms in its ranges, as `AnswersRanges` says.
 -- `RefusesClause`: why nothing is wanted.
 -- `IsWanted`: the term is one of these.
 use Rattle.std.specs.Prelude.{◌≡◌, ◌⊎◌, ℕ, List, [], ◌∷◌, Bool, not, true, false, MatchBool, Option, Some, None, Ok, Err, slice_get}
 use Rattle.std.specs.List.{Any, Contains}
+use Rattle.std.specs.Option.{option_map}
 use Rattle.tv_base.specs.Facet.{parse}
 use Rattle.tv_field.specs.Entry.{Entry}
 use Rattle.tv_field.specs.declared.field_type.FieldType.{FieldType}
@@ -21,6 +22,7 @@ use Rattle.tv_query.specs.declared.selection.Selection.{Selection}
 use Rattle.tv_schema.specs.Path.{find_or}
 use Rattle.tv_term.specs.Range.{HasPrefixed, HasTerms, IsBelowFacet, IsIn}
 use Rattle.tv_term.specs.declared.range.TermRange.{TermRange}
+use Rattle.tv_value.specs.declared.field.Field.{Field}
 
 -- ---- the field of a path
 
@@ -52,6 +54,10 @@ abbrev pub refuses_prefixes : Option (ℕ × FieldType) → Bool
 refuses_prefixes None = false
 refuses_prefixes (Some at) = not (has_prefixes at.1)
 
+-- the path names this field
+abbrev pub IsOfPath : List Entry → List ℕ → Field → Type 0
+IsOfPath schema path field = option_map (λ at. at.0) (field_at schema path) ≡ Some field.id
+
 -- ---- what a clause wants
 
 -- in a field of facets those below the facet that the text names, else none
@@ -65,10 +71,10 @@ AreOfFirst [] ranges = ranges ≡ []
 AreOfFirst (first ∷ terms) ranges = (range : TermRange) × (ranges ≡ range ∷ []) × HasPrefixed first range
 
 abbrev pub Selects : List Entry → List ℕ → WantedText → Selection → Type 0
-Selects schema path (of_text s) selection = AnswersText schema path s (Ok selection.exact) × AreBelow (field_at schema path) s selection.ranges.items
+Selects schema path (of_text s) selection = IsOfPath schema path selection.field × AnswersText schema path s (Ok selection.exact) × AreBelow (field_at schema path) s selection.ranges.items
 Selects schema path (of_prefix s) selection =
-    (refuses_prefixes (field_at schema path) ≡ false) × (terms : List (List ℕ)) × AnswersText schema path s (Ok terms) × (selection.exact ≡ []) × AreOfFirst terms selection.ranges.items
-Selects schema path (of_range s) selection = (selection.exact ≡ []) × AnswersRanges schema path s (Ok selection.ranges.items)
+    IsOfPath schema path selection.field × (refuses_prefixes (field_at schema path) ≡ false) × (terms : List (List ℕ)) × AnswersText schema path s (Ok terms) × (selection.exact ≡ []) × AreOfFirst terms selection.ranges.items
+Selects schema path (of_range s) selection = IsOfPath schema path selection.field × (selection.exact ≡ []) × AnswersRanges schema path s (Ok selection.ranges.items)
 
 abbrev pub RefusesClause : List Entry → List ℕ → WantedText → QueryReason → Type 0
 RefusesClause schema path (of_text s) (Clause e) = AnswersText schema path s (Err e)

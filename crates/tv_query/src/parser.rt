@@ -248,7 +248,7 @@ impl Parser {
     /// The query, once its text has ended.
     ///
     /// Errors: `NoOperand`, where an operand is wanted; `Unclosed`, where a `(` is open; or `Memory`.
-    pub fn finish(self) -> Result<Query, QueryReason>
+    pub fn finish(self, alloc: Global) -> Result<Query, QueryReason>
         ensures made { (schema : List Entry) (tokens : List QueryToken) (depth : ℕ)
             → IsAt schema self tokens depth
             → IfOk result (λ query. (tree : Tree) × Writes schema any tokens tree
@@ -270,6 +270,6 @@ impl Parser {
             operators: _,
             wants_operand: _,
         } = parser;
-        Ok(Query { steps })
+        Ok(Query::of_steps(alloc, steps)?)
     }
 }

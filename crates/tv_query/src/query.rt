@@ -1,6 +1,10 @@
 //! Queries.
 
-ghost use Rattle.std.specs.Prelude.{◌≡◌, ◌≢◌, ◌<◌, ◌++◌, ◌∷◌, [], ℕ, length, IfErr, IfOk, List, OnOk};
+ghost use Rattle.std.specs.Prelude.{◌≡◌, ◌≢◌, ◌<◌, ◌++◌, ◌∷◌, ◌||◌, [], ℕ, length, IfErr, IfOk};
+ghost use Rattle.std.specs.Prelude.{List, OnOk};
+ghost use Rattle.std.proofs.Props.{props};
+ghost use Rattle.tv_indexing.specs.DocumentTerms.{is_among};
+ghost use Rattle.tv_query.specs.Fields.{AreDistinct, names_field, step_names};
 ghost use Rattle.tv_query.specs.Grammar.{Tree, Writes, any, steps_of};
 ghost use Rattle.tv_query.specs.Parsing.{IsAt, state_of};
 ghost use Rattle.tv_query.specs.Refusals.{Refuses, RefusesRest};
@@ -11,8 +15,10 @@ use crate::parser::Parser;
 use crate::query_error::{QueryError, QueryReason};
 use crate::selection::Selection;
 use crate::token::next_token;
-use std::alloc::Global;
+use std::alloc::{AllocError, Global};
+use tv_indexing::document::is_among;
 use tv_schema::Schema;
+use tv_value::field::Field;
 
 /// A step of a query. Each has its truth after those of its operands.
 #[derive(Drop)]
@@ -30,12 +36,50 @@ pub enum Step {
 /// Which documents are wanted, by their terms. (Not in tantivy, whose queries search an index.)
 pub struct Query {
     pub(crate) steps: Vec<Step>,
+    fields: Vec<Field>,
+    ghost named: { (number : ℕ) → is_among fields.items number ≡ names_field steps.items number },
+    ghost distinct: { AreDistinct fields.items } by { Prim.hlevel props },
 }
 
 impl Drop for Query {
     fn drop(self) {
-        let Query { steps: _ } = self;
+        let Query {
+            steps: _,
+            fields: _,
+        } = self;
     }
+}
+
+// Adds the field of a clause's step, unless it is there.
+fn add_field(fields: &mut Vec<Field>, step: &Step) -> Result<(), AllocError>
+    ensures named { OnOk result ((number : ℕ) → is_among fields.new.items number
+        ≡ (is_among fields.old.items number || step_names number step.now)) }
+    ensures distinct { AreDistinct fields.old.items → OnOk result (AreDistinct fields.new.items) }
+{
+    match step {
+        Step::Clause(selection) => {
+            let field = selection.field();
+            if is_among(fields.as_slice(), field) {
+                return Ok(());
+            }
+            fields.push(field)?;
+            Ok(())
+        }
+        Step::Not | Step::And | Step::Or => Ok(()),
+    }
+}
+
+// The fields of the clauses among these steps, each once.
+fn fields_of(alloc: Global, steps: &[Step]) -> Result<Vec<Field>, AllocError>
+    ensures named { IfOk result (λ fields. (number : ℕ)
+        → is_among fields.items number ≡ names_field steps.now number) }
+    ensures distinct { IfOk result (λ fields. AreDistinct fields.items) }
+{
+    let mut fields = Vec::new(alloc);
+    for step in steps {
+        add_field(&mut fields, step)?;
+    }
+    Ok(fields)
 }
 
 // Takes the token with which the text begins, and returns the rest.
@@ -66,6 +110,23 @@ fn take_first<'q>(
 }
 
 impl Query {
+    // The query of these steps.
+    pub(crate) fn of_steps(alloc: Global, steps: Vec<Step>) -> Result<Query, AllocError>
+        ensures { IfOk result (λ query. query.steps ≡ steps) }
+    {
+        let fields = fields_of(alloc, steps.as_slice())?;
+        Ok(Query { steps, fields })
+    }
+
+    /// The fields that the query's paths name, each once.
+    pub fn fields(&self) -> &[Field]
+        ensures named { (number : ℕ)
+            → is_among result.now number ≡ names_field self.now.steps.items number }
+        ensures distinct { AreDistinct result.now }
+    {
+        self.fields.as_slice()
+    }
+
     /// The query that a text writes.
     ///
     /// It is clauses with `AND`, `OR`, `NOT` and parentheses: `NOT` binds most, then `AND`, then `OR`. A clause is `PATH:WHAT`, with nothing
@@ -93,7 +154,7 @@ impl Query {
                 }
             }
         }
-        match parser.finish() {
+        match parser.finish(alloc) {
             Ok(query) => Ok(query),
             Err(reason) => {
                 let place = text.len();

@@ -1,12 +1,12 @@
 //! The terms that a clause of a query wants.
 
 ghost use Rattle.std.specs.Prelude.{◌≡◌, ◌≢◌, ◌↔◌, ◌∷◌, [], ℕ, Err, IfErr, IfOk};
-ghost use Rattle.std.specs.Prelude.{IsTrue, List, Ok, Some};
+ghost use Rattle.std.specs.Prelude.{IsTrue, List, None, Ok, Some};
 ghost use Rattle.std.specs.List.{Any, Contains};
 ghost use Rattle.std.specs.Option.{option_map};
 ghost use Rattle.tv_base.specs.Facet.{parse};
 ghost use Rattle.tv_indexing.specs.TextTerms.{AnswersText};
-ghost use Rattle.tv_query.specs.Selections.{AreBelow, AreOfFirst, HasWanted, IsWanted};
+ghost use Rattle.tv_query.specs.Selections.{AreBelow, AreOfFirst, HasWanted, IsOfPath, IsWanted};
 ghost use Rattle.tv_term.specs.Range.{HasTerms, IsBelowFacet, IsIn};
 ghost use Rattle.tv_query.specs.Selections.{RefusesClause, Selects, field_at, has_prefixes};
 ghost use Rattle.tv_query.specs.Selections.{is_of_facets, refuses_prefixes};
@@ -25,8 +25,9 @@ use tv_schema::Schema;
 use tv_term::{Term, TermRange};
 use tv_value::field::Field;
 
-/// The terms that a clause of a query wants: some terms, and ranges of them. (Not in tantivy.)
+/// The terms that a clause of a query wants: some terms of a field, and ranges of them. (Not in tantivy.)
 pub struct Selection {
+    field: Field,
     exact: TermList,
     ranges: Vec<TermRange>,
 }
@@ -34,6 +35,7 @@ pub struct Selection {
 impl Drop for Selection {
     fn drop(self) {
         let Selection {
+            field: _,
             exact: _,
             ranges: _,
         } = self;
@@ -56,6 +58,17 @@ fn field_at<'s>(schema: &'s Schema, path: &str) -> Option<(Field, &'s FieldType)
 {
     let (field, _) = schema.find_field_with_default(path, None)?;
     Some((field, schema.get_field_entry(field).field_type()))
+}
+
+// The field that a path names, which names one.
+fn named_field(schema: &Schema, path: &str) -> Field
+    requires { field_at schema.now path.now ≢ None }
+    ensures { IsOfPath schema.now path.now result }
+{
+    match field_at(schema, path) {
+        Some((field, _)) => field,
+        None => unreachable!(),
+    }
 }
 
 // Whether a field of this type has facets.
@@ -175,7 +188,11 @@ fn text_selection(
         Err(reason) => return Err(reason),
     };
     match ranges_below(alloc, schema, path, text) {
-        Ok(ranges) => Ok(Selection { exact, ranges }),
+        Ok(ranges) => Ok(Selection {
+            field: named_field(schema, path),
+            exact,
+            ranges,
+        }),
         Err(_) => Err(QueryReason::Memory),
     }
 }
@@ -200,6 +217,7 @@ fn prefix_selection(
     };
     match ranges_of_first(alloc, &terms) {
         Ok(ranges) => Ok(Selection {
+            field: named_field(schema, path),
             exact: TermList::new(alloc),
             ranges,
         }),
@@ -220,6 +238,7 @@ fn range_selection(
 {
     match ranges_of_text(alloc, schema, path, text) {
         Ok(ranges) => Ok(Selection {
+            field: named_field(schema, path),
             exact: TermList::new(alloc),
             ranges,
         }),
@@ -247,6 +266,13 @@ impl Selection {
             Wanted::Prefix(text) => prefix_selection(alloc, schema, path, text),
             Wanted::Range(text) => range_selection(alloc, schema, path, text),
         }
+    }
+
+    /// The field that the path names, whose terms are wanted.
+    pub fn field(&self) -> Field
+        ensures { result ≡ self.now.field }
+    {
+        self.field
     }
 
     // Whether this is one of the terms of the text.
