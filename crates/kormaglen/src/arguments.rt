@@ -29,6 +29,7 @@ terms.FIELD|argument|FIELD|FIELD|The field, or a path into its JSON objects
 range|option|range|RANGE|Only the terms of this range, as in a query
 prefix|option|prefix|TEXT|Only the terms that begin with the term of this text; not with a range
 counts|flag|counts||Print how many documents have each
+raw|flag|raw||Print control characters as they stand, not as escapes
 memory|memory|memory|BYTES|Terms that take more bytes are sorted in temporary files; K, M or G may follow the number
 temporary|option|temporary|FOLDER|Where temporary files are made: else in the folder of TMPDIR, or in /tmp
 QUERY|argument|QUERY|QUERY|Clauses PATH:WHAT with AND, OR, NOT and parentheses
@@ -62,13 +63,13 @@ Example: kormaglen export --schema shop.json products.block --fields name,price"
 schema version BLOCK NUMBER get.offsets pretty limit-bytes limit-depth
 Example: kormaglen get --schema shop.json products.block 0 17",
     "terms|Prints the terms of a field, each once, in their order
-schema version BLOCK terms.FIELD range prefix counts memory temporary limit-bytes limit-depth progress quiet
+schema version BLOCK terms.FIELD range prefix counts raw memory temporary limit-bytes limit-depth progress quiet
 Example: kormaglen terms --schema shop.json products.block price --range '[10 TO 20]' --counts",
     "find|Prints the documents of a block that a query matches, as lines of JSON
 schema version BLOCK QUERY count limit-bytes limit-depth progress quiet
 Example: kormaglen find --schema shop.json products.block 'category:/shop AND price:[10 TO 20]'",
     "facets|Counts documents by the children of a facet
-schema version BLOCK facets.FIELD FACET top bars limit-bytes limit-depth progress quiet
+schema version BLOCK facets.FIELD FACET top bars raw limit-bytes limit-depth progress quiet
 Memory is kept for the children that are counted.
 
 Example: kormaglen facets --schema shop.json products.block category /shop",

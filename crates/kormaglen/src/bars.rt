@@ -1,9 +1,8 @@
 //! Counts of facets as a table with bars.
 
-use crate::blocks::print_line;
 use crate::ending::Failure;
+use crate::files::Output;
 use std::alloc::{AllocError, Global};
-use tantivy_schema::schema::FacetCount;
 
 // The bar of the greatest count has this many characters.
 const LONGEST: u64 = 40;
@@ -64,34 +63,28 @@ fn row(alloc: Global, columns: Columns, line: &str, count: u64) -> Result<String
     Ok(row)
 }
 
-// The line of a count.
-fn line_of(alloc: Global, count: &FacetCount<'_>) -> Result<String, AllocError> {
-    format!(in alloc; "{count}")
-}
-
-// Columns that are wide enough for these counts.
-fn columns_of(alloc: Global, counts: &[FacetCount<'_>]) -> Result<Columns, AllocError> {
+// Columns that are wide enough for these lines, each with its count.
+fn columns_of(lines: &[(String, u64)]) -> Columns {
     let mut columns = Columns {
         child: 0,
         count: 0,
         greatest: 0,
     };
-    for count in counts {
-        columns = widened(columns, line_of(alloc, count)?.as_str(), count.count);
+    for (line, count) in lines {
+        columns = widened(columns, line.as_str(), *count);
     }
-    Ok(columns)
+    columns
 }
 
-/// Prints counts as a table: each child, a bar as long as its share of the greatest count, and the count. The columns are aligned by characters.
-pub(crate) fn print_table(rt: &HostRuntime, counts: &[FacetCount<'_>]) -> Result<(), Failure> {
-    let alloc = rt.alloc();
-    let columns = columns_of(alloc, counts)?;
-    for count in counts {
-        let line = line_of(alloc, count)?;
-        print_line(
-            rt,
-            row(alloc, columns, line.as_str(), count.count)?.as_str(),
-        )?;
+/// Appends lines `CHILD: COUNT` as a table: each child, a bar as long as its share of the greatest count, and the count. The columns are aligned by characters.
+pub(crate) fn print_table(
+    alloc: Global,
+    lines: &[(String, u64)],
+    output: &mut Output,
+) -> Result<(), Failure> {
+    let columns = columns_of(lines);
+    for (line, count) in lines {
+        output.print_line(row(alloc, columns, line.as_str(), *count)?.as_str())?;
     }
     Ok(())
 }

@@ -1,7 +1,10 @@
 //! How the command ends.
 
 use crate::arguments::command;
-use crate::{blocks, facets, find, imports, migrations, schemas, stat, terms};
+use crate::escaped::escaped;
+use crate::files::{create, finish};
+use crate::names::refuse_twice;
+use crate::{blocks, facets, find, get, imports, migrations, schemas, stat, terms};
 use clap::ArgMatches;
 use std::alloc::{AllocError, AllocFailed, Global};
 use std::fmt::Display;
@@ -71,20 +74,32 @@ pub(crate) fn wrong_use<T: Display + Drop>(alloc: Global, word: &str, what: T) -
     }
 }
 
-/// A write that failed. A standard output that was closed ends the command without a word.
+/// A write that failed. A standard output whose reader has closed it ends the command without a word; one that isn't open at all is told.
 pub(crate) fn write_failed(alloc: Global, name: &str, kind: io::ErrorKind) -> Failure {
     if name == "-" && kind == io::ErrorKind::BrokenPipe {
         return Failure::Closed;
     }
+    if name == "-" && kind == io::ErrorKind::NotConnected {
+        return failed(alloc, name, "the standard output is closed");
+    }
     failed(alloc, name, kind)
+}
+
+/// Says a text on the standard error, in one line.
+pub(crate) fn say(rt: &HostRuntime, text: &str) {
+    let _ = match escaped(rt.alloc(), text) {
+        Ok(text) => eprintln!(rt; "kormaglen: {text}"),
+        Err(_) => eprintln!(rt; "kormaglen: memory was refused"),
+    };
 }
 
 // Calls the command of this name.
 fn call(rt: &HostRuntime, name: &str, given: &ArgMatches<'_>) -> Result<Ending, Failure> {
+    refuse_twice(rt, name, given)?;
     match name {
         "import" => imports::import(rt, given),
         "export" => blocks::export(rt, given),
-        "get" => blocks::get(rt, given),
+        "get" => get::get(rt, given),
         "check" => blocks::check(rt, given),
         "stat" => stat::stat(rt, given),
         "migrate" => migrations::migrate(rt, given),
@@ -95,43 +110,60 @@ fn call(rt: &HostRuntime, name: &str, given: &ArgMatches<'_>) -> Result<Ending, 
     }
 }
 
-// The exit status, and what broke the command off on the standard error.
-fn status(rt: &HostRuntime, ended: Result<Ending, Failure>) -> io::Result<u8> {
+// The exit status. What broke the command off is said.
+fn status(rt: &HostRuntime, ended: Result<Ending, Failure>) -> u8 {
     let (status, text) = match ended {
-        Ok(Ending::Done) | Err(Failure::Closed) => return Ok(0),
-        Ok(Ending::Refused) => return Ok(1),
-        Ok(Ending::WrongUse) => return Ok(2),
+        Ok(Ending::Done) | Err(Failure::Closed) => return 0,
+        Ok(Ending::Refused) => return 1,
+        Ok(Ending::WrongUse) => return 2,
         Err(Failure::Use(text)) => (2, text),
         Err(Failure::Said(text)) => (3, text),
         Err(Failure::Memory) => {
-            eprintln!(rt; "kormaglen: memory was refused")?;
-            return Ok(3);
+            say(rt, "memory was refused");
+            return 3;
         }
     };
-    eprintln!(rt; "kormaglen: {text}")?;
-    Ok(status)
+    say(rt, text.as_str());
+    status
 }
 
-// Calls the command that the words name, as they were read.
-fn answer_words(rt: &HostRuntime, words: &ArgMatches<'_>) -> io::Result<u8> {
-    match words.subcommand() {
-        Some((name, given)) => status(rt, call(rt, name, given)),
-        None => Ok(2),
+// Prints a text that the words ask for.
+fn print_text(rt: &HostRuntime, text: &str) -> Result<Ending, Failure> {
+    let mut output = create(rt, "-")?;
+    output.append(text.as_bytes())?;
+    finish(output)?;
+    Ok(Ending::Done)
+}
+
+// Says the lines of a text on the standard error.
+fn say_lines(rt: &HostRuntime, text: &str) -> Result<Ending, Failure> {
+    for line in text.lines() {
+        let line = escaped(rt.alloc(), line)?;
+        let _ = eprintln!(rt; "{line}");
     }
+    Ok(Ending::WrongUse)
 }
 
 // Says why the words are wrong, or prints the help that they ask for.
-fn answer_wrong(rt: &HostRuntime, error: &clap::Error) -> io::Result<u8> {
-    error.print(rt)?;
-    Ok(if error.use_stderr() { 2 } else { 0 })
+fn answer_wrong(rt: &HostRuntime, error: &clap::Error) -> Result<Ending, Failure> {
+    let text = format!(in rt.alloc(); "{error}")?;
+    if error.use_stderr() {
+        return say_lines(rt, text.as_str());
+    }
+    print_text(rt, text.as_str())
+}
+
+// Calls the command that the words name, as they were read.
+fn answer_words(rt: &HostRuntime, words: &ArgMatches<'_>) -> Result<Ending, Failure> {
+    match words.subcommand() {
+        Some((name, given)) => call(rt, name, given),
+        None => Ok(Ending::WrongUse),
+    }
 }
 
 // Reads the words and calls the command that they name.
-fn answer(rt: &HostRuntime, words: &[String]) -> io::Result<u8> {
-    let Ok(command) = command(rt.alloc()) else {
-        return status(rt, Err(Failure::Memory));
-    };
-    match command.try_get_matches_from(words) {
+fn answer(rt: &HostRuntime, words: &[String]) -> Result<Ending, Failure> {
+    match command(rt.alloc())?.try_get_matches_from(words) {
         Ok(matches) => answer_words(rt, &matches),
         Err(error) => answer_wrong(rt, &error),
     }
@@ -140,8 +172,14 @@ fn answer(rt: &HostRuntime, words: &[String]) -> io::Result<u8> {
 /// Does what the words of a command line say, and gives the exit status: 0 where all was done, 1 where something was refused, 2 for a wrong use, and 3 where
 /// the command broke off, with the reason on the standard error.
 pub(crate) fn run(rt: &HostRuntime, words: &[String]) -> u8 {
-    match answer(rt, words) {
-        Ok(status) => status,
-        Err(_) => 3,
+    status(rt, answer(rt, words))
+}
+
+/// Says why the words of the command line can't be read, and gives the exit status.
+pub(crate) fn refuse_words(rt: &HostRuntime, kind: io::ErrorKind) -> u8 {
+    if kind == io::ErrorKind::InvalidData {
+        say(rt, "a word of the command line is no UTF-8");
+        return 2;
     }
+    status(rt, Err(Failure::Memory))
 }

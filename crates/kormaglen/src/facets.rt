@@ -1,9 +1,10 @@
 //! `facets`.
 
 use crate::bars::print_table;
-use crate::blocks::print_line;
-use crate::ending::{Ending, Failure, failed, wrong_use};
+use crate::ending::{Ending, Failure, wrong_use};
+use crate::escaped::escaped;
 use crate::faults::refuse_unstored;
+use crate::files::{Output, create, finish};
 use crate::inputs::{schema_given, text};
 use crate::term_counts::TermCounts;
 use crate::visits::{Visit, fields_within, visit_block};
@@ -63,19 +64,49 @@ impl Visit for Counting {
     }
 }
 
+// The line of a count, as the words ask for it.
+fn line_of(
+    alloc: Global,
+    given: &ArgMatches<'_>,
+    count: &FacetCount<'_>,
+) -> Result<String, AllocError> {
+    let line = format!(in alloc; "{count}")?;
+    if given.get_flag("raw") {
+        return Ok(line);
+    }
+    escaped(alloc, line.as_str())
+}
+
+// Prints the counts as a table with bars.
+fn print_bars(
+    rt: &HostRuntime,
+    given: &ArgMatches<'_>,
+    counts: &[FacetCount<'_>],
+    output: &mut Output,
+) -> Result<(), Failure> {
+    let alloc = rt.alloc();
+    let mut lines = Vec::new(alloc);
+    for count in counts {
+        lines.push((line_of(alloc, given, count)?, count.count))?;
+    }
+    print_table(alloc, lines.as_slice(), output)
+}
+
 // Prints the counts: as a table with bars on a terminal and where the words ask for it, and else a line for each.
 fn print_counts(
     rt: &HostRuntime,
     given: &ArgMatches<'_>,
     counts: &[FacetCount<'_>],
 ) -> Result<(), Failure> {
+    let mut output = create(rt, "-")?;
     if given.get_flag("bars") || rt.stdout().is_terminal() {
-        return print_table(rt, counts);
+        print_bars(rt, given, counts, &mut output)?;
+    } else {
+        for count in counts {
+            output.print_line(line_of(rt.alloc(), given, count)?.as_str())?;
+        }
     }
-    for count in counts {
-        print_line(rt, format!(in rt.alloc(); "{count}")?.as_str())?;
-    }
-    Ok(())
+    finish(output)
 }
 
 // The stored field of facets of a name.
@@ -107,7 +138,7 @@ fn begin(rt: &HostRuntime, given: &ArgMatches<'_>, schema: &Schema) -> Result<Co
             ancestor,
             counts: TermCounts::new(alloc, u64::MAX),
         }),
-        Err(error) => Err(failed(alloc, text(given, "FACET"), error)),
+        Err(error) => Err(wrong_use(alloc, text(given, "FACET"), error)),
     }
 }
 

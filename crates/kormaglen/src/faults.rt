@@ -1,6 +1,7 @@
 //! Documents that can't be searched, and fields that can't.
 
 use crate::ending::{Ending, Failure, wrong_use};
+use crate::escaped::escaped;
 use crate::progress::ERASING;
 use std::alloc::{AllocError, Global};
 use std::io::Eprint;
@@ -75,6 +76,7 @@ impl Faults {
         };
         let said = self.said(schema, &report, &fault)?;
         self.told = self.told.saturating_add(1);
+        let said = escaped(self.rt.alloc(), said.as_str())?;
         let erasing = if self.is_erasing { ERASING } else { "" };
         let _ = eprintln!(self.rt; "{erasing}{said}");
         Ok(())

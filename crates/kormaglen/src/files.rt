@@ -1,24 +1,13 @@
-//! What a command writes: to the standard output, or to a file that is there only once it is whole.
+//! What a command writes: to the standard output, or to files that are there only once all of them are whole.
 
-use crate::ending::{Failure, of_file, write_failed};
+use crate::ending::{Failure, of_file, wrong_use, write_failed};
+use crate::parts::{Part, begin_part, file_behind, settle_all};
+use crate::standard::StandardOutput;
 use either::Either;
 use std::fs::{self, File};
-use std::io::{self, BufWriter, Print, Write};
+use std::io::{BufWriter, Write};
 use tantivy_schema::common::WriteSink;
-
-/// The standard output, as a writer.
-#[derive(Drop)]
-pub(crate) struct StandardOutput(HostRuntime);
-
-impl Write for StandardOutput {
-    fn write(&mut self, buf: &[u8]) -> io::Result<usize> {
-        self.0.write_some(buf)
-    }
-
-    fn flush(&mut self) -> io::Result<()> {
-        Ok(())
-    }
-}
+use tv_base::write::write_all;
 
 /// A file, or the standard output.
 pub(crate) type Target = Either<File, StandardOutput>;
@@ -26,56 +15,60 @@ pub(crate) type Target = Either<File, StandardOutput>;
 // This many bytes are written at once.
 const PIECE: usize = 65536;
 
-// The name that an output has when it is finished, and the name of its file until then, where there is one. A file that isn't finished is gone.
-struct Place {
-    rt: HostRuntime,
-    name: String,
-    part: Option<String>,
-}
-
-impl Drop for Place {
-    fn drop(self) {
-        let Place { rt, name: _, part } = self;
-        if let Some(part) = part {
-            let _ = fs::remove_file(&rt, part.as_str());
-        }
-    }
-}
-
-impl Place {
-    // Gives the file its name, where what was buffered has been written.
-    fn settle(mut self, flushed: io::Result<()>) -> Result<(), Failure> {
-        let (alloc, name) = (self.rt.alloc(), self.name.as_str());
-        let Some(part) = &self.part else {
-            return match flushed {
-                Ok(()) => Ok(()),
-                Err(error) => Err(write_failed(alloc, name, error.kind())),
-            };
-        };
-        let named = match flushed {
-            Ok(()) => fs::rename(&self.rt, part.as_str(), name),
-            failed => failed,
-        };
-        of_file(alloc, name, named)?;
-        self.part = None;
-        Ok(())
-    }
-}
-
 /// Where results are appended.
 pub(crate) type OutputSink = WriteSink<BufWriter<Target>>;
 
-/// An output that is written: a new file beside the one that is named, or the standard output. Where it is dropped, the file is gone.
+/// An output that is written: a new file beside the one that is named, or the standard output, a device or a pipe. Where it is dropped, the new file is gone.
 #[derive(Drop)]
 pub(crate) struct Output {
+    rt: HostRuntime,
+    name: String,
     sink: OutputSink,
-    place: Place,
+    part: Option<Part>,
 }
 
 impl Output {
     /// Where results are appended.
     pub(crate) fn sink(&mut self) -> &mut OutputSink {
         &mut self.sink
+    }
+
+    /// Appends bytes.
+    pub(crate) fn append(&mut self, bytes: &[u8]) -> Result<(), Failure> {
+        match write_all(&mut self.sink, bytes) {
+            Ok(()) => Ok(()),
+            Err(error) => Err(write_failed(self.rt.alloc(), self.name.as_str(), error.0)),
+        }
+    }
+
+    /// Appends a text and a line feed.
+    pub(crate) fn print_line(&mut self, line: &str) -> Result<(), Failure> {
+        self.append(line.as_bytes())?;
+        self.append(b"\n")
+    }
+
+    // Writes what is buffered, to last. Gives the file, if that is a new one.
+    fn flushed(self) -> Result<Option<Part>, Failure> {
+        let Output {
+            rt,
+            name,
+            sink,
+            part,
+        } = self;
+        let (alloc, name) = (rt.alloc(), name.as_str());
+        let flushed = sink.into_inner().flush();
+        match &part {
+            Some(part) => {
+                of_file(alloc, name, flushed)?;
+                of_file(alloc, name, part.sync())?;
+            }
+            None => {
+                if let Err(error) = flushed {
+                    return Err(write_failed(alloc, name, error.kind()));
+                }
+            }
+        }
+        Ok(part)
     }
 }
 
@@ -104,34 +97,82 @@ fn standing(rt: &HostRuntime, name: &str) -> Result<Target, Failure> {
     Ok(Either::Left(of_file(rt.alloc(), name, opened)?))
 }
 
-/// Begins an output. A file of this name stays as it is until the output is finished; one that has `.part` after the name may not be there. A device or a pipe
-/// is written as it stands.
-pub(crate) fn create(rt: &HostRuntime, name: &str) -> Result<Output, Failure> {
-    let alloc = rt.alloc();
-    let mut place = Place {
-        rt: *rt,
-        name: String::from_str(alloc, name)?,
-        part: None,
-    };
-    let target = if name == "-" || is_special(rt, name) {
-        standing(rt, name)?
-    } else {
-        let part = format!(in alloc; "{name}.part")?;
-        let file = of_file(
-            alloc,
-            part.as_str(),
-            fs::File::create_new(rt, part.as_str()),
-        )?;
-        place.part = Some(part);
-        Either::Left(file)
-    };
-    let sink = sink_of(rt, target)?;
-    Ok(Output { sink, place })
+// Begins a new file beside the one that the name stands for.
+fn part_of(rt: &HostRuntime, name: &str) -> Result<Part, Failure> {
+    let path = file_behind(rt, name)?;
+    if path.as_str().ends_with(".part") {
+        return Err(wrong_use(
+            rt.alloc(),
+            name,
+            "files that are still written have names that end so",
+        ));
+    }
+    begin_part(rt, path)
 }
 
-/// Ends an output: what is buffered is written, and the file has its name.
+// An output of this name over a target.
+fn output_over(
+    rt: &HostRuntime,
+    name: &str,
+    target: Target,
+    part: Option<Part>,
+) -> Result<Output, Failure> {
+    let sink = sink_of(rt, target)?;
+    let name = String::from_str(rt.alloc(), name)?;
+    Ok(Output {
+        rt: *rt,
+        name,
+        sink,
+        part,
+    })
+}
+
+/// Begins an output. A file of this name stays as it is until the output is finished; a device or a pipe is written as it stands.
+pub(crate) fn create(rt: &HostRuntime, name: &str) -> Result<Output, Failure> {
+    if name == "-" || is_special(rt, name) {
+        return output_over(rt, name, standing(rt, name)?, None);
+    }
+    let part = part_of(rt, name)?;
+    let file = of_file(rt.alloc(), name, part.writer())?;
+    output_over(rt, name, Either::Left(file), Some(part))
+}
+
+/// Begins an output, if its name is given.
+pub(crate) fn create_optional(
+    rt: &HostRuntime,
+    name: Option<&str>,
+) -> Result<Option<Output>, Failure> {
+    match name {
+        Some(name) => Ok(Some(create(rt, name)?)),
+        None => Ok(None),
+    }
+}
+
+/// Ends the outputs of a command, of which the first is what the others are about: what is buffered is written to last, and then the files have their names. Where
+/// one of them can't be written, all files are as they were.
+pub(crate) fn finish_all(rt: &HostRuntime, outputs: Vec<Output>) -> Result<(), Failure> {
+    let mut parts = Vec::new(rt.alloc());
+    for output in outputs {
+        if let Some(part) = output.flushed()? {
+            parts.push(part)?;
+        }
+    }
+    settle_all(parts.as_mut_slice())
+}
+
+/// Prints lines on the standard output.
+pub(crate) fn print_lines(rt: &HostRuntime, lines: &[String]) -> Result<(), Failure> {
+    let mut output = create(rt, "-")?;
+    for line in lines {
+        output.print_line(line.as_str())?;
+    }
+    finish(output)
+}
+
+/// Ends the only output of a command.
 pub(crate) fn finish(output: Output) -> Result<(), Failure> {
-    let Output { sink, place } = output;
-    let flushed = sink.into_inner().flush();
-    place.settle(flushed)
+    let rt = output.rt;
+    let mut outputs = Vec::new(rt.alloc());
+    outputs.push(output)?;
+    finish_all(&rt, outputs)
 }

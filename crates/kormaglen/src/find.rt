@@ -2,10 +2,12 @@
 
 ghost use Rattle.std.specs.Prelude.{[]};
 
-use crate::blocks::{broken, print_line};
-use crate::ending::{Ending, Failure};
+use crate::bars::push_times;
+use crate::blocks::broken;
+use crate::ending::{Ending, Failure, say};
+use crate::escaped::escaped;
 use crate::faults::{Faults, refuse_unstored};
-use crate::files::{create, finish};
+use crate::files::{create, finish, print_lines};
 use crate::inputs::{BlockSource, limits, schema_given, source, text, version};
 use crate::progress::Progress;
 use crate::visits::fields_within;
@@ -65,24 +67,33 @@ fn line_at(text: &str, place: usize) -> (&str, usize) {
     (text, 0)
 }
 
-// The line of the text in which this place stands, and a caret under the place.
+// The line as it is printed: a tab as one space, and other control characters as escapes.
+fn printed(alloc: Global, line: &str) -> Result<String, AllocError> {
+    let mut spaced = String::with_capacity(alloc, line.len())?;
+    for character in line.chars() {
+        spaced.push(if character == '\t' { ' ' } else { character })?;
+    }
+    escaped(alloc, spaced.as_str())
+}
+
+// The line of the text in which this place stands, and a caret under the place, by characters.
 fn pointed(alloc: Global, text: &str, place: usize) -> Result<String, AllocError> {
     let (line, place) = line_at(text, place);
-    let mut pointed = format!(in alloc; "{line}\n")?;
-    for byte in line.as_bytes().iter().take(place) {
-        // each character has one byte that isn't 10xxxxxx
-        if *byte & 0xC0 != 0x80 {
-            pointed.push(' ')?;
-        }
-    }
+    let before = line.get(..place).unwrap_or(line);
+    let columns = printed(alloc, before)?.as_str().chars().count();
+    let mut pointed = printed(alloc, line)?;
+    pointed.push('\n')?;
+    push_times(&mut pointed, ' ', columns)?;
     pointed.push('^')?;
     Ok(pointed)
 }
 
 // Says why a text is no query: the reason, the line and a caret under the place.
 fn report(rt: &HostRuntime, text: &str, error: &QueryError) -> Result<(), Failure> {
-    let pointed = pointed(rt.alloc(), text, error.place)?;
-    let _ = eprintln!(rt; "kormaglen: {error}\n{pointed}");
+    let alloc = rt.alloc();
+    let pointed = pointed(alloc, text, error.place)?;
+    say(rt, format!(in alloc; "{error}")?.as_str());
+    let _ = eprintln!(rt; "{pointed}");
     Ok(())
 }
 
@@ -151,7 +162,7 @@ fn print_number(
 ) -> Result<Found, Failure> {
     let mut sink = WriteSink::new(Unprinted);
     let found = find_into(rt, given, schema, query, &mut sink)?;
-    print_line(rt, format!(in rt.alloc(); "{}", found.found)?.as_str())?;
+    print_lines(rt, &[format!(in rt.alloc(); "{}", found.found)?])?;
     Ok(found)
 }
 

@@ -3,15 +3,14 @@
 ghost use Rattle.std.specs.Prelude.{[]};
 
 use crate::ending::{Ending, Failure, failed, write_failed};
-use crate::files::{Output, create, finish};
+use crate::escaped::escaped;
+use crate::files::{Output, create, create_optional, finish_all};
 use crate::inputs::{lines, schema_given, text, written_version};
 use crate::progress::{ERASING, Progress};
 use clap::ArgMatches;
-use std::alloc::{AllocError, Global};
+use std::alloc::{AllocError, AllocFailed, Global};
 use std::io::Eprint;
-use tantivy_schema::common::{BinarySerializable, WriteError};
 use tantivy_schema::schema::Schema;
-use tv_base::write::{write_all, write_u64};
 use tv_command::import::{ImportError, ImportRules, LineError, LineImporter, LineOutcome};
 use tv_command::imports::{ImportLinesError, import_lines};
 use tv_command::report::{LineReport, Report};
@@ -38,25 +37,11 @@ fn rules(given: &ArgMatches<'_>) -> ImportRules {
     }
 }
 
-// Begins an output, if its name is given.
-fn optional(rt: &HostRuntime, name: Option<&str>) -> Result<Option<Output>, Failure> {
-    match name {
-        Some(name) => Ok(Some(create(rt, name)?)),
-        None => Ok(None),
-    }
-}
-
-// What a write to the output of this option is.
-fn written(alloc: Global, option: &str, call: Result<(), WriteError>) -> Result<(), Failure> {
-    match call {
-        Ok(()) => Ok(()),
-        Err(error) => Err(write_failed(alloc, option, error.0)),
-    }
-}
-
 // What is said of a line that is refused.
 fn said(alloc: Global, name: &str, line: u64, error: LineError) -> Result<String, AllocError> {
-    format!(in alloc; "{name}:{line}: {error}\n")
+    let mut said = escaped(alloc, format!(in alloc; "{name}:{line}: {error}")?.as_str())?;
+    said.push('\n')?;
+    Ok(said)
 }
 
 // What a file holds isn't known.
@@ -86,7 +71,7 @@ impl Reports {
         self.bytes = begin.saturating_add(size);
         self.stored = self.stored.saturating_add(1);
         match &mut self.offsets {
-            Some(output) => { written(self.rt.alloc(), "offsets", write_u64(output.sink(), begin)) }
+            Some(output) => output.append(&begin.to_le_bytes()),
             None => Ok(()),
         }
     }
@@ -95,8 +80,7 @@ impl Reports {
     fn tell_refused(&mut self, said: &str) -> Result<(), Failure> {
         self.refused = self.refused.saturating_add(1);
         if let Some(output) = &mut self.errors {
-            let call = write_all(output.sink(), said.as_bytes());
-            return written(self.rt.alloc(), "errors", call);
+            return output.append(said.as_bytes());
         }
         let erasing = if self.is_erasing { ERASING } else { "" };
         let _ = eprint!(self.rt; "{erasing}{said}");
@@ -185,8 +169,8 @@ fn begin(rt: &HostRuntime, given: &ArgMatches<'_>) -> Result<Reports, Failure> {
     Ok(Reports {
         rt: *rt,
         name: String::new(rt.alloc()),
-        offsets: optional(rt, given.get_str("offsets"))?,
-        errors: optional(rt, given.get_str("errors"))?,
+        offsets: create_optional(rt, given.get_str("offsets"))?,
+        errors: create_optional(rt, given.get_str("errors"))?,
         is_erasing: false,
         bytes: 0,
         stored: 0,
@@ -194,12 +178,20 @@ fn begin(rt: &HostRuntime, given: &ArgMatches<'_>) -> Result<Reports, Failure> {
     })
 }
 
-// Ends an output, if it was begun.
-fn finish_optional(output: Option<Output>) -> Result<(), Failure> {
-    match output {
-        Some(output) => finish(output),
-        None => Ok(()),
+// The outputs that were begun, with the block first.
+fn begun(
+    alloc: Global,
+    block: Output,
+    others: [Option<Output>; 2],
+) -> Result<Vec<Output>, AllocFailed<Output>> {
+    let mut outputs = Vec::new(alloc);
+    outputs.push(block)?;
+    for other in others {
+        if let Some(output) = other {
+            outputs.push(output)?;
+        }
     }
+    Ok(outputs)
 }
 
 // Ends the outputs, and says how many lines were stored and refused unless the words ask for quiet.
@@ -214,9 +206,7 @@ fn end(given: &ArgMatches<'_>, reports: Reports, block: Output) -> Result<Ending
         stored,
         refused,
     } = reports;
-    finish_optional(errors)?;
-    finish_optional(offsets)?;
-    finish(block)?;
+    finish_all(&rt, begun(rt.alloc(), block, [offsets, errors])?)?;
     if !given.get_flag("quiet") {
         let _ = eprintln!(rt;
             "{stored} documents stored in {bytes} bytes, {refused} lines refused"

@@ -25,6 +25,8 @@ const MOST_TEXT: u64 = 16 << 20;
 /// Opens a file to be read; `-` is the standard input.
 pub(crate) fn open(rt: &HostRuntime, name: &str) -> Result<Origin, Failure> {
     if name == "-" {
+        // reads no byte, which fails where the standard input is closed
+        of_file(rt.alloc(), name, rt.stdin().read(&mut []))?;
         return Ok(Either::Right(rt.reader()));
     }
     Ok(Either::Left(of_file(rt.alloc(), name, fs::open(rt, name))?))
@@ -45,30 +47,21 @@ pub(crate) fn source(rt: &HostRuntime, name: &str) -> Result<BlockSource, Failur
     Ok(BufferedSource::with_capacity(rt.alloc(), PIECE, origin)?)
 }
 
-// Moves a file to this byte, which it has to have.
-fn seek_to<F: Seek>(alloc: Global, name: &str, file: &mut F, start: u64) -> Result<(), Failure> {
-    let length = file.seek(SeekFrom::End(0)).unwrap_or(0);
-    if start >= length {
+/// A source of the bytes of an open file from this byte on, which moves the file. A file that has no byte there is refused, unless that is its first.
+pub(crate) fn source_at(
+    alloc: Global,
+    name: &str,
+    file: &File,
+    start: u64,
+) -> Result<BlockSource, Failure> {
+    let mut file = of_file(alloc, name, file.try_clone())?;
+    let length = of_file(alloc, name, file.seek(SeekFrom::End(0)))?;
+    if start >= length && start > 0 {
         let what = format!(in alloc; "it has {length} bytes, and none at {start}")?;
         return Err(failed(alloc, name, what));
     }
     of_file(alloc, name, file.seek(SeekFrom::Start(start)))?;
-    Ok(())
-}
-
-/// A source of the bytes of a file from this byte on. A file that has no byte there is refused, unless that is its first.
-pub(crate) fn source_from(
-    rt: &HostRuntime,
-    name: &str,
-    start: u64,
-) -> Result<BlockSource, Failure> {
-    let mut origin = open(rt, name)?;
-    if start > 0 {
-        if let Either::Left(file) = &mut origin {
-            seek_to(rt.alloc(), name, file, start)?;
-        }
-    }
-    Ok(BufferedSource::with_capacity(rt.alloc(), PIECE, origin)?)
+    Ok(BufferedSource::with_capacity(alloc, PIECE, Either::Left(file))?)
 }
 
 // The text that a reader gives, which has at most 16 MiB.

@@ -6,25 +6,31 @@ mod bars;
 mod blocks;
 mod depth;
 mod ending;
+mod escaped;
 mod facets;
 mod faults;
 mod files;
 mod find;
+mod get;
 mod imports;
 mod inputs;
 mod migrations;
+mod names;
+mod parts;
 mod pretty;
 mod progress;
 mod runs;
 mod schema_words;
 mod schemas;
+mod standard;
 mod starts;
 mod stat;
 mod term_counts;
 mod terms;
 mod visits;
 
-use crate::ending::run;
+use crate::ending::{refuse_words, run};
+use crate::standard::held_streams;
 use std::process::ExitCode;
 use std::{env, io};
 
@@ -39,8 +45,10 @@ fn words(rt: &HostRuntime) -> io::Result<Vec<String>> {
 }
 
 fn main(rt: HostRuntime) -> ExitCode {
-    match words(&rt) {
-        Ok(words) => ExitCode::from(run(&rt, words.as_slice())),
-        Err(_) => ExitCode::from(3),
-    }
+    let _held = held_streams(&rt);
+    let status = match words(&rt) {
+        Ok(words) => run(&rt, words.as_slice()),
+        Err(error) => refuse_words(&rt, error.kind()),
+    };
+    ExitCode::from(status)
 }

@@ -1,7 +1,8 @@
 //! `schema show` and `schema new`.
 
-use crate::blocks::print_line;
 use crate::ending::{Ending, Failure, wrong_use};
+use crate::escaped::escaped;
+use crate::files::{create, finish, print_lines};
 use crate::inputs::{schema_of, text};
 use crate::schema_words::entry_of;
 use clap::ArgMatches;
@@ -20,21 +21,18 @@ fn options(entry: &FieldEntry) -> [&'static str; 3] {
 // The line of a field: its number, name, type and options.
 fn line(alloc: Global, number: u32, entry: &FieldEntry) -> Result<String, AllocError> {
     let [stored, indexed, fast] = options(entry);
-    let (name, kind) = (entry.name(), entry.field_type().value_type());
+    let (name, kind) = (escaped(alloc, entry.name())?, entry.field_type().value_type());
     format!(in alloc; "{number:>5}  {name:<24} {kind:?} {stored} {indexed} {fast}")
 }
 
 // Prints a line for each field.
 fn show(rt: &HostRuntime, schema: &Schema) -> Result<(), Failure> {
+    let mut output = create(rt, "-")?;
     for (field, entry) in schema.fields() {
-        print_line(
-            rt,
-            line(rt.alloc(), field.field_id(), entry)?
-                .as_str()
-                .trim_end(),
-        )?;
+        let line = line(rt.alloc(), field.field_id(), entry)?;
+        output.print_line(line.as_str().trim_end())?;
     }
-    Ok(())
+    finish(output)
 }
 
 // Adds the field of a word to a schema.
@@ -60,16 +58,16 @@ fn json_of(alloc: Global, schema: &Schema) -> Result<String, AllocError> {
 }
 
 // Prints the JSON of a schema with the fields that are given.
-fn create(rt: &HostRuntime, words: &[&str]) -> Result<(), Failure> {
+fn make(rt: &HostRuntime, words: &[&str]) -> Result<(), Failure> {
     let alloc = rt.alloc();
     let schema = schema_with(alloc, words)?;
-    print_line(rt, json_of(alloc, &schema)?.as_str())
+    print_lines(rt, &[json_of(alloc, &schema)?])
 }
 
 // Shows a schema, or makes one, as the words below `schema` say.
 fn answer(rt: &HostRuntime, name: &str, given: &ArgMatches<'_>) -> Result<(), Failure> {
     if name == "new" {
-        return create(rt, given.get_strs("FIELD").unwrap_or(&[]));
+        return make(rt, given.get_strs("FIELD").unwrap_or(&[]));
     }
     show(rt, &schema_of(rt, text(given, "FILE"))?)
 }

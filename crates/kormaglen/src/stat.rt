@@ -1,8 +1,9 @@
 //! `stat`.
 
-use crate::blocks::print_line;
 use crate::depth::deepest_of;
 use crate::ending::{Ending, Failure};
+use crate::escaped::escaped;
+use crate::files::{Output, create, finish};
 use crate::inputs::{limits, schema_given};
 use crate::visits::{Visit, visit_block};
 use clap::ArgMatches;
@@ -61,32 +62,41 @@ impl Visit for Counts {
 }
 
 // Prints a line for a number.
-fn print_number(rt: &HostRuntime, number: u64, what: &str) -> Result<(), Failure> {
-    print_line(rt, format!(in rt.alloc(); "{number:>12}  {what}")?.as_str())
+fn print_number(
+    alloc: Global,
+    output: &mut Output,
+    number: u64,
+    what: &str,
+) -> Result<(), Failure> {
+    output.print_line(format!(in alloc; "{number:>12}  {what}")?.as_str())
 }
 
 // Prints the counts of a block.
-fn print_counts(rt: &HostRuntime, counts: &Counts) -> Result<(), Failure> {
-    print_number(rt, counts.documents, "documents")?;
-    print_number(rt, counts.bytes, "bytes")?;
-    print_number(rt, counts.largest, "bytes of the largest document")?;
-    print_number(rt, counts.values, "values")?;
-    print_number(rt, counts.most_values, "most values of a document")?;
+fn print_counts(output: &mut Output, counts: &Counts) -> Result<(), Failure> {
+    let alloc = counts.alloc;
+    print_number(alloc, output, counts.documents, "documents")?;
+    print_number(alloc, output, counts.bytes, "bytes")?;
+    print_number(alloc, output, counts.largest, "bytes of the largest document")?;
+    print_number(alloc, output, counts.values, "values")?;
+    print_number(alloc, output, counts.most_values, "most values of a document")?;
     print_number(
-        rt,
+        alloc,
+        output,
         counts.depth,
         "lists and objects around the innermost value",
     )
 }
 
 // Prints how many values each field has.
-fn print_fields(rt: &HostRuntime, schema: &Schema, by_field: &[u64]) -> Result<(), Failure> {
+fn print_fields(output: &mut Output, schema: &Schema, counts: &Counts) -> Result<(), Failure> {
+    let alloc = counts.alloc;
     for (field, entry) in schema.fields() {
         let number = field.field_id();
-        let values = by_field.get(number as usize).copied().unwrap_or(0);
+        let values = counts.by_field.get(number as usize).copied().unwrap_or(0);
         let kind = entry.field_type().value_type();
-        let what = format!(in rt.alloc(); "values of field {number}, {} ({kind:?})", entry.name())?;
-        print_number(rt, values, what.as_str())?;
+        let name = escaped(alloc, entry.name())?;
+        let what = format!(in alloc; "values of field {number}, {name} ({kind:?})")?;
+        print_number(alloc, output, values, what.as_str())?;
     }
     Ok(())
 }
@@ -110,7 +120,9 @@ pub(crate) fn stat(rt: &HostRuntime, given: &ArgMatches<'_>) -> Result<Ending, F
     let schema = schema_given(rt, given)?;
     let mut counts = begin(rt.alloc(), schema.num_fields())?;
     visit_block(rt, given, Wanted::All(limits(given)), &mut counts)?;
-    print_counts(rt, &counts)?;
-    print_fields(rt, &schema, counts.by_field.as_slice())?;
+    let mut output = create(rt, "-")?;
+    print_counts(&mut output, &counts)?;
+    print_fields(&mut output, &schema, &counts)?;
+    finish(output)?;
     Ok(Ending::Done)
 }

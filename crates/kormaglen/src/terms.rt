@@ -1,8 +1,9 @@
 //! `terms`.
 
-use crate::blocks::print_line;
 use crate::ending::{Ending, Failure, failed, wrong_use};
+use crate::escaped::escaped;
 use crate::faults::{Faults, refuse_unstored};
+use crate::files::{Output, create, finish};
 use crate::inputs::{schema_given, text};
 use crate::progress::Progress;
 use crate::runs::{Runs, add_run, merged_all};
@@ -11,7 +12,7 @@ use crate::visits::{Visit, fields_within, visit_block};
 use clap::ArgMatches;
 use std::alloc::Global;
 use std::env;
-use tantivy_schema::schema::{Schema, TantivyDocument, Term, TermList, TermValuesError};
+use tantivy_schema::schema::{Schema, TantivyDocument, TermList, TermValuesError, text_of_term};
 use tv_command::find::DocumentOutcome;
 use tv_command::report::DocumentReport;
 use tv_command::terms::put_terms;
@@ -159,41 +160,56 @@ fn folder(rt: &HostRuntime, given: &ArgMatches<'_>) -> Result<String, Failure> {
     }
 }
 
-// The line of a term, with how many documents have it where that is asked for.
-fn line(alloc: Global, bytes: &[u8], count: Option<u64>) -> Result<String, Failure> {
-    let Ok(term) = Term::wrap(alloc, bytes) else {
-        return Err(Failure::Memory);
-    };
-    Ok(match count {
-        Some(count) => format!(in alloc; "{count}\t{term:?}")?,
-        None => format!(in alloc; "{term:?}")?,
-    })
+// Prints terms, as the words ask for it.
+#[derive(Drop)]
+struct Printer {
+    alloc: Global,
+    output: Output,
+    is_counted: bool,
+    is_raw: bool,
 }
 
-// Prints it.
-fn print_term(rt: &HostRuntime, bytes: &[u8], count: Option<u64>) -> Result<(), Failure> {
-    print_line(rt, line(rt.alloc(), bytes, count)?.as_str())
-}
-
-// Prints the terms that are counted in memory.
-fn print_counts(rt: &HostRuntime, counts: &TermCounts, counted: bool) -> Result<(), Failure> {
-    for (term, count) in counts.as_map().iter() {
-        print_term(rt, term.as_slice(), counted.then_some(*count))?;
-    }
-    Ok(())
-}
-
-// Prints the terms of runs.
-fn print_runs(rt: &HostRuntime, runs: &mut Runs, counted: bool) -> Result<(), Failure> {
-    let alloc = rt.alloc();
-    let mut merged = merged_all(alloc, runs)?;
-    for _ in 0..u64::MAX {
-        if !merged.advance(alloc)? {
-            break;
+impl Printer {
+    // The text of the value of a term.
+    fn text(&self, term: &[u8]) -> Result<String, Failure> {
+        let Some(text) = text_of_term(self.alloc, term)? else {
+            return Err(failed(self.alloc, "a temporary file", "it was changed"));
+        };
+        if self.is_raw {
+            return Ok(text);
         }
-        print_term(rt, merged.term(), counted.then_some(merged.count()))?;
+        Ok(escaped(self.alloc, text.as_str())?)
     }
-    Ok(())
+
+    // Prints the line of a term, with how many documents have it where that is asked for.
+    fn print(&mut self, term: &[u8], count: u64) -> Result<(), Failure> {
+        let text = self.text(term)?;
+        if self.is_counted {
+            let line = format!(in self.alloc; "{count}\t{text}")?;
+            return self.output.print_line(line.as_str());
+        }
+        self.output.print_line(text.as_str())
+    }
+
+    // Prints the terms that are counted in memory.
+    fn print_counts(&mut self, counts: &TermCounts) -> Result<(), Failure> {
+        for (term, count) in counts.as_map().iter() {
+            self.print(term.as_slice(), *count)?;
+        }
+        Ok(())
+    }
+
+    // Prints the terms of runs.
+    fn print_runs(&mut self, runs: &mut Runs) -> Result<(), Failure> {
+        let mut merged = merged_all(self.alloc, runs)?;
+        for _ in 0..u64::MAX {
+            if !merged.advance(self.alloc)? {
+                break;
+            }
+            self.print(merged.term(), merged.count())?;
+        }
+        Ok(())
+    }
 }
 
 // What counts the terms that the words ask for.
@@ -223,12 +239,18 @@ pub(crate) fn terms(rt: &HostRuntime, given: &ArgMatches<'_>) -> Result<Ending, 
     let mut counting = begin(rt, given)?;
     let wanted = fields_within(rt.alloc(), given, &[counting.wanted.field()])?;
     visit_block(rt, given, wanted, &mut counting)?;
-    let counted = given.get_flag("counts");
+    let mut printer = Printer {
+        alloc: rt.alloc(),
+        output: create(rt, "-")?,
+        is_counted: given.get_flag("counts"),
+        is_raw: given.get_flag("raw"),
+    };
     if counting.runs.is_empty() {
-        print_counts(rt, &counting.counts, counted)?;
+        printer.print_counts(&counting.counts)?;
     } else {
         counting.put_away()?;
-        print_runs(rt, &mut counting.runs, counted)?;
+        printer.print_runs(&mut counting.runs)?;
     }
+    finish(printer.output)?;
     Ok(counting.faults.ending())
 }
