@@ -3,14 +3,13 @@
 //! Each function hands on the error of a failed write, and of memory that was refused. The sink then holds what it held before,
 //! and a beginning of what was to be written.
 
-ghost use Rattle.std.specs.Prelude.{◌≡◌, ◌∷◌, Ok, IfErr, IfOk};
+ghost use Rattle.std.specs.Prelude.{◌∷◌, Ok, IfErr};
 ghost use Rattle.tv_base.specs.Writing.{Writes};
 ghost use Rattle.tv_format.specs.Short.{short_elements, short_entries};
 ghost use Rattle.tv_format.specs.Tree.{array, object, elements, entries};
 ghost use Rattle.tv_format.specs.Version.{Version};
 ghost use Rattle.tv_format.specs.WriteVersion.{written_version};
 ghost use Rattle.tv_heap.specs.Encoded.{encoded_bytes, HasFewEntries};
-ghost use Rattle.tv_store.specs.Nested.{bytes_left, head_bytes, inner_list};
 ghost use Rattle.tv_store.specs.Nested.{HeldNestsWithin, HoldsNoList};
 ghost use Rattle.tv_writer.specs.Error as store;
 ghost use Rattle.tv_writer.specs.Error.{IsIo, IsIoOrMemory};
@@ -25,8 +24,9 @@ use tv_format::version::WriteVersion;
 use tv_heap::encoded::Encoded;
 use tv_heap::value::{CompactDocArrayIter, CompactDocObjectIter, CompactDocValue};
 use tv_value::children::Children;
+use tv_writer::deep::write_children_deep;
 use tv_writer::leaf_writer::{write_code, write_coded_bool, write_coded_count, write_coded_u64};
-use tv_writer::value_writer::{write_child_key, write_key, write_object_head};
+use tv_writer::value_writer::{write_key, write_object_head};
 
 // A code, and the bytes after it.
 #[inline]
@@ -62,69 +62,6 @@ fn write_single<K: ByteSink>(sink: &mut K, encoded: Encoded<'_>) -> Result<(), W
         Encoded::Tokenized(content) => write_encoded_tokens(sink, content),
         Encoded::Array(_, _) => unreachable!(),
         Encoded::Object(_, _) => unreachable!(),
-    }
-}
-
-// Writes a value, of a list its head alone. Gives the children of the list.
-#[inline(always)]
-fn write_head<'a, K: ByteSink>(
-    sink: &mut K,
-    version: WriteVersion,
-    encoded: Encoded<'a>,
-) -> Result<Option<Children<CompactDocValue<'a>>>, WriteError>
-    requires { HasFewEntries encoded }
-    ensures writes { Writes K.ByteSink sink.old sink.new result
-        (head_bytes (written_version version) encoded.entry) }
-    ensures inner { IfOk result (λ met. met ≡ inner_list encoded.entry) }
-{
-    match encoded {
-        Encoded::Array(count, items) => {
-            write_coded_count(sink, ARRAY_CODE, count)?;
-            Ok(Some(Children::Array(items)))
-        }
-        Encoded::Object(count, members) => {
-            write_object_head(sink, version, count)?;
-            Ok(Some(Children::Object(members)))
-        }
-        single => {
-            write_single(sink, single)?;
-            Ok(None)
-        }
-    }
-}
-
-// The children that are left of a list, in order, however deep they nest. The lists around the one that is gone through stand on a stack,
-// the innermost last.
-#[inline(never)]
-fn write_nested<K: ByteSink>(
-    sink: &mut K,
-    alloc: Global,
-    version: WriteVersion,
-    first: Children<CompactDocValue<'_>>,
-) -> Result<(), SerializeError>
-    ensures writes { store.WritesStore K.ByteSink sink.old sink.new result
-        (Ok (bytes_left (written_version version) first.entry)) }
-    ensures errors { IfErr result IsIoOrMemory }
-{
-    let mut around = Vec::new(alloc);
-    let mut list = first;
-    'children: loop {
-        let Some((key, item)) = list.next() else {
-            let Some(outer) = around.pop() else {
-                return Ok(());
-            };
-            list = outer;
-            continue 'children;
-        };
-        let encoded = item.encoded();
-        write_child_key(sink, version, key)?;
-        match write_head(sink, version, encoded)? {
-            None => {}
-            Some(inner) => {
-                around.push(list)?;
-                list = inner;
-            }
-        }
     }
 }
 
@@ -179,7 +116,12 @@ fn write_encoded_items<K: ByteSink>(
     ensures only_io { NestsWithin levels (array (elements items.entry.held.0)) → IfErr result IsIo }
 {
     if levels == 0 {
-        return write_nested(sink, alloc, version, Children::Array(items));
+        return write_children_deep(
+            sink,
+            alloc,
+            version,
+            Children::<CompactDocValue<'_>>::Array(items),
+        );
     }
     for item in items {
         write_encoded(sink, alloc, version, item.encoded(), levels - 1)?;
@@ -203,7 +145,12 @@ fn write_encoded_members<K: ByteSink>(
     ensures only_io { NestsWithin levels (object (entries members.entry.held.0)) → IfErr result IsIo }
 {
     if levels == 0 {
-        return write_nested(sink, alloc, version, Children::Object(members));
+        return write_children_deep(
+            sink,
+            alloc,
+            version,
+            Children::<CompactDocValue<'_>>::Object(members),
+        );
     }
     for (key, item) in members {
         write_key(sink, version, key)?;

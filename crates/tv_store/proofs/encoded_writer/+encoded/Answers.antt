@@ -1,6 +1,6 @@
 use Rattle.std.proofs.Common.{◌≡◌, ◌-◌, ◌∷◌, ◌++◌, refl, sym, ap, subst, rules}
 use Rattle.std.proofs.lemmas.Result.{err_from_is_err_and}
-use Rattle.tv_base.proofs.Written.{Writes_both, Writes_some, Written-step, Written-fails}
+use Rattle.tv_base.proofs.Written.{Writes_as, Writes_both, Writes_some, Written-step, Written-fails}
 use Rattle.tv_heap.specs.Encoded.{encoded_bytes}
 use Rattle.tv_heap.specs.Value.{tree_of}
 use Rattle.tv_format.specs.Short.{short_elements, short_entries}
@@ -8,8 +8,10 @@ use Rattle.tv_format.specs.Tree.{elements, entries}
 use Rattle.tv_format.specs.WriteVersion.{written_version}
 use Rattle.tv_value.specs.Nesting.{ElementsNestWithin, EntriesNestWithin}
 use Rattle.tv_store.proofs.Nesting.{held_within}
+use Rattle.tv_store.proofs.NestedSteps.{items_are_values, members_are_values}
 use Rattle.tv_store.proofs.Stores.{writes_for}
 use Rattle.tv_store.proofs.WriterSteps.{others_fewer, entries_fewer, elements_next, entries_parts}
+use Rattle.tv_writer.proofs.WriterSteps.{short_items, short_members}
 use Rattle.tv_store.proofs.encoded_writer.+encoded.Goals as goal
 
 pub write_encoded-returns-in_err-write_coded_count-in-Array-clause-writes : goal.write_encoded-returns-in_err-write_coded_count-in-Array-clause-writes
@@ -103,3 +105,19 @@ write_encoded_members-returns-in_err-write_encoded-clause-only_io g t c =
     λ h.
     let child = (subst (λ es. EntriesNestWithin (c.args.levels - 1) (entries es)) cut (l.invariant.within h)).0 in
     rw (p.1, p.2) (c.in_err-write_encoded.ensures.only_io (held_within (c.args.levels - 1) c.in-Some.item c.encoded.result c.encoded.ensures.bytes child))
+
+-- past the levels
+
+pub write_encoded_items-returns-then-levels-eq0-clause-writes : goal.write_encoded_items-returns-then-levels-eq0-clause-writes
+write_encoded_items-returns-then-levels-eq0-clause-writes g t c =
+    Writes_as c.write_children_deep.ensures.writes (sym (short_items (written_version c.args.version) c.args.items.held.0))
+
+pub write_encoded_items-write_children_deep-requires : goal.write_encoded_items-write_children_deep-requires
+write_encoded_items-write_children_deep-requires g t c = items_are_values c.args.items
+
+pub write_encoded_members-returns-then-levels-eq0-clause-writes : goal.write_encoded_members-returns-then-levels-eq0-clause-writes
+write_encoded_members-returns-then-levels-eq0-clause-writes g t c =
+    Writes_as c.write_children_deep.ensures.writes (sym (short_members (written_version c.args.version) c.args.members.held.0))
+
+pub write_encoded_members-write_children_deep-requires : goal.write_encoded_members-write_children_deep-requires
+write_encoded_members-write_children_deep-requires g t c = members_are_values c.args.members
