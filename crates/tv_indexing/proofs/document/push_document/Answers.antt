@@ -1,6 +1,7 @@
-use Rattle.std.proofs.Common.{◌≡◌, [], ◌∷◌, Ok, ap, refl, sym, ◌∙◌, rules}
+use Rattle.std.proofs.Common.{◌≡◌, ℕ, [], ◌∷◌, Ok, ap, refl, sym, ◌∙◌, rules}
 use Rattle.tv_doc.specs.Document.{document_of}
 use Rattle.tv_doc.specs.FieldValues.{pairs_left}
+use Rattle.tv_format.specs.Tree.{Tree}
 use Rattle.tv_heap.specs.Value.{tree_of}
 use Rattle.tv_indexing.proofs.Following.{all_appended, extends_as, extends_by, extends_on, more_appended}
 use Rattle.tv_indexing.proofs.Wanted.{no_pairs, one_pair}
@@ -24,7 +25,7 @@ loop-field-preserved c =
     let l = c.loop-field in
     let schema = c.args.schema.now in
     let wanted = c.args.wanted in
-    let pair = (c.in-Some.field.id, tree_of c.in-Some.value) in
+    let pair : ℕ × Tree = (c.in-Some.field.id, tree_of c.in-Some.value) in
     let left = pairs_left c.next.new.self in
     let cut : pairs_left l.field-iterator ≡ pair ∷ left = search rules in
     let made = c.in_ok-push_wanted.ensures.made in
