@@ -1,8 +1,8 @@
 //! `export` and `check`.
 
 use crate::ending::{Ending, Failure, failed, write_failed, wrong_use};
-use crate::files::{Output, OutputSink, create, finish, print_lines};
 use crate::escaped::escaped;
+use crate::files::{Output, OutputSink, create, finish, print_lines};
 use crate::inputs::{BlockSource, limits, schema_given, source, text, version};
 use crate::pretty::export_pretty;
 use crate::progress::Progress;

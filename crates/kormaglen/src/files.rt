@@ -1,6 +1,6 @@
 //! What a command writes: to the standard output, or to files that are there only once all of them are whole.
 
-use crate::ending::{Failure, of_file, wrong_use, write_failed};
+use crate::ending::{Failure, of_file, write_failed, wrong_use};
 use crate::parts::{Part, begin_part, file_behind, settle_all};
 use crate::standard::StandardOutput;
 use either::Either;

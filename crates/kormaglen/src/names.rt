@@ -12,6 +12,7 @@ use std::path::Path;
 
 // What the standard streams are, whatever they lead to.
 const STANDARD_INPUT: &str = "/proc/self/fd/0";
+
 const STANDARD_OUTPUT: &str = "/proc/self/fd/1";
 
 // The device of a file and its number there, which it shares with no other.

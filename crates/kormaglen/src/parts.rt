@@ -3,11 +3,10 @@
 use crate::ending::{Failure, failed, of_file};
 use std::alloc::{AllocError, Global};
 use std::fs::{self, File, Metadata, Permissions, TryLockError};
-use std::io;
 use std::os::unix::fs::{MetadataExt, OpenOptionsExt, PermissionsExt, fchown};
 use std::path::Path;
-use std::thread;
 use std::time::Duration;
+use std::{io, thread};
 
 // This many names are tried for a part.
 const MOST_NAMES: u64 = 1 << 20;
@@ -17,10 +16,12 @@ const MOST_LINKS: usize = 40;
 
 // A folder is waited for so many times, for so many milliseconds each time.
 const MOST_WAITS: u64 = 1000;
+
 const WAIT: u64 = 5;
 
 // The bits of a mode that say who may read, write and run a file, and all that can be set.
 const ACCESS: u32 = 0o777;
+
 const ALL_BITS: u32 = 0o7777;
 
 /// A file that is written beside the one that it will replace. It is locked as long as it is open, which tells it from one that a command left
@@ -200,14 +201,12 @@ impl Part {
 
     // Gives it the name of the file that it replaces. That file is gone then, also where it was put aside.
     fn settle(&mut self) -> Result<(), Failure> {
-        let was_aside = self.is_aside;
         self.is_aside = false;
         let named = fs::rename(&self.rt, self.name.as_str(), self.path.as_str());
         of_file(self.rt.alloc(), self.path.as_str(), named)?;
         self.is_named = true;
-        if was_aside {
-            let _ = fs::remove_file(&self.rt, self.aside.as_str());
-        }
+        // also one that a command left that was killed
+        let _ = fs::remove_file(&self.rt, self.aside.as_str());
         Ok(())
     }
 

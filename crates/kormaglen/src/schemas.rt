@@ -21,7 +21,10 @@ fn options(entry: &FieldEntry) -> [&'static str; 3] {
 // The line of a field: its number, name, type and options.
 fn line(alloc: Global, number: u32, entry: &FieldEntry) -> Result<String, AllocError> {
     let [stored, indexed, fast] = options(entry);
-    let (name, kind) = (escaped(alloc, entry.name())?, entry.field_type().value_type());
+    let (name, kind) = (
+        escaped(alloc, entry.name())?,
+        entry.field_type().value_type(),
+    );
     format!(in alloc; "{number:>5}  {name:<24} {kind:?} {stored} {indexed} {fast}")
 }
 

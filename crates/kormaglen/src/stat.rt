@@ -76,9 +76,19 @@ fn print_counts(output: &mut Output, counts: &Counts) -> Result<(), Failure> {
     let alloc = counts.alloc;
     print_number(alloc, output, counts.documents, "documents")?;
     print_number(alloc, output, counts.bytes, "bytes")?;
-    print_number(alloc, output, counts.largest, "bytes of the largest document")?;
+    print_number(
+        alloc,
+        output,
+        counts.largest,
+        "bytes of the largest document",
+    )?;
     print_number(alloc, output, counts.values, "values")?;
-    print_number(alloc, output, counts.most_values, "most values of a document")?;
+    print_number(
+        alloc,
+        output,
+        counts.most_values,
+        "most values of a document",
+    )?;
     print_number(
         alloc,
         output,
