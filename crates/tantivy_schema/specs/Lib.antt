@@ -157,7 +157,6 @@ pub use Rattle.tv_reading.specs.Kept as DecoderKept
 pub use Rattle.tv_store.specs.PairsGiven
 pub use Rattle.tv_store.specs.RoundTrip
 pub use Rattle.tv_writer.specs.Serialized
-pub use Rattle.tv_writer.specs.Error as WriterError
 pub use Rattle.tv_store.specs.Stored
 pub use Rattle.tv_reader.specs.Depth
 pub use Rattle.tv_reader.specs.Error as ReaderError
