@@ -56,9 +56,11 @@ fn is_written<'a, V: Value<'a>>(alloc: Global, value: &V, bytes: &[u8]) -> Resul
     let mut object = BinaryObjectSerializer::begin(1, &mut entry)?.any_depth(alloc);
     object.serialize_entry("key", value)?;
     object.end()?;
-    Ok(holds(alone, b"", bytes)
-        && holds(element, b"\x81", bytes)
-        && holds(entry, b"\x82\0\x83key", bytes))
+    Ok(
+        holds(alone, b"", bytes)
+            && holds(element, b"\x81", bytes)
+            && holds(entry, b"\x82\0\x83key", bytes),
+    )
 }
 
 // Whether a value is refused by each where no depth is asked for, and nothing of it is written.
@@ -70,12 +72,14 @@ fn is_refused<'a, V: Value<'a>>(alloc: Global, value: &V) -> Result<bool, Fail> 
     let mut entry = VecSink::new(alloc);
     let third = BinaryObjectSerializer::begin(1, &mut entry)?.serialize_entry("key", value);
     let too_deep = Err(SerializeError::TooDeep);
-    Ok(first == too_deep
-        && second == too_deep
-        && third == too_deep
-        && holds(alone, b"", b"")
-        && holds(element, b"\x81", b"")
-        && holds(entry, b"\x82", b""))
+    Ok(
+        first == too_deep
+            && second == too_deep
+            && third == too_deep
+            && holds(alone, b"", b"")
+            && holds(element, b"\x81", b"")
+            && holds(entry, b"\x82", b""),
+    )
 }
 
 // Whether a value of this many lists is written where any depth is asked for, and refused where none is.
