@@ -37,7 +37,10 @@ fn inputs<'a>(
     match command {
         "import" => {
             let files = given.get_strs("FILE").unwrap_or(&[]);
-            for name in if files.is_empty() { &["-"] } else { files } {
+            if files.is_empty() {
+                names.push("-")?;
+            }
+            for name in files {
                 names.push(*name)?;
             }
         }
