@@ -7,6 +7,7 @@ ghost use Rattle.std.specs.declared.io.ErrorKind.TheVariants.{OutOfMemory};
 ghost use Rattle.tv_base.specs.Source.{CountsFailure};
 ghost use Rattle.tv_base.specs.Sink.{AppendsSome};
 
+use crate::byte_buffer::ByteBuffer;
 use crate::sink::ByteSink;
 use std::alloc::{AllocError, Global};
 use std::io;
@@ -15,7 +16,8 @@ use std::io;
 const FIRST_ROOM: usize = 256;
 
 // Puts the bytes after those that are there.
-fn append(bytes: &mut Vec<u8>, buf: &[u8]) -> Result<(), AllocError>
+#[inline(always)]
+fn append(bytes: &mut ByteBuffer, buf: &[u8]) -> Result<(), AllocError>
     ensures ok { OnOk result (bytes.new.items ≡ bytes.old.items ++ buf.now) }
     ensures err { OnErr result (bytes.new.items ≡ bytes.old.items) }
 {
@@ -28,7 +30,7 @@ fn append(bytes: &mut Vec<u8>, buf: &[u8]) -> Result<(), AllocError>
 /// Keeps the bytes that are written, in memory. A refused growth is a failure of kind `OutOfMemory`.
 #[derive(Drop)]
 pub struct VecSink {
-    bytes: Vec<u8>,
+    bytes: ByteBuffer,
     failures: u64,
     last: Option<io::ErrorKind>,
     pub ghost memory: { ForSome last (λ kind. kind ≡ OutOfMemory) },
@@ -42,7 +44,7 @@ impl VecSink {
             ≡ record { number = 0; last = None } }
     {
         VecSink {
-            bytes: Vec::new(alloc),
+            bytes: ByteBuffer::new(alloc),
             failures: 0,
             last: None,
         }
@@ -73,7 +75,7 @@ impl VecSink {
             failures: _,
             last: _,
         } = self;
-        bytes
+        bytes.into_vec()
     }
 }
 
