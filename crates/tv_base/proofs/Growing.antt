@@ -17,3 +17,7 @@ grows_more {few} {most} {a} {b} h within = record {
 pub grows_within : {T E : Type 0} (r : Result T E) (a b : Buffer) (need : ℕ) → Grows r a b need → GrowsWithin need a b
 grows_within (Ok x) a b need h = record { same = λ enough. grind (arith, h, enough); bound = grind (arith, h) }
 grows_within (Err e) a b need h = record { same = λ enough. h.0; bound = omega (arith, h.0) }
+
+pub extends_within : {T E : Type 0} (r : Result T E) (a b : Buffer) (bytes : List ℕ) → Extends r a b bytes → GrowsWithin (length a.items + length bytes) a b
+extends_within {T} {E} (Ok x) a b bytes h = grows_within {T = T} {E = E} (Ok x) a b _ h.1
+extends_within {T} {E} (Err e) a b bytes h = grows_within {T = T} {E = E} (Err e) a b _ (h.1, h.2)

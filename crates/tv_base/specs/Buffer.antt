@@ -1,5 +1,5 @@
 -- What clauses see of a buffer of bytes, and how its memory grows.
-use Rattle.std.specs.Prelude.{◌≡◌, ℕ, ◌+◌, ◌*◌, ◌<◌, ◌≤◌, List, ◌++◌, length, take, max, leb, if◌then◌else◌, refl, Result, Ok, Err}
+use Rattle.std.specs.Prelude.{◌≡◌, ℕ, ◌+◌, ◌*◌, ◌^◌, ◌<◌, ◌≤◌, List, ◌++◌, length, take, max, leb, if◌then◌else◌, refl, Result, Ok, Err}
 use Rattle.std.specs.Coded.{Coded, code_by, coded×, coded_list, coded_ℕ}
 
 -- The bytes of a buffer; how many more may be stored with no test; and how many more it takes with no request for memory.
@@ -27,15 +27,16 @@ abbrev pub Grows : {T E : Type 0} → Result T E → Buffer → Buffer → ℕ �
 Grows (Ok x) old new need = capacity new ≡ grown (capacity old) need
 Grows (Err e) old new need = (capacity new ≡ capacity old) × (capacity old < need)
 
--- These bytes are appended, where room for them was ready.
+-- These bytes are appended, where room for them was ready, and all are fewer than 2^63.
 pub record Puts (old new : Buffer) (bytes : List ℕ) : Type 0 where
   pub items : new.items ≡ old.items ++ bytes
   pub ready : new.ready + length bytes ≡ old.ready
   pub spare : new.spare + length bytes ≡ old.spare
+  pub small : length new.items < 2 ^ 63
 
--- These bytes are appended, or nothing is, as memory for them was missing and was refused.
+-- These bytes are appended, and all are fewer than 2^63; or nothing is, as memory for them was missing and was refused.
 abbrev pub Extends : {T E : Type 0} → Result T E → Buffer → Buffer → List ℕ → Type 0
-Extends (Ok x) old new bytes = (new.items ≡ old.items ++ bytes) × (capacity new ≡ grown (capacity old) (length old.items + length bytes))
+Extends (Ok x) old new bytes = (new.items ≡ old.items ++ bytes) × (capacity new ≡ grown (capacity old) (length old.items + length bytes)) × (length new.items < 2 ^ 63)
 Extends (Err e) old new bytes = (new.items ≡ old.items) × (capacity new ≡ capacity old) × (capacity old < length old.items + length bytes)
 
 -- Memory grew only where the capacity was below `most`, and then to twice that and 16 at most: what writes leave that keep within `most` bytes.

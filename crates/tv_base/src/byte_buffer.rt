@@ -1,13 +1,13 @@
 //! A buffer of bytes to which short parts are appended.
 
-ghost use Rattle.std.specs.Prelude.{◌≡◌, ◌+◌, ◌≤◌, ◌<◌, ◌∷◌, ◌++◌, [], length, take, IfOk, OnOk, OnErr, IsTrue, ◌↔◌};
+ghost use Rattle.std.specs.Prelude.{◌≡◌, ◌+◌, ◌≤◌, ◌<◌, ◌^◌, ◌∷◌, ◌++◌, [], length, take, IfOk, OnOk, OnErr, IsTrue, ◌↔◌};
 ghost use Rattle.std.specs.Prelude.{vec_capacity, vec_len};
 ghost use Rattle.tv_base.specs.Buffer.{Extends, Grows, Puts, capacity, grown};
 
 use crate::fixed_copy::copy_part;
 use std::alloc::{AllocError, Global};
 use std::marker::Model;
-use std::mem;
+use std::{fmt, mem};
 
 // At least this many bytes beyond what is needed are made ready at once, and at most `MOST_AHEAD`, where there is memory for them.
 const LEAST_AHEAD: usize = 128;
@@ -30,6 +30,13 @@ pub struct ByteBuffer {
 impl Drop for ByteBuffer {
     fn drop(self) {
         let ByteBuffer { bytes: _, len: _ } = self;
+    }
+}
+
+/// The bytes, as a list of numbers.
+impl fmt::Debug for ByteBuffer {
+    fn fmt<W: fmt::Write>(&self, f: &mut fmt::Formatter<W>) -> fmt::Result {
+        f.debug_list().entries(self.as_slice().iter()).finish()
     }
 }
 
@@ -94,7 +101,8 @@ impl ByteBuffer {
     /// How many bytes there are.
     #[inline(always)]
     pub fn len(&self) -> usize
-        ensures { result ≡ length self.now.items }
+        ensures len { result ≡ length self.now.items }
+        ensures small { result < 2 ^ 63 }
     {
         self.len
     }
