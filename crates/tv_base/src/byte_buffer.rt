@@ -9,9 +9,10 @@ use std::alloc::{AllocError, Global};
 use std::marker::Model;
 use std::{fmt, mem};
 
-// At least this many bytes beyond what is needed are made ready at once, and at most `MOST_AHEAD`, where there is memory for them.
-const LEAST_AHEAD: usize = 128;
+// So much memory is asked for at first: enough for the values of a short document.
+const FIRST_ROOM: usize = 512;
 
+// At most this many bytes beyond what is needed are made ready at once.
 const MOST_AHEAD: usize = 16384;
 
 /// A buffer of bytes. (Not in tantivy.)
@@ -19,7 +20,7 @@ const MOST_AHEAD: usize = 16384;
 /// The bytes are the first `len` of those in memory. What lies after them is set ahead, so that a short part is stored by one test of room and
 /// two copies of a fixed size, and `reserve` serves for several parts that are then stored by the `put` calls with no test.
 ///
-/// Memory grows to what is needed, or to twice what there is and 16 bytes more if that is greater. After an error the bytes and their memory are
+/// Memory grows to what is needed, or to twice what there is and 512 bytes more if that is greater. After an error the bytes and their memory are
 /// as they were.
 pub struct ByteBuffer {
     bytes: Vec<u8>,
@@ -261,7 +262,7 @@ fn make_room(bytes: &mut Vec<u8>, need: usize) -> Result<(), AllocError>
         return Ok(());
     }
     let twice = capacity.checked_mul(2).ok_or(AllocError)?;
-    let more = twice.checked_add(16).ok_or(AllocError)?;
+    let more = twice.checked_add(FIRST_ROOM).ok_or(AllocError)?;
     bytes.reserve_exact(need.max(more) - bytes.len())
 }
 
@@ -272,8 +273,7 @@ fn fill(bytes: &mut Vec<u8>, need: usize)
     ensures len { need ≤ vec_len bytes.new }
     ensures capacity { vec_capacity bytes.new ≡ vec_capacity bytes.old }
 {
-    let ahead = need.clamp(LEAST_AHEAD, MOST_AHEAD);
-    let most = need.saturating_add(ahead).min(bytes.capacity());
+    let most = need.saturating_add(MOST_AHEAD).min(bytes.capacity());
     // (taken out, so that the loop is one call that sets memory)
     let empty = Vec::new(*bytes.allocator());
     let mut filled = mem::replace(bytes, empty);

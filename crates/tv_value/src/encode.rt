@@ -34,6 +34,7 @@ pub fn push_number(bytes: &mut ByteBuffer, number: u64) -> Result<(), AllocError
 
 /// Appends the length of `content`, and `content`. (Not in tantivy.) The error is that of `push_number`.
 #[inline(always)]
+#[tactic(auto, using(tv_base::proofs::Growing::grows_then, tv_base::proofs::Growing::grows_more))]
 pub fn push_sized(bytes: &mut ByteBuffer, content: &[u8]) -> Result<(), AllocError>
     ensures ok { OnOk result (bytes.new.items ≡ bytes.old.items ++ short_sized content.now) }
     ensures err { OnErr result (IsPrefix bytes.old.items bytes.new.items) }
@@ -60,6 +61,7 @@ pub fn push_text(bytes: &mut ByteBuffer, text: &str) -> Result<(), AllocError>
 }
 
 /// Appends the shortest encoding of `token`. (Not in tantivy.) The error is that of `push_number`.
+#[tactic(auto, using(tv_base::proofs::Growing::grows_then, tv_base::proofs::Growing::grows_more))]
 pub fn push_token(bytes: &mut ByteBuffer, token: TokenRef<'_>) -> Result<(), AllocError>
     ensures ok { OnOk result
         (bytes.new.items ≡ bytes.old.items ++ short_token (ref_of token.entry)) }
