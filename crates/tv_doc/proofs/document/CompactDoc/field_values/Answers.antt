@@ -6,4 +6,4 @@ pub returns : goal.returns
 returns c =
     let d = c.args.self.now.values in
     let pairs = c.new.result in
-    same_document pairs.heap.now d.heap.items pairs.pairs.now d.pairs.items pairs.held d.document (c.new.ensures.heap ∙ c.as_slice.ensures.value) (c.new.ensures.pairs ∙ c.as_slice-2.ensures.value)
+    same_document pairs.heap.now d.heap.items pairs.pairs.now d.pairs.items pairs.held d.document (c.new.ensures.heap ∙ c.as_slice.ensures) (c.new.ensures.pairs ∙ c.as_slice-2.ensures.value)
