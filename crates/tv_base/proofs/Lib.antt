@@ -31,3 +31,5 @@ pub mod Unescaping
 pub mod Printing
 pub mod Steps
 pub mod JsonPaths
+pub mod Growing
+mod Overlaps

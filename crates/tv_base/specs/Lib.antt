@@ -14,3 +14,4 @@ pub mod Escapes
 pub mod Facet
 pub mod JsonPath
 pub mod Rewriting
+pub mod Buffer

@@ -2,10 +2,12 @@
 #![tactic(auto)]
 
 mod buffered;
+pub mod byte_buffer;
 pub mod cause;
 pub mod escapes;
 pub mod facet;
 pub mod facet_parse_error;
+mod fixed_copy;
 pub mod json_path;
 pub mod laws;
 pub mod read_error;
@@ -21,6 +23,7 @@ pub mod vint;
 pub mod write;
 pub mod write_error;
 
+pub use byte_buffer::ByteBuffer;
 pub use cause::Cause;
 pub use facet::{FACET_SEP_BYTE, FACET_SEP_CHAR, Facet};
 pub use facet_parse_error::FacetParseError;

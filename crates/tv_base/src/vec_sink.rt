@@ -7,28 +7,15 @@ ghost use Rattle.std.specs.declared.io.ErrorKind.TheVariants.{OutOfMemory};
 ghost use Rattle.tv_base.specs.Source.{CountsFailure};
 ghost use Rattle.tv_base.specs.Sink.{AppendsSome};
 
+use crate::byte_buffer::ByteBuffer;
 use crate::sink::ByteSink;
-use std::alloc::{AllocError, Global};
+use std::alloc::Global;
 use std::io;
-
-// The first write makes room for this many bytes: enough for a short document.
-const FIRST_ROOM: usize = 256;
-
-// Puts the bytes after those that are there.
-fn append(bytes: &mut Vec<u8>, buf: &[u8]) -> Result<(), AllocError>
-    ensures ok { OnOk result (bytes.new.items ≡ bytes.old.items ++ buf.now) }
-    ensures err { OnErr result (bytes.new.items ≡ bytes.old.items) }
-{
-    if bytes.is_empty() {
-        bytes.reserve(FIRST_ROOM)?;
-    }
-    bytes.extend_from_slice(buf)
-}
 
 /// Keeps the bytes that are written, in memory. A refused growth is a failure of kind `OutOfMemory`.
 #[derive(Drop)]
 pub struct VecSink {
-    bytes: Vec<u8>,
+    bytes: ByteBuffer,
     failures: u64,
     last: Option<io::ErrorKind>,
     pub ghost memory: { ForSome last (λ kind. kind ≡ OutOfMemory) },
@@ -42,7 +29,7 @@ impl VecSink {
             ≡ record { number = 0; last = None } }
     {
         VecSink {
-            bytes: Vec::new(alloc),
+            bytes: ByteBuffer::new(alloc),
             failures: 0,
             last: None,
         }
@@ -73,7 +60,7 @@ impl VecSink {
             failures: _,
             last: _,
         } = self;
-        bytes
+        bytes.into_vec()
     }
 }
 
@@ -95,7 +82,7 @@ impl ByteSink for VecSink {
         ensures counted { OnErr result
             (self.new.failures ≡ min (self.old.failures + 1) (2 ^ 64 - 1)) }
     {
-        match append(&mut self.bytes, buf) {
+        match self.bytes.extend_from_slice(buf) {
             Ok(()) => Ok(buf.len()),
             Err(_) => {
                 self.failures = self.failures.saturating_add(1);

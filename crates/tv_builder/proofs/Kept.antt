@@ -1,5 +1,5 @@
 -- Pairs after an addition that kept the place of what was written, or cut what was written off again.
-use Rattle.std.proofs.Common.{◌≡◌, ℕ, ◌+◌, ◌≤◌, ◌<◌, ◌^◌, true, false, Bool, List, [], ◌++◌, length, length-append, take, Option, Some, None, Result, Ok, Err, SomeIff, sym, subst, ◌∙◌, ap, arith}
+use Rattle.std.proofs.Common.{◌≡◌, ℕ, ◌+◌, ◌≤◌, ◌<◌, ◌^◌, true, false, Bool, List, [], ◌++◌, length, length-append, take, Option, Some, None, Result, Ok, Err, SomeIff, refl, sym, subst, ◌∙◌, ap, arith}
 use Rattle.tv_base.specs.Sink.{IsPrefix}
 use Rattle.tv_format.specs.Tree.{Tree, leaf}
 use Rattle.tv_heap.specs.LeafBytes.{leaf_bytes, leaf_value_type, leaf_address}
@@ -11,9 +11,10 @@ use Rattle.tv_heap.proofs.Writes.{leaf_fits}
 use Rattle.tv_value.specs.Lent.{leaf_of}
 use Rattle.tv_value.specs.declared.leaf.ReferenceValueLeaf.{ReferenceValueLeaf}
 use Rattle.tv_builder.specs.declared.add_error.AddError.{AddError}
+use Rattle.tv_builder.specs.declared.add_error.AddError.TheVariants.{HeapFull, Memory}
 use Rattle.tv_builder.specs.declared.heap_pair.HeapPair.{HeapPair}
 use Rattle.tv_builder.specs.declared.heap_pairs.HeapPairs.{HeapPairs}
-use Rattle.tv_builder.specs.HeldPairs.{heap_of, Added, Adds, RefusesAddition, IsUnchanged}
+use Rattle.tv_builder.specs.HeldPairs.{heap_of, heap_capacity, Added, Adds, RefusesAddition, IsUnchanged, KeepsMemory}
 use Rattle.tv_builder.specs.Keeping.{KeepsPair, PairKept, PairCut}
 use Rattle.tv_builder.specs.Holds.{Holds}
 use Rattle.tv_builder.specs.Moves.{FitsRoom}
@@ -23,9 +24,9 @@ use Rattle.tv_builder.proofs.Documents.{unchanged, added, pushed, pushed_bytes, 
 use Rattle.tv_builder.proofs.Putting.{put_grows, leaf_put}
 
 -- the room that was found is the tree's, and it is free
-pub room_fits : (found : Option ℕ) (len n : ℕ) (fits : Bool) → SomeIff found (n < 2 ^ 32) n → FitsRoom 4294967295 found len fits → fits ≡ true → len + n ≤ 4294967295
-room_fits (Some m) len n fits is h e = omega (arith, is.1, h.0 e)
-room_fits None len n fits is h e = absurd (let f : false ≡ true = sym h ∙ e in cc)
+pub room_fits : {most : ℕ} (found : Option ℕ) (len n : ℕ) (fits : Bool) → SomeIff found (n < 2 ^ 32) n → FitsRoom most found len fits → fits ≡ true → len + n ≤ most
+room_fits {most} (Some m) len n fits is h e = omega (arith, is.1, h.0 e)
+room_fits {most} None len n fits is h e = absurd (let f : false ≡ true = sym h ∙ e in cc)
 
 -- what is known of the heap and the pairs
 pub record Fields (heap : List ℕ) (ps : List HeapPair) : Type 0 where
@@ -84,3 +85,14 @@ pub kept_adds : (old new : HeapPairs) (mid : List ℕ) (len field : ℕ) (t : Tr
     → KeepsPair mid (heap_of new) old.pairs.items new.pairs.items len field at result → Adds old new field t result
 kept_adds old new mid len field t at (Ok x) free w k = (free, kept_added old new mid len field t at w k)
 kept_adds old new mid len field t at (Err e) free w k = (subst (RefusesAddition old t) (sym k.memory) free, kept_unchanged old new mid len field t at e w k)
+
+-- ---- how memory grew
+
+pub kept_memory : (old new : HeapPairs) (mid : List ℕ) (len field : ℕ) (at : Place) (result : Result (Unit {0}) AddError) → KeepsPair mid (heap_of new) old.pairs.items new.pairs.items len field at result → KeepsMemory old new result
+kept_memory old new mid len field at (Ok x) k = tt
+kept_memory old new mid len field at (Err HeapFull) k = absurd (let f : HeapFull ≡ Memory = k.memory in cc)
+kept_memory old new mid len field at (Err Memory) k = tt
+
+pub cut_memory : (old new : HeapPairs) (e : AddError) → (e ≡ HeapFull → heap_capacity new ≤ heap_capacity old + 1048576) → KeepsMemory {T = Unit {0}} old new (Err e)
+cut_memory old new HeapFull h = h refl
+cut_memory old new Memory h = tt

@@ -1,7 +1,9 @@
 -- How children that are written make a whole value.
-use Rattle.std.proofs.Common.{◌≡◌, ℕ, ◌*◌, ◌≤◌, List, [], ◌∷◌, ◌++◌, length, map, take, drop, Option, Some, None, Result, Ok, Err, IfOk, OnOk, IfErr, IsErrAnd, refl, sym, ◌∙◌, ap, subst, append_assoc, length-append, arith}
+use Rattle.std.proofs.Common.{◌≡◌, ℕ, ◌+◌, ◌*◌, ◌≤◌, max, inl, inr, List, [], ◌∷◌, ◌++◌, length, map, take, drop, Option, Some, None, Result, Ok, Err, IfOk, OnOk, IfErr, IsErrAnd, refl, sym, ◌∙◌, ap, subst, append_assoc, length-append, arith}
+use Rattle.std.proofs.lemmas.Bool.{cases_lt}
 use Rattle.std.proofs.lemmas.List.{append-nil}
 use Rattle.std.proofs.Math.Seq.{drop-append_seam, take-append_seam}
+use Rattle.tv_base.specs.Buffer.{Buffer, GrowsWithin, capacity}
 use Rattle.tv_base.specs.Parts.{short_sized}
 use Rattle.tv_base.specs.Sink.{IsPrefix}
 use Rattle.tv_format.specs.Tree.{Leaf, text, Tree, leaf, array, object, Elements, no_elements, element, Entries, no_entries, entry, elements, entries, element_list, entry_list}
@@ -249,3 +251,11 @@ leaf_puts most (Err e) old places t new ok err = err
 pub refused : {most : ℕ} (r : Result Place AddError) (old places : List ℕ) (t : Tree) (new left : List ℕ) (e : AddError) → IsErrAnd r (λ x. x ≡ e) → PutNot most old t new e → Puts most old places t new left r
 refused (Ok p) old places t new left e is not = absurd is
 refused {most} (Err x) old places t new left e is not = subst (PutNot most old t new) (sym is) not
+
+-- where nothing is written, memory stays
+pub grows_same : (most : ℕ) (a : Buffer) → GrowsWithin most a a
+grows_same most a = record { same = λ h. refl; bound = omega arith }
+
+-- what is written within a bound that is at most 524032 bytes, or the capacity, takes at most 1 MiB more
+pub grows_little : {most : ℕ} (a b : Buffer) → most ≤ max (capacity a) 524032 → GrowsWithin most a b → capacity b ≤ capacity a + 1048576
+grows_little {most} a b bound grows = elim (cases_lt (capacity a) most) [ inl few ↦ omega (arith, few, bound, grows.bound) | inr enough ↦ omega (arith, grows.same (omega (arith, enough))) ]

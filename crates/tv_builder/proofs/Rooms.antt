@@ -101,7 +101,7 @@ mutual
 -- ---- a value that was written, and whose room is to be free
 
 -- a tenth of what is free was written at most
-pub paid_within : {most : ℕ} (old : List ℕ) (t : Tree) (new : List ℕ) (p : Place) → length old ≤ 4294967295 → most ≡ length old + min ((4294967295 - length old) / 10) 1048576 → Put most old t new p → PutWithin old t new p
+pub paid_within : {most : ℕ} (old : List ℕ) (t : Tree) (new : List ℕ) (p : Place) → length old ≤ 4294967295 → most ≤ length old + min ((4294967295 - length old) / 10) 1048576 → Put most old t new p → PutWithin old t new p
 paid_within {most} old t new p small is w =
     let tenth : 10 * most ≤ 4294967295 + 9 * length old = omega (arith, is, small, min-le_left ((4294967295 - length old) / 10) 1048576) in
     let paid = tree_paid old t in

@@ -1,6 +1,7 @@
 -- What pairs in a heap are seen as, and what an addition leaves.
 use Rattle.std.specs.Prelude.{◌≡◌, ◌≢◌, ℕ, ◌+◌, ◌<◌, ◌≤◌, List, [], ◌∷◌, ◌++◌, length, map, slice_get, Option, Some, None, Result, Ok, Err}
 use Rattle.std.specs.Vec.{vec_capacity}
+use Rattle.tv_base.specs.Buffer.{capacity}
 use Rattle.tv_format.specs.Tree.{Tree, Document}
 use Rattle.tv_heap.specs.Reads.{ReadsTree}
 use Rattle.tv_heap.specs.Room.{room}
@@ -21,7 +22,7 @@ heap_of d = d.heap.items
 
 -- for how many bytes of the heap, and for how many pairs, there is memory
 abbrev pub heap_capacity : HeapPairs → ℕ
-heap_capacity d = vec_capacity d.heap
+heap_capacity d = capacity d.heap
 
 abbrev pub pairs_capacity : HeapPairs → ℕ
 pairs_capacity d = vec_capacity d.pairs
@@ -69,6 +70,11 @@ RefusesAddition d t Memory = length (heap_of d) + room t ≤ 4294967295
 abbrev pub Adds : {T : Type 0} → HeapPairs → HeapPairs → ℕ → Tree → Result T AddError → Type 0
 Adds old new field t (Ok x) = (length (heap_of old) + room t ≤ 4294967295) × Added old new field t
 Adds old new field t (Err e) = RefusesAddition old t e × IsUnchanged old new
+
+-- After a refusal for want of room the heap has memory for at most 1 MiB more than before.
+abbrev pub KeepsMemory : {T : Type 0} → HeapPairs → HeapPairs → Result T AddError → Type 0
+KeepsMemory old new (Err HeapFull) = heap_capacity new ≤ heap_capacity old + 1048576
+KeepsMemory old new _ = Unit {0}
 
 -- the type byte and the address of the pair at a place, whose tree the heap reads there
 abbrev pub ReadsAt : HeapPairs → ℕ → Option (ℕ × ℕ) → Type 0

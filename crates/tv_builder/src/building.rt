@@ -13,6 +13,7 @@ use crate::frame::Frame;
 use crate::list_kind::ListKind;
 use crate::whole::{put_leaf, put_list, put_tree};
 use std::alloc::Global;
+use tv_base::byte_buffer::ByteBuffer;
 use tv_heap::place::Place;
 use tv_heap::room::MAX_HEAP_LEN;
 use tv_heap::write::push_place;
@@ -39,9 +40,9 @@ pub(crate) struct OpenBytes {
 #[derive(Debug, Drop)]
 pub(crate) struct Building {
     // The bytes in which finished values stand, and after them open bytes so far.
-    pub heap: Vec<u8>,
+    pub heap: ByteBuffer,
     // The places of the finished children of all open lists, as they will stand in the bytes of their lists.
-    pub places: Vec<u8>,
+    pub places: ByteBuffer,
     // How many they are.
     pub pending: usize,
     // The open lists, from the outermost.
@@ -66,12 +67,12 @@ impl Building {
     ghost use Rattle.tv_builder.specs.declared.awaits.Awaits.TheVariants.{Key as KeyNext};
 
     // After this heap, where a value is awaited. It takes no memory.
-    pub(crate) fn new(alloc: Global, heap: Vec<u8>) -> Building
+    pub(crate) fn new(alloc: Global, heap: ByteBuffer) -> Building
         ensures { Empty heap.items result }
     {
         Building {
             heap,
-            places: Vec::new(alloc),
+            places: ByteBuffer::new(alloc),
             pending: 0,
             frames: Vec::new(alloc),
             complete: None,
@@ -132,7 +133,7 @@ impl Building {
         let Awaits::Value = self.awaits() else {
             return Err(BuildError::OutOfPlace);
         };
-        let alloc = *self.heap.allocator();
+        let alloc = self.heap.allocator();
         let (heap, places) = (&mut self.heap, &mut self.places);
         let place = put_tree(alloc, heap, places, lend(value), MAX_DEPTH, MAX_HEAP_LEN)?;
         self.give(place)

@@ -8,6 +8,7 @@ ghost use Rattle.tv_format.specs.declared.version.WriteVersion.{WriteVersion};
 
 use crate::list_kind::ListKind;
 use crate::whole::{put_content, put_list};
+use tv_base::byte_buffer::ByteBuffer;
 use tv_format::leaf_type::{Form, LeafType};
 use tv_format::type_codes::{ARRAY_CODE, OBJECT_CODE};
 use tv_format::version::WriteVersion;
@@ -22,7 +23,11 @@ use tv_value::in_place::{
 
 // Writes the value without children that stands after this code. It is encoded alike in all versions that are written.
 #[inline(always)]
-fn put_encoded_leaf<'a>(code: u8, bytes: &'a [u8], heap: &mut Vec<u8>) -> Option<(&'a [u8], Place)>
+fn put_encoded_leaf<'a>(
+    code: u8,
+    bytes: &'a [u8],
+    heap: &mut ByteBuffer,
+) -> Option<(&'a [u8], Place)>
     requires { length heap.old.items ≤ 4294967295 }
     ensures found { IfSome result
         (λ x. (version : WriteVersion) → EncodedPut (written_version version) (code ∷ bytes.now)
@@ -85,8 +90,8 @@ pub fn put_encoded<'a>(
     bytes: &'a [u8],
     version: WriteVersion,
     levels: u32,
-    heap: &mut Vec<u8>,
-    places: &mut Vec<u8>,
+    heap: &mut ByteBuffer,
+    places: &mut ByteBuffer,
 ) -> Option<(&'a [u8], Place)>
     requires { length heap.old.items ≤ 4294967295 }
     ensures found { IfSome result
@@ -118,8 +123,8 @@ fn put_encoded_array<'a>(
     bytes: &'a [u8],
     version: WriteVersion,
     levels: u32,
-    heap: &mut Vec<u8>,
-    places: &mut Vec<u8>,
+    heap: &mut ByteBuffer,
+    places: &mut ByteBuffer,
 ) -> Option<(&'a [u8], Place)>
     requires { length heap.old.items ≤ 4294967295 }
     ensures found { IfSome result
@@ -155,8 +160,8 @@ fn put_encoded_object<'a>(
     bytes: &'a [u8],
     version: WriteVersion,
     levels: u32,
-    heap: &mut Vec<u8>,
-    places: &mut Vec<u8>,
+    heap: &mut ByteBuffer,
+    places: &mut ByteBuffer,
 ) -> Option<(&'a [u8], Place)>
     requires { length heap.old.items ≤ 4294967295 }
     ensures found { IfSome result

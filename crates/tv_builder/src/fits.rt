@@ -1,6 +1,6 @@
 //! Whether what is to be written fits after a heap.
 
-ghost use Rattle.std.specs.Prelude.{◌≡◌, ◌+◌, ◌-◌, ◌/◌, ◌≤◌, ◌↔◌, length, min, IsTrue};
+ghost use Rattle.std.specs.Prelude.{◌≡◌, ◌+◌, ◌-◌, ◌/◌, ◌≤◌, ◌↔◌, length, max, min, IsTrue};
 ghost use Rattle.tv_base.specs.Number.{vnum};
 ghost use Rattle.tv_builder.specs.Moves.{FitsRoom};
 ghost use Rattle.tv_heap.specs.Room.{room};
@@ -11,7 +11,10 @@ use tv_heap::room::{MAX_HEAP_LEN, room};
 use tv_value::value::Value;
 
 // At most this many bytes are written of a value before its room is counted.
-pub(crate) const MAX_UNCOUNTED: u64 = 1048576;
+const MAX_UNCOUNTED: u64 = 1048576;
+
+// While a heap is at most this long, the memory that it grows to is at most 1 MiB.
+const MAX_GROWN: usize = 524032;
 
 // Whether a heap of this length is at most `most` bytes long after this many bytes more and their length.
 #[inline(always)]
@@ -35,15 +38,16 @@ pub(crate) fn has_value_room(len: usize, room: Option<u32>, most: u64) -> bool
     }
 }
 
-// How long a heap of this length may become by a value whose room isn't counted. What is written is at most a tenth of what is free, so the
-// value's room, which is at most ten times as much, is free.
+// How long a heap of `len` bytes, with memory for `capacity`, may become by a value whose room isn't counted. What is written is at most a tenth of
+// what is free, so the value's room, which is at most ten times as much, is free; and the memory that is taken for it is at most 1 MiB more.
 #[inline(always)]
-pub(crate) fn uncounted_most(len: usize) -> u64
+pub(crate) fn uncounted_most(len: usize, capacity: usize) -> u64
     requires { len ≤ 4294967295 }
-    ensures { result ≡ len + min ((4294967295 - len) / 10) 1048576 }
+    ensures { result
+        ≡ min (len + min ((4294967295 - len) / 10) 1048576) (max capacity 524032) }
 {
-    let len = len as u64;
-    len + ((MAX_HEAP_LEN - len) / 10).min(MAX_UNCOUNTED)
+    let more = ((MAX_HEAP_LEN - len as u64) / 10).min(MAX_UNCOUNTED);
+    (len as u64 + more).min(capacity.max(MAX_GROWN) as u64)
 }
 
 // Whether the room of a value is free after a heap of this length. The value is walked.

@@ -15,6 +15,7 @@ use crate::fits::has_value_room;
 use crate::heap_pair::HeapPair;
 use crate::whole::put_within;
 use std::alloc::{AllocError, Global};
+use tv_base::byte_buffer::ByteBuffer;
 use tv_format::version::WriteVersion;
 use tv_heap::place::Place;
 use tv_heap::room::{MAX_HEAP_LEN, leaf_room};
@@ -43,7 +44,7 @@ pub fn push_pair(pairs: &mut Vec<HeapPair>, pair: HeapPair) -> Result<(), AllocE
 // cut back to these, and the pairs stay as they were.
 #[inline(always)]
 fn keep_pair(
-    heap: &mut Vec<u8>,
+    heap: &mut ByteBuffer,
     pairs: &mut Vec<HeapPair>,
     len: usize,
     field: u32,
@@ -63,11 +64,12 @@ fn keep_pair(
 /// Pairs of a field and a value, in order, and the heap in which the values stand. (Not in tantivy.)
 ///
 /// An addition is refused with `HeapFull` where the heap's length and the value's room are together above 4294967295, before more than 1 MiB
-/// of the value is written; else with `Memory` where memory is refused. After each of these the pairs and the heap are unchanged.
+/// of the value is written; else with `Memory` where memory is refused. After each of these the pairs and the heap are unchanged, and after
+/// `HeapFull` the heap has memory for at most 1 MiB more.
 #[derive(Debug, Drop)]
 pub struct HeapPairs {
     /// The bytes in which the values stand.
-    pub heap: Vec<u8>,
+    pub heap: ByteBuffer,
     /// The fields, and where their values stand.
     pub pairs: Vec<HeapPair>,
     pub ghost document: { Holds heap.items pairs.items } by { Holds-prop heap.items pairs.items },
@@ -78,7 +80,7 @@ pub struct HeapPairs {
 impl HeapPairs {
     ghost use Rattle.tv_builder.specs.EncodedPairs.{AddsEncodedPair, AddsEncoded, StoodIn};
     ghost use Rattle.tv_builder.specs.HeldPairs.{document_of, heap_of, heap_capacity};
-    ghost use Rattle.tv_builder.specs.HeldPairs.{pairs_capacity, Adds, IsUnchanged};
+    ghost use Rattle.tv_builder.specs.HeldPairs.{pairs_capacity, Adds, IsUnchanged, KeepsMemory};
     ghost use Rattle.tv_builder.specs.declared.heap_pairs.HeapPairs.{HeapPairs};
 
     /// No pairs, which take no memory.
@@ -89,7 +91,7 @@ impl HeapPairs {
         ensures no_places { pairs_capacity result ≡ 0 }
     {
         HeapPairs {
-            heap: Vec::new(alloc),
+            heap: ByteBuffer::new(alloc),
             pairs: Vec::new(alloc),
         }
     }
@@ -101,7 +103,7 @@ impl HeapPairs {
         ensures capacity { IfOk result (λ made. heap_capacity made ≡ bytes) }
         ensures no_places { IfOk result (λ made. pairs_capacity made ≡ 0) }
     {
-        let heap = Vec::with_capacity(alloc, bytes)?;
+        let heap = ByteBuffer::with_capacity(alloc, bytes)?;
         Ok(HeapPairs {
             heap,
             pairs: Vec::new(alloc),
@@ -123,8 +125,8 @@ impl HeapPairs {
     pub fn try_clone(&self) -> Result<HeapPairs, AllocError>
         ensures { IfOk result (λ copy. IsUnchanged self.now copy) }
     {
-        let alloc = *self.heap.allocator();
-        let heap = Vec::from_slice(alloc, self.heap.as_slice())?;
+        let alloc = self.heap.allocator();
+        let heap = self.heap.try_clone()?;
         let pairs = Vec::from_slice(alloc, self.pairs.as_slice())?;
         Ok(HeapPairs { heap, pairs })
     }
@@ -144,7 +146,8 @@ impl HeapPairs {
     /// Adds a pair of a field and a value without children.
     #[inline(always)]
     pub fn add_leaf(&mut self, field: u32, value: &ReferenceValueLeaf<'_>) -> Result<(), AddError>
-        ensures { Adds self.old self.new field (leaf (leaf_of value.now)) result }
+        ensures adds { Adds self.old self.new field (leaf (leaf_of value.now)) result }
+        ensures memory { KeepsMemory self.old self.new result }
     {
         let len = self.heap.len();
         if !has_value_room(len, leaf_room(value), MAX_HEAP_LEN) {
@@ -159,7 +162,8 @@ impl HeapPairs {
 
     /// Adds a pair of a field and a value of any kind.
     pub fn add_value<'a, V: Value<'a>>(&mut self, field: u32, value: &V) -> Result<(), AddError>
-        ensures { Adds self.old self.new field (V.tree value.now) result }
+        ensures adds { Adds self.old self.new field (V.tree value.now) result }
+        ensures memory { KeepsMemory self.old self.new result }
     {
         // The commonest leaves are handed on without standing in memory before.
         match value.as_value() {
@@ -178,9 +182,10 @@ impl HeapPairs {
     }
 
     fn add_whole<'a, V: Value<'a>>(&mut self, field: u32, value: &V) -> Result<(), AddError>
-        ensures { Adds self.old self.new field (V.tree value.now) result }
+        ensures adds { Adds self.old self.new field (V.tree value.now) result }
+        ensures memory { KeepsMemory self.old self.new result }
     {
-        let alloc = *self.heap.allocator();
+        let alloc = self.heap.allocator();
         let len = self.heap.len();
         match put_within(alloc, &mut self.heap, value) {
             Ok(place) => keep_pair(&mut self.heap, &mut self.pairs, len, field, place),
@@ -206,7 +211,7 @@ impl HeapPairs {
             result.0.now result.1 }
         ensures most { result.1 ≤ most }
     {
-        let mut places = Vec::new(*self.heap.allocator());
+        let mut places = ByteBuffer::new(self.heap.allocator());
         let mut rest = bytes;
         for count in 0..most {
             let Some(behind) = self.add_encoded_pair(rest, version, &mut places) else {
@@ -223,7 +228,7 @@ impl HeapPairs {
         &mut self,
         bytes: &'a [u8],
         version: WriteVersion,
-        places: &mut Vec<u8>,
+        places: &mut ByteBuffer,
     ) -> Option<&'a [u8]>
         ensures added { IfSome result
             (λ rest. AddsEncodedPair (written_version version) self.old self.new bytes.now rest.now) }

@@ -1,6 +1,7 @@
 //! Lists written after a heap however deep they nest, by a loop: the lists that are open stand on a stack.
 
 ghost use Rattle.std.specs.Prelude.{◌≡◌, ◌≤◌, [], ◌∷◌, ◌++◌, length, IfErr, IfOk, OnOk, option_map};
+ghost use Rattle.tv_base.specs.Buffer.{GrowsWithin};
 ghost use Rattle.tv_builder.specs.Nested.{IsOfKind, KeyNotPut, KeyPut};
 ghost use Rattle.tv_builder.specs.Whole.{Puts};
 ghost use Rattle.tv_format.specs.Tree.{leaf};
@@ -12,6 +13,7 @@ use crate::list_kind::ListKind;
 use crate::whole::{put_leaf, put_list, put_single};
 use std::alloc::{AllocError, Global};
 use std::convert::AsStr;
+use tv_base::byte_buffer::ByteBuffer;
 use tv_heap::place::Place;
 use tv_heap::write::push_place;
 use tv_value::children::Children;
@@ -70,9 +72,10 @@ fn push_list<N: Nested>(
 }
 
 // Writes the key of a child, if it has one, where the heap is then at most `most` bytes long, and its place after others.
+#[tactic(auto, using(tv_base::proofs::Growing::grows_then, tv_base::proofs::Growing::grows_more))]
 fn put_key<K: AsStr + Drop>(
-    heap: &mut Vec<u8>,
-    places: &mut Vec<u8>,
+    heap: &mut ByteBuffer,
+    places: &mut ByteBuffer,
     key: Option<K>,
     most: u64,
 ) -> Result<(), AddError>
@@ -82,6 +85,7 @@ fn put_key<K: AsStr + Drop>(
         heap.new.items places.new.items) }
     ensures err { IfErr result
         (λ e. KeyNotPut most heap.old.items (option_map K.text key) heap.new.items e) }
+    ensures grows { GrowsWithin most heap.old heap.new }
 {
     match key {
         None => Ok(()),
@@ -92,17 +96,19 @@ fn put_key<K: AsStr + Drop>(
 // Writes a value after its children, however deep they nest, where the heap is then at most `most` bytes long, and returns its place. `places` is
 // afterwards as it was. After an error the old heap is still a prefix of the new, and what `places` holds is unspecified.
 #[inline(never)]
+#[tactic(auto, using(tv_base::proofs::Growing::grows_then, tv_base::proofs::Growing::grows_more))]
 pub(crate) fn put_nested<N: Nested>(
     alloc: Global,
-    heap: &mut Vec<u8>,
-    places: &mut Vec<u8>,
+    heap: &mut ByteBuffer,
+    places: &mut ByteBuffer,
     value: NestedValue<'_, N>,
     most: u64,
 ) -> Result<Place, AddError>
     requires fits { length heap.old.items ≤ most }
     requires most { most ≤ 4294967295 }
-    ensures { let t = nested_tree N.array_rest N.object_rest value.entry in
+    ensures puts { let t = nested_tree N.array_rest N.object_rest value.entry in
         Puts most heap.old.items places.old.items t heap.new.items places.new.items result }
+    ensures grows { GrowsWithin most heap.old heap.new }
 {
     let mut around = Vec::new(alloc);
     let mut list = match open_list(value, places.len()) {

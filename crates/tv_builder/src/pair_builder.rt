@@ -102,7 +102,7 @@ impl PairBuilder {
         ensures state { state_of result ≡ in_lists [] }
         ensures not_failed { result.failed ≡ false }
     {
-        let alloc = *finished.heap.allocator();
+        let alloc = finished.heap.allocator();
         let kept = finished.heap.len();
         PairBuilder {
             building: Building::new(alloc, finished.heap),

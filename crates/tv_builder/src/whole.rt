@@ -1,6 +1,7 @@
 //! Writing values after a heap, as far as they fit.
 
 ghost use Rattle.std.specs.Prelude.{◌≡◌, ◌≤◌, ◌++◌, length, take, drop, OnOk, IfOk, IfErr, IfSome};
+ghost use Rattle.tv_base.specs.Buffer.{GrowsWithin, capacity};
 ghost use Rattle.tv_base.specs.Sink.{IsPrefix};
 ghost use Rattle.tv_heap.specs.LeafBytes.{leaf_bytes};
 ghost use Rattle.tv_value.specs.Lent.{leaf_of, nested_tree};
@@ -11,11 +12,12 @@ ghost use Rattle.tv_builder.specs.Whole.{ListPut, ListPutNot, PutWith};
 ghost use Rattle.tv_value.specs.LeafParts.{content_of};
 
 use crate::add_error::AddError;
-use crate::fits::{MAX_UNCOUNTED, has_room, has_tree_room, has_value_room, uncounted_most};
+use crate::fits::{has_room, has_tree_room, has_value_room, uncounted_most};
 use crate::list_kind::ListKind;
 use crate::nested::put_nested;
 use std::alloc::Global;
 use std::convert::AsStr;
+use tv_base::byte_buffer::ByteBuffer;
 use tv_format::leaf_type::LeafType;
 use tv_heap::len::{content_len, leaf_len};
 use tv_heap::place::Place;
@@ -30,8 +32,9 @@ use tv_value::value::Value;
 // Writes a value without children, where the heap is then at most `most` bytes long, and returns its place. After an error the old heap is still
 // a prefix of the new.
 #[inline(always)]
+#[tactic(auto, using(tv_base::proofs::Growing::grows_then, tv_base::proofs::Growing::grows_more))]
 pub(crate) fn put_leaf(
-    heap: &mut Vec<u8>,
+    heap: &mut ByteBuffer,
     value: &ReferenceValueLeaf<'_>,
     most: u64,
 ) -> Result<Place, AddError>
@@ -44,6 +47,7 @@ pub(crate) fn put_leaf(
     ensures memory { IfErr result
         (λ e. e ≡ AddError.Memory
         → length (heap.old.items ++ leaf_bytes (leaf_of value.now)) ≤ most) }
+    ensures grows { GrowsWithin most heap.old heap.new }
 {
     if !has_value_room(heap.len(), leaf_len(value), most) {
         return Err(AddError::HeapFull);
@@ -55,9 +59,10 @@ pub(crate) fn put_leaf(
 // Writes a value without children, where the heap is then at most `most` bytes long, and its place after others. After an error the old heap is
 // still a prefix of the new.
 #[inline(always)]
+#[tactic(auto, using(tv_base::proofs::Growing::grows_then, tv_base::proofs::Growing::grows_more))]
 pub(crate) fn put_single(
-    heap: &mut Vec<u8>,
-    places: &mut Vec<u8>,
+    heap: &mut ByteBuffer,
+    places: &mut ByteBuffer,
     value: &ReferenceValueLeaf<'_>,
     most: u64,
 ) -> Result<(), AddError>
@@ -67,6 +72,7 @@ pub(crate) fn put_single(
         (leaf_tree (leaf_of value.now)) heap.new.items places.new.items) }
     ensures err { IfErr result
         (λ e. PutNot most heap.old.items (leaf_tree (leaf_of value.now)) heap.new.items e) }
+    ensures grows { GrowsWithin most heap.old heap.new }
 {
     let place = put_leaf(heap, value, most)?;
     push_place(places, place)?;
@@ -77,7 +83,7 @@ pub(crate) fn put_single(
 // is still a prefix of the new.
 #[inline(always)]
 pub(crate) fn put_content(
-    heap: &mut Vec<u8>,
+    heap: &mut ByteBuffer,
     leaf_type: LeafType,
     content: LeafContent<'_>,
 ) -> Option<Place>
@@ -98,9 +104,10 @@ pub(crate) fn put_content(
 // Writes a list after its children, where the heap is then at most `most` bytes long. The children's places are those from `first` on, and are
 // taken off. Returns the list's place. After an error the old heap is still a prefix of the new, and what `places` holds is unspecified.
 #[inline(always)]
+#[tactic(auto, using(tv_base::proofs::Growing::grows_then, tv_base::proofs::Growing::grows_more))]
 pub(crate) fn put_list(
-    heap: &mut Vec<u8>,
-    places: &mut Vec<u8>,
+    heap: &mut ByteBuffer,
+    places: &mut ByteBuffer,
     kind: ListKind,
     first: usize,
     most: u64,
@@ -114,6 +121,7 @@ pub(crate) fn put_list(
     ensures places { OnOk result (places.new.items ≡ take first places.old.items) }
     ensures err { IfErr result
         (λ e. ListPutNot most heap.old.items (drop first places.old.items) heap.new.items e) }
+    ensures grows { GrowsWithin most heap.old heap.new }
 {
     let len = places.len() - first;
     if !has_room(heap.len(), len as u64, most) {
@@ -131,18 +139,20 @@ pub(crate) fn put_list(
 // to be taken. After an error the old heap is still a prefix of the new, and what `places` holds is unspecified.
 #[inline(always)]
 #[cycle(parts)]
+#[tactic(auto, using(tv_base::proofs::Growing::grows_then, tv_base::proofs::Growing::grows_more))]
 pub(crate) fn put_tree<N: Nested>(
     alloc: Global,
-    heap: &mut Vec<u8>,
-    places: &mut Vec<u8>,
+    heap: &mut ByteBuffer,
+    places: &mut ByteBuffer,
     value: NestedValue<'_, N>,
     levels: u32,
     most: u64,
 ) -> Result<Place, AddError>
     requires fits { length heap.old.items ≤ most }
     requires most { most ≤ 4294967295 }
-    ensures { let t = nested_tree N.array_rest N.object_rest value.entry in
+    ensures puts { let t = nested_tree N.array_rest N.object_rest value.entry in
         Puts most heap.old.items places.old.items t heap.new.items places.new.items result }
+    ensures grows { GrowsWithin most heap.old heap.new }
 {
     match value {
         NestedValue::Leaf(single) => put_leaf(heap, &single, most),
@@ -156,18 +166,20 @@ pub(crate) fn put_tree<N: Nested>(
 // Writes an array after its values.
 #[inline(never)]
 #[cycle(parts)]
+#[tactic(auto, using(tv_base::proofs::Growing::grows_then, tv_base::proofs::Growing::grows_more))]
 fn put_array<N: Nested>(
     alloc: Global,
-    heap: &mut Vec<u8>,
-    places: &mut Vec<u8>,
+    heap: &mut ByteBuffer,
+    places: &mut ByteBuffer,
     items: N::ArrayIter,
     levels: u32,
     most: u64,
 ) -> Result<Place, AddError>
     requires fits { length heap.old.items ≤ most }
     requires most { most ≤ 4294967295 }
-    ensures { let t = array (elements (N.array_rest items)) in
+    ensures puts { let t = array (elements (N.array_rest items)) in
         Puts most heap.old.items places.old.items t heap.new.items places.new.items result }
+    ensures grows { GrowsWithin most heap.old heap.new }
 {
     if levels == 0 {
         return put_nested(alloc, heap, places, NestedValue::<N>::Array(items), most);
@@ -192,18 +204,20 @@ fn put_array<N: Nested>(
 // Writes an object after its keys and values.
 #[inline(never)]
 #[cycle(parts)]
+#[tactic(auto, using(tv_base::proofs::Growing::grows_then, tv_base::proofs::Growing::grows_more))]
 fn put_object<N: Nested>(
     alloc: Global,
-    heap: &mut Vec<u8>,
-    places: &mut Vec<u8>,
+    heap: &mut ByteBuffer,
+    places: &mut ByteBuffer,
     members: N::ObjectIter,
     levels: u32,
     most: u64,
 ) -> Result<Place, AddError>
     requires fits { length heap.old.items ≤ most }
     requires most { most ≤ 4294967295 }
-    ensures { let t = object (entries (N.object_rest members)) in
+    ensures puts { let t = object (entries (N.object_rest members)) in
         Puts most heap.old.items places.old.items t heap.new.items places.new.items result }
+    ensures grows { GrowsWithin most heap.old heap.new }
 {
     if levels == 0 {
         return put_nested(alloc, heap, places, NestedValue::<N>::Object(members), most);
@@ -228,13 +242,14 @@ fn put_object<N: Nested>(
 
 // Writes a value after a heap where its room is free there, and returns its place.
 //
-// `HeapFull` where the heap's length and the value's room are together above 4294967295; else `Memory` where memory is refused. The old
-// heap is then still a prefix of the new. The value is walked once, unless more than 1 MiB or more than a tenth of the free bytes would be
-// written, or memory was refused: then its room is counted, and what has room is written anew.
+// `HeapFull` where the heap's length and the value's room are together above 4294967295, and then the heap has taken at most 1 MiB of memory more;
+// else `Memory` where memory is refused. The old heap is then still a prefix of the new. The value is walked once, unless more than `uncounted_most`
+// lets would be written, or memory was refused: then its room is counted, and what has room is written anew.
 #[inline(always)]
+#[tactic(auto, using(crate::proofs::Putting::grows_little))]
 pub(crate) fn put_within<'a, V: Value<'a>>(
     alloc: Global,
-    heap: &mut Vec<u8>,
+    heap: &mut ByteBuffer,
     value: &V,
 ) -> Result<Place, AddError>
     requires { length heap.old.items ≤ 4294967295 }
@@ -242,41 +257,38 @@ pub(crate) fn put_within<'a, V: Value<'a>>(
         (λ place. PutWithin heap.old.items (V.tree value.now) heap.new.items place) }
     ensures err { IfErr result
         (λ e. PutNotWithin heap.old.items (V.tree value.now) heap.new.items e) }
+    ensures memory { IfErr result
+        (λ e. e ≡ AddError.HeapFull → capacity heap.new ≤ capacity heap.old + 1048576) }
 {
     let len = heap.len();
-    let capacity = heap.capacity();
-    let most = uncounted_most(len);
-    let mut places = Vec::new(alloc);
+    let most = uncounted_most(len, heap.capacity());
+    let mut places = ByteBuffer::new(alloc);
     match put_tree(alloc, heap, &mut places, lend(value), MAX_DEPTH, most) {
         Ok(place) => Ok(place),
         Err(_) => {
             heap.truncate(len);
-            put_counted(alloc, heap, &mut places, value, capacity)
+            put_counted(alloc, heap, &mut places, value)
         }
     }
 }
 
-// Writes a value after a heap where its room, which is counted first, is free there, and returns its place. Where it isn't free, memory is given
-// back that the heap has taken beyond `capacity` and 1 MiB more.
+// Writes a value after a heap where its room, which is counted first, is free there, and returns its place. Where it isn't free, nothing is written.
 #[cold]
 #[inline(never)]
 fn put_counted<'a, V: Value<'a>>(
     alloc: Global,
-    heap: &mut Vec<u8>,
-    places: &mut Vec<u8>,
+    heap: &mut ByteBuffer,
+    places: &mut ByteBuffer,
     value: &V,
-    capacity: usize,
 ) -> Result<Place, AddError>
     requires { length heap.old.items ≤ 4294967295 }
     ensures ok { IfOk result
         (λ place. PutWithin heap.old.items (V.tree value.now) heap.new.items place) }
     ensures err { IfErr result
         (λ e. PutNotWithin heap.old.items (V.tree value.now) heap.new.items e) }
+    ensures full { IfErr result (λ e. e ≡ AddError.HeapFull → heap.new ≡ heap.old) }
 {
     if !has_tree_room(alloc, heap.len(), value) {
-        if heap.capacity().saturating_sub(capacity) as u64 > MAX_UNCOUNTED {
-            heap.shrink_to(capacity);
-        }
         return Err(AddError::HeapFull);
     }
     places.clear();

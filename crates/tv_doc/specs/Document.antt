@@ -9,6 +9,7 @@
 -- no pair.
 -- `Adds`: a pair of this field and this tree is added after the others. Or the addition is refused: `HeapFull` where the heap has no room for the
 -- tree, `Memory` only where it has. The pairs and the heap are then unchanged. `AddsLeaf`: the same of a value without children.
+-- `KeepsMemory`: after `HeapFull` the heap has memory for at most 1 MiB more than before.
 -- `IsWrittenInOrder`: the heap is what writing the trees of the pairs one after the other gives. `IsWithinRoom`: it is no longer than the room of
 -- the values.
 use Rattle.std.specs.Prelude.{◌≡◌, ◌≤◌, ℕ, List, [], length, Option, Result}
@@ -66,6 +67,10 @@ Adds old new field t r = held.Adds old.values new.values field t r
 -- the same of a value without children
 abbrev pub AddsLeaf : {T : Type 0} → CompactDoc → CompactDoc → ℕ → Leaf → Result T AddError → Type 0
 AddsLeaf old new field l r = Adds old new field (leaf l) r
+
+-- after a refusal for want of room the heap has memory for at most 1 MiB more than before
+abbrev pub KeepsMemory : {T : Type 0} → CompactDoc → CompactDoc → Result T AddError → Type 0
+KeepsMemory old new r = held.KeepsMemory old.values new.values r
 
 -- no pair and no byte in the heap, with memory for this many pairs and bytes
 pub record IsEmptyWith (for_pairs for_bytes : ℕ) (d : CompactDoc) : Type 0 where

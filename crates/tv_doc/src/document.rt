@@ -57,7 +57,7 @@ impl Drop for CompactDoc {
 impl CompactDoc {
     ghost use Rattle.tv_doc.specs.Belongs.{Belongs};
     ghost use Rattle.tv_doc.specs.Document.{document_of, heap_of, places_of};
-    ghost use Rattle.tv_doc.specs.Document.{Adds, AddsLeaf, Clears, IsEmptyWith, IsUnchanged};
+    ghost use Rattle.tv_doc.specs.Document.{Adds, AddsLeaf, Clears, IsEmptyWith, IsUnchanged, KeepsMemory};
     ghost use Rattle.tv_doc.specs.Document.{ReadsAt, Shrinks};
     ghost use Rattle.tv_doc.specs.MapValue.{map_tree};
     ghost use Rattle.tv_heap.specs.Value.{tree_of};
@@ -135,9 +135,9 @@ impl CompactDoc {
 
     /// The allocator from which its memory is taken. (Not in tantivy.)
     pub fn allocator(&self) -> Global
-        ensures { result ≡ self.now.values.heap.alloc }
+        ensures { result ≡ self.now.values.pairs.alloc }
     {
-        *self.values.heap.allocator()
+        *self.values.pairs.allocator()
     }
 
     /// The bytes of the heap, in which all values stand.
@@ -159,37 +159,43 @@ impl CompactDoc {
     /// Adds a pair of a field and a text.
     ///
     /// `HeapFull` where the heap's length and the text's room, 5 bytes and its length, are together above 4294967295; else
-    /// `Memory` where memory is refused. After each of these the pairs and the heap are unchanged.
+    /// `Memory` where memory is refused. After each of these the pairs and the heap are unchanged, and after `HeapFull` the heap has memory for at
+    /// most 1 MiB more.
     pub fn add_text(&mut self, field: Field, content: &str) -> Result<(), AddError>
-        ensures { AddsLeaf self.old self.new field.id (text content.now) result }
+        ensures adds { AddsLeaf self.old self.new field.id (text content.now) result }
+        ensures memory { KeepsMemory self.old self.new result }
     {
         self.add_leaf(field, &ReferenceValueLeaf::Str(content))
     }
 
     /// Adds a pair of a field and an unsigned number, whose room is 8 bytes. The errors are those of `add_text`.
     pub fn add_u64(&mut self, field: Field, number: u64) -> Result<(), AddError>
-        ensures { AddsLeaf self.old self.new field.id (unsigned number) result }
+        ensures adds { AddsLeaf self.old self.new field.id (unsigned number) result }
+        ensures memory { KeepsMemory self.old self.new result }
     {
         self.add_leaf(field, &ReferenceValueLeaf::U64(number))
     }
 
     /// Adds a pair of a field and a signed number, whose room is 8 bytes. The errors are those of `add_text`.
     pub fn add_i64(&mut self, field: Field, number: i64) -> Result<(), AddError>
-        ensures { AddsLeaf self.old self.new field.id (signed number) result }
+        ensures adds { AddsLeaf self.old self.new field.id (signed number) result }
+        ensures memory { KeepsMemory self.old self.new result }
     {
         self.add_leaf(field, &ReferenceValueLeaf::I64(number))
     }
 
     /// Adds a pair of a field and a truth value, which takes no room. The errors are those of `add_text`.
     pub fn add_bool(&mut self, field: Field, truth: bool) -> Result<(), AddError>
-        ensures { AddsLeaf self.old self.new field.id (boolean truth) result }
+        ensures adds { AddsLeaf self.old self.new field.id (boolean truth) result }
+        ensures memory { KeepsMemory self.old self.new result }
     {
         self.add_leaf(field, &ReferenceValueLeaf::Bool(truth))
     }
 
     /// Adds a pair of a field and a date, whose room is 8 bytes. The errors are those of `add_text`.
     pub fn add_date(&mut self, field: Field, moment: DateTime) -> Result<(), AddError>
-        ensures { AddsLeaf self.old self.new field.id (date moment.nanoseconds) result }
+        ensures adds { AddsLeaf self.old self.new field.id (date moment.nanoseconds) result }
+        ensures memory { KeepsMemory self.old self.new result }
     {
         self.add_leaf(field, &ReferenceValueLeaf::Date(moment))
     }
@@ -197,21 +203,24 @@ impl CompactDoc {
     /// Adds a pair of a field and a facet, whose room is 5 bytes and the length of its encoded text. The errors are those of
     /// `add_text`.
     pub fn add_facet(&mut self, field: Field, path: &Facet) -> Result<(), AddError>
-        ensures { AddsLeaf self.old self.new field.id (facet path.now) result }
+        ensures adds { AddsLeaf self.old self.new field.id (facet path.now) result }
+        ensures memory { KeepsMemory self.old self.new result }
     {
         self.add_leaf(field, &ReferenceValueLeaf::Facet(path.encoded_str()))
     }
 
     /// Adds a pair of a field and bytes, whose room is 5 bytes and their length. The errors are those of `add_text`.
     pub fn add_bytes(&mut self, field: Field, content: &[u8]) -> Result<(), AddError>
-        ensures { AddsLeaf self.old self.new field.id (bytes_leaf content.now) result }
+        ensures adds { AddsLeaf self.old self.new field.id (bytes_leaf content.now) result }
+        ensures memory { KeepsMemory self.old self.new result }
     {
         self.add_leaf(field, &ReferenceValueLeaf::Bytes(content))
     }
 
     /// Adds a pair of a field and an IP address, whose room is 16 bytes. The errors are those of `add_text`.
     pub fn add_ip_addr(&mut self, field: Field, address: Ipv6Addr) -> Result<(), AddError>
-        ensures { AddsLeaf self.old self.new field.id (ip_address (ipv6_bits address)) result }
+        ensures adds { AddsLeaf self.old self.new field.id (ip_address (ipv6_bits address)) result }
+        ensures memory { KeepsMemory self.old self.new result }
     {
         self.add_leaf(field, &ReferenceValueLeaf::IpAddr(address))
     }
@@ -223,9 +232,10 @@ impl CompactDoc {
         field: Field,
         content: &PreTokenizedString,
     ) -> Result<(), AddError>
-        ensures { AddsLeaf self.old self.new field.id
+        ensures adds { AddsLeaf self.old self.new field.id
             (tokenized (string_bytes content.now.text) (map token_of content.now.tokens.items))
             result }
+        ensures memory { KeepsMemory self.old self.new result }
     {
         let content = PreTokenizedStr::from_string(content);
         self.add_leaf(field, &ReferenceValueLeaf::PreTokStr(content))
@@ -239,7 +249,8 @@ impl CompactDoc {
         field: Field,
         value: &V,
     ) -> Result<(), AddError>
-        ensures { Adds self.old self.new field.id (V.tree value.now) result }
+        ensures adds { Adds self.old self.new field.id (V.tree value.now) result }
+        ensures memory { KeepsMemory self.old self.new result }
     {
         self.values.add_value(field.field_id(), value)
     }
@@ -251,7 +262,8 @@ impl CompactDoc {
         field: Field,
         members: &BTreeMap<String, OwnedValue>,
     ) -> Result<(), AddError>
-        ensures { Adds self.old self.new field.id (map_tree members.now) result }
+        ensures adds { Adds self.old self.new field.id (map_tree members.now) result }
+        ensures memory { KeepsMemory self.old self.new result }
     {
         self.add_field_value(field, &MapValue::Map(members))
     }
@@ -310,7 +322,8 @@ impl CompactDoc {
         field: Field,
         value: ReferenceValueLeaf<'_>,
     ) -> Result<(), AddError>
-        ensures { AddsLeaf self.old self.new field.id (leaf_of value.entry) result }
+        ensures adds { AddsLeaf self.old self.new field.id (leaf_of value.entry) result }
+        ensures memory { KeepsMemory self.old self.new result }
     {
         self.add_leaf(field, &value)
     }
@@ -322,7 +335,8 @@ impl CompactDoc {
         field: Field,
         value: &ReferenceValueLeaf<'_>,
     ) -> Result<(), AddError>
-        ensures { AddsLeaf self.old self.new field.id (leaf_of value.now) result }
+        ensures adds { AddsLeaf self.old self.new field.id (leaf_of value.now) result }
+        ensures memory { KeepsMemory self.old self.new result }
     {
         self.values.add_leaf(field.field_id(), value)
     }

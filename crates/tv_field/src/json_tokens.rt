@@ -10,6 +10,7 @@ ghost use Rattle.tv_field.specs.JsonTokens.{IsTokenizedEncoded};
 
 use serde_json::Value;
 use std::alloc::AllocError;
+use tv_base::ByteBuffer;
 use tv_value::encode::{push_number, push_text, push_token};
 use tv_value::pre_tokenized::TokenRef;
 
@@ -50,7 +51,7 @@ fn token_at(json: &Value) -> Option<TokenRef<'_>>
 }
 
 // Adds the encoding of a token. Returns whether the value is one.
-fn push_json_token(bytes: &mut Vec<u8>, json: &Value) -> Result<bool, AllocError>
+fn push_json_token(bytes: &mut ByteBuffer, json: &Value) -> Result<bool, AllocError>
     ensures { IsTokenEncoded (data_of json.now) bytes.old.items bytes.new.items result }
 {
     match token_at(json) {
@@ -63,7 +64,7 @@ fn push_json_token(bytes: &mut Vec<u8>, json: &Value) -> Result<bool, AllocError
 }
 
 // Adds the encodings of tokens. Answers whether each item is one.
-fn push_json_tokens(bytes: &mut Vec<u8>, items: &Vec<Value>) -> Result<bool, AllocError>
+fn push_json_tokens(bytes: &mut ByteBuffer, items: &Vec<Value>) -> Result<bool, AllocError>
     ensures { AreTokensEncoded (items_view items.now.items) bytes.old.items bytes.new.items result }
 {
     for item in items {
@@ -78,7 +79,7 @@ fn push_json_tokens(bytes: &mut Vec<u8>, items: &Vec<Value>) -> Result<bool, All
 /// Writes the encoding of a text with its tokens, in place of what is there. Returns whether the value is one. Errors: memory was
 /// refused.
 #[tactic(auto, unfolding(crate::specs::JsonTokens::tokenized_in))]
-pub fn encode_tokenized(json: &Value, bytes: &mut Vec<u8>) -> Result<bool, AllocError>
+pub fn encode_tokenized(json: &Value, bytes: &mut ByteBuffer) -> Result<bool, AllocError>
     ensures { IsTokenizedEncoded (data_of json.now) bytes.new.items result }
 {
     let Some(content) = text_at(json, "text") else {

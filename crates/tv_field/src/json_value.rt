@@ -20,7 +20,7 @@ use itoa::{Buffer, Integer};
 use serde_json::{Number, Value};
 use std::alloc::{AllocError, Global};
 use std::net::IpAddr;
-use tv_base::Facet;
+use tv_base::{ByteBuffer, Facet};
 use tv_date::{DateError, DateTime};
 use tv_options::Type;
 use tv_value::copy::copy_of;
@@ -36,6 +36,7 @@ use tv_value::pre_tokenized::PreTokenizedStr;
 pub struct JsonScratch {
     text: String,
     bytes: Vec<u8>,
+    tokens: ByteBuffer,
 }
 
 impl JsonScratch {
@@ -44,6 +45,7 @@ impl JsonScratch {
         JsonScratch {
             text: String::new(alloc),
             bytes: Vec::new(alloc),
+            tokens: ByteBuffer::new(alloc),
         }
     }
 }
@@ -354,7 +356,7 @@ fn lend_object(json: &Value) -> Result<LentFieldValue<'_>, JsonRefusal>
 // A text with its tokens, lent from its encoding.
 fn lend_tokenized<'a>(
     json: &Value,
-    bytes: &'a mut Vec<u8>,
+    bytes: &'a mut ByteBuffer,
 ) -> Result<ReferenceValueLeaf<'a>, JsonRefusal>
     ensures { LendsLeaf (data_of json.now)
         (λ o. o
@@ -383,7 +385,7 @@ fn lend_str<'a>(
 {
     match json {
         Value::String(text) => Ok(ReferenceValueLeaf::Str(text.as_str())),
-        Value::Object(_) => lend_tokenized(json, &mut scratch.bytes),
+        Value::Object(_) => lend_tokenized(json, &mut scratch.tokens),
         Value::Number(number) if coerce => lend_decimal(number, &mut scratch.text),
         Value::Bool(true) if coerce => Ok(ReferenceValueLeaf::Str("true")),
         Value::Bool(false) if coerce => Ok(ReferenceValueLeaf::Str("false")),

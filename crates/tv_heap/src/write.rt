@@ -2,6 +2,7 @@
 
 ghost use Rattle.std.specs.Prelude.{◌≡◌, ◌+◌, ◌<◌, ◌≤◌, ◌^◌, ◌∷◌, ◌++◌, OnOk, OnErr, IfOk, length};
 ghost use Rattle.std.specs.Prelude.{take, drop};
+ghost use Rattle.tv_base.specs.Buffer.{GrowsWithin};
 ghost use Rattle.tv_base.specs.Number.{vnum, eight_bytes, sixteen_bytes};
 ghost use Rattle.tv_base.specs.Parts.{short_sized};
 ghost use Rattle.tv_base.specs.Sink.{IsPrefix};
@@ -20,6 +21,7 @@ ghost use Rattle.tv_heap.specs.Wrote.{Wrote};
 use crate::place::Place;
 use crate::value_type::ValueType;
 use std::alloc::AllocError;
+use tv_base::byte_buffer::ByteBuffer;
 use tv_format::leaf_type::LeafType;
 use tv_value::content::LeafContent;
 use tv_value::encode::{push_number, push_sized, push_token};
@@ -29,60 +31,44 @@ use tv_value::pre_tokenized::PreTokenizedStr;
 
 // Adds the eight bytes of a number, the lowest first.
 #[inline(always)]
-fn push_eight(heap: &mut Vec<u8>, number: u64) -> Result<(), AllocError>
+fn push_eight(heap: &mut ByteBuffer, number: u64) -> Result<(), AllocError>
     ensures ok { OnOk result (heap.new.items ≡ heap.old.items ++ eight_bytes number) }
     ensures small { number < 2 ^ 64 }
     ensures err { OnErr result (heap.new.items ≡ heap.old.items) }
+    ensures grows { GrowsWithin (length heap.old.items + length (eight_bytes number)) heap.old
+        heap.new }
 {
     heap.extend_from_slice(&number.to_le_bytes())
 }
 
 // Adds the sixteen bytes of a number, the lowest first.
-fn push_sixteen(heap: &mut Vec<u8>, number: u128) -> Result<(), AllocError>
+fn push_sixteen(heap: &mut ByteBuffer, number: u128) -> Result<(), AllocError>
     ensures ok { OnOk result (heap.new.items ≡ heap.old.items ++ sixteen_bytes number) }
     ensures small { number < 2 ^ 128 }
     ensures err { OnErr result (heap.new.items ≡ heap.old.items) }
+    ensures grows { GrowsWithin (length heap.old.items + length (sixteen_bytes number)) heap.old
+        heap.new }
 {
     heap.extend_from_slice(&number.to_le_bytes())
-}
-
-/// For this many bytes a heap has memory at first: enough for the values of a short document.
-pub const FIRST_ROOM: usize = 512;
-
-// The first place of a child makes room for this many bytes of places.
-const FIRST_PLACES: usize = 128;
-
-// Makes room for this many bytes where there is none.
-#[inline(always)]
-fn make_room(bytes: &mut Vec<u8>, room: usize) -> Result<(), AllocError>
-    ensures { bytes.new.items ≡ bytes.old.items }
-{
-    if bytes.is_empty() {
-        bytes.reserve(room)
-    } else {
-        Ok(())
-    }
 }
 
 /// Adds a child's type and address. (Not in tantivy.) The addresses in a short document have one byte or two. The only error is that memory
 /// was refused; what `places` holds then is unspecified.
 #[inline(always)]
-pub fn push_place(places: &mut Vec<u8>, place: Place) -> Result<(), AllocError>
-    ensures { OnOk result
+pub fn push_place(places: &mut ByteBuffer, place: Place) -> Result<(), AllocError>
+    ensures ok { OnOk result
         (places.new.items
         ≡ places.old.items ++ (type_code place.value_type ∷ vnum place.address)) }
+    ensures small { OnOk result (length places.new.items < 2 ^ 63) }
 {
-    make_room(places, FIRST_PLACES)?;
     let address = place.address;
     let code = place.value_type.to_code();
     if address < 128 {
-        places.extend_from_slice(&[code, address as u8 + 128])?;
-        return Ok(());
+        return places.extend_from_slice(&[code, address as u8 + 128]);
     }
     if address < 16384 {
         let last = (address / 128) as u8 + 128;
-        places.extend_from_slice(&[code, (address % 128) as u8, last])?;
-        return Ok(());
+        return places.extend_from_slice(&[code, (address % 128) as u8, last]);
     }
     places.push(code)?;
     push_number(places, u64::from(address))
@@ -90,11 +76,14 @@ pub fn push_place(places: &mut Vec<u8>, place: Place) -> Result<(), AllocError>
 
 // Adds a text, how many tokens it has, and each.
 #[inline(never)]
-fn push_tokenized(heap: &mut Vec<u8>, content: PreTokenizedStr<'_>) -> Result<(), AllocError>
+#[tactic(auto, using(tv_base::proofs::Growing::grows_then, tv_base::proofs::Growing::grows_more))]
+fn push_tokenized(heap: &mut ByteBuffer, content: PreTokenizedStr<'_>) -> Result<(), AllocError>
     ensures ok { OnOk result
         (heap.new.items
         ≡ heap.old.items ++ short_tokenized (text_of content.entry) (tokens_of content.entry)) }
     ensures err { OnErr result (IsPrefix heap.old.items heap.new.items) }
+    ensures grows { let bytes = short_tokenized (text_of content.entry) (tokens_of content.entry)
+        in GrowsWithin (length heap.old.items + length bytes) heap.old heap.new }
 {
     push_sized(heap, content.text().as_bytes())?;
     push_number(heap, content.len() as u64)?;
@@ -106,11 +95,14 @@ fn push_tokenized(heap: &mut Vec<u8>, content: PreTokenizedStr<'_>) -> Result<()
 
 // Adds the bytes of what a value without children holds.
 #[inline(always)]
-fn push_content(heap: &mut Vec<u8>, content: LeafContent<'_>) -> Result<(), AllocError>
+#[tactic(auto, using(tv_base::proofs::Growing::grows_then, tv_base::proofs::Growing::grows_more))]
+fn push_content(heap: &mut ByteBuffer, content: LeafContent<'_>) -> Result<(), AllocError>
     ensures ok { OnOk result
         (heap.new.items ≡ heap.old.items ++ content_bytes (content_of content.entry)) }
     ensures encodes { IsContent (content_of content.entry) }
     ensures err { OnErr result (IsPrefix heap.old.items heap.new.items) }
+    ensures grows { let bytes = content_bytes (content_of content.entry) in
+        GrowsWithin (length heap.old.items + length bytes) heap.old heap.new }
 {
     pre_tokenized_texts_encode();
     match content {
@@ -136,9 +128,14 @@ fn content_address(len: u32, content: LeafContent<'_>) -> u32
     }
 }
 
-/// Writes a value without children, and returns its place. (Not in tantivy.) After an error the old heap is still a prefix of the new.
+/// Writes a value without children, and returns its place. (Not in tantivy.) After an error the old heap is still a prefix of the new. Memory grows
+/// as for one write of all of it.
 #[inline(always)]
-pub fn write_leaf(heap: &mut Vec<u8>, value: &ReferenceValueLeaf<'_>) -> Result<Place, AllocError>
+#[tactic(auto, using(tv_base::proofs::Growing::grows_then, tv_base::proofs::Growing::grows_more))]
+pub fn write_leaf(
+    heap: &mut ByteBuffer,
+    value: &ReferenceValueLeaf<'_>,
+) -> Result<Place, AllocError>
     requires { length heap.old.items + length (leaf_bytes (leaf_of value.now)) < 2 ^ 32 }
     ensures heap { OnOk result (heap.new.items ≡ heap.old.items ++ leaf_bytes (leaf_of value.now)) }
     ensures place { IfOk result
@@ -148,8 +145,9 @@ pub fn write_leaf(heap: &mut Vec<u8>, value: &ReferenceValueLeaf<'_>) -> Result<
         (λ place. Wrote heap.old.items heap.new.items (type_code place.value_type) place.address
         (leaf (leaf_of value.now))) }
     ensures err { OnErr result (IsPrefix heap.old.items heap.new.items) }
+    ensures grows { GrowsWithin (length heap.old.items + length (leaf_bytes (leaf_of value.now)))
+        heap.old heap.new }
 {
-    make_room(heap, FIRST_ROOM)?;
     let content = value.content();
     let address = content_address(heap.len() as u32, content);
     push_content(heap, content)?;
@@ -163,7 +161,7 @@ pub fn write_leaf(heap: &mut Vec<u8>, value: &ReferenceValueLeaf<'_>) -> Result<
 /// still a prefix of the new.
 #[inline(always)]
 pub fn write_content(
-    heap: &mut Vec<u8>,
+    heap: &mut ByteBuffer,
     leaf_type: LeafType,
     held: LeafContent<'_>,
 ) -> Result<Place, AllocError>
@@ -179,7 +177,6 @@ pub fn write_content(
         (leaf l)) }
     ensures err { OnErr result (IsPrefix heap.old.items heap.new.items) }
 {
-    make_room(heap, FIRST_ROOM)?;
     let address = content_address(heap.len() as u32, held);
     push_content(heap, held)?;
     Ok(Place {
@@ -191,7 +188,12 @@ pub fn write_content(
 /// Writes a list after its children, whose places are those from `first` on, and returns its address. (Not in tantivy.) The places are taken
 /// off. After an error the old heap is still a prefix of the new, and what `places` holds is unspecified.
 #[inline(always)]
-pub fn write_list(heap: &mut Vec<u8>, places: &mut Vec<u8>, first: usize) -> Result<u32, AllocError>
+#[tactic(auto, using(tv_base::proofs::Growing::grows_then, tv_base::proofs::Growing::grows_more))]
+pub fn write_list(
+    heap: &mut ByteBuffer,
+    places: &mut ByteBuffer,
+    first: usize,
+) -> Result<u32, AllocError>
     requires first { first ≤ length places.old.items }
     requires fits { length heap.old.items < 2 ^ 32 }
     ensures heap { OnOk result
@@ -199,9 +201,11 @@ pub fn write_list(heap: &mut Vec<u8>, places: &mut Vec<u8>, first: usize) -> Res
     ensures places { OnOk result (places.new.items ≡ take first places.old.items) }
     ensures at { IfOk result (λ at. at ≡ length heap.old.items) }
     ensures err { OnErr result (IsPrefix heap.old.items heap.new.items) }
+    ensures grows { let own = drop first places.old.items in
+        GrowsWithin (length heap.old.items + length (short_sized own)) heap.old heap.new }
 {
     let at = heap.len() as u32;
-    push_sized(heap, &places[first..])?;
+    push_sized(heap, &places.as_slice()[first..])?;
     places.truncate(first);
     Ok(at)
 }

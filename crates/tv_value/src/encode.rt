@@ -1,6 +1,7 @@
-//! Encodings of numbers, texts and tokens, added to a list of bytes.
+//! Encodings of numbers, texts and tokens, appended to a buffer of bytes.
 
-ghost use Rattle.std.specs.Prelude.{◌≡◌, ◌++◌, OnOk, OnErr};
+ghost use Rattle.std.specs.Prelude.{◌≡◌, ◌+◌, ◌<◌, ◌^◌, ◌++◌, length, OnOk, OnErr};
+ghost use Rattle.tv_base.specs.Buffer.{GrowsWithin};
 ghost use Rattle.tv_base.specs.Number.{vnum};
 ghost use Rattle.tv_base.specs.Parts.{short_sized};
 ghost use Rattle.tv_base.specs.Sink.{IsPrefix};
@@ -9,52 +10,66 @@ ghost use Rattle.tv_value.specs.TokenRef.{ref_of};
 
 use crate::pre_tokenized::TokenRef;
 use std::alloc::AllocError;
+use tv_base::byte_buffer::ByteBuffer;
 use tv_base::vint::VInt;
 
-/// Adds the shortest encoding of a number. (Not in tantivy.) The only error is that memory was refused; the old bytes are then still a
-/// prefix.
+/// Appends the shortest encoding of `number`. (Not in tantivy.) The only error is that memory was refused; the old bytes are then still a
+/// prefix. Memory grows as for one write of all of it.
 #[inline(always)]
-pub fn push_number(bytes: &mut Vec<u8>, number: u64) -> Result<(), AllocError>
+pub fn push_number(bytes: &mut ByteBuffer, number: u64) -> Result<(), AllocError>
     ensures ok { OnOk result (bytes.new.items ≡ bytes.old.items ++ vnum number) }
+    ensures small { OnOk result (length bytes.new.items < 2 ^ 63) }
     ensures err { OnErr result (IsPrefix bytes.old.items bytes.new.items) }
+    ensures grows { GrowsWithin (length bytes.old.items + length (vnum number)) bytes.old bytes.new }
 {
     if number < 128 {
-        bytes.push(number as u8 + 128)?;
-        return Ok(());
+        return bytes.push(number as u8 + 128);
     }
     if number < 16384 {
-        bytes.extend_from_slice(&[(number % 128) as u8, (number / 128) as u8 + 128])?;
-        return Ok(());
+        return bytes.extend_from_slice(&[(number % 128) as u8, (number / 128) as u8 + 128]);
     }
     let (encoding, len) = VInt(number).spelling();
     bytes.extend_from_slice(&encoding[..len])
 }
 
-/// Adds the length of some bytes, and the bytes. (Not in tantivy.) The error is that of `push_number`.
+/// Appends the length of `content`, and `content`. (Not in tantivy.) The error is that of `push_number`.
 #[inline(always)]
-pub fn push_sized(bytes: &mut Vec<u8>, content: &[u8]) -> Result<(), AllocError>
+#[tactic(auto, using(tv_base::proofs::Growing::grows_then, tv_base::proofs::Growing::grows_more))]
+pub fn push_sized(bytes: &mut ByteBuffer, content: &[u8]) -> Result<(), AllocError>
     ensures ok { OnOk result (bytes.new.items ≡ bytes.old.items ++ short_sized content.now) }
     ensures err { OnErr result (IsPrefix bytes.old.items bytes.new.items) }
+    ensures grows { GrowsWithin (length bytes.old.items + length (short_sized content.now))
+        bytes.old bytes.new }
 {
-    push_number(bytes, content.len() as u64)?;
+    let len = content.len();
+    if len < 128 {
+        return bytes.extend_from_parts(&[len as u8 + 128], content);
+    }
+    push_number(bytes, len as u64)?;
     bytes.extend_from_slice(content)
 }
 
-/// Adds the length of a text, and the text. (Not in tantivy.) The error is that of `push_number`.
-pub fn push_text(bytes: &mut Vec<u8>, text: &str) -> Result<(), AllocError>
+/// Appends the length of `text`, and `text`. (Not in tantivy.) The error is that of `push_number`.
+pub fn push_text(bytes: &mut ByteBuffer, text: &str) -> Result<(), AllocError>
     ensures ok { OnOk result (bytes.new.items ≡ bytes.old.items ++ short_sized text.now) }
     ensures valid { OnOk result (IsText text.now) }
     ensures err { OnErr result (IsPrefix bytes.old.items bytes.new.items) }
+    ensures grows { GrowsWithin (length bytes.old.items + length (short_sized text.now)) bytes.old
+        bytes.new }
 {
     push_sized(bytes, text.as_bytes())
 }
 
-/// Adds the shortest encoding of a token. (Not in tantivy.) The error is that of `push_number`.
-pub fn push_token(bytes: &mut Vec<u8>, token: TokenRef<'_>) -> Result<(), AllocError>
+/// Appends the shortest encoding of `token`. (Not in tantivy.) The error is that of `push_number`.
+#[tactic(auto, using(tv_base::proofs::Growing::grows_then, tv_base::proofs::Growing::grows_more))]
+pub fn push_token(bytes: &mut ByteBuffer, token: TokenRef<'_>) -> Result<(), AllocError>
     ensures ok { OnOk result
         (bytes.new.items ≡ bytes.old.items ++ short_token (ref_of token.entry)) }
     ensures valid { OnOk result (IsToken (ref_of token.entry)) }
+    ensures small { OnOk result (length bytes.new.items < 2 ^ 63) }
     ensures err { OnErr result (IsPrefix bytes.old.items bytes.new.items) }
+    ensures grows { GrowsWithin (length bytes.old.items + length (short_token (ref_of token.entry)))
+        bytes.old bytes.new }
 {
     push_number(bytes, token.offset_from as u64)?;
     push_number(bytes, token.offset_to as u64)?;

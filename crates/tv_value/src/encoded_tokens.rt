@@ -9,11 +9,12 @@ ghost use Rattle.tv_value.specs.TokenRef.{ref_of};
 use crate::encode::push_token;
 use crate::pre_tokenized::{PreTokenizedStr, TokenRef};
 use std::alloc::{AllocError, Global};
+use tv_base::byte_buffer::ByteBuffer;
 
 /// Tokens in their shortest encoding, one after the other (not in tantivy).
 #[derive(Debug, Drop)]
 pub struct EncodedTokens {
-    pub(crate) bytes: Vec<u8>,
+    pub(crate) bytes: ByteBuffer,
     pub(crate) count: u64,
     pub ghost held: { HeldTokens [] bytes.items count } by { HeldTokens-prop [] bytes.items count },
     pub ghost short: { bytes.items ≡ flat_map short_token held.0 },
@@ -28,7 +29,7 @@ impl EncodedTokens {
         ensures { gathered result ≡ [] }
     {
         EncodedTokens {
-            bytes: Vec::new(alloc),
+            bytes: ByteBuffer::new(alloc),
             count: 0,
         }
     }

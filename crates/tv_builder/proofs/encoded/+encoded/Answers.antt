@@ -35,15 +35,15 @@ put_encoded_array-loop-i-preserved t c =
     one_item _ _ _ _ _ _ _ _ _ _ _ _ x.place c.loop-i.invariant x.ensures.found (c.in-Ok.ensures ∙ ap (λ z. z ++ place_bytes x.place) x.ensures.places)
 
 pub put_encoded_array-put_list-requires-clause-first : goal.put_encoded_array-put_list-requires-clause-first
-put_encoded_array-put_list-requires-clause-first t c = first_within _ _ _ _ _ _ c.loop-i.invariant.put (omega (arith, c.args.places.now.ok.0, c.len-first.ensures))
+put_encoded_array-put_list-requires-clause-first t c = first_within _ _ _ _ _ _ c.loop-i.invariant.put (omega (arith, c.len-first.ensures.len))
 
 pub put_encoded_array-returns-clause-found : goal.put_encoded_array-returns-clause-found
 put_encoded_array-returns-clause-found t c =
-    let start : c.len-first.result ≡ length c.args.places.now.items = omega (arith, c.args.places.now.ok.0, c.len-first.ensures) in
+    let start : c.len-first.result ≡ length c.args.places.now.items = omega (arith, c.len-first.ensures.len) in
     array_encoded _ _ c.loop-i._i _ _ _ _ _ _ _ _ _ (omega (arith, c.loop-i-test.false)) c.loop-i.invariant start c.in-Ok-put_list.ensures.ok
 
 pub put_encoded_array-returns-clause-places : goal.put_encoded_array-returns-clause-places
-put_encoded_array-returns-clause-places t c = other_places _ _ _ _ _ _ _ c.loop-i.invariant.put (omega (arith, c.args.places.now.ok.0, c.len-first.ensures)) c.in-Ok-put_list.ensures.places
+put_encoded_array-returns-clause-places t c = other_places _ _ _ _ _ _ _ c.loop-i.invariant.put (omega (arith, c.len-first.ensures.len)) c.in-Ok-put_list.ensures.places
 
 -- ---- objects
 
@@ -63,15 +63,15 @@ pub put_encoded_object-loop-i-preserved : goal.put_encoded_object-loop-i-preserv
 put_encoded_object-loop-i-preserved t c =
     let k = c.in_ok-name in
     let x = c.in_ok-after in
-    one_member _ _ _ _ _ _ _ _ _ _ _ _ _ _ _ _ x.place c.loop-i.invariant c.in_ok-key.ensures (k.name, k.ensures.found.put (text c.in_ok-key.key.now) refl refl, c.in-Ok.ensures) x.ensures.found (c.in-Ok-push_place.ensures ∙ ap (λ z. z ++ place_bytes x.place) x.ensures.places)
+    one_member _ _ _ _ _ _ _ _ _ _ _ _ _ _ _ _ x.place c.loop-i.invariant c.in_ok-key.ensures (k.name, k.ensures.found.put (text c.in_ok-key.key.now) refl refl, c.in-Ok.ensures) x.ensures.found (c.in-Ok-push_place.ensures.ok ∙ ap (λ z. z ++ place_bytes x.place) x.ensures.places)
 
 pub put_encoded_object-put_list-requires-clause-first : goal.put_encoded_object-put_list-requires-clause-first
-put_encoded_object-put_list-requires-clause-first t c = first_within _ _ _ _ _ _ c.loop-i.invariant.put (omega (arith, c.args.places.now.ok.0, c.len-first.ensures))
+put_encoded_object-put_list-requires-clause-first t c = first_within _ _ _ _ _ _ c.loop-i.invariant.put (omega (arith, c.len-first.ensures.len))
 
 pub put_encoded_object-returns-clause-found : goal.put_encoded_object-returns-clause-found
 put_encoded_object-returns-clause-found t c =
-    let start : c.len-first.result ≡ length c.args.places.now.items = omega (arith, c.args.places.now.ok.0, c.len-first.ensures) in
+    let start : c.len-first.result ≡ length c.args.places.now.items = omega (arith, c.len-first.ensures.len) in
     object_encoded _ _ c.loop-i._i _ _ _ _ _ _ _ _ _ (omega (arith, c.loop-i-test.false)) c.loop-i.invariant start c.in-Ok-put_list.ensures.ok
 
 pub put_encoded_object-returns-clause-places : goal.put_encoded_object-returns-clause-places
-put_encoded_object-returns-clause-places t c = other_places _ _ _ _ _ _ _ c.loop-i.invariant.put (omega (arith, c.args.places.now.ok.0, c.len-first.ensures)) c.in-Ok-put_list.ensures.places
+put_encoded_object-returns-clause-places t c = other_places _ _ _ _ _ _ _ c.loop-i.invariant.put (omega (arith, c.len-first.ensures.len)) c.in-Ok-put_list.ensures.places

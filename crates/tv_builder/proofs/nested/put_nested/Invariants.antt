@@ -1,4 +1,5 @@
 use Rattle.std.proofs.Common.{◌∷◌, reverse}
+use Rattle.tv_base.specs.Buffer.{GrowsWithin}
 use Rattle.tv_value.specs.Lent.{nested_tree}
 use Rattle.tv_builder.specs.Nested.{flat}
 use Rattle.tv_builder.proofs.NestedLists.{Around, Within, left_of, left_size}
@@ -9,7 +10,7 @@ abbrev pub invariant-lists : goal.invariant-lists
 invariant-lists g l =
     let items = g.N.Nested.array_rest in
     let members = g.N.Nested.object_rest in
-    Within l.fn.most (Around l.fn.most items members l.fn.heap.items l.fn.places.items (nested_tree items members l.fn.value) (reverse l.around.items)) l.list.kind l.list.first l.heap.items l.places.items (flat (left_of items members l.list))
+    Within l.fn.most (Around l.fn.most items members l.fn.heap.items l.fn.places.items (nested_tree items members l.fn.value) (reverse l.around.items)) l.list.kind l.list.first l.heap.items l.places.items (flat (left_of items members l.list)) × GrowsWithin l.fn.most l.fn.heap l.heap
 
 -- what is left of all of them
 abbrev pub decreases-lists : goal.decreases-lists

@@ -1,4 +1,5 @@
 use Rattle.std.proofs.Common.{◌≤◌}
+use Rattle.tv_base.specs.Buffer.{GrowsWithin}
 use Rattle.tv_value.specs.Lent.{nested_tree}
 use Rattle.tv_format.specs.Size.{size, elements_size, entries_size}
 use Rattle.tv_format.specs.Tree.{array, object, elements, entries}
@@ -22,10 +23,10 @@ abbrev pub invariant-put_array-loop-item : goal.invariant-put_array-loop-item
 invariant-put_array-loop-item g l =
     let all = g.N.Nested.array_rest l.fn.items in
     let left = g.N.Nested.array_rest l.item-iterator in
-    ListOpen l.fn.most Array l.fn.heap.items l.fn.places.items (array (elements all)) l.heap.items l.places.items left × (elements_size (elements left) ≤ elements_size (elements all))
+    ListOpen l.fn.most Array l.fn.heap.items l.fn.places.items (array (elements all)) l.heap.items l.places.items left × (elements_size (elements left) ≤ elements_size (elements all)) × GrowsWithin l.fn.most l.fn.heap l.heap
 
 abbrev pub invariant-put_object-loop-key : goal.invariant-put_object-loop-key
 invariant-put_object-loop-key g l =
     let all = g.N.Nested.object_rest l.fn.members in
     let left = g.N.Nested.object_rest l.key-iterator in
-    ListOpen l.fn.most Object l.fn.heap.items l.fn.places.items (object (entries all)) l.heap.items l.places.items (flat_entries left) × (entries_size (entries left) ≤ entries_size (entries all))
+    ListOpen l.fn.most Object l.fn.heap.items l.fn.places.items (object (entries all)) l.heap.items l.places.items (flat_entries left) × (entries_size (entries left) ≤ entries_size (entries all)) × GrowsWithin l.fn.most l.fn.heap l.heap

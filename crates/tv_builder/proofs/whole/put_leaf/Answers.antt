@@ -10,4 +10,4 @@ returns-then-not-has_value_room-clause-err c =
     let heap = c.args.heap.now in
     let l = leaf_of c.args.value.now in
     let full = over c.leaf_len.result c.len.result _ c.has_value_room.result c.requires.most c.leaf_len.ensures c.has_value_room.ensures c.if-not-has_value_room.true in
-    record { prefix = prefix_same _ _ refl; why = omega (arith, full, c.len.ensures, heap.ok.0, length-append heap.items (leaf_bytes l)); fits = λ h. c.requires.fits }
+    record { prefix = prefix_same _ _ refl; why = omega (arith, full, c.len.ensures.len, length-append heap.items (leaf_bytes l)); fits = λ h. c.requires.fits }

@@ -24,5 +24,5 @@ returns-in-JsonObject-Object-clause-added c =
     let old = c.args.document.now in
     let d = data_of c.args.json.now in
     let row = object_row c.args.to.now.field_type.now c.args.json.now _ c.in-JsonObject-Object.is-0 c.in-JsonObject-Object.is-1 (c.is_whole.ensures.0 c.if-is_whole.true) in
-    let h = adds_row old c.add_field_value.new.self c.args.to.now.field.id c.args.to.now.field_type.now d _ c.add_field_value.result (ap (λ j. whole_tree (data_of j)) c.new.ensures) row c.add_field_value.ensures in
+    let h = adds_row old c.add_field_value.new.self c.args.to.now.field.id c.args.to.now.field_type.now d _ c.add_field_value.result (ap (λ j. whole_tree (data_of j)) c.new.ensures) row c.add_field_value.ensures.adds in
     subst (λ o. OnSome o (AddsRow old c.add_field_value.new.self c.args.to.now.field.id c.args.to.now.field_type.now d)) (sym c.ok-in-JsonObject-Object.ensures.value) h

@@ -17,7 +17,7 @@ returns-in_err-add_field_value c =
     let pairs : List OwnedValue → Document = λ vs. map (λ t. (c.args.field.id, t)) (map owned_tree vs) in
     let step = drop_more values l.value-index item (omega (arith, c.loop-value-test.true)) ∙ ap (λ z. z ∷ drop (l.value-index + 1) values) (sym c.value-item.is) in
     rw (p.1, p.2) (stops_behind (pairs values) (pairs (drop l.value-index values)) ((c.args.field.id, owned_tree item) ∷ []) (pairs (drop (l.value-index + 1) values)) c.args.document.now l.document c.in_err-add_field_value.field-0.0
-    l.invariant (ap pairs step) (stops_at_pair l.document c.args.field.id (owned_tree item) c.in_err-add_field_value.field-0.0 c.in_err-add_field_value.ensures.0))
+    l.invariant (ap pairs step) (stops_at_pair l.document c.args.field.id (owned_tree item) c.in_err-add_field_value.field-0.0 c.in_err-add_field_value.ensures.adds.0))
 
 pub loop-value-preserved : goal.loop-value-preserved
 loop-value-preserved c =
@@ -27,4 +27,4 @@ loop-value-preserved c =
     let pairs : List OwnedValue → Document = λ vs. map (λ t. (c.args.field.id, t)) (map owned_tree vs) in
     let step = drop_more values l.value-index item (omega (arith, c.loop-value-test.true)) ∙ ap (λ z. z ∷ drop (l.value-index + 1) values) (sym c.value-item.is) in
     more_pairs (pairs values) (pairs (drop l.value-index values)) ((c.args.field.id, owned_tree item) ∷ []) (pairs (drop (l.value-index + 1) values)) c.args.document.now l.document c.add_field_value.new.self
-    l.invariant (ap pairs step) (each_one c.args.field.id (owned_tree item) l.document c.add_field_value.new.self c.in_ok-add_field_value.ensures)
+    l.invariant (ap pairs step) (each_one c.args.field.id (owned_tree item) l.document c.add_field_value.new.self c.in_ok-add_field_value.ensures.adds)

@@ -10,4 +10,4 @@ returns-in-Object c =
     let object = c.in-Object.object in
     let none : IsEmpty c.clear.new.self = record { document = c.clear.ensures.document; heap = c.clear.ensures.heap } in
     parses_object c.args.schema.now c.args.text.now (members_view object.entries) c.clear.new.self c.add_object.new.document c.add_object.result
-    (c.in-Ok.ensures.ok ∙ ap (λ v. Some (view v)) c.in-Object.is ∙ ap Some (view-Object object)) none c.add_object.ensures
+    (c.in-Ok.ensures.ok ∙ ap (λ v. Some (view v)) c.in-Object.is ∙ ap Some (view-Object object)) none c.add_object.ensures.adds

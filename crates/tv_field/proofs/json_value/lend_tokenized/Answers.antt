@@ -14,7 +14,7 @@ unreachable-requires c =
     let bytes = c.encode_tokenized.new.bytes.items in
     let found : c.in_ok-is_tokenized.is_tokenized ≡ true = search rules in
     let h = subst (λ b. IsTokenizedEncoded {E = AllocError} (data_of c.args.json.now) bytes (Ok b)) found c.in_ok-is_tokenized.ensures in
-    (c.in-None.ensures.none h.0 h.1).none (short_tokenized h.0 h.1) [] (c.as_slice.ensures.value ∙ h.5 ∙ sym (append-nil (short_tokenized h.0 h.1))) (tokenized_of h.0 h.1 h.3 h.4)
+    (c.in-None.ensures.none h.0 h.1).none (short_tokenized h.0 h.1) [] (c.as_slice.ensures ∙ h.5 ∙ sym (append-nil (short_tokenized h.0 h.1))) (tokenized_of h.0 h.1 h.3 h.4)
 
 pub returns : goal.returns
 returns c =
@@ -22,5 +22,5 @@ returns c =
     let found : c.in_ok-is_tokenized.is_tokenized ≡ true = search rules in
     let h = subst (λ b. IsTokenizedEncoded {E = AllocError} (data_of c.args.json.now) bytes (Ok b)) found c.in_ok-is_tokenized.ensures in
     let d = data_of c.args.json.now in
-    ap (λ l. Ok (leaf l)) (encoded_once c.as_slice.result.now h.0 _ h.1 _ _ h.3 h.4 (c.as_slice.ensures.value ∙ h.5) c.in-Some.ensures.found.1)
+    ap (λ l. Ok (leaf l)) (encoded_once c.as_slice.result.now h.0 _ h.1 _ _ h.3 h.4 (c.as_slice.ensures ∙ h.5) c.in-Some.ensures.found.1)
     ∙ ap (λ o. leaf_or o (mismatch (codes "a string or an pretokenized string") d)) (sym h.2)

@@ -9,4 +9,4 @@ loop-field-preserved c =
     let values = c.args.values.now in
     let item = c.loop-field-item.result in
     let step = drop_more values l.field-index item (omega (arith, c.loop-field-test.true)) ∙ ap (λ z. z ∷ drop (l.field-index + 1) values) (sym c.loop-field-item.is) in
-    one_called values (drop l.field-index values) (drop (l.field-index + 1) values) item c.args.document.now l.document c.add_field_value.new.self c.add_field_value.result l.invariant step c.add_field_value.ensures
+    one_called values (drop l.field-index values) (drop (l.field-index + 1) values) item c.args.document.now l.document c.add_field_value.new.self c.add_field_value.result l.invariant step c.add_field_value.ensures.adds

@@ -11,8 +11,8 @@ returns c =
     let b = c.args.self.now in
     let await : awaited_by b ≡ head_awaits c.args.kind = search rules in
     let fits : c.len.result + (length (vnum c.args.announced) + c.args.announced) ≤ 4294967295 = c.has_room.ensures.0 c.if-not-has_room.false in
-    let at : c.len-address.result ≡ length b.heap.items = omega (arith, c.len-address.ensures, b.heap.ok.0) in
-    begins_bytes b _ c.args.kind c.args.announced _ await (omega (arith, fits, c.len.ensures, b.heap.ok.0))
+    let at : c.len-address.result ≡ length b.heap.items = omega (arith, c.len-address.ensures.len) in
+    begins_bytes b _ c.args.kind c.args.announced _ await (omega (arith, fits, c.len.ensures.len))
     (ap (λ n. record { kind = c.args.kind; address = n; announced = c.args.announced; missing = c.args.announced }) at) c.in_ok-push_number.ensures.ok refl refl refl refl refl
 
 pub returns-then-not-has_room : goal.returns-then-not-has_room
@@ -20,4 +20,4 @@ returns-then-not-has_room c =
     let b = c.args.self.now in
     let await : awaited_by b ≡ head_awaits c.args.kind = search rules in
     let full : 4294967295 < c.len.result + (length (vnum c.args.announced) + c.args.announced) = no_room c.has_room.result _ c.has_room.ensures c.if-not-has_room.true in
-    begins_full b c.args.kind c.args.announced await (omega (arith, full, c.len.ensures, b.heap.ok.0))
+    begins_full b c.args.kind c.args.announced await (omega (arith, full, c.len.ensures.len))

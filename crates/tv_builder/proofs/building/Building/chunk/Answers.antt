@@ -16,4 +16,4 @@ returns-clause-does c =
     let b = c.args.self.now in
     let o = c.in-Some.open in
     let small : length c.args.bytes.now ≤ o.missing = omega (arith, c.if-bytes-open.false) in
-    chunk_comes b _ o c.args.bytes.now (o.missing - length c.args.bytes.now) c.in-Some.is small (omega (arith, small)) c.in_ok-extend_from_slice.ensures.items refl refl refl refl refl
+    chunk_comes b _ o c.args.bytes.now (o.missing - length c.args.bytes.now) c.in-Some.is small (omega (arith, small)) c.in_ok-extend_from_slice.ensures.0 refl refl refl refl refl

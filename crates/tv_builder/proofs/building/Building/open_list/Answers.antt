@@ -12,7 +12,7 @@ pub returns-in_err-place : goal.returns-in_err-place
 returns-in_err-place c =
     let b = c.args.self.now in
     let kind = c.args.kind in
-    let none : drop c.len-first.result b.places.items ≡ [] = drop_all c.len-first.result b.places.items (omega (arith, c.len-first.ensures, b.places.ok.0)) in
+    let none : drop c.len-first.result b.places.items ≡ [] = drop_all c.len-first.result b.places.items (omega (arith, c.len-first.ensures.len)) in
     let await = sym c.in-Value.ensures in
     let e = c.in_err-place in
     refused_as _ _ _ _ _ _ _ e.field-0.0 c.from_residual.ensures.1
@@ -23,15 +23,15 @@ returns-in_err-place c =
 pub give-requires : goal.give-requires
 give-requires c =
     let b = c.args.self.now in
-    let kept : c.put_list.new.places.items ≡ b.places.items = c.in_ok-place.ensures.places ∙ take_all c.len-first.result b.places.items (omega (arith, c.len-first.ensures, b.places.ok.0)) in
+    let kept : c.put_list.new.places.items ≡ b.places.items = c.in_ok-place.ensures.places ∙ take_all c.len-first.result b.places.items (omega (arith, c.len-first.ensures.len)) in
     can_give b _ c.requires (on_value b (sym c.in-Value.ensures)) c.in_ok-place.ensures.ok.fits refl refl kept refl
 
 pub returns-then-announced-eq0 : goal.returns-then-announced-eq0
 returns-then-announced-eq0 c =
     let b = c.args.self.now in
     let kind = c.args.kind in
-    let none : drop c.len-first.result b.places.items ≡ [] = drop_all c.len-first.result b.places.items (omega (arith, c.len-first.ensures, b.places.ok.0)) in
-    let kept : c.put_list.new.places.items ≡ b.places.items = c.in_ok-place.ensures.places ∙ take_all c.len-first.result b.places.items (omega (arith, c.len-first.ensures, b.places.ok.0)) in
+    let none : drop c.len-first.result b.places.items ≡ [] = drop_all c.len-first.result b.places.items (omega (arith, c.len-first.ensures.len)) in
+    let kept : c.put_list.new.places.items ≡ b.places.items = c.in_ok-place.ensures.places ∙ take_all c.len-first.result b.places.items (omega (arith, c.len-first.ensures.len)) in
     let w = c.in_ok-place.ensures.ok in
     let holds : ListFits b.heap.items c.args.announced = λ z. subst (λ own. length (b.heap.items ++ short_sized own) ≤ 4294967295) none (omega (arith, w.fits, ap length w.heap)) in
     let await = sym c.in-Value.ensures in
@@ -41,6 +41,6 @@ returns-then-announced-eq0 c =
 pub returns : goal.returns
 returns c =
     let b = c.args.self.now in
-    let first : c.len-first.result ≡ length b.places.items = omega (arith, c.len-first.ensures, b.places.ok.0) in
+    let first : c.len-first.result ≡ length b.places.items = omega (arith, c.len-first.ensures.len) in
     opens_list b _ c.args.kind c.args.announced _ (omega (arith, c.if-announced-eq0.false)) (ap (λ n. record { kind = c.args.kind; announced = c.args.announced; finished = 0; first = n }) first) (sym c.in-Value.ensures)
     refl refl refl c.in_ok-push.ensures.items refl refl

@@ -8,20 +8,20 @@ use Rattle.tv_builder.proofs.heap_pairs.HeapPairs.add_encoded_pair.Goals as goal
 pub invariant_of-self : goal.invariant_of-self
 invariant_of-self c =
     let old = c.args.self.now in
-    let len : c.len-len.result ≡ length (heap_of old) = omega (arith, c.len-len.ensures, old.heap.ok.0) in
+    let len : c.len-len.result ≡ length (heap_of old) = omega (arith, c.len-len.ensures.len) in
     let fields = cut_fields old c.put_encoded.new.heap.items _ _ c.len-len.result c.put_encoded.ensures.prefix len c.truncate.ensures.items (λ i. old.pairs.items) in
     record { document = fields.document; bytes = fields.bytes; fits = fields.fits }
 
 pub returns-in_default-clause-none : goal.returns-in_default-clause-none
 returns-in_default-clause-none c =
     let old = c.args.self.now in
-    let len : c.len-len.result ≡ length (heap_of old) = omega (arith, c.len-len.ensures, old.heap.ok.0) in
+    let len : c.len-len.result ≡ length (heap_of old) = omega (arith, c.len-len.ensures.len) in
     cut_unchanged old _ c.put_encoded.new.heap.items c.len-len.result c.put_encoded.ensures.prefix len c.truncate.ensures.items (λ i. old.pairs.items)
 
 pub invariant_of-self-2 : goal.invariant_of-self-2
 invariant_of-self-2 c =
     let old = c.args.self.now in
-    let len : c.len-len.result ≡ length (heap_of old) = omega (arith, c.len-len.ensures, old.heap.ok.0) in
+    let len : c.len-len.result ≡ length (heap_of old) = omega (arith, c.len-len.ensures.len) in
     let s = c.in-Some.ensures.found in
     let written : Written old c.put_encoded.new.heap.items c.len-len.result c.from_le_bytes-field.result s.tree c.in-Some.place = record { len_is = len; field_fits = omega arith; put = s.put } in
     let fields = kept_fields old _ _ _ _ _ _ _ _ written c.keep_pair.ensures in
@@ -30,7 +30,7 @@ invariant_of-self-2 c =
 pub returns-in-Ok-clause-added : goal.returns-in-Ok-clause-added
 returns-in-Ok-clause-added c =
     let old = c.args.self.now in
-    let len : c.len-len.result ≡ length (heap_of old) = omega (arith, c.len-len.ensures, old.heap.ok.0) in
+    let len : c.len-len.result ≡ length (heap_of old) = omega (arith, c.len-len.ensures.len) in
     let s = c.in-Some.ensures.found in
     let found : FieldFound c.args.bytes.now c.in_ok-prefix.prefix.now c.in_ok-prefix.value.now c.from_le_bytes-field.result =
     record {
@@ -46,7 +46,7 @@ returns-in-Ok-clause-added c =
 pub returns-in-Err-clause-none : goal.returns-in-Err-clause-none
 returns-in-Err-clause-none c =
     let old = c.args.self.now in
-    let len : c.len-len.result ≡ length (heap_of old) = omega (arith, c.len-len.ensures, old.heap.ok.0) in
+    let len : c.len-len.result ≡ length (heap_of old) = omega (arith, c.len-len.ensures.len) in
     let s = c.in-Some.ensures.found in
     let written : Written old c.put_encoded.new.heap.items c.len-len.result c.from_le_bytes-field.result s.tree c.in-Some.place = record { len_is = len; field_fits = omega arith; put = s.put } in
     kept_unchanged old _ _ _ _ _ _ _ written c.in-Err.ensures

@@ -15,7 +15,7 @@ pub returns-clause-unchanged : goal.returns-clause-unchanged
 returns-clause-unchanged c = unchanged c.args.self.now _ c.shrink_to_fit.ensures.items c.shrink_to_fit-2.ensures.items
 
 pub returns-clause-frees_bytes : goal.returns-clause-frees_bytes
-returns-clause-frees_bytes c = λ e. c.shrink_to_fit.ensures.frees (omega (arith, c.args.self.now.heap.ok.0, ap length e))
+returns-clause-frees_bytes c = λ e. c.shrink_to_fit.ensures.frees e
 
 pub returns-clause-frees_places : goal.returns-clause-frees_places
 returns-clause-frees_places c = λ e.

@@ -3,4 +3,4 @@ use Rattle.tv_builder.proofs.PairBuilding.{heap_weighs}
 use Rattle.tv_builder.proofs.pair_builder.PairBuilder.heap_len.Goals as goal
 
 pub returns-clause-within : goal.returns-clause-within
-returns-clause-within c = let b = c.args.self.now in omega (arith, c.len.ensures, b.building.heap.ok.0, heap_weighs b)
+returns-clause-within c = let b = c.args.self.now in omega (arith, c.len.ensures.len, heap_weighs b)
