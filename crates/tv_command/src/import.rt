@@ -5,8 +5,8 @@ ghost use Rattle.serde_json.specs.View.{view};
 ghost use Rattle.serde_json.specs.declared.value.Value.{Value};
 ghost use Rattle.tv_base.specs.Sink.{AppendsPrefix};
 ghost use Rattle.tv_base.specs.Stop.{Counts};
-ghost use Rattle.tv_command.specs.Importing.{CountsTaken, Imports, IsJudged, IsParsed, LeavesBegun, ParsesBy};
-ghost use Rattle.tv_command.specs.Importing.{Tells, TellsUnsearchable, import_stop};
+ghost use Rattle.tv_command.specs.Importing.{CountsTaken, Imports, IsJudged, IsParsed, LeavesBegun};
+ghost use Rattle.tv_command.specs.Importing.{ParsesBy, Tells, TellsUnsearchable, import_stop};
 ghost use Rattle.tv_command.specs.RefusedValues.{IsFloatOf};
 ghost use Rattle.tv_doc.specs.Belongs.{Belongs};
 ghost use Rattle.tv_doc.specs.Document.{document_of};
@@ -60,7 +60,7 @@ pub enum LineError {
 pub enum LineOutcome {
     /// Its document is stored.
     Stored {
-        /// In this number of bytes.
+        /// How many bytes its encoding takes.
         size: u64,
         /// Why it can't be searched, as `term_fault` says it: a value of an indexed field has no term. `None` where it can.
         fault: Option<TermValuesError>,
@@ -98,8 +98,8 @@ impl From<AllocError> for ImportError {
 pub struct ImportRules {
     /// The version of the store that documents are written in.
     pub version: WriteVersion,
-    /// Whether each key of a line's object has to name a field, none may stand twice, and the document can be searched. Else a key that no field has is
-    /// skipped, and a document that can't be searched is stored.
+    /// Whether each key of a line's object has to name a field, none may stand twice, and the document can be searched. Else a key that no field
+    /// has is skipped, and a document that can't be searched is stored.
     pub strict: bool,
 }
 
@@ -230,8 +230,8 @@ fn unsearchable(
     Ok(LineError::Unsearchable(name, fault))
 }
 
-// Puts the document of a line in place of one that is there, and says why it can't be searched, if it can't; or says why the line is refused. By strict rules
-// it is for such a document, too. The only error is that memory was refused.
+// Puts the document of a line in place of one that is there, and says why it can't be searched, if it can't; or says why the line is refused. By
+// strict rules it is for such a document, too. The only error is that memory was refused.
 fn judge_line(
     schema: &Schema,
     line: &[u8],
@@ -334,8 +334,8 @@ impl LineImporter {
 
     /// Reads the next line, appends the stored pairs of its document to the sink, and says what became of the line; `None` where the reader has
     /// nothing left. A line that makes no document is refused with the reason, as `parse_json_into` and `parse_json_strict_into` return it, and
-    /// nothing is appended. One whose document can't be searched is stored, with the reason as `term_fault` says it; by strict rules it is refused with
-    /// that reason.
+    /// nothing is appended. One whose document can't be searched is stored, with the reason as `term_fault` says it; by strict rules it is
+    /// refused with that reason.
     ///
     /// Errors: `Read` where a read failed, `Write` where a write did, and only there, and `Memory`. The sink then holds what it held before, and a beginning of
     /// what was to be appended; some of the reader's bytes are lost.

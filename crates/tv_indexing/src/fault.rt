@@ -11,10 +11,10 @@ use std::alloc::{AllocError, Global};
 use tv_doc::document::CompactDoc;
 use tv_schema::Schema;
 
-/// Why a value of a document has no term, so that the document can't be searched: what `term_values` returns of the first such value, and `None` where
-/// each value of an indexed field has its terms. Of a field that isn't indexed it says nothing. (Not in tantivy.)
+/// Why a value of a document has no term, so that the document can't be searched: the error that `term_values` returns for the first such value, and
+/// `None` where each value of an indexed field has its terms. Values of a field that isn't indexed have no fault. (Not in tantivy.)
 ///
-/// The only error is that memory was refused. The answer is never `Memory`.
+/// The only error is that memory was refused. However deep a value nests, it takes memory and no more of the machine's stack.
 pub fn term_fault(
     alloc: Global,
     schema: &Schema,

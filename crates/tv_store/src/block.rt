@@ -1,6 +1,7 @@
 //! Documents that stand one after the other, read in the memory of one.
 
-ghost use Rattle.std.specs.Prelude.{◌≡◌, ◌≢◌, ◌<◌, ◌↔◌, [], length, true, false, Some, Ok, Err, IsErrOf, IsTrue, OnOk, OnErr};
+ghost use Rattle.std.specs.Prelude.{◌≡◌, ◌≢◌, ◌<◌, ◌↔◌, [], length, true, false, Some, Ok, Err};
+ghost use Rattle.std.specs.Prelude.{IsErrOf, IsTrue, OnOk, OnErr};
 ghost use Rattle.tv_base.specs.declared.cause.Cause.TheVariants.{UnexpectedEnd};
 ghost use Rattle.tv_base.specs.Stop.{Counts, Taken};
 ghost use Rattle.tv_doc.specs.Document.{document_of, heap_of};
@@ -11,8 +12,8 @@ ghost use Rattle.tv_reader.specs.declared.error.DeserializeError.TheVariants.{Co
 ghost use Rattle.tv_store.specs.Blocks.{as_read, as_read_within, as_passed, SaysEnd, SaysEndWithin};
 ghost use Rattle.tv_store.specs.Blocks.{SeesNext};
 ghost use Rattle.tv_store.specs.Documents.{in_place};
-ghost use Rattle.tv_store.specs.Limits.{AllNestWithinLimit, IsPast, ReadsNextWithin, StopsNextWithin};
-ghost use Rattle.tv_store.specs.Limits.{limited_stop};
+ghost use Rattle.tv_store.specs.Limits.{AllNestWithinLimit, IsPast, ReadsNextWithin};
+ghost use Rattle.tv_store.specs.Limits.{StopsNextWithin, limited_stop};
 ghost use Rattle.tv_store.specs.Reading.{PassesNext, ReadsNext, ReadsNextFields};
 ghost use Rattle.tv_store.specs.declared.limits.LimitedReadError.TheVariants.{Read};
 
