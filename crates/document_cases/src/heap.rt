@@ -4,7 +4,7 @@ use crate::builder;
 use anyhow::{Context, Result, anyhow, ensure};
 use case_words as words;
 use std::alloc::Global;
-use tv_base::{BinarySerializable, SliceSource, VecSink};
+use tv_base::{BinarySerializable, ByteBuffer, SliceSource, VecSink};
 use tv_builder::encoded::put_encoded;
 use tv_builder::heap_pairs::HeapPairs;
 use tv_doc::lent_borrowed::LentBorrowed;
@@ -55,8 +55,8 @@ fn encoded(alloc: Global, call: &[&str]) -> Result<String> {
 // What the call for the value that bytes encode gives.
 fn put(alloc: Global, before: &str, levels: u32, bytes: &[u8]) -> Result<Option<String>> {
     let before = words::bytes(alloc, before)?;
-    let mut heap = before.as_slice().to_vec(alloc)?;
-    let mut places = OPEN.to_vec(alloc)?;
+    let mut heap = ByteBuffer::from_vec(before.as_slice().to_vec(alloc)?);
+    let mut places = ByteBuffer::from_vec(OPEN.to_vec(alloc)?);
     if heap.len() > 4_294_967_295 {
         return Err(anyhow!("a heap is too long"));
     }

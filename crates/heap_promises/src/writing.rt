@@ -8,6 +8,7 @@ ghost use Rattle.tv_value.specs.Lent.{leaf_of};
 ghost use Rattle.tv_format.specs.Tree.{leaf};
 
 use std::alloc::AllocError;
+use tv_base::ByteBuffer;
 use tv_heap::place::Place;
 use tv_heap::value_type::ValueType;
 use tv_heap::write::write_leaf;
@@ -15,22 +16,22 @@ use tv_value::leaf::ReferenceValueLeaf;
 
 /// Each text is written at the heap's end, also where the heap ends with the same text.
 pub fn equal_texts_are_written_anew(
-    heap: &mut Vec<u8>,
+    heap: &mut ByteBuffer,
     value: &ReferenceValueLeaf<'_>,
 ) -> Result<Place, AllocError>
     requires { length heap.old.items + length (leaf_bytes (leaf_of value.now)) < 2 ^ 32 }
     ensures { OnOk result (heap.new.items ≡ heap.old.items ++ leaf_bytes (leaf_of value.now)) }
 {
     match value.as_str() {
-        Some(text) if heap.ends_with(text.as_bytes()) => write_leaf(heap, value),
+        Some(text) if heap.as_slice().ends_with(text.as_bytes()) => write_leaf(heap, value),
         _ => write_leaf(heap, value),
     }
 }
 
 /// A value stands in the heap itself, and not in memory beside it.
 pub fn values_stand_in_the_heap(
-    heap: &mut Vec<u8>,
-    beside: &mut Vec<u8>,
+    heap: &mut ByteBuffer,
+    beside: &mut ByteBuffer,
     value: &ReferenceValueLeaf<'_>,
 ) -> Result<Place, AllocError>
     requires heap { length heap.old.items + length (leaf_bytes (leaf_of value.now)) < 2 ^ 32 }

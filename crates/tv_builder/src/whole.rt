@@ -1,6 +1,6 @@
 //! Writing values after a heap, as far as they fit.
 
-ghost use Rattle.std.specs.Prelude.{◌≡◌, ◌≤◌, ◌++◌, length, take, drop, OnOk, IfOk, IfErr, IfSome};
+ghost use Rattle.std.specs.Prelude.{◌≡◌, ◌+◌, ◌≤◌, ◌++◌, length, take, drop, OnOk, IfOk, IfErr, IfSome};
 ghost use Rattle.tv_base.specs.Buffer.{GrowsWithin, capacity};
 ghost use Rattle.tv_base.specs.Sink.{IsPrefix};
 ghost use Rattle.tv_heap.specs.LeafBytes.{leaf_bytes};

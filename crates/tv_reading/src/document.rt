@@ -14,7 +14,6 @@ use crate::reading::Reading;
 use std::alloc::Global;
 use tv_base::{ByteSource, Cause};
 use tv_builder::heap_pairs::HeapPairs;
-use tv_heap::write::FIRST_ROOM;
 use tv_reader::heads::take_document_head;
 use tv_reader::{DeserializeError, DocStoreVersion};
 
@@ -68,8 +67,7 @@ pub fn take_document<S: ByteSource>(
     ensures no_room { S.is_known source.old → IsErrOf result HeapFull
         → HasNoRoom (version_of version) (S.left source.old) }
 {
-    let empty = HeapPairs::with_capacity(alloc, FIRST_ROOM)?;
-    take_document_into(alloc, empty, source, count, version)
+    take_document_into(alloc, HeapPairs::new(alloc), source, count, version)
 }
 
 /// Takes a document as `take_document` does, in the memory of pairs that were taken off.
