@@ -5,7 +5,7 @@ use Rattle.std.specs.declared.io.ErrorKind.{ErrorKind}
 use Rattle.tv_base.specs.declared.cause.Cause.TheVariants.{UnexpectedEnd}
 use Rattle.tv_base.specs.declared.source.ByteSource.{Ghosts}
 use Rattle.tv_base.specs.Parts.{Begins}
-use Rattle.tv_base.specs.ReadsAs.{EndsEarly, Reads, Shows}
+use Rattle.tv_base.specs.ReadsAs.{Reads, Shows}
 use Rattle.tv_base.specs.Source.{Failures}
 use Rattle.tv_base.specs.Stop.{Counts, Stop, Taken}
 use Rattle.tv_base.specs.Stop.Stop.{InputError, Short, Uncounted}
@@ -17,7 +17,7 @@ use Rattle.tv_reading.specs.Prefix.{parts_at, IsPlace}
 use Rattle.tv_doc.specs.Document.{document_of}
 use Rattle.tv_doc.specs.declared.document.CompactDoc.{CompactDoc}
 use Rattle.tv_format.specs.Encoding.{EncodesDocument}
-use Rattle.tv_format.specs.InputError.{Refusal, corrupted}
+use Rattle.tv_format.specs.InputError.{Refusal}
 use Rattle.tv_format.specs.Tree.{Document}
 use Rattle.tv_format.specs.Version.{Version}
 use Rattle.tv_legacy.specs.Legacy.{Legacy}
@@ -26,7 +26,7 @@ use Rattle.tv_reader.specs.Finds.{GivesStop, ShowsRefusal}
 use Rattle.tv_reader.specs.declared.error.DeserializeError.TheVariants as errors
 use Rattle.tv_store.specs.Blocks.{as_read_within, SaysEndWithin, SeesNext}
 use Rattle.tv_store.specs.Documents.{BeginsWithDocument, NoDocument, in_place}
-use Rattle.tv_store.specs.Limits.{IsAll, IsPast, PassesBytes, PassesDepth, ReadsByLimits, StopsNextWithin, StopsWithin, Unread, at_least_one, limited_stop, within}
+use Rattle.tv_store.specs.Limits.{IsAll, IsPast, PassesDepth, ReadsByLimits, StopsNextWithin, StopsWithin, Unread, at_least_one, limited_stop, within}
 use Rattle.tv_store.specs.Reading.{documents}
 use Rattle.tv_store.specs.declared.limits.LimitedReadError.{LimitedReadError}
 use Rattle.tv_store.specs.declared.limits.LimitedReadError.TheVariants as limited
