@@ -14,7 +14,7 @@ use Rattle.tv_builder.specs.declared.add_error.AddError.{AddError}
 use Rattle.tv_builder.specs.declared.add_error.AddError.TheVariants.{HeapFull, Memory}
 use Rattle.tv_builder.specs.declared.heap_pair.HeapPair.{HeapPair}
 use Rattle.tv_builder.specs.declared.heap_pairs.HeapPairs.{HeapPairs}
-use Rattle.tv_builder.specs.HeldPairs.{heap_of, heap_capacity, Added, Adds, RefusesAddition, IsUnchanged, KeepsMemory}
+use Rattle.tv_builder.specs.HeldPairs.{heap_of, Added, Adds, RefusesAddition, IsUnchanged, GrowsLittle}
 use Rattle.tv_builder.specs.Keeping.{KeepsPair, PairKept, PairCut}
 use Rattle.tv_builder.specs.Holds.{Holds}
 use Rattle.tv_builder.specs.Moves.{FitsRoom}
@@ -88,11 +88,11 @@ kept_adds old new mid len field t at (Err e) free w k = (subst (RefusesAddition 
 
 -- ---- how memory grew
 
-pub kept_memory : (old new : HeapPairs) (mid : List ℕ) (len field : ℕ) (at : Place) (result : Result (Unit {0}) AddError) → KeepsPair mid (heap_of new) old.pairs.items new.pairs.items len field at result → KeepsMemory old new result
-kept_memory old new mid len field at (Ok x) k = tt
-kept_memory old new mid len field at (Err HeapFull) k = absurd (let f : HeapFull ≡ Memory = k.memory in cc)
-kept_memory old new mid len field at (Err Memory) k = tt
+pub kept_memory : (a b : ℕ) (mid heap : List ℕ) (ps qs : List HeapPair) (len field : ℕ) (at : Place) (result : Result (Unit {0}) AddError) → KeepsPair mid heap ps qs len field at result → GrowsLittle a b result
+kept_memory a b mid heap ps qs len field at (Ok x) k = tt
+kept_memory a b mid heap ps qs len field at (Err HeapFull) k = absurd (let f : HeapFull ≡ Memory = k.memory in cc)
+kept_memory a b mid heap ps qs len field at (Err Memory) k = tt
 
-pub cut_memory : (old new : HeapPairs) (e : AddError) → (e ≡ HeapFull → heap_capacity new ≤ heap_capacity old + 1048576) → KeepsMemory {T = Unit {0}} old new (Err e)
-cut_memory old new HeapFull h = h refl
-cut_memory old new Memory h = tt
+pub cut_memory : (a b : ℕ) (e : AddError) → (e ≡ HeapFull → b ≤ a + 1048576) → GrowsLittle {T = Unit {0}} a b (Err e)
+cut_memory a b HeapFull h = h refl
+cut_memory a b Memory h = tt

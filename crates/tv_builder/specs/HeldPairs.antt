@@ -72,9 +72,13 @@ Adds old new field t (Ok x) = (length (heap_of old) + room t ≤ 4294967295) × 
 Adds old new field t (Err e) = RefusesAddition old t e × IsUnchanged old new
 
 -- After a refusal for want of room the heap has memory for at most 1 MiB more than before.
+abbrev pub GrowsLittle : {T : Type 0} → ℕ → ℕ → Result T AddError → Type 0
+GrowsLittle old new (Ok x) = Unit {0}
+GrowsLittle old new (Err HeapFull) = new ≤ old + 1048576
+GrowsLittle old new (Err Memory) = Unit {0}
+
 abbrev pub KeepsMemory : {T : Type 0} → HeapPairs → HeapPairs → Result T AddError → Type 0
-KeepsMemory old new (Err HeapFull) = heap_capacity new ≤ heap_capacity old + 1048576
-KeepsMemory old new _ = Unit {0}
+KeepsMemory old new r = GrowsLittle (heap_capacity old) (heap_capacity new) r
 
 -- the type byte and the address of the pair at a place, whose tree the heap reads there
 abbrev pub ReadsAt : HeapPairs → ℕ → Option (ℕ × ℕ) → Type 0

@@ -54,7 +54,7 @@ impl DocumentDeserialize for CompactDoc {
             (λ d. (pairs : Document) × (document_of d ≡ pairs)
             × IsGiven D.gives D.remaining deserializer.old pairs deserializer.new) }
         ensures refused { D.is_known deserializer.old
-            → IfErr result (PairsRefused D.gives D.refuses_into deserializer.old) }
+            → IfErr result (PairsRefused D.gives D.remaining D.has_failed D.refuses_into deserializer.old) }
         ensures marks_failure { D.has_failed deserializer.new ≡ is_err result }
         ensures counts { D.has_failed deserializer.old ≡ false
             → Counts document_stop result (D.failures deserializer.old)

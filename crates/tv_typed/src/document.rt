@@ -1,6 +1,6 @@
 //! Documents in a store, whose pairs are read one after the other.
 
-ghost use Rattle.std.specs.Prelude.{◌≡◌, ◌+◌, ◌-◌, List, ℕ, Bool, false, true, Ok, Err, OnErr};
+ghost use Rattle.std.specs.Prelude.{[], ◌≡◌, ◌+◌, ◌-◌, ◌<◌, List, ℕ, Bool, false, true, Ok, Err, OnErr};
 ghost use Rattle.std.specs.Prelude.{is_err, IfOk, IfErr, IsErrOf, if◌then◌else◌};
 ghost use Rattle.std.specs.Borrow.{sem, RestsIfErr};
 ghost use Rattle.tv_base.specs.Number.{Fixed, VNum};
@@ -87,7 +87,8 @@ pub trait DocumentDeserializer: Drop {
     /// Reads the next pair into `pairs`, after those that it gave before, its value to any depth, straight into their heap. False where
     /// all were given. `bytes` is a buffer for at most 4096 bytes, which may be lent to one call after the other.
     ///
-    /// The errors are those that `refuses_into` allows. Each is marked, and `pairs` may then have lost what it held. (Not in tantivy.)
+    /// The errors are those that `refuses_into` allows, and come only where a pair is awaited. Each is marked, and `pairs` may then have lost what it held.
+    /// (Not in tantivy.)
     fn next_pair(
         &mut self,
         alloc: Global,
@@ -97,6 +98,7 @@ pub trait DocumentDeserializer: Drop {
         ensures gives { IfOk result (NextPair remaining is_known gives self.old self.new
             (document_of pairs.old) (document_of pairs.new)) }
         ensures refuses { IfErr result (refuses_into self.old (document_of pairs.old)) }
+        ensures awaited { OnErr result (has_failed self.old ≡ false → 0 < remaining self.old) }
         ensures marks_failure { has_failed self.new ≡ is_err result }
         ensures counts { has_failed self.old ≡ false
             → Counts document_stop result (failures self.old) (failures self.new) }
@@ -291,6 +293,10 @@ impl<'de, S: ByteSource> DocumentDeserializer for BinaryDocumentDeserializer<'de
             (λ old pair new. GivesPair S.left old.reader.now pair new.reader.now) self.old self.new
             (document_of pairs.old) (document_of pairs.new)) }
         ensures refuses { IfErr result (RefusesInto S.ByteSource self.old.reader.now (document_of pairs.old)) }
+        ensures awaited { OnErr result (self.old.reader.now.has_failed ≡ false
+            → 0 < self.old.announced - self.old.position) }
+        ensures lost { OnErr result (self.old.reader.now.has_failed ≡ false
+            → document_of pairs.new ≡ []) }
         ensures same_reader { self.new.reader.ghost_name ≡ self.old.reader.ghost_name }
         ensures announced { self.new.announced ≡ self.old.announced }
         ensures position { IfOk result (λ more. self.new.position

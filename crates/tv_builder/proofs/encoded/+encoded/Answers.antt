@@ -32,7 +32,7 @@ put_encoded_array-loop-i-init t c = none_read _ _ _ _ _ _ _ refl c.requires c.in
 pub put_encoded_array-loop-i-preserved : goal.put_encoded_array-loop-i-preserved
 put_encoded_array-loop-i-preserved t c =
     let x = c.in_ok-after in
-    one_item _ _ _ _ _ _ _ _ _ _ _ _ x.place c.loop-i.invariant x.ensures.found (c.in-Ok.ensures ∙ ap (λ z. z ++ place_bytes x.place) x.ensures.places)
+    one_item _ _ _ _ _ _ _ _ _ _ _ _ x.place c.loop-i.invariant x.ensures.found (c.in-Ok.ensures.ok ∙ ap (λ z. z ++ place_bytes x.place) x.ensures.places)
 
 pub put_encoded_array-put_list-requires-clause-first : goal.put_encoded_array-put_list-requires-clause-first
 put_encoded_array-put_list-requires-clause-first t c = first_within _ _ _ _ _ _ c.loop-i.invariant.put (omega (arith, c.len-first.ensures.len))
@@ -63,7 +63,7 @@ pub put_encoded_object-loop-i-preserved : goal.put_encoded_object-loop-i-preserv
 put_encoded_object-loop-i-preserved t c =
     let k = c.in_ok-name in
     let x = c.in_ok-after in
-    one_member _ _ _ _ _ _ _ _ _ _ _ _ _ _ _ _ x.place c.loop-i.invariant c.in_ok-key.ensures (k.name, k.ensures.found.put (text c.in_ok-key.key.now) refl refl, c.in-Ok.ensures) x.ensures.found (c.in-Ok-push_place.ensures.ok ∙ ap (λ z. z ++ place_bytes x.place) x.ensures.places)
+    one_member _ _ _ _ _ _ _ _ _ _ _ _ _ _ _ _ x.place c.loop-i.invariant c.in_ok-key.ensures (k.name, k.ensures.found.put (text c.in_ok-key.key.now) refl refl, c.in-Ok.ensures.ok) x.ensures.found (c.in-Ok-push_place.ensures.ok ∙ ap (λ z. z ++ place_bytes x.place) x.ensures.places)
 
 pub put_encoded_object-put_list-requires-clause-first : goal.put_encoded_object-put_list-requires-clause-first
 put_encoded_object-put_list-requires-clause-first t c = first_within _ _ _ _ _ _ c.loop-i.invariant.put (omega (arith, c.len-first.ensures.len))

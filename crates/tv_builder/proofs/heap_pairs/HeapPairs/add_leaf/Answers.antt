@@ -44,4 +44,4 @@ returns-clause-adds c =
     kept_adds old _ _ _ _ _ _ _ (omega (arith, free, len)) written c.keep_pair.ensures
 
 pub returns-clause-memory : goal.returns-clause-memory
-returns-clause-memory c = kept_memory c.args.self.now _ _ _ _ _ _ c.keep_pair.ensures
+returns-clause-memory c = kept_memory _ _ _ _ _ _ _ _ _ c.keep_pair.result c.keep_pair.ensures

@@ -42,7 +42,7 @@ returns-in-Err-clause-adds g c =
     (refuses old _ _ not.why, cut_unchanged old _ c.put_within.new.heap.items c.len-len.result not.prefix len c.truncate.ensures.items (λ i. old.pairs.items))
 
 pub returns-in-Ok-clause-memory : goal.returns-in-Ok-clause-memory
-returns-in-Ok-clause-memory g c = kept_memory c.args.self.now _ _ _ _ _ _ c.keep_pair.ensures
+returns-in-Ok-clause-memory g c = kept_memory _ _ _ _ _ _ _ _ _ c.keep_pair.result c.keep_pair.ensures
 
 pub returns-in-Err-clause-memory : goal.returns-in-Err-clause-memory
-returns-in-Err-clause-memory g c = cut_memory c.args.self.now _ _ (λ e. omega (arith, c.truncate.ensures.capacity, c.in-Err.ensures.memory e))
+returns-in-Err-clause-memory g c = cut_memory _ _ c.in-Err.error (λ e. omega (arith, c.truncate.ensures.capacity, c.in-Err.ensures.memory e))
