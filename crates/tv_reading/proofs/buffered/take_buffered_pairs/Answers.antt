@@ -26,14 +26,14 @@ returns-then-taken-eq0-clause-finds g c =
     none_buffered (λ b m. AddsBufferedPairs v old new b m) n (subst (λ z. AddsBufferedPairs v old new (take z lent) n) c.if-taken-eq0.true here)
 
 pub take_back-requires : goal.take_back-requires
-take_back-requires g c = (c.args.document.now, stood_in c.args.document.now c.add_encoded-added.new.self _ _ c.add_encoded-added.ensures.added (omega (arith, c.len-pairs.ensures, c.args.document.now.pairs.ok.0, document_length c.args.document.now)) (omega (arith, c.len-heap.ensures, c.args.document.now.heap.ok.0)))
+take_back-requires g c = (c.args.document.now, stood_in c.args.document.now c.add_encoded-added.new.self _ _ c.add_encoded-added.ensures.added (omega (arith, c.len-pairs.ensures, c.args.document.now.pairs.ok.0, document_length c.args.document.now)) (omega (arith, c.len-heap.ensures.len)))
 
 pub returns-then-not-pass-clause-finds : goal.returns-then-not-pass-clause-finds
 returns-then-not-pass-clause-finds g c =
     let v = version_of c.args.version in
     let old = c.args.document.now in
     let new = c.take_back.new.self in
-    let stood = stood_in old c.add_encoded-added.new.self _ _ c.add_encoded-added.ensures.added (omega (arith, c.len-pairs.ensures, c.args.document.now.pairs.ok.0, document_length c.args.document.now)) (omega (arith, c.len-heap.ensures, c.args.document.now.heap.ok.0)) in
+    let stood = stood_in old c.add_encoded-added.new.self _ _ c.add_encoded-added.ensures.added (omega (arith, c.len-pairs.ensures, c.args.document.now.pairs.ok.0, document_length c.args.document.now)) (omega (arith, c.len-heap.ensures.len)) in
     let back = none_kept v old new (c.take_back.ensures old stood) in
     let pass = c.if-not-pass.ensures in
     not_passed (λ b m. AddsBufferedPairs v old new b m) 0 back pass.bytes pass.is_known pass.failures
@@ -55,5 +55,5 @@ returns-clause-finds g c =
 pub returns-then-not-pass-clause-counted : goal.returns-then-not-pass-clause-counted
 returns-then-not-pass-clause-counted g c =
     let old = c.args.document.now in
-    let stood = stood_in old c.add_encoded-added.new.self _ _ c.add_encoded-added.ensures.added (omega (arith, c.len-pairs.ensures, old.pairs.ok.0, document_length old)) (omega (arith, c.len-heap.ensures, old.heap.ok.0)) in
+    let stood = stood_in old c.add_encoded-added.new.self _ _ c.add_encoded-added.ensures.added (omega (arith, c.len-pairs.ensures, old.pairs.ok.0, document_length old)) (omega (arith, c.len-heap.ensures.len)) in
     omega (arith, ap length (c.take_back.ensures old stood).document)

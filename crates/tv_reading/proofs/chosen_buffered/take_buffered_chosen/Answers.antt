@@ -29,7 +29,7 @@ returns-then-len-eq0-clause-finds g c =
 pub take_back-requires : goal.take_back-requires
 take_back-requires g c = (
   c.args.document.now,
-  stood_in (written_version c.in-Some.known) c.args.fields.now c.args.document.now c.add_chosen-taken.new.document _ _ (rw c.new-wanted.ensures at c.add_chosen-taken.ensures.added) (omega (arith, c.len-pairs.ensures, c.args.document.now.pairs.ok.0, document_length c.args.document.now)) (omega (arith, c.len-heap.ensures, c.args.document.now.heap.ok.0)),
+  stood_in (written_version c.in-Some.known) c.args.fields.now c.args.document.now c.add_chosen-taken.new.document _ _ (rw c.new-wanted.ensures at c.add_chosen-taken.ensures.added) (omega (arith, c.len-pairs.ensures, c.args.document.now.pairs.ok.0, document_length c.args.document.now)) (omega (arith, c.len-heap.ensures.len)),
 )
 
 pub returns-then-not-pass-clause-finds : goal.returns-then-not-pass-clause-finds
@@ -38,7 +38,7 @@ returns-then-not-pass-clause-finds g c =
     let fields = c.args.fields.now in
     let old = c.args.document.now in
     let new = c.take_back.new.self in
-    let stood = stood_in (written_version c.in-Some.known) fields old c.add_chosen-taken.new.document _ _ (rw c.new-wanted.ensures at c.add_chosen-taken.ensures.added) (omega (arith, c.len-pairs.ensures, old.pairs.ok.0, document_length old)) (omega (arith, c.len-heap.ensures, old.heap.ok.0)) in
+    let stood = stood_in (written_version c.in-Some.known) fields old c.add_chosen-taken.new.document _ _ (rw c.new-wanted.ensures at c.add_chosen-taken.ensures.added) (omega (arith, c.len-pairs.ensures, old.pairs.ok.0, document_length old)) (omega (arith, c.len-heap.ensures.len)) in
     let back = none_kept v fields old new (c.take_back.ensures old stood) in
     let pass = c.if-not-pass.ensures in
     not_passed (λ b m. AddsBufferedChosen v fields old new b m) 0 back pass.bytes pass.is_known pass.failures
