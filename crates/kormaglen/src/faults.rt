@@ -8,7 +8,7 @@ use std::io::Eprint;
 use tantivy_schema::schema::{Field, Schema, TermValuesError};
 use tv_command::find::DocumentOutcome;
 use tv_command::report::DocumentReport;
-use tv_command::terms::first_unstored;
+use tv_command::terms::{first_unstored, name_of, name_of_faulty};
 
 /// Tells on the standard error which documents of a block can't be searched, and why.
 #[derive(Drop)]
@@ -20,24 +20,14 @@ pub(crate) struct Faults {
     told: u64,
 }
 
-// The name of a field, which the schema has.
-fn name_of<'s>(schema: &'s Schema, field: Field) -> &'s str {
-    if schema.has_field(field) {
-        schema.get_field_name(field)
-    } else {
-        ""
-    }
-}
-
-// The name of the field that has the fault.
-fn faulty_name<'s>(schema: &'s Schema, fault: &TermValuesError) -> &'s str {
-    match fault {
-        TermValuesError::UnknownField(field)
-        | TermValuesError::WrongType(field)
-        | TermValuesError::NulInPath(field)
-        | TermValuesError::NoJsonTerm(field) => name_of(schema, *field),
-        TermValuesError::Memory => "",
-    }
+/// Which field of a document has a value without a term, and why.
+pub(crate) fn why_faulty(
+    alloc: Global,
+    schema: &Schema,
+    fault: &TermValuesError,
+) -> Result<String, AllocError> {
+    let name = name_of_faulty(schema, fault);
+    format!(in alloc; "field {name:?}: {fault}")
 }
 
 impl Faults {
@@ -63,9 +53,9 @@ impl Faults {
         fault: &TermValuesError,
     ) -> Result<String, AllocError> {
         let (block, number, start) = (self.block.as_str(), report.document, report.start);
-        let name = faulty_name(schema, fault);
+        let why = why_faulty(self.rt.alloc(), schema, fault)?;
         format!(in self.rt.alloc();
-            "{block}: document {number}, which begins at byte {start}: field {name:?}: {fault}"
+            "{block}: document {number}, which begins at byte {start}: {why}"
         )
     }
 

@@ -4,21 +4,23 @@ ghost use Rattle.std.specs.Prelude.{[]};
 
 use crate::ending::{Ending, Failure, failed, write_failed};
 use crate::escaped::escaped;
+use crate::faults::why_faulty;
 use crate::files::{Output, create, create_optional, finish_all};
 use crate::inputs::{lines, schema_given, text, written_version};
 use crate::progress::{ERASING, Progress};
 use clap::ArgMatches;
 use std::alloc::{AllocError, AllocFailed, Global};
 use std::io::Eprint;
-use tantivy_schema::schema::Schema;
+use tantivy_schema::schema::{Schema, TermValuesError};
 use tv_command::import::{ImportError, ImportRules, LineError, LineImporter, LineOutcome};
 use tv_command::imports::{ImportLinesError, import_lines};
 use tv_command::report::{LineReport, Report};
 
-// The report of an import: where lines that are refused are reported, where documents begin, and how many there were of both.
+// The report of an import: where lines that are refused are reported, where documents begin, and how many there were of each kind.
 #[derive(Drop)]
-struct Reports {
+struct Reports<'s> {
     rt: HostRuntime,
+    schema: &'s Schema,
     name: String,
     offsets: Option<Output>,
     errors: Option<Output>,
@@ -26,6 +28,7 @@ struct Reports {
     is_erasing: bool,
     bytes: u64,
     stored: u64,
+    unsearchable: u64,
     refused: u64,
 }
 
@@ -37,15 +40,15 @@ fn rules(given: &ArgMatches<'_>) -> ImportRules {
     }
 }
 
-// What is said of a line that is refused.
-fn said(alloc: Global, name: &str, line: u64, error: LineError) -> Result<String, AllocError> {
-    let mut said = escaped(alloc, format!(in alloc; "{name}:{line}: {error}")?.as_str())?;
-    said.push('\n')?;
-    Ok(said)
+// A line that says something of a line of an input.
+fn line_of(alloc: Global, name: &str, line: u64, said: &str) -> Result<String, AllocError> {
+    let mut text = escaped(alloc, format!(in alloc; "{name}:{line}: {said}")?.as_str())?;
+    text.push('\n')?;
+    Ok(text)
 }
 
 // What a file holds isn't known.
-impl Report<LineReport> for Reports {
+impl<'s> Report<LineReport> for Reports<'s> {
     type Error = Failure;
 
     ghost is_known = { λ _. ⊥ };
@@ -55,16 +58,24 @@ impl Report<LineReport> for Reports {
     fn tell(&mut self, line: LineReport) -> Result<(), Failure> {
         let LineReport { line, outcome } = line;
         match outcome {
-            LineOutcome::Stored(size) => self.tell_stored(size),
-            LineOutcome::Refused(error) => {
-                let said = said(self.rt.alloc(), self.name.as_str(), line, error)?;
-                self.tell_refused(said.as_str())
+            LineOutcome::Stored { size, fault } => {
+                if let Some(fault) = fault {
+                    self.tell_unsearchable(line, &fault)?;
+                }
+                self.tell_stored(size)
             }
+            LineOutcome::Refused(error) => self.tell_refused(line, error),
         }
     }
 }
 
-impl Reports {
+impl<'s> Reports<'s> {
+    // Prints a line to the standard error.
+    fn print(&self, text: &str) {
+        let erasing = if self.is_erasing { ERASING } else { "" };
+        let _ = eprint!(self.rt; "{erasing}{text}");
+    }
+
     // Counts a document of this size, and writes where it begins if that is asked for.
     fn tell_stored(&mut self, size: u64) -> Result<(), Failure> {
         let begin = self.bytes;
@@ -76,14 +87,26 @@ impl Reports {
         }
     }
 
-    // Counts a line that is refused, and writes what is said of it.
-    fn tell_refused(&mut self, said: &str) -> Result<(), Failure> {
+    // Counts a document that is stored and can't be searched, and prints why.
+    fn tell_unsearchable(&mut self, line: u64, fault: &TermValuesError) -> Result<(), AllocError> {
+        let alloc = self.rt.alloc();
+        let why = why_faulty(alloc, self.schema, fault)?;
+        let said = format!(in alloc; "stored, and can't be searched: {why}")?;
+        self.unsearchable = self.unsearchable.saturating_add(1);
+        self.print(line_of(alloc, self.name.as_str(), line, said.as_str())?.as_str());
+        Ok(())
+    }
+
+    // Counts a line that is refused, and writes or prints why.
+    fn tell_refused(&mut self, line: u64, error: LineError) -> Result<(), Failure> {
+        let alloc = self.rt.alloc();
+        let said = format!(in alloc; "{error}")?;
+        let text = line_of(alloc, self.name.as_str(), line, said.as_str())?;
         self.refused = self.refused.saturating_add(1);
         if let Some(output) = &mut self.errors {
-            return output.append(said.as_bytes());
+            return output.append(text.as_str().as_bytes());
         }
-        let erasing = if self.is_erasing { ERASING } else { "" };
-        let _ = eprint!(self.rt; "{erasing}{said}");
+        self.print(text.as_str());
         Ok(())
     }
 }
@@ -108,7 +131,7 @@ fn broken(
 
 // Imports the lines of a file.
 fn import_file(
-    reports: &mut Reports,
+    reports: &mut Reports<'_>,
     given: &ArgMatches<'_>,
     schema: &Schema,
     importer: &mut LineImporter,
@@ -133,7 +156,7 @@ fn import_file(
 
 // Imports the lines of these files one after the other.
 fn import_each(
-    reports: &mut Reports,
+    reports: &mut Reports<'_>,
     given: &ArgMatches<'_>,
     schema: &Schema,
     names: &[&str],
@@ -151,7 +174,7 @@ fn import_each(
 
 // Imports the lines of these files, and shows how far that has come.
 fn import_files(
-    reports: &mut Reports,
+    reports: &mut Reports<'_>,
     given: &ArgMatches<'_>,
     schema: &Schema,
     names: &[&str],
@@ -165,15 +188,21 @@ fn import_files(
 }
 
 // Begins to report.
-fn begin(rt: &HostRuntime, given: &ArgMatches<'_>) -> Result<Reports, Failure> {
+fn begin<'s>(
+    rt: &HostRuntime,
+    given: &ArgMatches<'_>,
+    schema: &'s Schema,
+) -> Result<Reports<'s>, Failure> {
     Ok(Reports {
         rt: *rt,
+        schema,
         name: String::new(rt.alloc()),
         offsets: create_optional(rt, given.get_str("offsets"))?,
         errors: create_optional(rt, given.get_str("errors"))?,
         is_erasing: false,
         bytes: 0,
         stored: 0,
+        unsearchable: 0,
         refused: 0,
     })
 }
@@ -194,23 +223,39 @@ fn begun(
     Ok(outputs)
 }
 
-// Ends the outputs, and says how many lines were stored and refused unless the words ask for quiet.
-fn end(given: &ArgMatches<'_>, reports: Reports, block: Output) -> Result<Ending, Failure> {
+// What was imported: how many documents were stored and lines refused, and how many of the documents can't be searched, if any.
+fn imported(alloc: Global, reports: &Reports<'_>) -> Result<String, AllocError> {
+    let (stored, bytes, refused) = (reports.stored, reports.bytes, reports.refused);
+    let mut said = format!(in alloc;
+        "{stored} documents stored in {bytes} bytes, {refused} lines refused"
+    )?;
+    if reports.unsearchable > 0 {
+        let unsearchable = reports.unsearchable;
+        said.push_str(format!(in alloc; ", {unsearchable} documents can't be searched")?.as_str())?;
+    }
+    Ok(said)
+}
+
+// Ends the outputs, and says what was imported unless the words ask for quiet.
+fn end(given: &ArgMatches<'_>, reports: Reports<'_>, block: Output) -> Result<Ending, Failure> {
+    let rt = reports.rt;
+    let said = imported(rt.alloc(), &reports)?;
+    let refused = reports.refused;
     let Reports {
-        rt,
+        rt: _,
+        schema: _,
         name: _,
         offsets,
         errors,
         is_erasing: _,
-        bytes,
-        stored,
-        refused,
+        bytes: _,
+        stored: _,
+        unsearchable: _,
+        refused: _,
     } = reports;
     finish_all(&rt, begun(rt.alloc(), block, [offsets, errors])?)?;
     if !given.get_flag("quiet") {
-        let _ = eprintln!(rt;
-            "{stored} documents stored in {bytes} bytes, {refused} lines refused"
-        );
+        let _ = eprintln!(rt; "{said}");
     }
     Ok(if refused > 0 {
         Ending::Refused
@@ -219,11 +264,11 @@ fn end(given: &ArgMatches<'_>, reports: Reports, block: Output) -> Result<Ending
     })
 }
 
-/// Stores the documents of lines, and reports the others.
+/// Stores the documents of lines, and reports the others, and those that can't be searched.
 pub(crate) fn import(rt: &HostRuntime, given: &ArgMatches<'_>) -> Result<Ending, Failure> {
     let schema = schema_given(rt, given)?;
     let mut block = create(rt, text(given, "output"))?;
-    let mut reports = begin(rt, given)?;
+    let mut reports = begin(rt, given, &schema)?;
     let named = given.get_strs("FILE").unwrap_or(&[]);
     let names = if named.is_empty() { &["-"] } else { named };
     import_files(&mut reports, given, &schema, names, &mut block)?;

@@ -25,6 +25,8 @@ enum Call {
     Within,
     // As the next one of a block.
     Block,
+    // As the next one of a block, where no byte may be taken.
+    Unread,
 }
 
 // Reads a document by one of these calls.
@@ -42,6 +44,7 @@ impl Reading for CallReading {
             Call::Skip => skipped(alloc, &mut source, self.version)?,
             Call::Within => within(alloc, &mut source, self.version)?,
             Call::Block => next(alloc, &mut source, self.version)?,
+            Call::Unread => unread(alloc, &mut source, self.version)?,
         };
         Ok(Ending {
             answer,
@@ -99,6 +102,23 @@ fn next<S: ByteSource>(alloc: Global, source: &mut S, version: DocStoreVersion) 
     }
 }
 
+// Whether a block has a next document, of which no byte may be taken.
+fn unread<S: ByteSource>(
+    alloc: Global,
+    source: &mut S,
+    version: DocStoreVersion,
+) -> Result<String> {
+    let limits = ReadLimits {
+        bytes: Some(0),
+        ..ReadLimits::default()
+    };
+    match BlockReader::new(alloc, version).advance_within(source, limits) {
+        Ok(true) => Ok(String::from_str(alloc, "read")?),
+        Ok(false) => Ok(String::from_str(alloc, "end")?),
+        Err(error) => words::error(alloc, error),
+    }
+}
+
 /// What the call of this name gives of a document of this version.
 pub fn answer(alloc: Global, name: &str, version: DocStoreVersion, bytes: &[u8]) -> Result<String> {
     let call = match name {
@@ -106,6 +126,7 @@ pub fn answer(alloc: Global, name: &str, version: DocStoreVersion, bytes: &[u8])
         "skip" => Call::Skip,
         "within" => Call::Within,
         "block" => Call::Block,
+        "unread" => Call::Unread,
         _ => return Err(anyhow!("an unknown call that reads documents")),
     };
     over_each(alloc, bytes, &CallReading { version, call })

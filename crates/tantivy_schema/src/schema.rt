@@ -35,7 +35,8 @@ pub use tv_field::{
 };
 pub use tv_indexing::{
     TermIter, TermList, TermValuesError, TextTermsError, bounds_of_text, range_between_texts,
-    range_of_text, ranges_between_texts, ranges_of_text, term_values, terms_of_text, text_of_term,
+    range_of_text, ranges_between_texts, ranges_of_text, term_fault, term_values, terms_of_text,
+    text_of_term,
 };
 pub use tv_options::{
     BytesOptions, COERCE, CoerceFlag, Coercion, DATE_TIME_PRECISION_INDEXED, DateOptions,

@@ -33,7 +33,7 @@ use Rattle.tv_reader.specs.declared.error.DeserializeError.TheVariants as errors
 use Rattle.tv_reading.specs.Skip.{IsDocumentEncoding}
 use Rattle.tv_store.specs.Blocks.{SaysEnd, SaysEndWithin, as_passed, as_read, as_read_within}
 use Rattle.tv_store.specs.Documents.{IsReadingError, NoDocument}
-use Rattle.tv_store.specs.Limits.{AllNestWithinLimit, IsPast, StopsWithin, limited_stop, within}
+use Rattle.tv_store.specs.Limits.{AllNestWithinLimit, IsPast, StopsNextWithin, limited_stop, within}
 use Rattle.tv_store.specs.Reading.{chosen_pairs, documents, passed, reading}
 use Rattle.tv_store.specs.declared.block.BlockReader.{BlockReader}
 use Rattle.tv_store.specs.declared.limits.LimitedReadError.{LimitedReadError}
@@ -109,13 +109,13 @@ refused_within {source = source} {old = old} {new = new} {result = result} v lim
 refused_within v limits known few reads _ _ is (is_no_text {actual = actual}) = reads.error known (limited.Read (errors.TypeMismatch types.String actual)) (no_text_key (value_type_code actual)) is refl
 
 module _ {S : Type 0} (source : Ghosts S) {old new : S} (v : Version) (limits : ReadLimits) where
-  pub one_within : (result : Result Bool LimitedReadError) (document : CompactDoc) → Reads (within limits) (documents v) source old new document_of (as_read_within result document) → StopsWithin v limits source old new result
+  pub one_within : (result : Result Bool LimitedReadError) (document : CompactDoc) → Reads (within limits) (documents v) source old new document_of (as_read_within result document) → StopsNextWithin v limits source old new result
       → (result ≡ Ok true → AllNestWithinLimit limits.depth (document_of document)) → (result ≡ Ok true → ¬ IsPast limits.heap_bytes (length (heap_of document)))
-      → (source.is_known old → result ≡ Ok false → source.left old ≡ []) → (source.is_known old → source.left old ≡ [] → SaysEndWithin limits result)
+      → (source.is_known old → result ≡ Ok false → source.left old ≡ []) → (source.is_known old → source.left old ≡ [] → SaysEndWithin result)
       → source.is_known old → ReadsOne v (All limits) (λ d. document_of document ≡ kept (All limits) d) (source.left old) (source.left new) result
   one_within (Ok true) document reads stops shallow small end ends known =
       let h = reads.found known in
-      let most = stops.most known in
+      let most = stops.small known refl in
       let same : length most.prefix ≡ length h.prefix = omega (arith, ap length most.joined, ap length h.joined, length-append most.prefix (source.left new), length-append h.prefix (source.left new)) in (
         document_of document,
         record {
@@ -136,7 +136,7 @@ module _ {S : Type 0} (source : Ghosts S) {old new : S} (v : Version) (limits : 
         is_refused_by (NoRoomFor v (All limits)) v (source.left old) e (λ r refusal. refused_within v limits known few reads e r refl refusal) (λ full. reads.no_room known (limited.Read e) refl (ap limited.Read full)) reads.errors;
     at_end = ends known;
   }
-  one_within (Err (limited.Limit limit.Bytes)) document reads stops shallow small end ends known = record { true_of = (stops.bytes known refl, stops.ends known refl); at_end = ends known }
+  one_within (Err (limited.Limit limit.Bytes)) document reads stops shallow small end ends known = record { true_of = stops.bytes known refl; at_end = ends known }
   one_within (Err (limited.Limit limit.HeapBytes)) document reads stops shallow small end ends known = record { true_of = stops.heap known refl; at_end = ends known }
   one_within (Err (limited.Limit limit.Depth)) document reads stops shallow small end ends known = record { true_of = stops.depth known refl; at_end = ends known }
 

@@ -1,9 +1,9 @@
 -- What was imported of an input so far.
-use Rattle.std.proofs.Common.{◌≡◌, ◌≢◌, ℕ, ◌+◌, ◌-◌, ◌^◌, List, [], ◌∷◌, ◌++◌, Option, Some, None, IfSome, length, refl, sym, subst, ap, ◌∙◌, arith, append_assoc, append-nil, length-append}
+use Rattle.std.proofs.Common.{◌≡◌, ◌≢◌, ℕ, ◌+◌, ◌-◌, ◌^◌, ◌≤◌, Bool, true, false, List, [], ◌∷◌, ◌++◌, Option, Some, None, IfSome, length, refl, sym, subst, ap, ◌∙◌, arith, append_assoc, append-nil, length-append}
 use Rattle.std.specs.Prelude.{cond, count_by}
 use Rattle.std.proofs.lemmas.List.Sums.{sum_by_push}
 use Rattle.tv_command.specs.Importing.{Imports, IsOutcome, LeavesBegun}
-use Rattle.tv_command.specs.WholeImports.{CountsOutcome, FirstLines, ImportsAll, ImportsEach, Outcomes, StopsImport, is_refused, is_stored, numbered}
+use Rattle.tv_command.specs.WholeImports.{CountsOutcome, FirstLines, ImportsAll, ImportsEach, Outcomes, StopsImport, is_refused, is_stored, is_unsearchable, numbered}
 use Rattle.tv_command.specs.WholeImports.FirstLines.{none_first, one_first}
 use Rattle.tv_command.specs.WholeImports.Outcomes.{next_outcome, no_outcomes}
 use Rattle.tv_command.specs.declared.import.ImportError.{ImportError}
@@ -54,7 +54,7 @@ numbered-snoc first (x ∷ xs) said line is same =
 
 -- ---- so far
 
--- The first lines of the input were imported, and as many of both kinds as are counted.
+-- The first lines of the input were imported, and as many of each kind as are counted.
 pub record ImportedSoFar (schema : List Entry) (rules : ImportRules) (input : List ℕ) (left : Option (List ℕ)) (old new : List ℕ) (IsTold : Type 0) (begun ended : List LineReport) (number : ℕ) (said : Imported) : Type 0 where
   pub rest : List ℕ
   pub left_is : left ≡ Some rest
@@ -63,11 +63,12 @@ pub record ImportedSoFar (schema : List Entry) (rules : ImportRules) (input : Li
   pub imported : ImportsEach schema rules lines old new IsTold begun ended
   pub counted : number ≡ length imported.outcomes
   pub stored : said.stored ≡ count_by is_stored imported.outcomes
+  pub unsearchable : said.unsearchable ≡ count_by is_unsearchable imported.outcomes
   pub refused : said.refused ≡ count_by is_refused imported.outcomes
 
-pub imported_none : (schema : List Entry) (rules : ImportRules) (input : List ℕ) (left : Option (List ℕ)) (old : List ℕ) (IsTold : Type 0) (begun : List LineReport) (said : Imported) → left ≡ Some input → said.stored ≡ 0 → said.refused ≡ 0
+pub imported_none : (schema : List Entry) (rules : ImportRules) (input : List ℕ) (left : Option (List ℕ)) (old : List ℕ) (IsTold : Type 0) (begun : List LineReport) (said : Imported) → left ≡ Some input → said.stored ≡ 0 → said.unsearchable ≡ 0 → said.refused ≡ 0
     → ImportedSoFar schema rules input left old old IsTold begun begun 0 said
-imported_none schema rules input left old IsTold begun said is no_stored no_refused = record {
+imported_none schema rules input left old IsTold begun said is no_stored no_unsearchable no_refused = record {
   rest = input;
   left_is = is;
   lines = [];
@@ -75,29 +76,44 @@ imported_none schema rules input left old IsTold begun said is no_stored no_refu
   imported = record { outcomes = []; block = []; each = no_outcomes; held = sym (append-nil old); told = λ known. sym (append-nil begun) };
   counted = refl;
   stored = no_stored;
+  unsearchable = no_unsearchable;
   refused = no_refused;
 }
 
+-- one outcome more, which is counted or not
+counted_more : (p : LineOutcome → Bool) (outcomes : List LineOutcome) (said : LineOutcome) → p said ≡ true → count_by p (outcomes ++ said ∷ []) ≡ count_by p outcomes + 1
+counted_more p outcomes said is = sum_by_push (λ x. cond (p x) 1 0) outcomes said ∙ ap (λ (b : Bool). count_by p outcomes + cond b 1 0) is
+
+counted_as_many : (p : LineOutcome → Bool) (outcomes : List LineOutcome) (said : LineOutcome) → p said ≡ false → count_by p (outcomes ++ said ∷ []) ≡ count_by p outcomes
+counted_as_many p outcomes said is = sum_by_push (λ x. cond (p x) 1 0) outcomes said ∙ ap (λ (b : Bool). count_by p outcomes + cond b 1 0) is ∙ omega arith
+
 counts_stored : (outcomes : List LineOutcome) (said : LineOutcome) (old new : Imported) → CountsOutcome old said new → old.stored ≡ count_by is_stored outcomes → new.stored ≡ count_by is_stored (outcomes ++ said ∷ [])
-counts_stored outcomes (Stored size) old new counts is =
-    let one : count_by is_stored (outcomes ++ Stored size ∷ []) ≡ count_by is_stored outcomes + 1 = sum_by_push (λ x. cond (is_stored x) 1 0) outcomes (Stored size) in
-    omega (arith, counts.0, is, one)
-counts_stored outcomes (Refused e) old new counts is =
-    let same : count_by is_stored (outcomes ++ Refused e ∷ []) ≡ count_by is_stored outcomes + 0 = sum_by_push (λ x. cond (is_stored x) 1 0) outcomes (Refused e) in
-    omega (arith, counts.0, is, same)
+counts_stored outcomes (Stored size None) old new counts is = omega (arith, counts.0, is, counted_more is_stored outcomes (Stored size None) refl)
+counts_stored outcomes (Stored size (Some why)) old new counts is = omega (arith, counts.0, is, counted_more is_stored outcomes (Stored size (Some why)) refl)
+counts_stored outcomes (Refused e) old new counts is = omega (arith, counts.0, is, counted_as_many is_stored outcomes (Refused e) refl)
+
+counts_unsearchable : (outcomes : List LineOutcome) (said : LineOutcome) (old new : Imported) → CountsOutcome old said new → old.unsearchable ≡ count_by is_unsearchable outcomes
+    → new.unsearchable ≡ count_by is_unsearchable (outcomes ++ said ∷ [])
+counts_unsearchable outcomes (Stored size None) old new counts is = omega (arith, counts.1, is, counted_as_many is_unsearchable outcomes (Stored size None) refl)
+counts_unsearchable outcomes (Stored size (Some why)) old new counts is = omega (arith, counts.1, is, counted_more is_unsearchable outcomes (Stored size (Some why)) refl)
+counts_unsearchable outcomes (Refused e) old new counts is = omega (arith, counts.1, is, counted_as_many is_unsearchable outcomes (Refused e) refl)
 
 counts_refused : (outcomes : List LineOutcome) (said : LineOutcome) (old new : Imported) → CountsOutcome old said new → old.refused ≡ count_by is_refused outcomes → new.refused ≡ count_by is_refused (outcomes ++ said ∷ [])
-counts_refused outcomes (Stored size) old new counts is =
-    let same : count_by is_refused (outcomes ++ Stored size ∷ []) ≡ count_by is_refused outcomes + 0 = sum_by_push (λ x. cond (is_refused x) 1 0) outcomes (Stored size) in
-    omega (arith, counts.1, is, same)
-counts_refused outcomes (Refused e) old new counts is =
-    let one : count_by is_refused (outcomes ++ Refused e ∷ []) ≡ count_by is_refused outcomes + 1 = sum_by_push (λ x. cond (is_refused x) 1 0) outcomes (Refused e) in
-    omega (arith, counts.1, is, one)
+counts_refused outcomes (Stored size None) old new counts is = omega (arith, counts.2, is, counted_as_many is_refused outcomes (Stored size None) refl)
+counts_refused outcomes (Stored size (Some why)) old new counts is = omega (arith, counts.2, is, counted_as_many is_refused outcomes (Stored size (Some why)) refl)
+counts_refused outcomes (Refused e) old new counts is = omega (arith, counts.2, is, counted_more is_refused outcomes (Refused e) refl)
 
 -- there is one line more
 pub counts_one : (said : LineOutcome) (old new : Imported) → CountsOutcome old said new → new.stored + new.refused ≡ (old.stored + old.refused) + 1
-counts_one (Stored size) old new counts = omega (arith, counts.0, counts.1)
-counts_one (Refused e) old new counts = omega (arith, counts.0, counts.1)
+counts_one (Stored size None) old new counts = omega (arith, counts.0, counts.2)
+counts_one (Stored size (Some why)) old new counts = omega (arith, counts.0, counts.2)
+counts_one (Refused e) old new counts = omega (arith, counts.0, counts.2)
+
+-- no more can't be searched than are stored
+pub counts_within : (said : LineOutcome) (old new : Imported) → CountsOutcome old said new → old.unsearchable ≤ old.stored → new.unsearchable ≤ new.stored
+counts_within (Stored size None) old new counts within = omega (arith, counts.0, counts.1, within)
+counts_within (Stored size (Some why)) old new counts within = omega (arith, counts.0, counts.1, within)
+counts_within (Refused e) old new counts within = omega (arith, counts.0, counts.1, within)
 
 module _ {schema : List Entry} {rules : ImportRules} {input : List ℕ} {left : Option (List ℕ)} {old now : List ℕ} {IsTold : Type 0} {begun told : List LineReport} {number : ℕ} {said : Imported} (m : ImportedSoFar schema rules input left old now IsTold begun told number said) where
   -- what a call says of what is left
@@ -129,6 +145,7 @@ module _ {schema : List Entry} {rules : ImportRules} {input : List ℕ} {left : 
         };
         counted = omega (arith, m.counted, length-append i.outcomes (outcome ∷ []));
         stored = counts_stored i.outcomes outcome said count counts m.stored;
+        unsearchable = counts_unsearchable i.outcomes outcome said count counts m.unsearchable;
         refused = counts_refused i.outcomes outcome said count counts m.refused;
       }
 
@@ -148,6 +165,7 @@ module _ {schema : List Entry} {rules : ImportRules} {input : List ℕ} {left : 
           told = i.told;
         };
         stored = m.stored;
+        unsearchable = m.unsearchable;
         refused = m.refused;
         nothing_left = t.2 ∙ ap Some t.3.1;
       }

@@ -1,4 +1,5 @@
 pub mod RefusedValues
+pub mod Terms
 pub mod Importing
 pub mod Pieces
 pub mod WholeImports
@@ -6,7 +7,6 @@ pub mod Refusals
 pub mod Reading
 pub mod Checking
 pub mod WorkErrors
-pub mod Terms
 pub mod Exporting
 pub mod Finding
 pub mod Runs

@@ -12,9 +12,7 @@
 --   marked       After an error it reads nothing more.
 use Rattle.std.specs.Prelude.{◌≡◌, ◌+◌, ◌-◌, ◌^◌, ◌<◌, min, ℕ, Bool, true, false, List, [], length, None, Result, Ok, Err, OnOk, OnErr}
 use Rattle.tv_base.specs.Parts.{Begins, Each}
-use Rattle.tv_base.specs.ReadsAs.{EndsEarly}
 use Rattle.tv_base.specs.Stop.{Counts, Stop, Taken}
-use Rattle.tv_base.specs.declared.cause.Cause.TheVariants.{UnexpectedEnd}
 use Rattle.tv_base.specs.declared.source.ByteSource.{Ghosts}
 use Rattle.tv_builder.specs.TreeBytes.{document_heap}
 use Rattle.tv_command.specs.Refusals.{IsRefusedBy}
@@ -23,7 +21,7 @@ use Rattle.tv_command.specs.declared.documents.DocumentReader.{DocumentReader}
 use Rattle.tv_command.specs.declared.documents.Wanted.{Wanted}
 use Rattle.tv_command.specs.declared.documents.Wanted.TheVariants.{All, Fields}
 use Rattle.tv_format.specs.Encoding.{EncodesDocument}
-use Rattle.tv_format.specs.InputError.{Refusal, corrupted}
+use Rattle.tv_format.specs.InputError.{Refusal}
 use Rattle.tv_format.specs.Tree.{Document}
 use Rattle.tv_format.specs.Version.{Version}
 use Rattle.tv_legacy.specs.Legacy.{Legacy}
@@ -32,8 +30,8 @@ use Rattle.tv_reader.specs.declared.error.DeserializeError.{DeserializeError}
 use Rattle.tv_reader.specs.declared.error.DeserializeError.TheVariants.{AlreadyFailed}
 use Rattle.tv_reading.specs.ChosenFields.{HasNoRoomChosen, chosen}
 use Rattle.tv_store.specs.Blocks.{SaysEndWithin}
-use Rattle.tv_store.specs.Documents.{HasNoRoom, NoDocument}
-use Rattle.tv_store.specs.Limits.{AllNestWithinLimit, IsAll, IsLarge, IsPast, PassesDepth, limited_stop}
+use Rattle.tv_store.specs.Documents.{HasNoRoom}
+use Rattle.tv_store.specs.Limits.{AllNestWithinLimit, IsLarge, IsPast, PassesBytes, PassesDepth, limited_stop}
 use Rattle.tv_store.specs.declared.block.BlockReader.{BlockReader}
 use Rattle.tv_store.specs.declared.limits.LimitedReadError.{LimitedReadError}
 use Rattle.tv_store.specs.declared.limits.LimitedReadError.TheVariants as limited
@@ -75,7 +73,7 @@ EncodesBlockWithin v limits block documents = Each (EncodesWithin v limits) bloc
 
 -- the document with which the bytes begin passes this limit, as those of them show that were taken: `left` follows them
 abbrev pub PassesLimit : Version → ReadLimits → List ℕ → List ℕ → ReadLimit → Type 0
-PassesLimit v limits bytes left limit.Bytes = Begins (IsAll limits.bytes) bytes left × EndsEarly (corrupted UnexpectedEnd) (NoDocument v) bytes left
+PassesLimit v limits bytes left limit.Bytes = PassesBytes v limits.bytes bytes left
 PassesLimit v limits bytes left limit.HeapBytes = Begins (IsLarge v limits.heap_bytes) bytes left
 PassesLimit v limits bytes left limit.Depth = Begins (PassesDepth v limits.depth) bytes left
 
@@ -86,10 +84,10 @@ abbrev pub IsTrueOf : Version → Wanted → List ℕ → List ℕ → LimitedRe
 IsTrueOf v wanted bytes left (limited.Read e) = length bytes < 2 ^ 64 - 1 → IsRefusedBy (NoRoomFor v wanted) v bytes e
 IsTrueOf v wanted bytes left (limited.Limit l) = PassesLimit v (limits_of wanted) bytes left l
 
--- Why the next document can't be read. The end of the bytes is no reason, unless no byte may be taken.
+-- Why the next document can't be read. The end of the bytes is no reason.
 pub record IsReason (v : Version) (wanted : Wanted) (bytes left : List ℕ) (e : LimitedReadError) : Type 0 where
   pub true_of : IsTrueOf v wanted bytes left e
-  pub at_end : bytes ≡ [] → SaysEndWithin (limits_of wanted) (Err e)
+  pub at_end : bytes ≡ [] → SaysEndWithin (Err e)
 
 -- a document was read, of which this is kept; or there was none; or there is a reason why not
 abbrev pub ReadsOne : Version → Wanted → (Document → Type 0) → List ℕ → List ℕ → Result Bool LimitedReadError → Type 0

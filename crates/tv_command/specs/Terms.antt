@@ -1,9 +1,30 @@
 -- The terms by which documents are searched.
-use Rattle.std.specs.Prelude.{◌≡◌, ℕ, List, [], Option, Some, None, Ok, Err}
+use Rattle.std.specs.Prelude.{◌≡◌, ℕ, List, [], Option, Some, None, Ok, Err, slice_get}
+use Rattle.tv_field.specs.Entry.{Entry}
 use Rattle.tv_indexing.specs.DocumentTerms.{Terms}
 use Rattle.tv_indexing.specs.declared.term_values_error.TermValuesError.{TermValuesError}
+use Rattle.tv_indexing.specs.declared.term_values_error.TermValuesError.TheVariants.{UnknownField, WrongType, NulInPath, NoJsonTerm, Memory}
+use Rattle.tv_value.specs.declared.field.Field.{Field}
 
 -- these are the terms, or this is why there are none
 abbrev pub PutsTerms : Terms → List (List ℕ) → Option TermValuesError → Type 0
 PutsTerms answer terms None = answer ≡ Ok terms
 PutsTerms answer terms (Some why) = (answer ≡ Err why) × (terms ≡ [])
+
+-- ---- documents that can't be searched
+
+abbrev pub name_in : Option Entry → List ℕ
+name_in None = []
+name_in (Some entry) = entry.name
+
+-- the name of a field, or nothing where there is no such field
+abbrev pub name_at : List Entry → Field → List ℕ
+name_at schema field = name_in (slice_get schema field.id)
+
+-- the name of the field of which a value has no term
+abbrev pub faulty_name : List Entry → TermValuesError → List ℕ
+faulty_name schema (UnknownField field) = name_at schema field
+faulty_name schema (WrongType field) = name_at schema field
+faulty_name schema (NulInPath field) = name_at schema field
+faulty_name schema (NoJsonTerm field) = name_at schema field
+faulty_name schema Memory = []

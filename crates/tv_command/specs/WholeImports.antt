@@ -1,5 +1,5 @@
 -- What becomes of all lines of an input.
-use Rattle.std.specs.Prelude.{◌≡◌, ◌≢◌, ◌+◌, ◌-◌, ◌^◌, ℕ, Bool, true, false, List, [], ◌∷◌, ◌++◌, Option, Some, count_by, length}
+use Rattle.std.specs.Prelude.{◌≡◌, ◌≢◌, ◌+◌, ◌-◌, ◌^◌, ℕ, Bool, true, false, List, [], ◌∷◌, ◌++◌, Option, None, Some, count_by, length}
 use Rattle.tv_base.specs.Stop.{Stop}
 use Rattle.tv_base.specs.Stop.Stop.{Short}
 use Rattle.tv_command.specs.Importing.{ImportsNext, IsOutcome, LeavesBegun, import_stop}
@@ -30,12 +30,18 @@ numbered first [] = []
 numbered first (said ∷ more) = record { line = first; outcome = said } ∷ numbered (first + 1) more
 
 abbrev pub is_stored : LineOutcome → Bool
-is_stored (Stored size) = true
+is_stored (Stored size fault) = true
 is_stored (Refused e) = false
 
 abbrev pub is_refused : LineOutcome → Bool
-is_refused (Stored size) = false
+is_refused (Stored size fault) = false
 is_refused (Refused e) = true
+
+-- it is stored, and can't be searched
+abbrev pub is_unsearchable : LineOutcome → Bool
+is_unsearchable (Stored size None) = false
+is_unsearchable (Stored size (Some why)) = true
+is_unsearchable (Refused e) = false
 
 -- Of the lines, one after the other, a sink that held `old` holds what is stored, and where it is known what was told, it is what became of each.
 pub record ImportsEach (schema : List Entry) (rules : ImportRules) (lines : List (List ℕ)) (old new : List ℕ) (IsTold : Type 0) (begun ended : List LineReport) : Type 0 where
@@ -45,12 +51,13 @@ pub record ImportsEach (schema : List Entry) (rules : ImportRules) (lines : List
   pub held : new ≡ old ++ block
   pub told : IsTold → ended ≡ begun ++ numbered 1 outcomes
 
--- All lines of the input were imported, and of both kinds there are as many as are said.
+-- All lines of the input were imported, and of each kind there are as many as are said.
 pub record ImportsAll (schema : List Entry) (rules : ImportRules) (input : List ℕ) (left : Option (List ℕ)) (old new : List ℕ) (IsTold : Type 0) (begun ended : List LineReport) (said : Imported) : Type 0 where
   pub lines : List (List ℕ)
   pub all : Lines input lines
   pub imported : ImportsEach schema rules lines old new IsTold begun ended
   pub stored : said.stored ≡ count_by is_stored imported.outcomes
+  pub unsearchable : said.unsearchable ≡ count_by is_unsearchable imported.outcomes
   pub refused : said.refused ≡ count_by is_refused imported.outcomes
   pub nothing_left : left ≡ Some []
 
@@ -80,5 +87,6 @@ lines_stop _ = Short
 
 -- one line more is counted
 abbrev pub CountsOutcome : Imported → LineOutcome → Imported → Type 0
-CountsOutcome old (Stored size) new = (new.stored ≡ old.stored + 1) × (new.refused ≡ old.refused)
-CountsOutcome old (Refused e) new = (new.stored ≡ old.stored) × (new.refused ≡ old.refused + 1)
+CountsOutcome old (Stored size None) new = (new.stored ≡ old.stored + 1) × (new.unsearchable ≡ old.unsearchable) × (new.refused ≡ old.refused)
+CountsOutcome old (Stored size (Some why)) new = (new.stored ≡ old.stored + 1) × (new.unsearchable ≡ old.unsearchable + 1) × (new.refused ≡ old.refused)
+CountsOutcome old (Refused e) new = (new.stored ≡ old.stored) × (new.unsearchable ≡ old.unsearchable) × (new.refused ≡ old.refused + 1)

@@ -5,7 +5,8 @@ ghost use Rattle.serde_json.specs.View.{view};
 ghost use Rattle.serde_json.specs.declared.value.Value.{Value};
 ghost use Rattle.tv_base.specs.Sink.{AppendsPrefix};
 ghost use Rattle.tv_base.specs.Stop.{Counts};
-ghost use Rattle.tv_command.specs.Importing.{CountsTaken, Imports, IsParsed, LeavesBegun, ParsesBy, Tells, import_stop};
+ghost use Rattle.tv_command.specs.Importing.{CountsTaken, Imports, IsJudged, IsParsed, LeavesBegun};
+ghost use Rattle.tv_command.specs.Importing.{ParsesBy, Tells, TellsUnsearchable, import_stop};
 ghost use Rattle.tv_command.specs.RefusedValues.{IsFloatOf};
 ghost use Rattle.tv_doc.specs.Belongs.{Belongs};
 ghost use Rattle.tv_doc.specs.Document.{document_of};
@@ -19,6 +20,7 @@ ghost use Rattle.tv_store.specs.Stored.{stored};
 
 use crate::line::take_line;
 use crate::refused_value::refused_value;
+use crate::terms::name_of_faulty;
 use serde_json::Value;
 use std::alloc::{AllocError, Global};
 use std::io;
@@ -27,13 +29,13 @@ use tantivy_schema::common::{ByteSink, VecSink};
 use tantivy_schema::schema::document::{BinaryDocumentSerializer, ParseBuffers};
 use tantivy_schema::schema::{
     DocParsingError, JsonFault, NotWhole, Schema, StrictParsingError, TantivyDocument,
-    ValueParsingError, text_fault,
+    TermValuesError, ValueParsingError, term_fault, text_fault,
 };
 use tantivy_schema::store::WriteVersion;
 use thiserror::Error;
 use tv_base::write::write_all;
 
-/// Why a line makes no document.
+/// Why a line makes no document, or one that isn't to be stored.
 #[derive(Debug, Drop, Error)]
 pub enum LineError {
     /// The line is not UTF-8.
@@ -48,14 +50,22 @@ pub enum LineError {
     /// A key or a value of the line is refused for another reason.
     #[error("{0}")]
     Refused(StrictParsingError),
+    /// It makes a document that can't be searched, and the rules are strict: a value of the field with this name has no term, for this reason.
+    #[error("field {0:?}: {1}")]
+    Unsearchable(String, TermValuesError),
 }
 
 /// What becomes of a line.
 #[derive(Drop)]
 pub enum LineOutcome {
-    /// Its document is stored, in this number of bytes.
-    Stored(u64),
-    /// It makes no document, and nothing is stored.
+    /// Its document is stored.
+    Stored {
+        /// How many bytes its encoding takes.
+        size: u64,
+        /// Why it can't be searched, as `term_fault` says it: a value of an indexed field has no term. `None` where it can.
+        fault: Option<TermValuesError>,
+    },
+    /// Nothing is stored, for this reason.
     Refused(LineError),
 }
 
@@ -88,7 +98,8 @@ impl From<AllocError> for ImportError {
 pub struct ImportRules {
     /// The version of the store that documents are written in.
     pub version: WriteVersion,
-    /// Whether each key of a line's object has to name a field, and none may stand twice. Else a key that no field has is skipped.
+    /// Whether each key of a line's object has to name a field, none may stand twice, and the document can be searched. Else a key that no field
+    /// has is skipped, and a document that can't be searched is stored.
     pub strict: bool,
 }
 
@@ -207,6 +218,45 @@ fn parse_line(
     }
 }
 
+// Says that a document isn't to be stored, since a value has no term. The only error is that memory was refused.
+fn unsearchable(
+    alloc: Global,
+    schema: &Schema,
+    fault: TermValuesError,
+) -> Result<LineError, AllocError>
+    ensures { IfOk result (TellsUnsearchable schema.now fault) }
+{
+    let name = String::from_str(alloc, name_of_faulty(schema, &fault))?;
+    Ok(LineError::Unsearchable(name, fault))
+}
+
+// Puts the document of a line in place of one that is there, and says why it can't be searched, if it can't; or says why the line is refused. By
+// strict rules it is for such a document, too. The only error is that memory was refused.
+fn judge_line(
+    schema: &Schema,
+    line: &[u8],
+    strict: bool,
+    document: &mut TantivyDocument,
+    buffers: &mut ParseBuffers,
+) -> Result<Result<Option<TermValuesError>, LineError>, AllocError>
+    ensures { IfOk result (IsJudged schema.now strict line.now document.new) }
+{
+    if let Some(error) = parse_line(schema, line, strict, document, buffers)? {
+        return Ok(Err(error));
+    }
+    let alloc = document.allocator();
+    match term_fault(alloc, schema, document)? {
+        Some(fault) => {
+            if strict {
+                Ok(Err(unsearchable(alloc, schema, fault)?))
+            } else {
+                Ok(Ok(Some(fault)))
+            }
+        }
+        None => Ok(Ok(None)),
+    }
+}
+
 // Puts the document's stored pairs in place of what `bytes` holds. The only error is that memory was refused.
 fn put_stored(
     schema: &Schema,
@@ -284,7 +334,8 @@ impl LineImporter {
 
     /// Reads the next line, appends the stored pairs of its document to the sink, and says what became of the line; `None` where the reader has
     /// nothing left. A line that makes no document is refused with the reason, as `parse_json_into` and `parse_json_strict_into` return it, and
-    /// nothing is appended.
+    /// nothing is appended. One whose document can't be searched is stored, with the reason as `term_fault` says it; by strict rules it is
+    /// refused with that reason.
     ///
     /// Errors: `Read` where a read failed, `Write` where a write did, and only there, and `Memory`. The sink then holds what it held before, and a beginning of
     /// what was to be appended; some of the reader's bytes are lost.
@@ -314,12 +365,12 @@ impl LineImporter {
             return Ok(None);
         }
         let (line, strict) = (self.line.as_slice(), self.rules.strict);
-        match parse_line(schema, line, strict, &mut self.document, &mut self.buffers)? {
-            Some(error) => Ok(Some(LineOutcome::Refused(error))),
-            None => {
+        match judge_line(schema, line, strict, &mut self.document, &mut self.buffers)? {
+            Err(error) => Ok(Some(LineOutcome::Refused(error))),
+            Ok(fault) => {
                 put_stored(schema, self.rules.version, &self.document, &mut self.stored)?;
                 let size = append(sink, self.stored.as_slice())?;
-                Ok(Some(LineOutcome::Stored(size)))
+                Ok(Some(LineOutcome::Stored { size, fault }))
             }
         }
     }

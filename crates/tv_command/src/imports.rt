@@ -1,6 +1,6 @@
 //! All lines of an input to stored documents.
 
-ghost use Rattle.std.specs.Prelude.{◌≡◌, ◌+◌, ◌-◌, ◌^◌, ◌<◌, ℕ, List, IfErr, IfOk, Some};
+ghost use Rattle.std.specs.Prelude.{◌≡◌, ◌+◌, ◌-◌, ◌^◌, ◌<◌, ◌≤◌, ℕ, List, IfErr, IfOk, Some};
 ghost use Rattle.tv_base.specs.Stop.{Counts};
 ghost use Rattle.tv_command.specs.WholeImports.{CountsOutcome, ImportsAll, StopsImport, lines_stop};
 
@@ -18,7 +18,9 @@ use thiserror::Error;
 pub struct Imported {
     /// Those whose documents are stored.
     pub stored: u64,
-    /// Those that make no document.
+    /// Those of them whose documents can't be searched.
+    pub unsearchable: u64,
+    /// Those that are refused.
     pub refused: u64,
 }
 
@@ -39,23 +41,35 @@ pub enum ImportLinesError<E> {
 
 // One line more.
 fn counted(imported: Imported, outcome: &LineOutcome) -> Imported
-    requires { imported.stored + imported.refused < 2 ^ 64 - 1 }
+    requires lines { imported.stored + imported.refused < 2 ^ 64 - 1 }
+    requires unsearchable { imported.unsearchable ≤ imported.stored }
     ensures { CountsOutcome imported outcome.now result }
 {
+    let Imported {
+        stored,
+        unsearchable,
+        refused,
+    } = imported;
     match outcome {
-        LineOutcome::Stored(_) => Imported {
-            stored: imported.stored + 1,
-            refused: imported.refused,
+        LineOutcome::Stored { size: _, fault } => Imported {
+            stored: stored + 1,
+            unsearchable: if fault.is_some() {
+                unsearchable + 1
+            } else {
+                unsearchable
+            },
+            refused,
         },
         LineOutcome::Refused(_) => Imported {
-            stored: imported.stored,
-            refused: imported.refused + 1,
+            stored,
+            unsearchable,
+            refused: refused + 1,
         },
     }
 }
 
 /// Reads the lines of JSON that a reader has left, appends the stored pairs of the document of each to the sink, and tells the report what became of each
-/// line, by its number. Returns how many lines there were of both kinds. See `LineImporter::advance`, of which this calls one after the other.
+/// line, by its number. Returns how many lines there were of each kind. See `LineImporter::advance`, of which this calls one after the other.
 /// After each line the watch is advanced to the bytes that all of them took, their line feeds included: 2^64 - 1 where it is more. (Not in tantivy.)
 ///
 /// Errors: `Import` with an error of `LineImporter::advance`; `Report` where a report failed, with its error; `TooMany` after 2^64 - 1 lines. The sink
@@ -84,6 +98,7 @@ pub fn import_lines<R: BufRead, K: ByteSink, T: Report<LineReport>, W: Watch>(
 {
     let mut imported = Imported {
         stored: 0,
+        unsearchable: 0,
         refused: 0,
     };
     let mut bytes: u64 = 0;

@@ -3,7 +3,7 @@
 ghost use Rattle.std.specs.Prelude.{◌≡◌, IfOk, not};
 ghost use Rattle.std.specs.List.{find};
 ghost use Rattle.std.specs.Option.{option_map};
-ghost use Rattle.tv_command.specs.Terms.{PutsTerms};
+ghost use Rattle.tv_command.specs.Terms.{PutsTerms, faulty_name, name_at};
 ghost use Rattle.tv_doc.specs.Document.{document_of};
 ghost use Rattle.tv_indexing.specs.DocumentTerms.{fields_terms};
 ghost use Rattle.tv_store.specs.Stored.{is_stored_field};
@@ -31,6 +31,30 @@ pub fn put_terms(
         Ok(()) => Ok(None),
         Err(TermValuesError::Memory) => Err(AllocError),
         Err(fault) => Ok(Some(fault)),
+    }
+}
+
+/// The name of a field, or nothing where the schema has no such field. (Not in tantivy.)
+pub fn name_of<'s>(schema: &'s Schema, field: Field) -> &'s str
+    ensures { result.now ≡ name_at schema.now field }
+{
+    if schema.has_field(field) {
+        schema.get_field_name(field)
+    } else {
+        ""
+    }
+}
+
+/// The name of the field of which a value has no term, or nothing where the schema has no such field, and for `Memory`. (Not in tantivy.)
+pub fn name_of_faulty<'s>(schema: &'s Schema, fault: &TermValuesError) -> &'s str
+    ensures { result.now ≡ faulty_name schema.now fault.now }
+{
+    match fault {
+        TermValuesError::UnknownField(field)
+        | TermValuesError::WrongType(field)
+        | TermValuesError::NulInPath(field)
+        | TermValuesError::NoJsonTerm(field) => name_of(schema, *field),
+        TermValuesError::Memory => "",
     }
 }
 

@@ -1,6 +1,7 @@
 pub mod TermPlaces
 pub mod LeafTerms
 pub mod DocumentTerms
+pub mod TermFault
 pub mod Payloads
 pub mod JsonLeaves
 pub mod JsonWalk

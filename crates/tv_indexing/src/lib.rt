@@ -2,6 +2,7 @@
 #![tactic(auto)]
 
 pub mod document;
+pub mod fault;
 mod indexed_field;
 mod json;
 mod json_bounds;
@@ -20,6 +21,7 @@ pub mod text_terms;
 pub mod text_terms_error;
 
 pub use document::{term_values, term_values_of_fields};
+pub use fault::term_fault;
 pub use json_ranges::{ranges_between_texts, ranges_of_text};
 pub use leaf::write_leaf;
 pub use term_list::{TermIter, TermList};

@@ -58,7 +58,7 @@ error_as_read read result document e same is = error_placed read document e (sym
 
 -- ---- no bytes
 
-nothing_ends : (v : Version) → NoDocument v [] end
+pub nothing_ends : (v : Version) → NoDocument v [] end
 nothing_ends v = inl (corrupt (number_ends (omega arith) tt))
 
 -- they are refused for no other reason

@@ -1,10 +1,9 @@
 -- What is read of documents that stand one after the other.
-use Rattle.std.specs.Prelude.{◌≡◌, Bool, true, false, Some, Result, Ok, Err}
+use Rattle.std.specs.Prelude.{◌≡◌, ℕ, Bool, true, false, List, [], ◌∷◌, Result, Ok, Err}
 use Rattle.tv_base.specs.declared.cause.Cause.TheVariants.{UnexpectedEnd}
 use Rattle.tv_reader.specs.declared.error.DeserializeError.{DeserializeError}
 use Rattle.tv_reader.specs.declared.error.DeserializeError.TheVariants as errors
 use Rattle.tv_store.specs.Documents.{SaysNothing}
-use Rattle.tv_store.specs.declared.limits.ReadLimits.{ReadLimits}
 use Rattle.tv_store.specs.declared.limits.ReadLimit.TheVariants as limit
 use Rattle.tv_store.specs.declared.limits.LimitedReadError.{LimitedReadError}
 use Rattle.tv_store.specs.declared.limits.LimitedReadError.TheVariants as limited
@@ -33,10 +32,18 @@ SaysEnd (Ok true) = ⊥
 SaysEnd (Ok false) = Unit {0}
 SaysEnd (Err e) = SaysNothing e
 
--- the same within limits: where no byte may be taken, the end isn't seen
-abbrev pub SaysEndWithin : ReadLimits → Result Bool LimitedReadError → Type 0
-SaysEndWithin limits (Ok next) = SaysEnd (Ok next)
-SaysEndWithin limits (Err (limited.Read e)) = SaysEnd (Err e)
-SaysEndWithin limits (Err (limited.Limit limit.Bytes)) = limits.bytes ≡ Some 0
-SaysEndWithin limits (Err (limited.Limit limit.HeapBytes)) = ⊥
-SaysEndWithin limits (Err (limited.Limit limit.Depth)) = ⊥
+-- the same within limits, whatever they are: only a document that is there passes one
+abbrev pub SaysEndWithin : Result Bool LimitedReadError → Type 0
+SaysEndWithin (Ok next) = SaysEnd (Ok next)
+SaysEndWithin (Err (limited.Read e)) = SaysEnd (Err e)
+SaysEndWithin (Err (limited.Limit l)) = ⊥
+
+-- ---- for private clauses
+
+-- What is seen where no byte of a document may be taken: there is none, or one, whose first byte was taken; or the source failed.
+abbrev pub SeesNext : Type 0 → List ℕ → List ℕ → Result Bool LimitedReadError → Type 0
+SeesNext IsKnown old new (Ok true) = ⊥
+SeesNext IsKnown old new (Ok false) = IsKnown → (old ≡ []) × (new ≡ [])
+SeesNext IsKnown old new (Err (limited.Limit limit.Bytes)) = IsKnown → (byte : ℕ) × (old ≡ byte ∷ new)
+SeesNext IsKnown old new (Err (limited.Read (errors.Io kind))) = IsKnown → new ≡ old
+SeesNext IsKnown old new (Err e) = ⊥

@@ -1,16 +1,19 @@
 //! Documents that stand one after the other, read in the memory of one.
 
-ghost use Rattle.std.specs.Prelude.{◌≡◌, ◌≢◌, ◌<◌, [], length, true, false, Ok, Err, IsErrOf, OnOk, OnErr};
+ghost use Rattle.std.specs.Prelude.{◌≡◌, ◌≢◌, ◌<◌, ◌↔◌, [], length, true, false, Some, Ok, Err};
+ghost use Rattle.std.specs.Prelude.{IsErrOf, IsTrue, OnOk, OnErr};
 ghost use Rattle.tv_base.specs.declared.cause.Cause.TheVariants.{UnexpectedEnd};
-ghost use Rattle.tv_base.specs.Stop.{Taken};
+ghost use Rattle.tv_base.specs.Stop.{Counts, Taken};
 ghost use Rattle.tv_doc.specs.Document.{document_of, heap_of};
 ghost use Rattle.tv_doc.specs.declared.document.CompactDoc.{CompactDoc};
 ghost use Rattle.tv_reader.specs.Version.{version_of};
 ghost use Rattle.tv_reader.specs.declared.error.DeserializeError.TheVariants.{AlreadyFailed};
 ghost use Rattle.tv_reader.specs.declared.error.DeserializeError.TheVariants.{CorruptedValue, HeapFull};
 ghost use Rattle.tv_store.specs.Blocks.{as_read, as_read_within, as_passed, SaysEnd, SaysEndWithin};
+ghost use Rattle.tv_store.specs.Blocks.{SeesNext};
 ghost use Rattle.tv_store.specs.Documents.{in_place};
-ghost use Rattle.tv_store.specs.Limits.{AllNestWithinLimit, IsPast, ReadsNextWithin, StopsWithin};
+ghost use Rattle.tv_store.specs.Limits.{AllNestWithinLimit, IsPast, ReadsNextWithin};
+ghost use Rattle.tv_store.specs.Limits.{StopsNextWithin, limited_stop};
 ghost use Rattle.tv_store.specs.Reading.{PassesNext, ReadsNext, ReadsNextFields};
 ghost use Rattle.tv_store.specs.declared.limits.LimitedReadError.TheVariants.{Read};
 
@@ -49,6 +52,35 @@ fn next_within(read: Result<(), LimitedReadError>, count: u64) -> Result<bool, L
         Ok(()) => Ok(true),
         Err(LimitedReadError::Read(error)) => Ok(next_of(Err(error), count)?),
         Err(passed) => Err(passed),
+    }
+}
+
+// Whether no byte may be taken of a document.
+fn takes_none(limits: ReadLimits) -> bool
+    ensures { IsTrue result ↔ (limits.bytes ≡ Some 0) }
+{
+    match limits.bytes {
+        Some(bytes) => bytes == 0,
+        None => false,
+    }
+}
+
+// Whether there is a document, of which no byte may be taken: it passes that limit. Its first byte is taken to see it, and counted.
+fn see_next<S: ByteSource>(source: &mut S, count: &mut u64) -> Result<bool, LimitedReadError>
+    ensures sees { SeesNext (S.is_known source.old) (S.left source.old) (S.left source.new) result }
+    ensures counted { S.is_known source.old
+        → Taken (S.left source.old) (S.left source.new) 0 count.new }
+    ensures failures { Counts limited_stop result (S.failures source.old) (S.failures source.new) }
+    ensures stays_known { S.is_known source.old → S.is_known source.new }
+{
+    *count = 0;
+    match source.next_byte() {
+        Ok(None) => Ok(false),
+        Ok(Some(_)) => {
+            *count = 1;
+            Err(LimitedReadError::Limit(ReadLimit::Bytes))
+        }
+        Err(kind) => Err(LimitedReadError::Read(DeserializeError::Io(kind))),
     }
 }
 
@@ -140,12 +172,32 @@ impl BlockReader {
         next
     }
 
+    // Says whether there is a next document, of which no byte may be taken. There is no document then.
+    fn look_for_next<S: ByteSource>(&mut self, source: &mut S) -> Result<bool, LimitedReadError>
+        ensures sees { SeesNext (S.is_known source.old) (S.left source.old) (S.left source.new)
+            result }
+        ensures counted { S.is_known source.old
+            → Taken (S.left source.old) (S.left source.new) 0 self.new.taken }
+        ensures failures { Counts limited_stop result (S.failures source.old)
+            (S.failures source.new) }
+        ensures stays_known { S.is_known source.old → S.is_known source.new }
+        ensures none { document_of self.new.document ≡ [] }
+        ensures not_failed { OnOk result (self.new.failed ≡ false) }
+        ensures failed { OnErr result (self.new.failed ≡ true) }
+        ensures version { self.new.version ≡ self.old.version }
+    {
+        self.document = CompactDoc::new(self.alloc);
+        let next = see_next(source, &mut self.taken);
+        self.failed = next.is_err();
+        next
+    }
+
     /// Reads the next document as `read_document_within` does, which stops where it passes a limit, and says whether there was one: `false`
     /// where the source had nothing left. The limits are those of this document alone.
     ///
     /// Errors: those of `read_document_within`, and `Read` with `AlreadyFailed` after an error of this call or another. Where no byte may be
-    /// taken, the end isn't seen, and so it is `Limit(Bytes)`, too. At the end and after an error there is no document, and its memory was
-    /// given back.
+    /// taken, each document that is there is `Limit(Bytes)`, and its first byte is taken to see it. At the end and after an error there is no
+    /// document, and its memory was given back.
     ///
     /// ```
     /// pub fn values_of_untrusted(alloc: Global, block: &[u8]) -> Result<usize, LimitedReadError> {
@@ -187,20 +239,23 @@ impl BlockReader {
             → document_of self.new.document ≡ [] }
 
         // what was taken passes the limit that is reported
-        ensures stops { StopsWithin (version_of self.old.version) limits S.ByteSource source.old
+        ensures stops { StopsNextWithin (version_of self.old.version) limits S.ByteSource source.old
             source.new result }
 
         // the end is reported where nothing is left, and only there
         ensures end { self.old.failed ≡ false → S.is_known source.old → result ≡ Ok false
             → S.left source.old ≡ [] }
         ensures ended { self.old.failed ≡ false → S.is_known source.old → S.left source.old ≡ []
-            → SaysEndWithin limits result }
+            → SaysEndWithin result }
         ensures counted { self.old.failed ≡ false → S.is_known source.old
             → Taken (S.left source.old) (S.left source.new) 0 self.new.taken }
         ensures version { self.new.version ≡ self.old.version }
     {
         if self.failed {
             return Err(LimitedReadError::Read(DeserializeError::AlreadyFailed));
+        }
+        if takes_none(limits) {
+            return self.look_for_next(source);
         }
         let mut count = 0;
         let read = read_parts_in_place(

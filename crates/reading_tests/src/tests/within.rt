@@ -122,7 +122,7 @@ fn refuses_first(alloc: Global, limits: ReadLimits, limit: ReadLimit, left: usiz
 fn a_document_past_a_limit_is_refused(rt: HostRuntime) -> Result<(), Fail> {
     let narrow = [
         (within(Some(12), None, None), ReadLimit::Bytes, 8),
-        (within(Some(0), None, None), ReadLimit::Bytes, 20),
+        (within(Some(0), None, None), ReadLimit::Bytes, 19),
         (within(None, Some(3), None), ReadLimit::HeapBytes, 8),
         (within(None, None, Some(0)), ReadLimit::Depth, 13),
     ];
@@ -133,12 +133,13 @@ fn a_document_past_a_limit_is_refused(rt: HostRuntime) -> Result<(), Fail> {
 }
 
 #[test]
-fn no_byte_may_be_taken_at_the_end(rt: HostRuntime) -> Result<(), Fail> {
+fn the_end_is_seen_where_no_byte_may_be_taken(rt: HostRuntime) -> Result<(), Fail> {
     let mut source = SliceSource::new(b"");
     let mut reader = BlockReader::new(rt.alloc(), DocStoreVersion::V2);
-    let none = within(Some(0), None, None);
-    let answer = reader.advance_within(&mut source, none);
-    assert!(rt; is_refused(answer, LimitedReadError::Limit(ReadLimit::Bytes)));
+    let none = within(Some(0), Some(0), Some(0));
+    assert!(rt; advances(&mut reader, &mut source, none, false));
+    assert!(rt; advances(&mut reader, &mut source, none, false));
+    assert!(rt; reader.bytes_read() == 0 && is_found(reader.advance(&mut source), false));
     Ok(())
 }
 

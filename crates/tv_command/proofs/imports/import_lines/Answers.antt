@@ -1,15 +1,16 @@
 use Rattle.std.proofs.Common.{refl, ◌∙◌, arith}
-use Rattle.tv_command.proofs.WholeImports.{counts_one, imported_all, imported_more, imported_none, stops_begun, stops_counting, stops_untold}
+use Rattle.tv_command.proofs.WholeImports.{counts_one, counts_within, imported_all, imported_more, imported_none, stops_begun, stops_counting, stops_untold}
 use Rattle.tv_command.proofs.imports.import_lines.Goals as goal
 
 pub loop-lines-init : goal.loop-lines-init
 loop-lines-init g c = record {
   rules = refl;
   counted = omega arith;
+  within = omega arith;
   sink_is_known = λ k. k;
   report_is_known = λ k. k;
   failures = refl;
-  so_far = λ input is known. imported_none _ _ input _ _ _ _ _ is refl refl;
+  so_far = λ input is known. imported_none _ _ input _ _ _ _ _ is refl refl refl;
 }
 
 pub loop-lines-preserved : goal.loop-lines-preserved
@@ -20,6 +21,7 @@ loop-lines-preserved g c =
     record {
       rules = step.rules ∙ i.rules;
       counted = omega (arith, counts_one c.in-Ok-Some.outcome c.loop-lines.imported c.counted-imported.result c.counted-imported.ensures, i.counted);
+      within = counts_within c.in-Ok-Some.outcome c.loop-lines.imported c.counted-imported.result c.counted-imported.ensures i.within;
       sink_is_known = λ k. step.is_known (i.sink_is_known k);
       report_is_known = λ k. c.in-Ok.ensures.is_known (i.report_is_known k);
       failures = step.failures ∙ i.failures;

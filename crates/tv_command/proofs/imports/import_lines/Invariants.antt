@@ -1,4 +1,4 @@
-use Rattle.std.proofs.Common.{◌≡◌, ◌+◌, ℕ, List, Some}
+use Rattle.std.proofs.Common.{◌≡◌, ◌+◌, ◌≤◌, ℕ, List, Some}
 use Rattle.tv_command.proofs.WholeImports.{ImportedSoFar}
 use Rattle.tv_command.proofs.imports.import_lines.Given as goal
 
@@ -9,6 +9,7 @@ invariant-loop-lines g l =
     record {
       rules : l.importer.rules ≡ l.initial.importer.rules;
       counted : l.imported.stored + l.imported.refused ≡ l.lines;
+      within : l.imported.unsearchable ≤ l.imported.stored;
       sink_is_known : sink.is_known l.initial.sink → sink.is_known l.sink;
       report_is_known : report.is_known l.initial.report → report.is_known l.report;
       failures : sink.failures l.sink ≡ sink.failures l.initial.sink;
