@@ -6,7 +6,6 @@ pub mod Refusals
 pub mod Reading
 pub mod Checking
 pub mod WorkErrors
-pub mod Terms
 pub mod Exporting
 pub mod Finding
 pub mod Runs

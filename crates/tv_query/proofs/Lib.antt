@@ -3,4 +3,5 @@ mod Parsing
 mod Naming
 mod Wanting
 mod Running
+mod Telling
 mod Reading
