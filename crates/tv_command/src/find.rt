@@ -87,8 +87,10 @@ fn match_document(
     let fields = matcher.query().fields();
     match visit_terms(alloc, schema, Some(fields), document, matcher) {
         Ok(()) => Ok(Ok(matcher.matches()?)),
-        Err(TermValuesError::Memory) => Err(AllocError),
-        Err(fault) => Ok(Err(fault)),
+        Err(error) => match error {
+            TermValuesError::Memory => Err(AllocError),
+            fault => Ok(Err(fault)),
+        },
     }
 }
 
@@ -196,8 +198,9 @@ pub fn find_in_block<S: ByteSource, K: ByteSink, T: Report<DocumentReport>, W: W
     ensures report_is_known { T.is_known report.old → T.is_known report.new }
 {
     let mut reader = DocumentReader::new(alloc, version, wanted);
+    let matcher = QueryMatcher::new(alloc, query);
     let mut buffers = FindBuffers {
-        matcher: QueryMatcher::new(alloc, query),
+        matcher,
         text: String::new(alloc),
     };
     let mut found = Found {

@@ -3,5 +3,5 @@ mod Parsing
 mod Naming
 mod Wanting
 mod Running
-mod Telling
+pub mod Telling
 mod Reading

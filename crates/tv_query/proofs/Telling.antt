@@ -1,8 +1,11 @@
 -- Terms that a matcher takes, one after the other.
-use Rattle.std.proofs.Common.{◌≡◌, ◌≢◌, ◌⊎◌, ◌↔◌, ℕ, zero, suc, ◌+◌, ◌<◌, ◌≤◌, List, [], ◌∷◌, ◌++◌, length, get_or, Bool, false, IsTrue, Some, set, slice_get, refl, sym, subst, ap, ◌∙◌, inl, inr, arith}
+use Rattle.std.proofs.Common.{◌≡◌, ◌≢◌, ◌⊎◌, ◌↔◌, ℕ, zero, suc, ◌+◌, ◌<◌, ◌≤◌, List, [], ◌∷◌, ◌++◌, length, get_or, Bool, false, IsTrue, Some, Ok, Err, append-nil, slice_get, refl, sym, subst, inl, inr, arith}
 use Rattle.std.specs.List.{Any}
-use Rattle.tv_query.specs.Matching.{AreTold, IsTested, IsTold}
+use Rattle.tv_indexing.specs.DocumentTerms.{Terms}
+use Rattle.tv_indexing.specs.Visits.{TakesAll, TakesSome}
+use Rattle.tv_query.specs.Matching.{AreTold, HasTaken, IsTested, IsTold}
 use Rattle.tv_query.specs.Selections.{HasWanted, IsWanted}
+use Rattle.tv_query.specs.declared.matching.QueryMatcher.{QueryMatcher}
 use Rattle.tv_query.specs.declared.query.Step.{Step}
 use Rattle.tv_query.specs.declared.query.Step.TheVariants as steps
 use Rattle.tv_query.proofs.Wanting.{any_cons, any_rest}
@@ -52,3 +55,18 @@ all_tested term query old now i done tested = λ terms told k step found. told_o
 -- the same truths
 pub told_same : (terms : List (List ℕ)) (query : List Step) (old new : List Bool) → ((k : ℕ) → get_or new k false ≡ get_or old k false) → AreTold terms query old → AreTold terms query new
 told_same terms query old new same told = λ k step found. subst (λ (b : Bool). IsTold terms step b) (sym (same k)) (told k step found)
+
+-- ---- what a matcher takes as a visitor
+
+abbrev pub Since : QueryMatcher → QueryMatcher → List (List ℕ) → Type 0
+Since start now terms = (now.query.now ≡ start.query.now) × ((before : List (List ℕ)) → AreTold before start.query.now.steps.items start.wanted.items → AreTold (before ++ terms) now.query.now.steps.items now.wanted.items)
+
+since_start : (matcher : QueryMatcher) → Since matcher matcher []
+since_start matcher = (refl, λ before told. subst (λ (ts : List (List ℕ)). AreTold ts matcher.query.now.steps.items matcher.wanted.items) (sym (append-nil before)) told)
+
+pub all_taken : (old new : QueryMatcher) (t : Terms) → HasTaken [] old → TakesAll Since old new t → (made : List (List ℕ)) × (t ≡ Ok made) × (new.query.now ≡ old.query.now) × HasTaken made new
+all_taken old new (Ok made) none h = let s = h old [] (since_start old) in (made, refl, s.0, s.1 [] none)
+all_taken old new (Err e) none h = absurd h
+
+pub same_query : (old new : QueryMatcher) → TakesSome Since old new → new.query.now ≡ old.query.now
+same_query old new h = (h.1 old [] (since_start old)).0
