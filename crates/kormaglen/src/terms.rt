@@ -95,7 +95,13 @@ impl Counting {
         let fields = [self.wanted.wanted.field()];
         let alloc = self.rt.alloc();
         self.wanted.terms.clear();
-        match visit_terms(alloc, &self.schema, Some(&fields), document, &mut self.wanted) {
+        match visit_terms(
+            alloc,
+            &self.schema,
+            Some(&fields),
+            document,
+            &mut self.wanted,
+        ) {
             Ok(()) => count_terms(&mut self.wanted.terms, &mut self.counts),
             Err(TermValuesError::Memory) => Err(Failure::Memory),
             Err(fault) => self.tell(fault),

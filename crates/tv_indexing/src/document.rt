@@ -48,7 +48,13 @@ fn visit_field<'a, V: TermVisitor>(
     match field_type {
         FieldType::JsonObject(options) => {
             let expand_dots = options.is_expand_dots_enabled();
-            visit_json(visitor, JsonField { field, expand_dots }, buffer, around, value)
+            visit_json(
+                visitor,
+                JsonField { field, expand_dots },
+                buffer,
+                around,
+                value,
+            )
         }
         other => visit_value(visitor, buffer, field, other.value_type(), value),
     }
@@ -120,7 +126,15 @@ pub fn visit_terms<V: TermVisitor>(
     let mut buffer = TermBuffer::new(alloc);
     let mut around = Vec::new(alloc);
     for (field, value) in document.field_values() {
-        visit_wanted(visitor, schema, fields, &mut buffer, &mut around, field, value)?;
+        visit_wanted(
+            visitor,
+            schema,
+            fields,
+            &mut buffer,
+            &mut around,
+            field,
+            value,
+        )?;
     }
     Ok(())
 }

@@ -29,11 +29,7 @@ pub(crate) struct OpenList<'a> {
 }
 
 // Goes below the key of a value, if it has one.
-fn enter(
-    buffer: &mut TermBuffer,
-    at: JsonField,
-    key: Option<&str>,
-) -> Result<(), TermValuesError>
+fn enter(buffer: &mut TermBuffer, at: JsonField, key: Option<&str>) -> Result<(), TermValuesError>
     ensures made { OnOk result
         ((tree : Tree) → child_terms at.field at.expand_dots buffer.old
         (option_map (λ k. k.now) key.entry) tree

@@ -262,11 +262,7 @@ fn dedup_places(bytes: &[u8], places: &mut Vec<TermPlace>)
 
 // Appends the bytes of a term, and the place where they stand. Errors: memory was refused, and then the bytes may be appended, and no place.
 #[inline(always)]
-fn append(
-    bytes: &mut Vec<u8>,
-    places: &mut Vec<TermPlace>,
-    term: &[u8],
-) -> Result<(), AllocError>
+fn append(bytes: &mut Vec<u8>, places: &mut Vec<TermPlace>, term: &[u8]) -> Result<(), AllocError>
     ensures bytes { OnOk result (bytes.new.items ≡ bytes.old.items ++ term.now) }
     ensures place { OnOk result (places.new.items
         ≡ places.old.items ++ place (length bytes.old.items) (length bytes.new.items) ∷ []) }

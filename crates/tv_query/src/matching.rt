@@ -103,11 +103,7 @@ fn truth_of(step: &Step, told: bool, truths: &mut Vec<bool>) -> bool
 }
 
 // The truth of all steps, where those of the clauses are told. It takes no more of the machine's stack, however deep the query nests.
-fn truth_of_all(
-    steps: &[Step],
-    wanted: &[bool],
-    truths: &mut Vec<bool>,
-) -> Result<bool, AllocError>
+fn truth_of_all(steps: &[Step], wanted: &[bool], truths: &mut Vec<bool>) -> Result<bool, AllocError>
     ensures { (terms : List (List ℕ)) (tree : Tree) → AreTold terms steps.now wanted.now
         → steps.now ≡ steps_of tree → IfOk result (λ truth. IsTrue truth ↔ Matches terms tree) }
 {
