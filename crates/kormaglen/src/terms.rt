@@ -10,25 +10,48 @@ use crate::runs::{Runs, add_run, merged_all};
 use crate::term_counts::TermCounts;
 use crate::visits::{Visit, fields_within, visit_block};
 use clap::ArgMatches;
-use std::alloc::Global;
+use std::alloc::{AllocError, Global};
 use std::env;
-use tantivy_schema::schema::{Schema, TantivyDocument, TermList, TermValuesError, text_of_term};
+use tantivy_schema::schema::{
+    Schema, TantivyDocument, TermList, TermValuesError, TermVisitor, text_of_term, visit_terms,
+};
 use tv_command::find::DocumentOutcome;
 use tv_command::report::DocumentReport;
-use tv_command::terms::put_terms;
 use tv_query::{QueryReason, Selection, Wanted};
 
-// Counts the terms of a document that are wanted.
-fn count_terms(
-    wanted: &Selection,
-    terms: &mut TermList,
-    counts: &mut TermCounts,
-) -> Result<(), Failure> {
+// The terms of a document that are wanted, each time it has them.
+struct WantedTerms {
+    wanted: Selection,
+    terms: TermList,
+}
+
+impl Drop for WantedTerms {
+    fn drop(self) {
+        let WantedTerms {
+            wanted: _,
+            terms: _,
+        } = self;
+    }
+}
+
+impl TermVisitor for WantedTerms {
+    // Nothing is said of what it holds.
+    ghost has_taken = { λ start now terms. Unit {0} };
+
+    fn visit(&mut self, term: &[u8]) -> Result<(), AllocError> {
+        if self.wanted.contains(term) {
+            self.terms.visit(term)
+        } else {
+            Ok(())
+        }
+    }
+}
+
+// Counts each of these terms once.
+fn count_terms(terms: &mut TermList, counts: &mut TermCounts) -> Result<(), Failure> {
     terms.sort_dedup();
     for term in terms.iter() {
-        if wanted.contains(term) {
-            counts.count(term)?;
-        }
+        counts.count(term)?;
     }
     Ok(())
 }
@@ -37,12 +60,11 @@ fn count_terms(
 struct Counting {
     rt: HostRuntime,
     schema: Schema,
-    wanted: Selection,
+    wanted: WantedTerms,
     // How many documents were visited, and how many bytes they take.
     documents: u64,
     bytes: u64,
     faults: Faults,
-    terms: TermList,
     counts: TermCounts,
     runs: Runs,
 }
@@ -56,7 +78,6 @@ impl Drop for Counting {
             documents: _,
             bytes: _,
             faults: _,
-            terms: _,
             counts: _,
             runs: _,
         } = self;
@@ -71,11 +92,19 @@ impl Counting {
 
     // Counts the terms of the next document, or tells that it can't be searched.
     fn count(&mut self, document: &TantivyDocument) -> Result<(), Failure> {
-        let fields = [self.wanted.field()];
+        let fields = [self.wanted.wanted.field()];
         let alloc = self.rt.alloc();
-        match put_terms(alloc, &self.schema, &fields, document, &mut self.terms)? {
-            None => count_terms(&self.wanted, &mut self.terms, &mut self.counts),
-            Some(fault) => self.tell(fault),
+        self.wanted.terms.clear();
+        match visit_terms(
+            alloc,
+            &self.schema,
+            Some(&fields),
+            document,
+            &mut self.wanted,
+        ) {
+            Ok(()) => count_terms(&mut self.wanted.terms, &mut self.counts),
+            Err(TermValuesError::Memory) => Err(Failure::Memory),
+            Err(fault) => self.tell(fault),
         }
     }
 
@@ -224,11 +253,13 @@ fn begin(rt: &HostRuntime, given: &ArgMatches<'_>) -> Result<Counting, Failure> 
     Ok(Counting {
         rt: *rt,
         schema,
-        wanted,
+        wanted: WantedTerms {
+            wanted,
+            terms: TermList::new(alloc),
+        },
         documents: 0,
         bytes: 0,
         faults: Faults::new(rt, text(given, "BLOCK"), is_erasing)?,
-        terms: TermList::new(alloc),
         counts,
         runs,
     })
@@ -237,7 +268,7 @@ fn begin(rt: &HostRuntime, given: &ArgMatches<'_>) -> Result<Counting, Failure> 
 /// Prints the terms of a field in their order. Memory is kept for as many as `--memory` lets it, and for one document.
 pub(crate) fn terms(rt: &HostRuntime, given: &ArgMatches<'_>) -> Result<Ending, Failure> {
     let mut counting = begin(rt, given)?;
-    let wanted = fields_within(rt.alloc(), given, &[counting.wanted.field()])?;
+    let wanted = fields_within(rt.alloc(), given, &[counting.wanted.wanted.field()])?;
     visit_block(rt, given, wanted, &mut counting)?;
     let mut printer = Printer {
         alloc: rt.alloc(),

@@ -1,5 +1,5 @@
 -- The documents of a block that a query wants, printed as lines of JSON, and what becomes of each document.
-use Rattle.std.specs.Prelude.{◌≡◌, ◌-◌, ◌^◌, ◌<◌, ◌+◌, ℕ, List, [], ◌∷◌, ◌++◌, Bool, true, false, Ok, Err, count_by, length}
+use Rattle.std.specs.Prelude.{◌≡◌, ◌↔◌, ◌-◌, ◌^◌, ◌<◌, ◌+◌, ℕ, List, [], ◌∷◌, ◌++◌, Bool, true, false, IsTrue, Result, Ok, Err, count_by, length}
 use Rattle.std.specs.List.{filter}
 use Rattle.tv_base.specs.Stop.{Stop}
 use Rattle.tv_base.specs.Stop.Stop.{Short}
@@ -22,6 +22,7 @@ use Rattle.tv_format.specs.InputError.{Refusal}
 use Rattle.tv_format.specs.Tree.{Document}
 use Rattle.tv_format.specs.Version.{Version}
 use Rattle.tv_indexing.specs.DocumentTerms.{Terms, document_terms}
+use Rattle.tv_indexing.specs.declared.term_values_error.TermValuesError.{TermValuesError}
 use Rattle.tv_query.specs.Fields.{names_field}
 use Rattle.tv_query.specs.Grammar.{Tree, steps_of}
 use Rattle.tv_query.specs.Matching.{Matches}
@@ -115,3 +116,8 @@ abbrev pub CountsFound : Found → DocumentOutcome → Found → Type 0
 CountsFound old outcome.Found new = (new.documents ≡ old.documents + 1) × (new.found ≡ old.found + 1) × (new.faulty ≡ old.faulty)
 CountsFound old outcome.NotFound new = (new.documents ≡ old.documents + 1) × (new.found ≡ old.found) × (new.faulty ≡ old.faulty)
 CountsFound old (outcome.Faulty why) new = (new.documents ≡ old.documents + 1) × (new.found ≡ old.found) × (new.faulty ≡ old.faulty + 1)
+
+-- whether these terms match the query, or why there are none
+abbrev pub TellsMatch : Terms → Tree → Result Bool TermValuesError → Type 0
+TellsMatch terms tree (Ok truth) = (made : List (List ℕ)) × (terms ≡ Ok made) × (IsTrue truth ↔ Matches made tree)
+TellsMatch terms tree (Err why) = terms ≡ Err why

@@ -1,17 +1,9 @@
--- The terms by which documents are searched.
-use Rattle.std.specs.Prelude.{◌≡◌, ℕ, List, [], Option, Some, None, Ok, Err, slice_get}
+-- The fields of documents that can't be searched.
+use Rattle.std.specs.Prelude.{List, ℕ, [], Option, Some, None, slice_get}
 use Rattle.tv_field.specs.Entry.{Entry}
-use Rattle.tv_indexing.specs.DocumentTerms.{Terms}
 use Rattle.tv_indexing.specs.declared.term_values_error.TermValuesError.{TermValuesError}
 use Rattle.tv_indexing.specs.declared.term_values_error.TermValuesError.TheVariants.{UnknownField, WrongType, NulInPath, NoJsonTerm, Memory}
 use Rattle.tv_value.specs.declared.field.Field.{Field}
-
--- these are the terms, or this is why there are none
-abbrev pub PutsTerms : Terms → List (List ℕ) → Option TermValuesError → Type 0
-PutsTerms answer terms None = answer ≡ Ok terms
-PutsTerms answer terms (Some why) = (answer ≡ Err why) × (terms ≡ [])
-
--- ---- documents that can't be searched
 
 abbrev pub name_in : Option Entry → List ℕ
 name_in None = []

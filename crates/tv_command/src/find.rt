@@ -3,8 +3,7 @@
 ghost use Rattle.std.specs.Prelude.{◌≡◌, ◌+◌, ◌-◌, ◌<◌, ◌^◌, [], IfErr, IfOk, OnOk};
 ghost use Rattle.tv_base.specs.Stop.{Counts};
 ghost use Rattle.tv_command.specs.Finding.{CountsFound, Finds, FindsAll, LeavesDocument, StopsFinding};
-ghost use Rattle.tv_command.specs.Finding.{find_sink_stop, find_source_stop, named_terms};
-ghost use Rattle.tv_command.specs.Terms.{PutsTerms};
+ghost use Rattle.tv_command.specs.Finding.{TellsMatch, find_sink_stop, find_source_stop, named_terms};
 ghost use Rattle.tv_command.specs.WorkErrors.{IsOfWriting, sink_stop};
 ghost use Rattle.tv_doc.specs.Document.{document_of};
 ghost use Rattle.tv_query.specs.Grammar.{Tree, steps_of};
@@ -13,7 +12,6 @@ ghost use Rattle.tv_reader.specs.Version.{version_of};
 use crate::documents::{DocumentReader, Wanted};
 use crate::export::write_line;
 use crate::report::{DocumentReport, Report};
-use crate::terms::put_terms;
 use crate::watch::Watch;
 use crate::work_error::WorkError;
 use std::alloc::{AllocError, Global};
@@ -22,8 +20,8 @@ use tantivy_schema::common::{ByteSink, ByteSource};
 use tantivy_schema::schema::{Schema, TantivyDocument};
 use tantivy_schema::store::DocStoreVersion;
 use thiserror::Error;
-use tv_indexing::{TermList, TermValuesError};
-use tv_query::{Query, QueryStack};
+use tv_indexing::{TermValuesError, visit_terms};
+use tv_query::{Query, QueryMatcher};
 
 /// What becomes of a document that is searched.
 #[derive(Clone, Copy)]
@@ -60,66 +58,70 @@ pub enum FindError<E> {
 }
 
 // The memory that serves one document after the other.
-struct FindBuffers {
-    terms: TermList,
-    stack: QueryStack,
+struct FindBuffers<'q> {
+    matcher: QueryMatcher<'q>,
     text: String,
 }
 
-impl Drop for FindBuffers {
+impl<'q> Drop for FindBuffers<'q> {
     fn drop(self) {
         let FindBuffers {
-            terms: _,
-            stack: _,
+            matcher: _,
             text: _,
         } = self;
     }
 }
 
-// Puts the terms of the fields that the query names in place of those in the list, or says why there are none.
-fn put_named_terms(
+// Whether the terms of a document's fields that the query names match the query, or why there are none.
+fn match_document(
     alloc: Global,
     schema: &Schema,
-    query: &Query,
     document: &TantivyDocument,
-    terms: &mut TermList,
-) -> Result<Option<TermValuesError>, AllocError>
-    ensures { (tree : Tree) → query.now.steps.items ≡ steps_of tree → IfOk result
-        (PutsTerms (named_terms schema.now tree (document_of document.now)) terms.new) }
+    matcher: &mut QueryMatcher<'_>,
+) -> Result<Result<bool, TermValuesError>, AllocError>
+    ensures tells { (tree : Tree) → matcher.old.query.now.steps.items ≡ steps_of tree
+        → IfOk result (TellsMatch (named_terms schema.now tree (document_of document.now)) tree) }
+    ensures query { matcher.new.query.now ≡ matcher.old.query.now }
 {
-    put_terms(alloc, schema, query.fields(), document, terms)
+    matcher.clear();
+    let fields = matcher.query().fields();
+    match visit_terms(alloc, schema, Some(fields), document, matcher) {
+        Ok(()) => Ok(Ok(matcher.matches()?)),
+        Err(error) => match error {
+            TermValuesError::Memory => Err(AllocError),
+            fault => Ok(Err(fault)),
+        },
+    }
 }
 
 // Appends the line of a document that the query matches, and says what becomes of the document.
 fn find_in_document<K: ByteSink>(
     alloc: Global,
     schema: &Schema,
-    query: &Query,
     document: &TantivyDocument,
-    buffers: &mut FindBuffers,
+    buffers: &mut FindBuffers<'_>,
     sink: &mut K,
 ) -> Result<DocumentOutcome, WorkError>
-    ensures ok { K.is_known sink.old → (tree : Tree) → query.now.steps.items ≡ steps_of tree
+    ensures ok { K.is_known sink.old → (tree : Tree)
+        → buffers.old.matcher.query.now.steps.items ≡ steps_of tree
         → IfOk result (Finds schema.now tree (document_of document.now) (K.held sink.old)
         (K.held sink.new)) }
-    ensures err { K.is_known sink.old → (tree : Tree) → query.now.steps.items ≡ steps_of tree
+    ensures err { K.is_known sink.old → (tree : Tree)
+        → buffers.old.matcher.query.now.steps.items ≡ steps_of tree
         → IfErr result (LeavesDocument schema.now tree (document_of document.now)
         (K.held sink.old) (K.held sink.new)) }
+    ensures query { buffers.new.matcher.query.now ≡ buffers.old.matcher.query.now }
     ensures errors { IfErr result IsOfWriting }
     ensures failures { Counts sink_stop result (K.failures sink.old) (K.failures sink.new) }
     ensures is_known { K.is_known sink.old → K.is_known sink.new }
 {
-    match put_named_terms(alloc, schema, query, document, &mut buffers.terms)? {
-        Some(fault) => return Ok(DocumentOutcome::Faulty(fault)),
-        None => {}
-    }
-    match query.matches(&buffers.terms, &mut buffers.stack) {
+    match match_document(alloc, schema, document, &mut buffers.matcher)? {
         Ok(true) => {
             write_line(alloc, schema, document, &mut buffers.text, sink)?;
             Ok(DocumentOutcome::Found)
         }
         Ok(false) => Ok(DocumentOutcome::NotFound),
-        Err(_) => Err(WorkError::Memory),
+        Err(fault) => Ok(DocumentOutcome::Faulty(fault)),
     }
 }
 
@@ -196,9 +198,9 @@ pub fn find_in_block<S: ByteSource, K: ByteSink, T: Report<DocumentReport>, W: W
     ensures report_is_known { T.is_known report.old → T.is_known report.new }
 {
     let mut reader = DocumentReader::new(alloc, version, wanted);
+    let matcher = QueryMatcher::new(alloc, query);
     let mut buffers = FindBuffers {
-        terms: TermList::new(alloc),
-        stack: QueryStack::new(alloc),
+        matcher,
         text: String::new(alloc),
     };
     let mut found = Found {
@@ -211,14 +213,7 @@ pub fn find_in_block<S: ByteSource, K: ByteSink, T: Report<DocumentReport>, W: W
         match reader.advance(source) {
             Ok(true) => {
                 let document = reader.document();
-                let outcome = match find_in_document(
-                    alloc,
-                    schema,
-                    query,
-                    document,
-                    &mut buffers,
-                    sink,
-                ) {
+                let outcome = match find_in_document(alloc, schema, document, &mut buffers, sink) {
                     Ok(outcome) => outcome,
                     Err(error) => return Err(FindError::Work(error)),
                 };

@@ -1,38 +1,12 @@
-//! The terms by which the documents of a block are searched.
+//! The fields by which the documents of a block are searched.
 
-ghost use Rattle.std.specs.Prelude.{◌≡◌, IfOk, not};
+ghost use Rattle.std.specs.Prelude.{◌≡◌, not};
 ghost use Rattle.std.specs.List.{find};
 ghost use Rattle.std.specs.Option.{option_map};
-ghost use Rattle.tv_command.specs.Terms.{PutsTerms, faulty_name, name_at};
-ghost use Rattle.tv_doc.specs.Document.{document_of};
-ghost use Rattle.tv_indexing.specs.DocumentTerms.{fields_terms};
+ghost use Rattle.tv_command.specs.Terms.{faulty_name, name_at};
 ghost use Rattle.tv_store.specs.Stored.{is_stored_field};
 
-use std::alloc::{AllocError, Global};
-use tantivy_schema::schema::{Field, Schema, TantivyDocument};
-use tv_indexing::{TermList, TermValuesError, term_values_of_fields};
-
-/// Puts the terms of these fields of a document in place of those in the list, as `term_values_of_fields` makes them; or says why a value of one of them has
-/// none, and the list is then empty. (Not in tantivy.)
-///
-/// The only error is that memory was refused.
-pub fn put_terms(
-    alloc: Global,
-    schema: &Schema,
-    fields: &[Field],
-    document: &TantivyDocument,
-    terms: &mut TermList,
-) -> Result<Option<TermValuesError>, AllocError>
-    ensures { IfOk result
-        (PutsTerms (fields_terms schema.now fields.now (document_of document.now)) terms.new) }
-{
-    terms.clear();
-    match term_values_of_fields(alloc, schema, fields, document, terms) {
-        Ok(()) => Ok(None),
-        Err(TermValuesError::Memory) => Err(AllocError),
-        Err(fault) => Ok(Some(fault)),
-    }
-}
+use tantivy_schema::schema::{Field, Schema, TermValuesError};
 
 /// The name of a field, or nothing where the schema has no such field. (Not in tantivy.)
 pub fn name_of<'s>(schema: &'s Schema, field: Field) -> &'s str

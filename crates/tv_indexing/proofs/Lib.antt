@@ -1,5 +1,6 @@
 pub mod Places
 pub mod Following
+pub mod Visiting
 pub mod Walks
 pub mod Wanted
 pub mod Steps

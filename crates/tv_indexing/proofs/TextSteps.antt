@@ -1,11 +1,13 @@
 -- Terms of a text of a query, appended one value after the other.
-use Rattle.std.proofs.Common.{◌≡◌, ℕ, List, [], ◌∷◌, ◌++◌, Option, None, Some, IfSome, Result, Ok, Err, OnOk, OnErr, refl, sym, ap, subst, ◌∙◌, append_assoc}
+use Rattle.std.proofs.Common.{◌≡◌, ℕ, List, [], ◌∷◌, ◌++◌, Option, None, Some, IfSome, Result, Ok, Err, OnOk, OnErr, refl, sym, ap, subst, ◌∙◌, append_assoc, append-nil}
 use Rattle.tv_date.specs.Rfc3339.{rfc}
 use Rattle.tv_field.specs.JsonTable.{truth_in}
 use Rattle.tv_format.specs.Tree.{Leaf, text}
 use Rattle.tv_indexing.specs.DocumentTerms.{AreAppended, Terms, followed_by, json_leaf_terms}
 use Rattle.tv_indexing.specs.JsonWalk.{Extends}
+use Rattle.tv_indexing.specs.Visits.{TakesAll}
 use Rattle.tv_indexing.specs.TextTerms.{WritesLeaves, WritesNumber, date_written_in, leaves_terms, listed}
+use Rattle.tv_indexing.proofs.Visiting.{BeginsWith, all_appended as list_appended}
 use Rattle.tv_indexing.proofs.Following.{extends_by, extends_on, nothing_before, regrouped}
 use Rattle.std.specs.List.{AllByRecursion}
 use Rattle.tv_indexing.specs.LeafTerms.{json_value}
@@ -75,3 +77,17 @@ all_kept (Err error) field path s number a b c d e itself numbers truths same =
 pub ok_then : {E P Q : Type 0} (result : Result (Unit {0}) E) → (P → Q) → OnOk result P → OnOk result Q
 ok_then (Ok x) f h = f h
 ok_then (Err error) f h = tt
+
+-- ---- what a list takes as a visitor
+
+one_after_none : (t : Terms) → followed_by t (Ok []) ≡ t
+one_after_none (Ok made) = ap Ok (append-nil made)
+one_after_none (Err e) = refl
+
+pub one_listed : (field : Field) (path : List ℕ) (l : Leaf) (old new : List (List ℕ)) → TakesAll BeginsWith old new (json_leaf_terms field path l) → AreAppended old new (leaves_terms field path (l ∷ []))
+one_listed field path l old new h =
+    subst (λ (t : Terms). AreAppended old new t) (sym (one_after_none (json_leaf_terms field path l))) (list_appended old new (json_leaf_terms field path l) h)
+
+pub err_then : {E P Q : Type 0} (result : Result (Unit {0}) E) → (P → Q) → OnErr result P → OnErr result Q
+err_then (Ok x) f h = tt
+err_then (Err error) f h = f h

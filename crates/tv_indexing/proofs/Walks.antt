@@ -1,5 +1,5 @@
 -- The terms of a JSON value by the bytes of its keys are those by its keys; and what a step of the walk does.
-use Rattle.std.proofs.Common.{◌≡◌, ℕ, Bool, List, [], ◌∷◌, ◌++◌, drop, map, Some, Err, if◌then◌else◌, refl, sym, ap, ◌∙◌, append-nil}
+use Rattle.std.proofs.Common.{◌≡◌, ℕ, Bool, false, List, [], ◌∷◌, ◌++◌, drop, map, Some, Err, if◌then◌else◌, refl, sym, ap, ◌∙◌, append-nil}
 use Rattle.std.proofs.lemmas.Grind.{flat_map-append}
 use Rattle.tv_base.specs.JsonPath.{expanded, joined}
 use Rattle.tv_format.specs.Tree.{Tree, leaf, array, object, Elements, no_elements, element, Entries, no_entries, entry, element_list, entry_list}
@@ -10,6 +10,11 @@ use Rattle.tv_value.specs.Children.{Child, IsListOf, with_key, without_key}
 use Rattle.tv_value.specs.declared.field.Field.{Field}
 
 -- ---- paths
+
+-- a key whose dots stay
+pub kept_whole : (key : List ℕ) → map (expanded false) key ≡ key
+kept_whole [] = refl
+kept_whole (b ∷ key) = ap (λ bs. b ∷ bs) (kept_whole key)
 
 joined-separated : (expand_dots : Bool) (keys : List (List ℕ)) → joined expand_dots keys ≡ drop 1 (separated_keys expand_dots keys)
 joined-separated expand_dots [] = refl

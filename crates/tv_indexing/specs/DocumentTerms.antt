@@ -103,6 +103,11 @@ is_among fields number = list_any (λ f. f.id == number) fields
 abbrev pub fields_terms : List Entry → List Field → Document → Terms
 fields_terms schema fields d = document_terms schema (filter (λ pair. is_among fields pair.0) d)
 
+-- the terms of these fields, or of all
+abbrev pub wanted_terms : List Entry → Option (Bor (List Field)) → Document → Terms
+wanted_terms schema None d = document_terms schema d
+wanted_terms schema (Some fields) d = fields_terms schema fields.now d
+
 -- these were appended, and they aren't refused
 abbrev pub AreAppended : List (List ℕ) → List (List ℕ) → Terms → Type 0
 AreAppended old new (Ok made) = new ≡ old ++ made
@@ -110,15 +115,10 @@ AreAppended old new (Err e) = ⊥
 
 -- ---- for private clauses
 
--- the same, where none may be named, and then each is
+-- whether the field of this number is among these, where none may be named, and then each is
 abbrev pub is_wanted : Option (Bor (List Field)) → ℕ → Bool
 is_wanted None number = true
 is_wanted (Some fields) number = is_among fields.now number
 
 abbrev pub wanted_pair_terms : List Entry → Option (Bor (List Field)) → ℕ × Tree → Terms
 wanted_pair_terms schema wanted pair = if is_wanted wanted pair.0 then pair_terms schema pair else Ok []
-
--- the terms of these fields, or of all
-abbrev pub wanted_terms : List Entry → Option (Bor (List Field)) → Document → Terms
-wanted_terms schema None d = document_terms schema d
-wanted_terms schema (Some fields) d = fields_terms schema fields.now d

@@ -5,7 +5,8 @@ use Rattle.tv_base.specs.JsonPath.{expanded}
 use Rattle.tv_format.specs.Size.{size}
 use Rattle.tv_format.specs.Tree.{Tree, leaf, array, object, Elements, no_elements, element, Entries, no_entries, entry}
 use Rattle.tv_heap.specs.Value.{HeldList, held_children}
-use Rattle.tv_indexing.specs.DocumentTerms.{AreAppended, Terms, followed_by, has_zero, json_leaf_terms}
+use Rattle.tv_indexing.specs.DocumentTerms.{Terms, followed_by, has_zero, json_leaf_terms}
+use Rattle.tv_indexing.specs.Visits.{TakesAll}
 use Rattle.tv_indexing.specs.declared.json.OpenList.{OpenList}
 use Rattle.tv_indexing.specs.declared.term_values_error.TermValuesError.TheVariants.{NulInPath}
 use Rattle.tv_value.specs.Children.{Child, children_size}
@@ -59,10 +60,10 @@ open_size (list ∷ lists) = suc (children_size (held_children list.children)) +
 
 -- ---- what a step does
 
--- of a child that stands below this path, and what is in it below that one: its term was appended, if it has one, or it is a list with these children
-abbrev pub IsBegun : List (List ℕ) → List (List ℕ) → Field → Bool → List ℕ → List ℕ → Option (List ℕ) → Tree → Option HeldList → Type 0
-IsBegun old new field expand_dots path below key tree None = AreAppended old new (child_terms field expand_dots path key tree)
-IsBegun old new field expand_dots path below key tree (Some list) =
+-- of a child that stands below this path, and what is in it below that one: its term was taken, if it has one, or it is a list with these children
+abbrev pub IsBegun : {V : Type 0} → (V → V → List (List ℕ) → Type 0) → V → V → Field → Bool → List ℕ → List ℕ → Option (List ℕ) → Tree → Option HeldList → Type 0
+IsBegun HasTaken old new field expand_dots path below key tree None = TakesAll HasTaken old new (child_terms field expand_dots path key tree)
+IsBegun HasTaken old new field expand_dots path below key tree (Some list) =
     (new ≡ old) × (child_terms field expand_dots path key tree ≡ children_terms field expand_dots below (held_children list)) × (size tree ≡ suc (children_size (held_children list)))
 
 -- the list begins with what it was

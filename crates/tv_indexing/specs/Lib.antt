@@ -2,6 +2,8 @@ pub mod TermPlaces
 pub mod LeafTerms
 pub mod DocumentTerms
 pub mod TermFault
+pub mod Visits
+pub mod KeyBytes
 pub mod Payloads
 pub mod JsonLeaves
 pub mod JsonWalk

@@ -1,7 +1,6 @@
 -- Terms that stand in one list of bytes, each at a place of its own.
 use Rattle.std.specs.Prelude.{◌≡◌, ◌+◌, ◌≤◌, ℕ, List, [], ◌∷◌, drop, length, map, slice_range, take}
-use Rattle.std.specs.Borrow.{Bor}
-use Rattle.std.specs.List.{All, flat_map}
+use Rattle.std.specs.List.{All}
 use Rattle.tv_indexing.specs.declared.term_list.MovedTerms.{MovedTerms}
 use Rattle.tv_indexing.specs.declared.term_list.TermPlace.{TermPlace}
 
@@ -36,7 +35,3 @@ pub record ArePlacesHeld (bytes : List ℕ) (places : List TermPlace) (moved : M
   pub moved_within : All (IsWithin moved.bytes) (take moved.len places)
   pub others_behind : AreBehind moved.bytes (drop moved.len places) (length bytes)
   pub few_moved : moved.len ≤ length places
-
--- what is given in parts
-abbrev pub joined_parts : List (Bor (List ℕ)) → List ℕ
-joined_parts parts = flat_map (λ part. part.now) parts

@@ -6,14 +6,16 @@ ghost use Rattle.tv_heap.specs.Value.{tree_of};
 ghost use Rattle.tv_indexing.specs.DocumentTerms.{AreAppended, document_terms, fields_terms};
 ghost use Rattle.tv_indexing.specs.DocumentTerms.{is_among, is_wanted, pair_terms};
 ghost use Rattle.tv_indexing.specs.DocumentTerms.{wanted_pair_terms, wanted_terms};
-ghost use Rattle.tv_indexing.specs.JsonWalk.{Extends};
+ghost use Rattle.tv_indexing.specs.Visits.{TakesAll, TakesSome};
 ghost use Rattle.tv_indexing.specs.declared.term_values_error.TermValuesError.TheVariants.{Memory};
 
-use crate::json::{OpenList, push_json};
+use crate::json::{OpenList, visit_json};
 use crate::key_path::JsonField;
-use crate::plain::push_plain;
+use crate::plain::visit_value;
+use crate::term_buffer::TermBuffer;
 use crate::term_list::TermList;
 use crate::term_values_error::TermValuesError;
+use crate::visit::TermVisitor;
 use std::alloc::Global;
 use tv_doc::document::CompactDoc;
 use tv_field::field_type::FieldType;
@@ -21,21 +23,20 @@ use tv_heap::value::CompactDocValue;
 use tv_schema::Schema;
 use tv_value::field::Field;
 
-// Appends the terms of a value of a field. After an error a beginning of them may be appended.
-fn push_value<'a>(
-    terms: &mut TermList,
+// Gives the visitor the terms of a value of a field. After an error a beginning of them may be taken.
+fn visit_field<'a, V: TermVisitor>(
+    visitor: &mut V,
     schema: &Schema,
-    path: &mut Vec<u8>,
+    buffer: &mut TermBuffer,
     around: &mut Vec<OpenList<'a>>,
     field: Field,
     value: CompactDocValue<'a>,
 ) -> Result<(), TermValuesError>
-    ensures made { OnOk result
-        (AreAppended terms.old terms.new
+    ensures made { OnOk result (TakesAll V.has_taken visitor.old visitor.new
         (pair_terms schema.now (field.id, tree_of value.entry))) }
     ensures refused { IfErr result
         (λ e. e ≢ Memory → pair_terms schema.now (field.id, tree_of value.entry) ≡ Err e) }
-    ensures kept { OnErr result (Extends terms.old terms.new) }
+    ensures kept { OnErr result (TakesSome V.has_taken visitor.old visitor.new) }
 {
     if !schema.has_field(field) {
         return Err(TermValuesError::UnknownField(field));
@@ -47,9 +48,15 @@ fn push_value<'a>(
     match field_type {
         FieldType::JsonObject(options) => {
             let expand_dots = options.is_expand_dots_enabled();
-            push_json(terms, JsonField { field, expand_dots }, path, around, value)
+            visit_json(
+                visitor,
+                JsonField { field, expand_dots },
+                buffer,
+                around,
+                value,
+            )
         }
-        other => push_plain(terms, field, other.value_type(), value),
+        other => visit_value(visitor, buffer, field, other.value_type(), value),
     }
 }
 
@@ -70,51 +77,64 @@ fn is_wanted(wanted: Option<&[Field]>, field: Field) -> bool
     }
 }
 
-// Appends the terms of a value of a field, if that is wanted. After an error a beginning of them may be appended.
-fn push_wanted<'a>(
-    terms: &mut TermList,
+// Gives the visitor the terms of a value of a field, if that is wanted. After an error a beginning of them may be taken.
+fn visit_wanted<'a, V: TermVisitor>(
+    visitor: &mut V,
     schema: &Schema,
     wanted: Option<&[Field]>,
-    path: &mut Vec<u8>,
+    buffer: &mut TermBuffer,
     around: &mut Vec<OpenList<'a>>,
     field: Field,
     value: CompactDocValue<'a>,
 ) -> Result<(), TermValuesError>
-    ensures made { OnOk result
-        (AreAppended terms.old terms.new
+    ensures made { OnOk result (TakesAll V.has_taken visitor.old visitor.new
         (wanted_pair_terms schema.now wanted.entry (field.id, tree_of value.entry))) }
     ensures refused { IfErr result
         (λ e. e ≢ Memory
         → wanted_pair_terms schema.now wanted.entry (field.id, tree_of value.entry) ≡ Err e) }
-    ensures kept { OnErr result (Extends terms.old terms.new) }
+    ensures kept { OnErr result (TakesSome V.has_taken visitor.old visitor.new) }
 {
     if is_wanted(wanted, field) {
-        push_value(terms, schema, path, around, field, value)
+        visit_field(visitor, schema, buffer, around, field, value)
     } else {
         Ok(())
     }
 }
 
-// Appends the terms of a document's values, of the wanted fields or of all. After an error a beginning of them may be appended.
-fn push_document(
+/// Gives a visitor the terms of a document's values, one after the other in the document's order, as `term_values` appends them; where fields are
+/// named, those of the values of these alone, as `term_values_of_fields`. (Not in tantivy.)
+///
+/// One term is held at a time, and the keys above a value of a field of JSON objects once for all the values below them. So it takes memory in
+/// proportion to what the document has, however long its terms are together.
+///
+/// Errors: those of `term_values`, of the named fields alone, for the first value that has one; or `Memory`, also where the visitor returns an error. After each the visitor may
+/// have taken terms of the document.
+pub fn visit_terms<V: TermVisitor>(
     alloc: Global,
     schema: &Schema,
-    wanted: Option<&[Field]>,
+    fields: Option<&[Field]>,
     document: &CompactDoc,
-    terms: &mut TermList,
+    visitor: &mut V,
 ) -> Result<(), TermValuesError>
-    ensures made { OnOk result
-        (AreAppended terms.old terms.new
-        (wanted_terms schema.now wanted.entry (document_of document.now))) }
+    ensures made { OnOk result (TakesAll V.has_taken visitor.old visitor.new
+        (wanted_terms schema.now fields.entry (document_of document.now))) }
     ensures refused { IfErr result
         (λ e. e ≢ Memory
-        → wanted_terms schema.now wanted.entry (document_of document.now) ≡ Err e) }
-    ensures kept { OnErr result (Extends terms.old terms.new) }
+        → wanted_terms schema.now fields.entry (document_of document.now) ≡ Err e) }
+    ensures kept { OnErr result (TakesSome V.has_taken visitor.old visitor.new) }
 {
-    let mut path = Vec::new(alloc);
+    let mut buffer = TermBuffer::new(alloc);
     let mut around = Vec::new(alloc);
     for (field, value) in document.field_values() {
-        push_wanted(terms, schema, wanted, &mut path, &mut around, field, value)?;
+        visit_wanted(
+            visitor,
+            schema,
+            fields,
+            &mut buffer,
+            &mut around,
+            field,
+            value,
+        )?;
     }
     Ok(())
 }
@@ -136,7 +156,7 @@ fn append_terms(
     ensures unchanged { OnErr result (terms.new ≡ terms.old) }
 {
     let len = terms.len();
-    match push_document(alloc, schema, wanted, document, terms) {
+    match visit_terms(alloc, schema, wanted, document, terms) {
         Ok(()) => Ok(()),
         Err(error) => {
             terms.truncate(len);

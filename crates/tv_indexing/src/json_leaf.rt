@@ -1,18 +1,19 @@
 //! Terms of values without children in values of fields of JSON objects.
 
 ghost use Rattle.std.specs.Prelude.{◌≡◌, ◌≢◌, ◌^◌, ℕ, List, drop, Err, IfErr, IfOk, IfSome, None, OnErr, OnOk};
-ghost use Rattle.tv_indexing.specs.DocumentTerms.{AreAppended, json_leaf_terms};
+ghost use Rattle.std.specs.Prelude.{[]};
+ghost use Rattle.tv_indexing.specs.DocumentTerms.{json_leaf_terms};
 ghost use Rattle.tv_indexing.specs.JsonLeaves.{value_terms};
 ghost use Rattle.tv_indexing.specs.LeafTerms.{json_value, leaf_value};
+ghost use Rattle.tv_indexing.specs.Visits.{Takes, TakesAll};
 ghost use Rattle.tv_indexing.specs.declared.term_values_error.TermValuesError.TheVariants.{Memory};
 ghost use Rattle.tv_term.specs.Key.{Fits};
 ghost use Rattle.tv_value.specs.Lent.{leaf_of};
 
-use crate::key_path::joined;
 use crate::payload::payload_of;
-use crate::term_list::TermList;
+use crate::term_buffer::TermBuffer;
 use crate::term_values_error::TermValuesError;
-use tv_options::Type;
+use crate::visit::TermVisitor;
 use tv_value::field::Field;
 use tv_value::leaf::ReferenceValueLeaf;
 
@@ -45,27 +46,24 @@ fn json_leaf(
     }
 }
 
-// Appends the term of a value without children in a JSON value, below these keys.
-pub(crate) fn push_json_leaf(
-    terms: &mut TermList,
+// Gives the visitor the term of a value without children in a JSON value, if it has one, below the keys in the buffer.
+pub(crate) fn visit_json_leaf<V: TermVisitor>(
+    visitor: &mut V,
+    buffer: &mut TermBuffer,
     field: Field,
-    path: &[u8],
     leaf: ReferenceValueLeaf<'_>,
 ) -> Result<(), TermValuesError>
-    ensures made { OnOk result
-        (AreAppended terms.old terms.new
-        (json_leaf_terms field (drop 1 path.now) (leaf_of leaf.entry))) }
+    ensures made { OnOk result (TakesAll V.has_taken visitor.old visitor.new
+        (json_leaf_terms field (drop 1 buffer.old) (leaf_of leaf.entry))) }
+    ensures keys { OnOk result (buffer.new ≡ buffer.old) }
     ensures refused { IfErr result
-        (λ e. e ≢ Memory → json_leaf_terms field (drop 1 path.now) (leaf_of leaf.entry) ≡ Err e) }
+        (λ e. e ≢ Memory → json_leaf_terms field (drop 1 buffer.old) (leaf_of leaf.entry) ≡ Err e) }
     ensures fits { IfSome (json_value (leaf_of leaf.entry)) Fits }
-    ensures unchanged { OnErr result (terms.new ≡ terms.old) }
+    ensures untaken { OnErr result (Takes V.has_taken visitor.old visitor.new []) }
 {
     let Some((value_type, payload)) = payload_of(json_leaf(field, leaf)?) else {
         return Ok(());
     };
-    let [first, second, third, fourth] = field.field_id().to_be_bytes();
-    let start = [first, second, third, fourth, Type::Json.to_code()];
-    let code = [0, value_type.to_code()];
-    terms.push_at_path(&start, joined(path), &code, payload.as_slice())?;
+    buffer.visit_below(visitor, field, value_type, payload.as_slice())?;
     Ok(())
 }

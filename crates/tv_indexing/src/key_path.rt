@@ -1,13 +1,13 @@
 //! The keys above a value of a field of JSON objects, as the terms of its values have them.
 
-ghost use Rattle.std.specs.Prelude.{◌≡◌, ◌≢◌, ◌++◌, drop, false, IfErr, length, map, OnErr, OnOk};
-ghost use Rattle.std.specs.Prelude.{take, true, ◌↔◌, IsTrue};
+ghost use Rattle.std.specs.Prelude.{◌≡◌, ◌≢◌, ◌++◌, false, IfErr, map, OnOk, true};
 ghost use Rattle.tv_base.specs.JsonPath.{expanded};
 ghost use Rattle.tv_indexing.specs.DocumentTerms.{has_zero};
 ghost use Rattle.tv_indexing.specs.JsonWalk.{separated};
 ghost use Rattle.tv_indexing.specs.declared.term_values_error.TermValuesError.TheVariants.{Memory};
 ghost use Rattle.tv_indexing.specs.declared.term_values_error.TermValuesError.TheVariants.{NulInPath};
 
+use crate::term_buffer::TermBuffer;
 use crate::term_values_error::TermValuesError;
 use std::alloc::AllocError;
 use tv_value::field::Field;
@@ -36,7 +36,7 @@ fn part_dots(bytes: &mut [u8])
 }
 
 // Appends U+0001 and the bytes of a key. Errors: memory was refused, and then a beginning of them may be appended.
-fn push_bytes(path: &mut Vec<u8>, key: &str, expand_dots: bool) -> Result<(), AllocError>
+pub(crate) fn push_bytes(path: &mut Vec<u8>, key: &str, expand_dots: bool) -> Result<(), AllocError>
     ensures { OnOk result (path.new.items ≡ path.old.items ++ separated expand_dots key.now) }
 {
     path.push(1)?;
@@ -48,11 +48,14 @@ fn push_bytes(path: &mut Vec<u8>, key: &str, expand_dots: bool) -> Result<(), Al
     Ok(())
 }
 
-// Appends a key to the path to its object. Each key stands after U+0001, the outermost too. Errors: `NulInPath` where the key has U+0000,
+// Appends a key to the keys above its object. Each key stands after U+0001, the outermost too. Errors: `NulInPath` where the key has U+0000,
 // and `Memory`.
-pub(crate) fn push_key(path: &mut Vec<u8>, at: JsonField, key: &str) -> Result<(), TermValuesError>
-    ensures made { OnOk result
-        (path.new.items ≡ path.old.items ++ separated at.expand_dots key.now) }
+pub(crate) fn push_key(
+    buffer: &mut TermBuffer,
+    at: JsonField,
+    key: &str,
+) -> Result<(), TermValuesError>
+    ensures made { OnOk result (buffer.new ≡ buffer.old ++ separated at.expand_dots key.now) }
     ensures plain { OnOk result (has_zero key.now ≡ false) }
     ensures refused { IfErr result
         (λ e. e ≢ Memory → (has_zero key.now ≡ true) × (e ≡ NulInPath at.field)) }
@@ -60,16 +63,6 @@ pub(crate) fn push_key(path: &mut Vec<u8>, at: JsonField, key: &str) -> Result<(
     if key.as_bytes().contains(&0) {
         return Err(TermValuesError::NulInPath(at.field));
     }
-    push_bytes(path, key, at.expand_dots)?;
+    buffer.push_key(key, at.expand_dots)?;
     Ok(())
-}
-
-// The path as a term has it: without the U+0001 before the outermost key.
-pub(crate) fn joined(path: &[u8]) -> &[u8]
-    ensures { result.now ≡ drop 1 path.now }
-{
-    match path.split_first() {
-        Some((_, others)) => others,
-        None => path,
-    }
 }

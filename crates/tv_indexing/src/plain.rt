@@ -1,17 +1,19 @@
 //! Terms of values of fields that aren't of JSON objects.
 
-ghost use Rattle.std.specs.Prelude.{◌≡◌, ◌≢◌, ◌++◌, ◌∷◌, Err, IfErr, IfSome, OnErr, OnOk};
+ghost use Rattle.std.specs.Prelude.{◌≡◌, ◌≢◌, ◌++◌, ◌∷◌, [], Err, IfErr, IfSome, OnErr, OnOk};
 ghost use Rattle.std.specs.Int.{to_be_bytes, w32};
 ghost use Rattle.tv_heap.specs.Value.{tree_of};
-ghost use Rattle.tv_indexing.specs.DocumentTerms.{AreAppended, plain_terms};
+ghost use Rattle.tv_indexing.specs.DocumentTerms.{plain_terms};
 ghost use Rattle.tv_indexing.specs.LeafTerms.{leaf_value, tree_value};
+ghost use Rattle.tv_indexing.specs.Visits.{Takes, TakesAll};
 ghost use Rattle.tv_indexing.specs.declared.term_values_error.TermValuesError.TheVariants.{Memory};
 ghost use Rattle.tv_term.specs.Key.{Fits};
 ghost use Rattle.tv_value.specs.Lent.{leaf_of};
 
 use crate::payload::{Payload, payload_of};
-use crate::term_list::TermList;
+use crate::term_buffer::TermBuffer;
 use crate::term_values_error::TermValuesError;
+use crate::visit::TermVisitor;
 use tv_heap::value::CompactDocValue;
 use tv_options::Type;
 use tv_value::field::Field;
@@ -30,21 +32,21 @@ fn number_term(field: Field, code: u8, number: [u8; 8]) -> [u8; 13]
     ]
 }
 
-// Appends the term of a value without children of a field of this type.
+// Gives the visitor the term of a value without children of a field of this type. The keys in the buffer are lost.
 #[inline(always)]
-pub(crate) fn push_leaf(
-    terms: &mut TermList,
+pub(crate) fn visit_leaf<V: TermVisitor>(
+    visitor: &mut V,
+    buffer: &mut TermBuffer,
     field: Field,
     wanted: Type,
     leaf: ReferenceValueLeaf<'_>,
 ) -> Result<(), TermValuesError>
-    ensures made { OnOk result
-        (AreAppended terms.old terms.new
+    ensures made { OnOk result (TakesAll V.has_taken visitor.old visitor.new
         (plain_terms field wanted (leaf_value (leaf_of leaf.entry)))) }
     ensures refused { IfErr result
         (λ e. e ≢ Memory → plain_terms field wanted (leaf_value (leaf_of leaf.entry)) ≡ Err e) }
     ensures fits { IfSome (leaf_value (leaf_of leaf.entry)) Fits }
-    ensures unchanged { OnErr result (terms.new ≡ terms.old) }
+    ensures untaken { OnErr result (Takes V.has_taken visitor.old visitor.new []) }
 {
     let Some((value_type, payload)) = payload_of(leaf) else {
         return Err(TermValuesError::WrongType(field));
@@ -52,31 +54,30 @@ pub(crate) fn push_leaf(
     if value_type.to_code() != wanted.to_code() {
         return Err(TermValuesError::WrongType(field));
     }
-    let code = value_type.to_code();
     if let Payload::Eight(number) = payload {
-        terms.push_whole(&number_term(field, code, number))?;
+        visitor.visit(&number_term(field, value_type.to_code(), number))?;
         return Ok(());
     }
-    let [first, second, third, fourth] = field.field_id().to_be_bytes();
-    terms.push(&[first, second, third, fourth, code], payload.as_slice())?;
+    buffer.visit_plain(visitor, field, value_type, payload.as_slice())?;
     Ok(())
 }
 
-// Appends the term of a value of a field of this type, which isn't that of JSON objects.
-pub(crate) fn push_plain(
-    terms: &mut TermList,
+// Gives the visitor the term of a value of a field of this type, which isn't that of JSON objects. The keys in the buffer are lost.
+pub(crate) fn visit_value<V: TermVisitor>(
+    visitor: &mut V,
+    buffer: &mut TermBuffer,
     field: Field,
     wanted: Type,
     value: CompactDocValue<'_>,
 ) -> Result<(), TermValuesError>
-    ensures made { OnOk result
-        (AreAppended terms.old terms.new (plain_terms field wanted (tree_value (tree_of value.entry)))) }
+    ensures made { OnOk result (TakesAll V.has_taken visitor.old visitor.new
+        (plain_terms field wanted (tree_value (tree_of value.entry)))) }
     ensures refused { IfErr result
         (λ e. e ≢ Memory → plain_terms field wanted (tree_value (tree_of value.entry)) ≡ Err e) }
-    ensures unchanged { OnErr result (terms.new ≡ terms.old) }
+    ensures untaken { OnErr result (Takes V.has_taken visitor.old visitor.new []) }
 {
     match value.as_value() {
-        ReferenceValue::Leaf(leaf) => push_leaf(terms, field, wanted, leaf),
+        ReferenceValue::Leaf(leaf) => visit_leaf(visitor, buffer, field, wanted, leaf),
         ReferenceValue::Array(_) | ReferenceValue::Object(_) => {
             Err(TermValuesError::WrongType(field))
         }

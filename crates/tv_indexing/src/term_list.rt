@@ -8,9 +8,10 @@ ghost use Rattle.std.specs.List.Sorted.{IsPermutation, IsSorted, IsSortedByKey};
 ghost use Rattle.std.specs.List.Sorted.{IsStrictlySortedBy};
 ghost use Rattle.std.specs.Option.{option_copied};
 ghost use Rattle.std.specs.Ordering.{nat_cmp};
-ghost use Rattle.tv_indexing.specs.TermPlaces.{bytes_at, end_of, joined_parts, place};
+ghost use Rattle.tv_indexing.specs.TermPlaces.{bytes_at, end_of, place};
 ghost use Rattle.tv_term.specs.Making.{OnlyMemory};
 
+use crate::visit::TermVisitor;
 use std::alloc::{AllocError, Global};
 use std::cmp::Ordering;
 use std::fmt;
@@ -168,60 +169,6 @@ impl TermList {
         self.dedup();
     }
 
-    // Appends a term: the field's number and the code of the value's type, and the value. Errors: memory was refused, and then the list is
-    // as it was.
-    pub(crate) fn push<'p>(&mut self, start: &'p [u8], payload: &'p [u8]) -> Result<(), AllocError>
-        requires { 5 ≤ length start.now }
-        ensures made { OnOk result (self.new ≡ self.old ++ (start.now ++ payload.now) ∷ []) }
-        ensures unchanged { OnErr result (self.new ≡ self.old) }
-    {
-        self.push_parts(&[start, payload])
-    }
-
-    // Appends a term that is given whole. Errors: memory was refused, and then the list is as it was.
-    #[inline(always)]
-    pub(crate) fn push_whole(&mut self, term: &[u8]) -> Result<(), AllocError>
-        requires { 5 ≤ length term.now }
-        ensures made { OnOk result (self.new ≡ self.old ++ term.now ∷ []) }
-        ensures unchanged { OnErr result (self.new ≡ self.old) }
-    {
-        self.push_parts(&[term])
-    }
-
-    // Appends a term at a path: how it starts, the path, the code of the value's type, and the value. Errors: memory was refused, and then the
-    // list is as it was.
-    pub(crate) fn push_at_path<'p>(
-        &mut self,
-        start: &'p [u8],
-        path: &'p [u8],
-        code: &'p [u8],
-        payload: &'p [u8],
-    ) -> Result<(), AllocError>
-        requires { 5 ≤ length start.now }
-        ensures made { OnOk result
-            (self.new ≡ self.old ++ (start.now ++ (path.now ++ (code.now ++ payload.now))) ∷ []) }
-        ensures unchanged { OnErr result (self.new ≡ self.old) }
-    {
-        self.push_parts(&[start, path, code, payload])
-    }
-
-    // Appends a term that is given in parts. Errors: memory was refused, and then the list is as it was.
-    #[inline(always)]
-    fn push_parts(&mut self, parts: &[&[u8]]) -> Result<(), AllocError>
-        requires { 5 ≤ length (joined_parts parts.now) }
-        ensures made { OnOk result (self.new ≡ self.old ++ joined_parts parts.now ∷ []) }
-        ensures unchanged { OnErr result (self.new ≡ self.old) }
-    {
-        let start = self.bytes.len();
-        match append(&mut self.bytes, &mut self.places, parts) {
-            Ok(()) => Ok(()),
-            Err(error) => {
-                self.bytes.truncate(start);
-                Err(error)
-            }
-        }
-    }
-
     // Takes the terms from this place on off the list. The bytes of those that were appended since the last `sort` or `dedup` go too.
     pub(crate) fn truncate(&mut self, len: usize)
         requires { len ≤ length self.old }
@@ -231,6 +178,29 @@ impl TermList {
         self.moved.len = self.moved.len.min(len);
         let end = end_of(self.moved, self.places.as_slice());
         self.bytes.truncate(end);
+    }
+}
+
+impl TermVisitor for TermList {
+    ghost use Rattle.std.specs.Prelude.{◌≡◌, ◌++◌};
+
+    ghost has_taken = { λ start list terms. list ≡ start ++ terms };
+
+    /// Appends a term, which has at least five bytes. Errors: memory was refused, and then the list is as it was.
+    #[inline(always)]
+    fn visit(&mut self, term: &[u8]) -> Result<(), AllocError>
+        requires { 5 ≤ length term.now }
+        ensures made { OnOk result (self.new ≡ self.old ++ term.now ∷ []) }
+        ensures unchanged { OnErr result (self.new ≡ self.old) }
+    {
+        let start = self.bytes.len();
+        match append(&mut self.bytes, &mut self.places, term) {
+            Ok(()) => Ok(()),
+            Err(error) => {
+                self.bytes.truncate(start);
+                Err(error)
+            }
+        }
     }
 }
 
@@ -290,24 +260,17 @@ fn dedup_places(bytes: &[u8], places: &mut Vec<TermPlace>)
     places.dedup_by(|later, kept| are_equal(bytes, *later, *kept));
 }
 
-// Appends the parts, and the place where they stand. Errors: memory was refused, and then a beginning of the parts may be appended, and
-// no place.
+// Appends the bytes of a term, and the place where they stand. Errors: memory was refused, and then the bytes may be appended, and no place.
 #[inline(always)]
-fn append(
-    bytes: &mut Vec<u8>,
-    places: &mut Vec<TermPlace>,
-    parts: &[&[u8]],
-) -> Result<(), AllocError>
-    ensures bytes { OnOk result (bytes.new.items ≡ bytes.old.items ++ joined_parts parts.now) }
+fn append(bytes: &mut Vec<u8>, places: &mut Vec<TermPlace>, term: &[u8]) -> Result<(), AllocError>
+    ensures bytes { OnOk result (bytes.new.items ≡ bytes.old.items ++ term.now) }
     ensures place { OnOk result (places.new.items
         ≡ places.old.items ++ place (length bytes.old.items) (length bytes.new.items) ∷ []) }
     ensures before { take (length bytes.old.items) bytes.new.items ≡ bytes.old.items }
     ensures places { OnErr result (places.new.items ≡ places.old.items) }
 {
     let start = bytes.len();
-    for part in parts {
-        bytes.extend_from_slice(part)?;
-    }
+    bytes.extend_from_slice(term)?;
     let end = bytes.len();
     places.push(TermPlace { start, end })?;
     Ok(())

@@ -6,9 +6,9 @@ ghost use Rattle.tv_base.specs.JsonPath.{joined_path};
 ghost use Rattle.tv_date.specs.Rfc3339.{rfc};
 ghost use Rattle.tv_field.specs.JsonTable.{truth_in};
 ghost use Rattle.tv_format.specs.Tree.{Leaf};
-ghost use Rattle.tv_indexing.specs.DocumentTerms.{AreAppended};
+ghost use Rattle.tv_indexing.specs.DocumentTerms.{AreAppended, plain_terms};
 ghost use Rattle.tv_indexing.specs.JsonWalk.{Extends};
-ghost use Rattle.tv_indexing.specs.LeafTerms.{json_value};
+ghost use Rattle.tv_indexing.specs.LeafTerms.{json_value, leaf_value};
 ghost use Rattle.tv_indexing.specs.TextTerms.{TermsBelow, TermOfText, AnswersText, TermsInField};
 ghost use Rattle.tv_indexing.specs.TextTerms.{AppendsAnswer, WritesLeaves, WritesNumber};
 ghost use Rattle.tv_indexing.specs.TextTerms.{date_written_in, leaves_terms, listed};
@@ -18,9 +18,10 @@ ghost use Rattle.tv_term.specs.Key.{Fits};
 ghost use Rattle.tv_value.specs.Lent.{leaf_of};
 
 use crate::indexed_field::indexed_field;
-use crate::json_leaf::push_json_leaf;
+use crate::json_leaf::visit_json_leaf;
 use crate::key_path::JsonField;
-use crate::plain::push_leaf;
+use crate::plain::visit_leaf;
+use crate::term_buffer::TermBuffer;
 use crate::term_list::TermList;
 use crate::term_values_error::TermValuesError;
 use crate::text_terms_error::{TextTermsError, wrong_text};
@@ -29,6 +30,7 @@ use tv_base::push_joined_json_path;
 use tv_date::DateTime;
 use tv_field::field_type::FieldType;
 use tv_field::json_value::{JsonRefusal, JsonScratch, lend_text};
+use tv_options::Type;
 use tv_schema::Schema;
 use tv_value::field::Field;
 use tv_value::leaf::ReferenceValueLeaf;
@@ -46,22 +48,23 @@ pub(crate) fn number_written(text: &str) -> Option<ReferenceValueLeaf<'static>>
     }
 }
 
-// Appends the term of a value in a JSON value, if there is one, below these keys.
+// Appends the term of a value in a JSON value, if there is one, below the keys in the buffer.
 fn push_written(
     terms: &mut TermList,
+    buffer: &mut TermBuffer,
     field: Field,
-    path: &[u8],
     leaf: Option<ReferenceValueLeaf<'_>>,
 ) -> Result<(), TermValuesError>
     ensures made { OnOk result (AreAppended terms.old terms.new
-        (leaves_terms field (drop 1 path.now) (listed (option_map leaf_of leaf.entry)))) }
+        (leaves_terms field (drop 1 buffer.old) (listed (option_map leaf_of leaf.entry)))) }
     ensures refused { IfErr result (λ e. e ≢ values.Memory
-        → leaves_terms field (drop 1 path.now) (listed (option_map leaf_of leaf.entry)) ≡ Err e) }
+        → leaves_terms field (drop 1 buffer.old) (listed (option_map leaf_of leaf.entry)) ≡ Err e) }
+    ensures keys { OnOk result (buffer.new ≡ buffer.old) }
     ensures fits { IfSome (option_map leaf_of leaf.entry) (λ l. IfSome (json_value l) Fits) }
     ensures unchanged { OnErr result (terms.new ≡ terms.old) }
 {
     match leaf {
-        Some(leaf) => push_json_leaf(terms, field, path, leaf),
+        Some(leaf) => visit_json_leaf(terms, buffer, field, leaf),
         None => Ok(()),
     }
 }
@@ -86,22 +89,23 @@ pub(crate) fn date_written(text: &str) -> Option<ReferenceValueLeaf<'static>>
     }
 }
 
-// Appends the terms of the values that a text writes in a JSON value, below these keys. After an error a beginning of them may be appended.
+// Appends the terms of the values that a text writes in a JSON value, below the keys in the buffer. After an error a beginning of them may be
+// appended.
 fn push_all_written(
     terms: &mut TermList,
+    buffer: &mut TermBuffer,
     field: Field,
-    path: &[u8],
     text: &str,
 ) -> Result<(), TermValuesError>
     ensures made { OnOk result ((leaves : List Leaf) × WritesLeaves text.now leaves
         × AllByRecursion (λ l. IfSome (json_value l) Fits) leaves
-        × AreAppended terms.old terms.new (leaves_terms field (drop 1 path.now) leaves)) }
+        × AreAppended terms.old terms.new (leaves_terms field (drop 1 buffer.old) leaves)) }
     ensures kept { OnErr result (Extends terms.old terms.new) }
 {
-    push_written(terms, field, path, Some(ReferenceValueLeaf::Str(text)))?;
-    push_written(terms, field, path, number_written(text))?;
-    push_written(terms, field, path, truth_written(text))?;
-    push_written(terms, field, path, date_written(text))
+    push_written(terms, buffer, field, Some(ReferenceValueLeaf::Str(text)))?;
+    push_written(terms, buffer, field, number_written(text))?;
+    push_written(terms, buffer, field, truth_written(text))?;
+    push_written(terms, buffer, field, date_written(text))
 }
 
 // Appends the terms of a text at a path below a field of JSON objects. After an error a beginning of them may be appended.
@@ -125,12 +129,34 @@ fn push_text_below(
         return Err(TextTermsError::NulInPath(at.field));
     }
     let mut keys = String::new(alloc);
-    keys.push('\u{1}')?;
     push_joined_json_path(path, at.expand_dots, &mut keys)?;
-    match push_all_written(terms, at.field, keys.as_bytes(), text) {
+    let mut buffer = TermBuffer::new(alloc);
+    buffer.push_key(keys.as_str(), false)?;
+    match push_all_written(terms, &mut buffer, at.field, text) {
         Ok(()) => Ok(()),
         Err(_) => Err(TextTermsError::Memory),
     }
+}
+
+// Appends the term of a value without children of a field of this type.
+fn push_leaf(
+    alloc: Global,
+    terms: &mut TermList,
+    field: Field,
+    wanted: Type,
+    leaf: ReferenceValueLeaf<'_>,
+) -> Result<(), TermValuesError>
+    ensures made { OnOk result
+        (AreAppended terms.old terms.new
+        (plain_terms field wanted (leaf_value (leaf_of leaf.entry)))) }
+    ensures refused { IfErr result
+        (λ e. e ≢ values.Memory
+        → plain_terms field wanted (leaf_value (leaf_of leaf.entry)) ≡ Err e) }
+    ensures fits { IfSome (leaf_value (leaf_of leaf.entry)) Fits }
+    ensures unchanged { OnErr result (terms.new ≡ terms.old) }
+{
+    let mut buffer = TermBuffer::new(alloc);
+    visit_leaf(terms, &mut buffer, field, wanted, leaf)
 }
 
 // Appends the term of a text in a field that isn't of JSON objects.
@@ -150,7 +176,7 @@ fn push_plain_text(
     let mut scratch = JsonScratch::new(alloc);
     let value_type = field_type.value_type();
     match lend_text(field_type, text, &mut scratch) {
-        Ok(leaf) => match push_leaf(terms, field, value_type, leaf) {
+        Ok(leaf) => match push_leaf(alloc, terms, field, value_type, leaf) {
             Ok(()) => Ok(()),
             Err(_) => Err(TextTermsError::Memory),
         },

@@ -3,4 +3,5 @@ mod Parsing
 mod Naming
 mod Wanting
 mod Running
+pub mod Telling
 mod Reading

@@ -1,7 +1,12 @@
 -- Which terms match a query.
-use Rattle.std.specs.Prelude.{◌≡◌, ◌⊎◌, ◌↔◌, ◌&&◌, ◌||◌, ℕ, List, [], ◌∷◌, ◌++◌, Bool, not, IsTrue}
+--
+-- The words of the public contract:
+-- `Matches`: the terms of a document match the query.
+-- `HasTaken`: the matcher holds of each clause of its query whether it wants one of these terms.
+use Rattle.std.specs.Prelude.{◌≡◌, ◌⊎◌, ◌↔◌, ◌&&◌, ◌||◌, ℕ, List, [], ◌∷◌, ◌++◌, Bool, false, not, IsTrue, Some, get_or, slice_get}
 use Rattle.tv_query.specs.Grammar.{Tree, both, either, negation, selecting}
-use Rattle.tv_query.specs.Selections.{HasWanted}
+use Rattle.tv_query.specs.Selections.{HasWanted, IsWanted}
+use Rattle.tv_query.specs.declared.matching.QueryMatcher.{QueryMatcher}
 use Rattle.tv_query.specs.declared.query.Step.{Step}
 use Rattle.tv_query.specs.declared.query.Step.TheVariants as steps
 
@@ -12,6 +17,18 @@ Matches terms (negation tree) = ¬ Matches terms tree
 Matches terms (both left right) = Matches terms left × Matches terms right
 Matches terms (either left right) = Matches terms left ⊎ Matches terms right
 
+-- of a clause it is told whether it wants one of the terms
+abbrev pub IsTold : List (List ℕ) → Step → Bool → Type 0
+IsTold terms (steps.Clause selection) told = IsTrue told ↔ HasWanted terms selection
+IsTold terms step told = Unit {0}
+
+-- so it is of each step, by what stands at its place; past the end of the list that is `false`
+abbrev pub AreTold : List (List ℕ) → List Step → List Bool → Type 0
+AreTold terms query told = (k : ℕ) (step : Step) → slice_get query k ≡ Some step → IsTold terms step (get_or told k false)
+
+abbrev pub HasTaken : List (List ℕ) → QueryMatcher → Type 0
+HasTaken terms matcher = AreTold terms matcher.query.now.steps.items matcher.wanted.items
+
 -- ---- for private clauses
 
 -- the truth of a step: of a clause whether it wants one of the terms, else that of the last truths, which are taken off
@@ -20,3 +37,8 @@ IsTruthOf terms (steps.Clause selection) old new truth = (new ≡ old) × (IsTru
 IsTruthOf terms steps.Not old new truth = (before : List Bool) (a : Bool) → old ≡ before ++ a ∷ [] → (new ≡ before) × (truth ≡ not a)
 IsTruthOf terms steps.And old new truth = (before : List Bool) (a b : Bool) → old ≡ before ++ a ∷ b ∷ [] → (new ≡ before) × (truth ≡ (a && b))
 IsTruthOf terms steps.Or old new truth = (before : List Bool) (a b : Bool) → old ≡ before ++ a ∷ b ∷ [] → (new ≡ before) × (truth ≡ (a || b))
+
+-- of a clause it was told, and is now told of this term too
+abbrev pub IsTested : List ℕ → Step → Bool → Bool → Type 0
+IsTested term (steps.Clause selection) before after = IsTrue after ↔ (IsTrue before ⊎ IsWanted selection term)
+IsTested term step before after = Unit {0}

@@ -8,7 +8,7 @@ pub mod query_error;
 pub mod selection;
 pub mod token;
 
-pub use matching::QueryStack;
+pub use matching::QueryMatcher;
 pub use query::Query;
 pub use query_error::{QueryError, QueryReason};
 pub use selection::Selection;

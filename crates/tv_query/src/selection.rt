@@ -6,7 +6,7 @@ ghost use Rattle.std.specs.List.{Any, Contains};
 ghost use Rattle.std.specs.Option.{option_map};
 ghost use Rattle.tv_base.specs.Facet.{parse};
 ghost use Rattle.tv_indexing.specs.TextTerms.{AnswersText};
-ghost use Rattle.tv_query.specs.Selections.{AreBelow, AreOfFirst, HasWanted, IsOfPath, IsWanted};
+ghost use Rattle.tv_query.specs.Selections.{AreBelow, AreOfFirst, IsOfPath, IsWanted};
 ghost use Rattle.tv_term.specs.Range.{HasTerms, IsBelowFacet, IsIn};
 ghost use Rattle.tv_query.specs.Selections.{RefusesClause, Selects, field_at, has_prefixes};
 ghost use Rattle.tv_query.specs.Selections.{is_of_facets, refuses_prefixes};
@@ -304,17 +304,5 @@ impl Selection {
         ensures { IsTrue result ↔ IsWanted self.now term.now }
     {
         self.has_exact(term) || self.has_range(term)
-    }
-
-    /// Whether one of these terms is wanted.
-    pub fn is_in(&self, terms: &TermList) -> bool
-        ensures { IsTrue result ↔ HasWanted terms.now self.now }
-    {
-        for term in terms.iter() {
-            if self.contains(term) {
-                return true;
-            }
-        }
-        false
     }
 }

@@ -54,6 +54,8 @@ pub enum Call {
     BlockWithin,
     /// From a document to the terms of its values.
     TermValues,
+    /// The same, one after the other.
+    VisitTerms,
     /// From stored bytes to a document, within a limit of depth.
     ReadWithin,
     /// From a document to values by the names of their fields.
@@ -102,6 +104,7 @@ impl Call {
             Call::ReadFields => "read fields",
             Call::BlockWithin => "block within",
             Call::TermValues => "term values",
+            Call::VisitTerms => "visit terms",
             Call::ReadWithin => "read within",
             Call::Name => "name",
             Call::Copy => "copy",
@@ -154,6 +157,7 @@ impl Call {
             Call::ReadFields => nested::read_chosen(alloc, sample),
             Call::BlockWithin => nested::block_within(alloc, sample),
             Call::TermValues => nested::list_terms(alloc, sample),
+            Call::VisitTerms => nested::visit_each_term(alloc, sample),
             Call::Run => many::run_lines(alloc, sample),
             Call::ReadBlock => many::read_block(alloc, sample),
             Call::OrderTerms => many::order_terms(alloc, sample),

@@ -3,13 +3,13 @@
 use crate::growth::sample::Sample;
 use crate::layer::decoded;
 use anyhow::{Context, Result, anyhow};
-use std::alloc::Global;
+use std::alloc::{AllocError, Global};
 use tantivy_schema::common::{SliceSource, VecSink};
 use tantivy_schema::schema::document::{
     BinaryValueSerializer, CompactDoc, CompactDocValue, CopyError, DeserializeError, Document,
     SerializeError, StoreReader, TreeBuilder, is_same, push_json, to_json_value,
 };
-use tantivy_schema::schema::{Field, OwnedValue, TermList, term_values};
+use tantivy_schema::schema::{Field, OwnedValue, TermList, TermVisitor, term_values, visit_terms};
 use tantivy_schema::store::{
     BlockReader, DocStoreVersion, LimitedReadError, ReadLimit, ReadLimits, read_document_into,
     read_document_within, read_fields, skip_document,
@@ -124,6 +124,31 @@ pub fn list_terms(alloc: Global, sample: &Sample) -> Result<usize> {
     let mut terms = TermList::new(alloc);
     match term_values(alloc, &sample.schema, &sample.document, &mut terms) {
         Ok(()) => Ok(terms.len()),
+        Err(error) => Err(anyhow!("{error}")),
+    }
+}
+
+// How many terms were taken.
+#[derive(Drop)]
+struct TermCount {
+    terms: usize,
+}
+
+impl TermVisitor for TermCount {
+    // Nothing is said of the terms.
+    ghost has_taken = { λ start now terms. Unit {0} };
+
+    fn visit(&mut self, _term: &[u8]) -> Result<(), AllocError> {
+        self.terms = self.terms.saturating_add(1);
+        Ok(())
+    }
+}
+
+/// Visits the terms of the document's values. Gives how many there are.
+pub fn visit_each_term(alloc: Global, sample: &Sample) -> Result<usize> {
+    let mut count = TermCount { terms: 0 };
+    match visit_terms(alloc, &sample.schema, None, &sample.document, &mut count) {
+        Ok(()) => Ok(count.terms),
         Err(error) => Err(anyhow!("{error}")),
     }
 }

@@ -165,9 +165,13 @@ fn push_json(json: &mut String, shape: Shape, count: u32) -> Result<()> {
         Shape::Items => ("{\"tree\":{\"items\":[", "]}}"),
         Shape::Text => ("{\"tree\":{\"text\":\"", "\"}}"),
         Shape::Fields => ("{", "}"),
+        Shape::Keyed => ("{\"tree\":{\"", "]}}"),
         _ => ("{\"tree\":{", "}}"),
     };
     json.push_str(start)?;
+    if matches!(shape, Shape::Keyed) {
+        push_key(json, count)?;
+    }
     for number in 0..count {
         if number > 0 && !matches!(shape, Shape::Text) {
             json.push_str(",")?;
@@ -176,6 +180,14 @@ fn push_json(json: &mut String, shape: Shape, count: u32) -> Result<()> {
     }
     json.push_str(end)?;
     Ok(())
+}
+
+// The rest of a key of this many letters, and the beginning of the array below it.
+fn push_key(json: &mut String, count: u32) -> Result<()> {
+    for _ in 0..count {
+        json.push_str("k")?;
+    }
+    Ok(json.push_str("\":[")?)
 }
 
 // One of the many.

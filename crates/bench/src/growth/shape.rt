@@ -33,11 +33,13 @@ pub enum Shape {
     Terms,
     /// Facets.
     Facets,
+    /// Letters of a key, and numbers below it.
+    Keyed,
 }
 
 impl Shape {
     // The shapes, each after the name under which it is asked for.
-    const NAMED: [(&'static str, Shape); 14] = [
+    const NAMED: [(&'static str, Shape); 15] = [
         ("values", Shape::Values),
         ("items", Shape::Items),
         ("rising", Shape::Rising),
@@ -52,6 +54,7 @@ impl Shape {
         ("documents", Shape::Documents),
         ("terms", Shape::Terms),
         ("facets", Shape::Facets),
+        ("keyed", Shape::Keyed),
     ];
 
     /// The shape of this name.
@@ -112,6 +115,7 @@ impl Shape {
             Shape::Documents => &[Call::ReadBlock],
             Shape::Terms => &[Call::OrderTerms],
             Shape::Facets => &[Call::CountFacets],
+            Shape::Keyed => &[Call::VisitTerms],
             Shape::Items => &[
                 Call::Parse,
                 Call::Read,

@@ -1,13 +1,14 @@
 //! Terms of documents, against bytes by hand: the field in four bytes, the highest first, the letter of the type, and the value.
 
-use std::alloc::Global;
+use std::alloc::{AllocError, Global};
 use std::net::Ipv6Addr;
 use std::test::Fail;
 use tantivy_schema::DateTime;
 use tantivy_schema::schema::document::{ReferenceValueLeaf, TreeBuilder};
 use tantivy_schema::schema::{
     Facet, Field, INDEXED, JsonObjectOptions, STORED, Schema, SchemaBuilder, SchemaError, TEXT,
-    TantivyDocument, TermList, TermValuesError, TextOptions, term_values,
+    TantivyDocument, TermList, TermValuesError, TermVisitor, TextOptions, is_among, term_values,
+    term_values_of_fields, visit_terms,
 };
 use tantivy_schema::tokenizer::{PreTokenizedString, Token};
 
@@ -154,6 +155,67 @@ fn json_values_have_terms_behind_paths(rt: HostRuntime) -> Result<(), Fail> {
         b"\0\0\0\x08j\0i\xff\xff\xff\xff\xff\xff\xff\xff",
     ];
     assert!(rt; are_terms(&terms, &wanted));
+    Ok(())
+}
+
+// Compares the terms that it takes with those of a list.
+struct Compared<'t> {
+    wanted: &'t TermList,
+    taken: usize,
+    is_same: bool,
+}
+
+impl<'t> Drop for Compared<'t> {
+    fn drop(self) {
+        let Compared {
+            wanted: _,
+            taken: _,
+            is_same: _,
+        } = self;
+    }
+}
+
+impl<'t> TermVisitor for Compared<'t> {
+    // Nothing is said of what it holds.
+    ghost has_taken = { λ start now terms. Unit {0} };
+
+    fn visit(&mut self, term: &[u8]) -> Result<(), AllocError> {
+        self.is_same = self.is_same && self.wanted.get(self.taken) == Some(term);
+        self.taken = self.taken.saturating_add(1);
+        Ok(())
+    }
+}
+
+// Whether the terms that are visited, of these fields or of all, are those of the list.
+fn are_visited(
+    alloc: Global,
+    fields: Option<&[Field]>,
+    document: &TantivyDocument,
+    wanted: &TermList,
+) -> Result<bool, Fail> {
+    let schema = schema(alloc)?;
+    let mut compared = Compared {
+        wanted,
+        taken: 0,
+        is_same: true,
+    };
+    visit_terms(alloc, &schema, fields, document, &mut compared)?;
+    Ok(compared.is_same && compared.taken == wanted.len())
+}
+
+#[test]
+fn terms_are_visited_as_they_are_listed(rt: HostRuntime) -> Result<(), Fail> {
+    let alloc = rt.alloc();
+    let first = each_type(alloc)?;
+    let second = with_paths(alloc)?;
+    assert!(rt; are_visited(alloc, None, &first, &terms_of(alloc, &first)?)?);
+    assert!(rt; are_visited(alloc, None, &second, &terms_of(alloc, &second)?)?);
+    let fields = [field(8), field(3)];
+    let mut terms = TermList::new(alloc);
+    term_values_of_fields(alloc, &schema(alloc)?, &fields, &second, &mut terms)?;
+    assert!(rt; terms.len() == 6 && is_among(&fields, field(3)) && !is_among(&fields, field(9)));
+    assert!(rt; are_visited(alloc, Some(&fields), &second, &terms)?);
+    assert!(rt; !are_visited(alloc, None, &second, &terms)?);
     Ok(())
 }
 

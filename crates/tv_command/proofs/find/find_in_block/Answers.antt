@@ -5,6 +5,7 @@ use Rattle.tv_command.proofs.Prints.{counts_sink, not_source}
 use Rattle.tv_command.proofs.Finds.{few_more, found_all, found_left, found_next, found_none, found_stops, found_untold, one_counted}
 use Rattle.tv_command.specs.declared.work_error.WorkError.TheVariants as errors
 use Rattle.tv_doc.specs.Document.{document_of}
+use Rattle.tv_query.specs.declared.query.Query.{Query}
 use Rattle.tv_reader.specs.Version.{version_of}
 use Rattle.tv_command.proofs.find.find_in_block.Goals as goal
 
@@ -13,6 +14,7 @@ loop-number-init g c = record {
   not_failed = c.new-reader.ensures.not_failed;
   version = c.new-reader.ensures.version;
   wanted = c.new-reader.ensures.wanted;
+  query = c.new-matcher.ensures.query;
   counted = c.new-reader.ensures.documents;
   documents = refl;
   few = omega arith;
@@ -35,6 +37,7 @@ loop-number-preserved g c =
       not_failed = reads.not_failed;
       version = reads.version ∙ i.version;
       wanted = reads.wanted ∙ i.wanted;
+      query = gone.query ∙ i.query;
       counted = omega (arith, reads.counted, i.counted, c.loop-number-test.true);
       documents = omega (arith, one_counted said c.loop-number.found c.counted-found.result count, i.documents);
       few = few_more said c.loop-number.found c.counted-found.result count i.few;
@@ -45,7 +48,7 @@ loop-number-preserved g c =
       sink_failures = gone.failures ∙ i.sink_failures;
       so_far = λ s k tree is. found_next (i.so_far s k tree is) (document_of c.advance.new.self.reader.document) said _ c.counted-found.result (ap version_of i.version) i.wanted (reads.one (i.source_is_known s)) (reads.fewer (i.source_is_known s) refl)
           (reads.placed (i.source_is_known s))
-          (subst (λ d. Finds c.args.schema.now tree (document_of d) (g.K.ByteSink.held c.loop-number.sink) (g.K.ByteSink.held c.find_in_document.new.sink) said) c.document-document.ensures (gone.ok (i.sink_is_known k) tree is))
+          (subst (λ d. Finds c.args.schema.now tree (document_of d) (g.K.ByteSink.held c.loop-number.sink) (g.K.ByteSink.held c.find_in_document.new.sink) said) c.document-document.ensures (gone.ok (i.sink_is_known k) tree (ap (λ (q : Query). q.steps.items) i.query ∙ is)))
           refl c.bytes-start.ensures refl count (λ told. c.in-Ok-tell.ensures.told (i.report_is_known told));
     }
 
@@ -99,7 +102,7 @@ returns-in-Err-find_in_document-clause-err g c =
     let error = c.in-Err-find_in_document.error in
     λ s k tree is.
     found_left (i.so_far s k tree is) (g.K.ByteSink.held c.find_in_document.new.sink) (document_of c.advance.new.self.reader.document) error (ap version_of i.version) i.wanted (reads.one (i.source_is_known s))
-    (subst (λ x. LeavesDocument c.args.schema.now tree (document_of x) (g.K.ByteSink.held c.loop-number.sink) (g.K.ByteSink.held c.find_in_document.new.sink) error) c.document-document.ensures (c.in-Err-find_in_document.ensures.err (i.sink_is_known k) tree is))
+    (subst (λ x. LeavesDocument c.args.schema.now tree (document_of x) (g.K.ByteSink.held c.loop-number.sink) (g.K.ByteSink.held c.find_in_document.new.sink) error) c.document-document.ensures (c.in-Err-find_in_document.ensures.err (i.sink_is_known k) tree (ap (λ (q : Query). q.steps.items) i.query ∙ is)))
 
 pub returns-in-Err-find_in_document-clause-sink_failures : goal.returns-in-Err-find_in_document-clause-sink_failures
 returns-in-Err-find_in_document-clause-sink_failures g c =
@@ -124,7 +127,7 @@ returns-in-Err-tell-clause-err g c =
     let said = c.in-Ok.outcome in
     λ s k tree is.
     found_untold (i.so_far s k tree is) (g.K.ByteSink.held c.find_in_document.new.sink) (document_of c.advance.new.self.reader.document) said c.in-Err-tell.error (ap version_of i.version) i.wanted (reads.one (i.source_is_known s))
-    (subst (λ d. Finds c.args.schema.now tree (document_of d) (g.K.ByteSink.held c.loop-number.sink) (g.K.ByteSink.held c.find_in_document.new.sink) said) c.document-document.ensures (c.in-Ok.ensures.ok (i.sink_is_known k) tree is))
+    (subst (λ d. Finds c.args.schema.now tree (document_of d) (g.K.ByteSink.held c.loop-number.sink) (g.K.ByteSink.held c.find_in_document.new.sink) said) c.document-document.ensures (c.in-Ok.ensures.ok (i.sink_is_known k) tree (ap (λ (q : Query). q.steps.items) i.query ∙ is)))
     (λ told. c.in-Err-tell.ensures.untold (i.report_is_known told))
 
 pub returns-in-Err-tell-clause-source_failures : goal.returns-in-Err-tell-clause-source_failures

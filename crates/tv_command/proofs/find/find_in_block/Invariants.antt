@@ -13,6 +13,7 @@ invariant-loop-number g l =
       not_failed : l.reader.reader.failed ≡ false;
       version : l.reader.reader.version ≡ l.fn.version;
       wanted : l.reader.wanted ≡ l.fn.wanted;
+      query : l.buffers.matcher.query.now ≡ l.query;
       counted : l.reader.documents ≡ l.number;
       documents : l.found.documents ≡ l.number;
       few : l.found.found + l.found.faulty ≤ l.found.documents;

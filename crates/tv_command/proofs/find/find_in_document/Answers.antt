@@ -6,20 +6,17 @@ use Rattle.tv_command.proofs.find.find_in_document.Goals as goal
 
 pub returns-in_err-write_line-in-Ok-true-clause-err : goal.returns-in_err-write_line-in-Ok-true-clause-err
 returns-in_err-write_line-in-Ok-true-clause-err g c = λ known tree is.
-    let made = rw c.in-None.is at (c.in_ok-fault.ensures tree is) in
-    let matches = rw c.in-Ok-true.field-0-test at (c.in-Ok-true.ensures tree is) in
+    let made = rw (c.in-Ok-true.is, c.in-Ok-true.field-0-test) at (c.in_ok-match_document.ensures.tells tree is) in
     let p = err_from_is_err_and c.from_residual-in_err-write_line-in-Ok-true.result c.from_residual-in_err-write_line-in-Ok-true.ensures.1 in
     let gone = c.in_err-write_line-in-Ok-true.ensures in
-    rw (p.1, p.2) (leaves_written c.args.schema.now tree (document_of c.args.document.now) (g.K.ByteSink.held c.args.sink.now) (g.K.ByteSink.held c.write_line.new.sink) _ c.put_named_terms.new.terms gone.errors made (matches.0 refl) (gone.err known))
+    rw (p.1, p.2) (leaves_written c.args.schema.now tree (document_of c.args.document.now) (g.K.ByteSink.held c.args.sink.now) (g.K.ByteSink.held c.write_line.new.sink) _ made.0 gone.errors made.1 (made.2.0 refl) (gone.err known))
 
 pub returns-in_ok-write_line-in-Ok-true-clause-ok : goal.returns-in_ok-write_line-in-Ok-true-clause-ok
 returns-in_ok-write_line-in-Ok-true-clause-ok g c = λ known tree is.
-    let made = rw c.in-None.is at (c.in_ok-fault.ensures tree is) in
-    let matches = rw c.in-Ok-true.field-0-test at (c.in-Ok-true.ensures tree is) in
-    (c.put_named_terms.new.terms, made, matches.0 refl, c.in_ok-write_line-in-Ok-true.ensures.ok known)
+    let made = rw (c.in-Ok-true.is, c.in-Ok-true.field-0-test) at (c.in_ok-match_document.ensures.tells tree is) in
+    (made.0, made.1, made.2.0 refl, c.in_ok-write_line-in-Ok-true.ensures.ok known)
 
 pub returns-in-Ok-false-clause-ok : goal.returns-in-Ok-false-clause-ok
 returns-in-Ok-false-clause-ok g c = λ known tree is.
-    let made = rw c.in-None.is at (c.in_ok-fault.ensures tree is) in
-    let matches = rw c.in-Ok-false.field-0-test at (c.in-Ok-false.ensures tree is) in
-    (c.put_named_terms.new.terms, made, (λ m. not_true (matches.1 m)), refl)
+    let made = rw (c.in-Ok-false.is, c.in-Ok-false.field-0-test) at (c.in_ok-match_document.ensures.tells tree is) in
+    (made.0, made.1, (λ m. not_true (made.2.1 m)), refl)

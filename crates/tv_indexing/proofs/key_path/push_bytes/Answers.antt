@@ -1,11 +1,8 @@
 use Rattle.std.proofs.Common.{◌≡◌, List, ℕ, [], ◌∷◌, ◌++◌, Bool, false, ap, ◌∙◌, sym, append_assoc, map, refl}
+use Rattle.tv_indexing.proofs.Walks.{kept_whole}
 use Rattle.tv_indexing.specs.JsonWalk.{separated}
 use Rattle.tv_base.specs.JsonPath.{expanded}
 use Rattle.tv_indexing.proofs.key_path.push_bytes.Goals as goal
-
-kept_whole : (key : List ℕ) → map (expanded false) key ≡ key
-kept_whole [] = refl
-kept_whole (b ∷ key) = ap (λ bs. b ∷ bs) (kept_whole key)
 
 added : (expand_dots : Bool) (old one two key bytes : List ℕ) → expand_dots ≡ false → one ≡ old ++ 1 ∷ [] → two ≡ one ++ bytes → bytes ≡ key → two ≡ old ++ separated expand_dots key
 added expand_dots old one two key bytes kept first second is =

@@ -1,18 +1,17 @@
-use Rattle.std.proofs.Common.{◌≡◌, ◌≢◌, true, List, ℕ, Result, Ok, Err, Some, refl, sym, ap, ◌∙◌}
+use Rattle.std.proofs.Common.{◌≡◌, ◌≢◌, true, List, [], ℕ, Result, Ok, Err, Some, refl, sym, ap, ◌∙◌}
 use Rattle.std.specs.Prelude.{OnErr, slice_get}
 use Rattle.tv_field.specs.Entry.{Entry, is_indexed_type, value_type}
 use Rattle.tv_field.specs.declared.field_type.FieldType.{FieldType}
 use Rattle.tv_field.specs.declared.field_type.FieldType.TheVariants as types
 use Rattle.tv_format.specs.Tree.{Tree}
 use Rattle.tv_heap.specs.Value.{tree_of}
-use Rattle.tv_indexing.proofs.Following.{extends_as}
 use Rattle.tv_indexing.specs.DocumentTerms.{field_terms, pair_terms, plain_terms, typed_terms}
-use Rattle.tv_indexing.specs.JsonWalk.{Extends}
+use Rattle.tv_indexing.specs.Visits.{Takes, TakesSome}
 use Rattle.tv_indexing.specs.LeafTerms.{tree_value}
 use Rattle.tv_options.specs.declared.own_part.DotExpansion.{DotExpansion}
 use Rattle.tv_options.specs.declared.textual_options.TextualOptions.{TextualOptions}
 use Rattle.tv_value.specs.declared.field.Field.{Field}
-use Rattle.tv_indexing.proofs.document.push_value.Goals as goal
+use Rattle.tv_indexing.proofs.document.visit_field.Goals as goal
 
 plain_type : (field : Field) (type : FieldType) (tree : Tree) → ((options : TextualOptions DotExpansion) → type ≢ types.JsonObject options) → typed_terms field type tree ≡ plain_terms field (value_type type) (tree_value tree)
 plain_type field (types.Str options) tree plain = refl
@@ -31,12 +30,12 @@ plain_pair schema field tree found type at is indexed plain =
     let known : is_indexed_type found.field_type ≡ true = ap is_indexed_type (sym is) ∙ indexed in
     ap (λ entry. field_terms field entry tree) at ∙ rw known (ap (λ t. typed_terms field t tree) (sym is) ∙ plain_type field type tree plain)
 
-still_begins : {E : Type 0} (result : Result (Unit {0}) E) (old new : List (List ℕ)) → OnErr result (new ≡ old) → OnErr result (Extends old new)
-still_begins (Ok x) old new h = tt
-still_begins (Err e) old new h = extends_as old new h
+still_some : {V E : Type 0} (P : V → V → List (List ℕ) → Type 0) (result : Result (Unit {0}) E) (old new : V) → OnErr result (Takes P old new []) → OnErr result (TakesSome P old new)
+still_some P (Ok x) old new h = tt
+still_some P (Err e) old new h = ([], h)
 
 pub returns-in_default : goal.returns-in_default
-returns-in_default c =
+returns-in_default g c =
     let field = c.args.field in
     let tree = tree_of c.args.value in
     let type = c.field_type-field_type.result.now in
@@ -45,7 +44,7 @@ returns-in_default c =
     plain_pair c.args.schema.now field tree c.get_field_entry.result.now type c.get_field_entry.ensures c.field_type-field_type.ensures indexed (λ options is. c.in_default.not-JsonObject options is)
     ∙ ap (λ t. plain_terms field t (tree_value tree)) (sym c.value_type.ensures) in
     record {
-      made = rw pair c.push_plain.ensures.made;
-      refused = rw pair c.push_plain.ensures.refused;
-      kept = still_begins c.push_plain.result c.args.terms.now c.push_plain.new.terms c.push_plain.ensures.unchanged;
+      made = rw pair c.visit_value.ensures.made;
+      refused = rw pair c.visit_value.ensures.refused;
+      kept = still_some g.V.TermVisitor.has_taken c.visit_value.result c.args.visitor.now c.visit_value.new.visitor c.visit_value.ensures.untaken;
     }
