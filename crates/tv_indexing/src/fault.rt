@@ -12,6 +12,7 @@ use tv_doc::document::CompactDoc;
 use tv_schema::Schema;
 
 // Keeps nothing of the terms that it takes.
+#[derive(Drop)]
 struct Passing;
 
 impl TermVisitor for Passing {
