@@ -21,7 +21,8 @@ const START_LEN: usize = 5;
 // The bytes of one term after the other. The keys above a value of a field of JSON objects stand in it once, for all that is below them.
 #[derive(Drop)]
 pub(crate) struct TermBuffer {
-    // Four bytes for the field's number, and then the keys. Each stands after U+0001, in whose place the code of the type stands at the outermost one.
+    // Four bytes for the field's number, and then the keys. Each stands after U+0001; at the outermost one the code of the type may stand in
+    // its place.
     bytes: Vec<u8>,
 }
 
