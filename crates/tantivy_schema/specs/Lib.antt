@@ -1,6 +1,7 @@
 -- The definitions that public contracts are said with, for the clauses and the implementations of callers.
 
 -- sources and sinks of bytes, and what was read or written
+pub use Rattle.tv_base.specs.Buffer
 pub use Rattle.tv_base.specs.Source
 pub use Rattle.tv_base.specs.Lend
 pub use Rattle.tv_base.specs.Sink
@@ -90,6 +91,8 @@ pub use Rattle.tv_term.specs.Within as TermsWithin
 pub use Rattle.tv_term.specs.Segments
 pub use Rattle.tv_indexing.specs.LeafTerms
 pub use Rattle.tv_indexing.specs.DocumentTerms
+pub use Rattle.tv_indexing.specs.TermFault
+pub use Rattle.tv_indexing.specs.Visits
 pub use Rattle.tv_indexing.specs.IndexedField
 pub use Rattle.tv_indexing.specs.TextTerms
 pub use Rattle.tv_indexing.specs.TextRange
