@@ -92,7 +92,7 @@ pub use Rattle.tv_term.specs.Segments
 pub use Rattle.tv_indexing.specs.LeafTerms
 pub use Rattle.tv_indexing.specs.DocumentTerms
 pub use Rattle.tv_indexing.specs.TermFault
-pub use Rattle.tv_indexing.specs.Visits
+pub use Rattle.tv_indexing.specs.Visits as TermVisits
 pub use Rattle.tv_indexing.specs.IndexedField
 pub use Rattle.tv_indexing.specs.TextTerms
 pub use Rattle.tv_indexing.specs.TextRange

@@ -1,5 +1,9 @@
 -- Terms that a matcher takes, one after the other.
-use Rattle.std.proofs.Common.{◌≡◌, ◌≢◌, ◌⊎◌, ◌↔◌, ℕ, zero, suc, ◌+◌, ◌<◌, ◌≤◌, List, [], ◌∷◌, ◌++◌, length, get_or, Bool, false, IsTrue, Some, Ok, Err, append-nil, slice_get, refl, sym, subst, inl, inr, arith}
+use Rattle.std.proofs.Common.{◌≡◌, ◌≢◌, ◌⊎◌, ◌↔◌, ℕ, zero, suc, ◌+◌, ◌<◌, ◌≤◌, List, [], ◌∷◌, ◌++◌, length, get_or, Bool, false, IsTrue, Some, Ok, Err, append-nil, slice_get, set, refl, sym, ap, ◌∙◌, subst, inl, inr, arith}
+use Rattle.std.proofs.lemmas.Bool.{cases_lt}
+use Rattle.std.proofs.lemmas.Grind.{get_or-set_at}
+use Rattle.std.proofs.lemmas.List.{get_or-set_other, length-set}
+use Rattle.std.proofs.lemmas.Option.{get_or_from_slice_get}
 use Rattle.std.specs.List.{Any}
 use Rattle.tv_indexing.specs.DocumentTerms.{Terms}
 use Rattle.tv_indexing.specs.Visits.{TakesAll, TakesSome}
@@ -47,6 +51,24 @@ found_within : {X : Type 0} (xs : List X) (k : ℕ) (x : X) → slice_get xs k �
 found_within [] k x is = absurd (cc)
 found_within (y ∷ xs) zero x is = omega arith
 found_within (y ∷ xs) (suc k) x is = omega (arith, found_within xs k x is)
+
+-- one place more is
+pub tested_one : (term : List ℕ) (query : List Step) (old now : List Bool) (i : ℕ) (step : Step) (told made : Bool) → i < length now → slice_get query i ≡ Some step → told ≡ get_or now i false → IsTested term step told made → TestedTo term query old now i
+    → TestedTo term query old (set now i made) (i + 1)
+tested_one term query old now i step told made within at is tested before = (
+  length-set now i made ∙ before.0,
+  λ k s found below. elim (cases_lt k i) [
+    | inl less ↦ subst (λ (b : Bool). IsTested term s (get_or old k false) b) (sym (get_or-set_other now i k made false (λ e. omega (arith, e, less)))) (before.1 k s found less)
+    | inr more ↦
+        let e : k ≡ i = omega (arith, more, below) in
+        let same : step ≡ s = sym (get_or_from_slice_get query i step step at) ∙ ap (λ j. get_or query j step) (sym e) ∙ get_or_from_slice_get query k s step found in
+        let was : told ≡ get_or old k false = is ∙ ap (λ j. get_or now j false) (sym e) ∙ before.2 k more in
+        let first = subst (λ (x : Step). IsTested term x told made) same tested in
+        let second = subst (λ (a : Bool). IsTested term s a made) was first in
+        subst (λ (b : Bool). IsTested term s (get_or old k false) b) (sym (get_or-set_at now i k made false e within)) second
+  ],
+  λ k above. get_or-set_other now i k made false (λ e. omega (arith, e, above)) ∙ before.2 k (omega (arith, above)),
+)
 
 -- all are
 pub all_tested : (term : List ℕ) (query : List Step) (old now : List Bool) (i : ℕ) → length query ≤ i → TestedTo term query old now i → (terms : List (List ℕ)) → AreTold terms query old → AreTold (terms ++ term ∷ []) query now
