@@ -1,5 +1,7 @@
 //! `terms`.
 
+ghost use Rattle.std.specs.Prelude.{◌≤◌, length, OnOk};
+
 use crate::ending::{Ending, Failure, failed, wrong_use};
 use crate::escaped::escaped;
 use crate::faults::{Faults, refuse_unstored};
@@ -10,19 +12,26 @@ use crate::runs::{Runs, add_run, merged_all};
 use crate::term_counts::TermCounts;
 use crate::visits::{Visit, fields_within, visit_block};
 use clap::ArgMatches;
+use memchr::memchr;
 use std::alloc::{AllocError, Global};
 use std::env;
 use tantivy_schema::schema::{
-    Schema, TantivyDocument, TermList, TermValuesError, TermVisitor, text_of_term, visit_terms,
+    Schema, TantivyDocument, TermList, TermValuesError, TermVisitor, Type, text_of_term,
+    visit_terms,
 };
 use tv_command::find::DocumentOutcome;
 use tv_command::report::DocumentReport;
 use tv_query::{QueryReason, Selection, Wanted};
 
-// The terms of a document that are wanted, each time it has them.
+// How many bytes the number of a field and the code of a type have, with which a term starts.
+const START_LEN: usize = 5;
+
+// The terms of a document that are wanted, each time it has them. Those of a field of JSON objects have one path, and are kept without it.
 struct WantedTerms {
     wanted: Selection,
     terms: TermList,
+    // The term that is being kept.
+    kept: Vec<u8>,
 }
 
 impl Drop for WantedTerms {
@@ -30,8 +39,25 @@ impl Drop for WantedTerms {
         let WantedTerms {
             wanted: _,
             terms: _,
+            kept: _,
         } = self;
     }
+}
+
+// Puts a term without its path in place of what is there: what it starts with, and of a field of JSON objects what stands from U+0000 on, which
+// ends the path.
+fn put_without_path(kept: &mut Vec<u8>, term: &[u8]) -> Result<(), AllocError>
+    requires { 5 ≤ length term.now }
+    ensures { OnOk result (5 ≤ length kept.new.items) }
+{
+    let (start, rest) = term.split_at(START_LEN);
+    let path_len = match memchr(0, rest) {
+        Some(end) if start[4] == Type::Json.to_code() => end,
+        _ => 0,
+    };
+    kept.clear();
+    kept.extend_from_slice(start)?;
+    kept.extend_from_slice(&rest[path_len..])
 }
 
 impl TermVisitor for WantedTerms {
@@ -39,11 +65,11 @@ impl TermVisitor for WantedTerms {
     ghost has_taken = { λ start now terms. Unit {0} };
 
     fn visit(&mut self, term: &[u8]) -> Result<(), AllocError> {
-        if self.wanted.contains(term) {
-            self.terms.visit(term)
-        } else {
-            Ok(())
+        if !self.wanted.contains(term) {
+            return Ok(());
         }
+        put_without_path(&mut self.kept, term)?;
+        self.terms.visit(self.kept.as_slice())
     }
 }
 
@@ -256,6 +282,7 @@ fn begin(rt: &HostRuntime, given: &ArgMatches<'_>) -> Result<Counting, Failure> 
         wanted: WantedTerms {
             wanted,
             terms: TermList::new(alloc),
+            kept: Vec::new(alloc),
         },
         documents: 0,
         bytes: 0,
@@ -265,7 +292,7 @@ fn begin(rt: &HostRuntime, given: &ArgMatches<'_>) -> Result<Counting, Failure> 
     })
 }
 
-/// Prints the terms of a field in their order. Memory is kept for as many as `--memory` lets it, and for one document.
+/// Prints the terms of a field in their order. Memory is kept for as many as `--memory` lets it, and for those of one document, without their path.
 pub(crate) fn terms(rt: &HostRuntime, given: &ArgMatches<'_>) -> Result<Ending, Failure> {
     let mut counting = begin(rt, given)?;
     let wanted = fields_within(rt.alloc(), given, &[counting.wanted.wanted.field()])?;

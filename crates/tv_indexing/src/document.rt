@@ -106,6 +106,7 @@ fn visit_wanted<'a, V: TermVisitor>(
 ///
 /// One term is held at a time, and the keys above a value of a field of JSON objects once for all the values below them. So it takes memory in
 /// proportion to what the document has, however long its terms are together.
+/// No term is passed over for its length, as tantivy's indexer passes over a token of more than 65,530 bytes: that is the visitor's to do.
 ///
 /// Errors: those of `term_values`, of the named fields alone, for the first value that has one; or `Memory`, also where the visitor returns an
 /// error. After each the visitor may have taken terms of the document.

@@ -36,6 +36,7 @@ struct MovedTerms {
 ///
 /// A term that is added takes memory only where the buffer is full. `clear` keeps the buffer, so a list that serves for many documents
 /// grows to what the largest of them needs, and takes no more. `sort_dedup` makes a list of each term once and in order, as a term dictionary has them.
+/// Each term is there whole: a key above many values of a document stands in the list once for each. `visit_terms` takes no such memory.
 pub struct TermList {
     bytes: Vec<u8>,
     places: Vec<TermPlace>,
