@@ -57,7 +57,7 @@ static void test_null(void) {
     expect_refused("schema", kormaglen_schema_import_lines(NULL, NULL, 0, NULL, 0, NULL, 0), KORMAGLEN_ARGUMENT_NULL, 1);
     expect_refused("schema", kormaglen_schema_export_block(NULL, 2, NULL, 0, NULL, 0), KORMAGLEN_ARGUMENT_NULL, 1);
     expect_refused("schema", kormaglen_schema_values_of_block(NULL, bytes_of("age"), 3, 2, NULL, 0, buffer, 64), KORMAGLEN_ARGUMENT_NULL, 1);
-    expect_refused("schema", kormaglen_schema_terms_of_block(NULL, 2, NULL, 0, buffer, 64), KORMAGLEN_ARGUMENT_NULL, 1);
+    expect_refused("schema", kormaglen_schema_terms_of_block(NULL, 2, 0, NULL, 0, buffer, 64), KORMAGLEN_ARGUMENT_NULL, 1);
     expect_refused("schema", kormaglen_schema_terms_of_text(NULL, bytes_of("age"), 3, bytes_of("7"), 1, buffer, 64), KORMAGLEN_ARGUMENT_NULL, 1);
     expect_refused("schema", kormaglen_schema_ranges_of_text(NULL, bytes_of("age"), 3, bytes_of("*"), 1, buffer, 64), KORMAGLEN_ARGUMENT_NULL, 1);
     expect_refused("document", kormaglen_document_read(2, buffer, 1, NULL), KORMAGLEN_ARGUMENT_NULL, 2);
@@ -69,8 +69,8 @@ static void test_null(void) {
     expect_refused("name", kormaglen_schema_values_of_block(&schema, NULL, 3, 2, NULL, 0, buffer, 64), KORMAGLEN_ARGUMENT_NULL, 2);
     expect_refused("block", kormaglen_schema_values_of_block(&schema, bytes_of("age"), 3, 2, NULL, 1, buffer, 64), KORMAGLEN_ARGUMENT_NULL, 3);
     expect_refused("values", kormaglen_schema_values_of_block(&schema, bytes_of("age"), 3, 2, NULL, 0, NULL, 1), KORMAGLEN_ARGUMENT_NULL, 4);
-    expect_refused("block", kormaglen_schema_terms_of_block(&schema, 2, NULL, 1, buffer, 64), KORMAGLEN_ARGUMENT_NULL, 2);
-    expect_refused("terms", kormaglen_schema_terms_of_block(&schema, 2, NULL, 0, NULL, 1), KORMAGLEN_ARGUMENT_NULL, 3);
+    expect_refused("block", kormaglen_schema_terms_of_block(&schema, 2, 0, NULL, 1, buffer, 64), KORMAGLEN_ARGUMENT_NULL, 2);
+    expect_refused("terms", kormaglen_schema_terms_of_block(&schema, 2, 0, NULL, 0, NULL, 1), KORMAGLEN_ARGUMENT_NULL, 3);
     expect_refused("path", kormaglen_schema_terms_of_text(&schema, NULL, 3, bytes_of("7"), 1, buffer, 64), KORMAGLEN_ARGUMENT_NULL, 2);
     expect_refused("text", kormaglen_schema_terms_of_text(&schema, bytes_of("age"), 3, NULL, 1, buffer, 64), KORMAGLEN_ARGUMENT_NULL, 3);
     expect_refused("terms", kormaglen_schema_terms_of_text(&schema, bytes_of("age"), 3, bytes_of("7"), 1, NULL, 1), KORMAGLEN_ARGUMENT_NULL, 4);
@@ -107,7 +107,7 @@ static void test_empty(void) {
     expect("no path", kormaglen_schema_find_field(&schema, NULL, 0, &found).status == KORMAGLEN_NO_FIELD);
     expect("no name", kormaglen_schema_values_of_block(&schema, NULL, 0, 2, NULL, 0, NULL, 0).status == KORMAGLEN_NO_FIELD);
     expect("no document", kormaglen_schema_values_of_block(&schema, bytes_of("age"), 3, 2, NULL, 0, NULL, 0).status == KORMAGLEN_OK);
-    expect("no document", kormaglen_schema_terms_of_block(&schema, 2, NULL, 0, NULL, 0).status == KORMAGLEN_OK);
+    expect("no document", kormaglen_schema_terms_of_block(&schema, 2, 0, NULL, 0, NULL, 0).status == KORMAGLEN_OK);
     expect("no path", kormaglen_schema_terms_of_text(&schema, NULL, 0, NULL, 0, NULL, 0).status == KORMAGLEN_NO_FIELD);
     kormaglen_answer no_number = kormaglen_schema_terms_of_text(&schema, bytes_of("age"), 3, NULL, 0, NULL, 0);
     expect("no number", no_number.status == KORMAGLEN_BAD_QUERY && no_number.detail == KORMAGLEN_QUERY_WRONG_TYPE && no_number.place == 0);
@@ -140,8 +140,8 @@ static void test_overlap(void) {
     expect("inputs may", kormaglen_schema_terms_of_text(&closed, both, 4, both, 4, both + 4, 60).status == KORMAGLEN_CLOSED);
     expect_refused("name and values", kormaglen_schema_values_of_block(&closed, both, 4, 2, NULL, 0, both, 64), KORMAGLEN_ARGUMENT_OVERLAP, 4);
     expect_refused("block and values", kormaglen_schema_values_of_block(&closed, NULL, 0, 2, both, 4, both + 3, 60), KORMAGLEN_ARGUMENT_OVERLAP, 4);
-    expect_refused("block and terms", kormaglen_schema_terms_of_block(&closed, 2, both, 4, both + 3, 60), KORMAGLEN_ARGUMENT_OVERLAP, 3);
-    expect_refused("a handle", kormaglen_schema_terms_of_block(&shared.schema, 2, shared.bytes, 3, NULL, 0), KORMAGLEN_ARGUMENT_OVERLAP, 2);
+    expect_refused("block and terms", kormaglen_schema_terms_of_block(&closed, 2, 0, both, 4, both + 3, 60), KORMAGLEN_ARGUMENT_OVERLAP, 3);
+    expect_refused("a handle", kormaglen_schema_terms_of_block(&shared.schema, 2, 0, shared.bytes, 3, NULL, 0), KORMAGLEN_ARGUMENT_OVERLAP, 2);
     expect_refused("parent and counts", kormaglen_count_facets(both, 4, NULL, 0, both, 64), KORMAGLEN_ARGUMENT_OVERLAP, 3);
     expect_refused("pairs and counts", kormaglen_count_facets(NULL, 0, both, 4, both + 3, 60), KORMAGLEN_ARGUMENT_OVERLAP, 3);
     expect("inputs may", kormaglen_count_facets(both, 4, both, 4, both + 4, 60).status == KORMAGLEN_BAD_PAIRS);
@@ -245,7 +245,7 @@ static void test_closed(void) {
     expect("closed", kormaglen_schema_import_lines(&schema, NULL, 0, NULL, 0, NULL, 0).status == KORMAGLEN_CLOSED);
     expect("closed", kormaglen_schema_export_block(&schema, 2, NULL, 0, NULL, 0).status == KORMAGLEN_CLOSED);
     expect("closed", kormaglen_schema_values_of_block(&schema, bytes_of("age"), 3, 2, NULL, 0, buffer, 64).status == KORMAGLEN_CLOSED);
-    expect("closed", kormaglen_schema_terms_of_block(&schema, 2, NULL, 0, buffer, 64).status == KORMAGLEN_CLOSED);
+    expect("closed", kormaglen_schema_terms_of_block(&schema, 2, 0, NULL, 0, buffer, 64).status == KORMAGLEN_CLOSED);
     expect("closed", kormaglen_schema_terms_of_text(&schema, bytes_of("age"), 3, bytes_of("7"), 1, buffer, 64).status == KORMAGLEN_CLOSED);
     expect("closed", kormaglen_schema_ranges_of_text(&schema, bytes_of("age"), 3, bytes_of("*"), 1, buffer, 64).status == KORMAGLEN_CLOSED);
     expect("closed", kormaglen_document_parse(&schema, bytes_of("{}"), 2, &document).status == KORMAGLEN_CLOSED);

@@ -1,7 +1,7 @@
 //! Records: a number and the length of some bytes, and then the bytes.
 
 ghost use Rattle.std.specs.Prelude.{◌≡◌, ◌++◌, OnOk};
-ghost use Rattle.tv_blocks.specs.Records.{record_of};
+ghost use Rattle.tv_blocks.specs.Records.{numbered_record, record_of};
 
 use std::alloc::AllocError;
 
@@ -16,4 +16,18 @@ pub(crate) fn append_record(
     content.extend_from_slice(&number.to_le_bytes())?;
     content.extend_from_slice(&(bytes.len() as u64).to_le_bytes())?;
     content.extend_from_slice(bytes)
+}
+
+// Appends the number of a document in eight bytes, the lowest first, and then the record.
+pub(crate) fn append_numbered(
+    content: &mut Vec<u8>,
+    document: u64,
+    number: u64,
+    bytes: &[u8],
+) -> Result<(), AllocError>
+    ensures { OnOk result
+        (content.new.items ≡ content.old.items ++ numbered_record document number bytes.now) }
+{
+    content.extend_from_slice(&document.to_le_bytes())?;
+    append_record(content, number, bytes)
 }
