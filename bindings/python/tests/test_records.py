@@ -177,7 +177,7 @@ class Faults(unittest.TestCase):
 
     # The code of a date is 5, that of a number with a sign 2.
     FIRST = bytes.fromhex("81" "00000000" "05" "0000000000000000")
-    MIDDLE = bytes.fromhex("81" "00000000" "02" "80d6316600000000")
+    MIDDLE = bytes.fromhex("81" "00000000" "02" "c02e326600000000")
     LAST = bytes.fromhex("81" "00000000" "05" "00ca9a3b00000000")
     # Of a date the nanoseconds, from the highest byte on, with the sign turned: of 0, and of 10^9.
     TERMS = [

@@ -216,7 +216,7 @@ fn a_number_in_a_field_of_dates_is_told_between_the_others() {
 {"added":"1970-01-01T00:00:01.5Z"}"#;
     let block = schema.import_lines(lines.as_bytes()).unwrap().block;
     // The code of a date is 5, that of a number with a sign 2.
-    let stored = b"\x81\0\0\0\0\x05\0\0\0\0\0\0\0\0\x81\0\0\0\0\x02\x80\xd6\x31\x66\0\0\0\0";
+    let stored = b"\x81\0\0\0\0\x05\0\0\0\0\0\0\0\0\x81\0\0\0\0\x02\xc0\x2e\x32\x66\0\0\0\0";
     assert!(block.starts_with(stored));
     expect_fault_between(&mut schema, &block, DATES);
 }
