@@ -193,7 +193,8 @@ impl Schema {
 
     /// As [`terms_of_block`](crate::terms_of_block()), of all fields that are indexed by this schema,
     /// and also of the values in JSON objects: the terms of each document, in their order. A document
-    /// that has a value without a term by this schema has a [`TermFault`] in place of its terms.
+    /// that has a value without a term by this schema has a [`TermFault`](crate::TermFault) in place of
+    /// its terms.
     ///
     /// The library lists them at once, and a term is put together as it is asked for. So what is held is
     /// in proportion to the block, however long the keys of JSON objects are.

@@ -3,9 +3,8 @@
 
 mod common;
 
-use common::SCHEMA;
+use common::{peak, SCHEMA};
 use kormaglen::{documents, terms, Document, Schema, Version};
-use std::fs;
 use std::io::{self, Read};
 
 /// How many bytes of lines are imported.
@@ -28,41 +27,10 @@ impl Read for Lines {
     }
 }
 
-/// The most memory that this process had so far, in bytes, where the system says so.
-fn peak() -> Option<u64> {
-    let status = fs::read_to_string("/proc/self/status").ok()?;
-    let line = status.lines().find(|line| line.starts_with("VmHWM:"))?;
-    line.split_whitespace().nth(1)?.parse::<u64>().ok().map(|kib| kib << 10)
-}
-
 fn expect_little(before: u64, task: &str) {
     let more = peak().unwrap() - before;
     println!("{task}: {} KiB more", more >> 10);
     assert!(more < ROOM, "{task}: {more} bytes more");
-}
-
-/// The terms of one key over half as many numbers as it has letters. The last ones are 785 MB.
-fn expect_little_for_long_keys() {
-    let json = br#"[{"name":"j","type":"json_object",
-"options":{"stored":true,"fast":false,"indexing":{}}}]"#;
-    let mut schema = Schema::open(json).unwrap();
-    for letters in [5_000, 10_000, 20_000, 40_000] {
-        let before = peak().unwrap();
-        let key = "k".repeat(letters);
-        let numbers: Vec<String> = (0..letters / 2).map(|number| number.to_string()).collect();
-        let line = format!("{{\"j\":{{\"{key}\":[{}]}}}}", numbers.join(","));
-        let block = schema.import_lines(line.as_bytes()).unwrap().block;
-        let found = schema.terms_of_block(Version::V2, &block).unwrap();
-        // The field in four bytes, a code, the key, a zero byte, a code and a number.
-        let lens = found.map(|term| term.unwrap().bytes.len());
-        assert_eq!(lens.filter(|len| *len == 4 + 1 + letters + 1 + 1 + 8).count(), letters / 2);
-        let more = peak().unwrap() - before;
-        println!("a key of {letters} letters: {} KiB more", more >> 10);
-        assert!(
-            more < (1 << 20) + 100 * letters as u64,
-            "a key of {letters} letters: {more} bytes more"
-        );
-    }
 }
 
 #[test]
@@ -71,7 +39,6 @@ fn many_lines_and_blocks_take_little_memory() {
         println!("the system doesn't say how much memory a process takes");
         return;
     }
-    expect_little_for_long_keys();
     let mut schema = Schema::open(SCHEMA).unwrap();
     let line = b"{\"s\":\"a text of some words\",\"u\":258,\"f\":\"/first/second\"}\n".to_vec();
     let (len, mut lines, mut stored) = (line.len() as u64, 0, 0);
