@@ -231,7 +231,8 @@ impl Schema {
         version: Version,
         block: &[u8],
     ) -> Result<SchemaTerms, Refusal> {
-        let records = filled(block.len().saturating_mul(2), |terms| {
+        // A number takes 14 bytes of a block, and 37 with its term.
+        let records = filled(block.len().saturating_mul(3), |terms| {
             self.handle.terms_of_block(version.number(), block, terms)
         })?;
         Ok(SchemaTerms::new(records))
