@@ -126,23 +126,24 @@ impl TermVisitor for TermRecords {
     }
 }
 
-// Appends the record of a document that has no terms for this reason. Errors: memory was refused.
+// Appends the record of a document that has no terms for this reason. Errors: memory was refused, now or before.
 fn append_fault(
     content: &mut Vec<u8>,
     document: u64,
     error: TermValuesError,
 ) -> Result<(), AllocError>
-    ensures appended { error ≢ Memory → OnOk result
+    ensures told { OnOk result (error ≢ Memory) }
+    ensures appended { OnOk result
         (content.new.items ≡ content.old.items ++ fault_record document error) }
-    ensures told { error ≡ Memory → IfOk result (λ _. ⊥) }
 {
     let Some((refusal, field)) = refusal_of(error) else {
         return Err(AllocError);
     };
-    let mut fault = [0; 16];
-    fault[..8].copy_from_slice(&u64::from(refusal.number()).to_le_bytes());
-    fault[8..].copy_from_slice(&u64::from(field.field_id()).to_le_bytes());
-    append_numbered(content, document, NO_TERMS, &fault)
+    let fault = [
+        u64::from(refusal.number()).to_le_bytes(),
+        u64::from(field.field_id()).to_le_bytes(),
+    ];
+    append_numbered(content, document, NO_TERMS, fault.as_flattened())
 }
 
 // Appends the records of a document, which begins at this byte of its block.
