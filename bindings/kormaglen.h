@@ -104,6 +104,9 @@ enum kormaglen_document_detail {
     KORMAGLEN_DOCUMENT_NO_TERM = 18        /* a facet, bytes, an address or a pre-tokenized text stands in such a value */
 };
 
+/* With faults in kormaglen_schema_terms_of_block: in place of how many bytes a term shares, where the record is of a document without terms. */
+#define KORMAGLEN_NO_TERMS UINT64_MAX
+
 /* What became of a line: kormaglen_line_answer.status, and with KORMAGLEN_BAD_LINE kormaglen_answer.detail. */
 enum kormaglen_line_status {
     KORMAGLEN_LINE_STORED = 0,
@@ -319,12 +322,20 @@ kormaglen_answer kormaglen_schema_values_of_block(
     const uint8_t *block, size_t block_len,
     uint8_t *values, size_t values_len);
 
-/* As kormaglen_terms_of_block, of all fields that are indexed by the handle's schema, and also of the values in JSON objects: the terms of
- * each document, in their order. A document that has a value without a term by the schema is refused, as one that can't be read is.
+/* Writes the terms of the documents of a block, of version 1, 2 or 3, as kormaglen_terms_of_block, of all fields that are indexed by the
+ * handle's schema, and also of the values in JSON objects: those of each document, in their order. For each term that is three numbers in
+ * eight bytes each, the lowest first, and then bytes: the number of its document, from 0; how many of its first bytes are those of the term
+ * before it, which is 0 for the first term of a document; the length of the rest; and the rest. So what is written is in proportion to the
+ * block, however long the keys are.
+ *
+ * A document that has a value without a term by the schema is refused where with_faults is 0. Where it is not, such a document has one record:
+ * its number; KORMAGLEN_NO_TERMS; the length 16; and then 15 to 18 of kormaglen_document_detail, and the number of the field whose value
+ * has no term, in eight bytes each, the lowest first. A document that can't be read is refused in both cases.
  * Refusals: TOO_SMALL, NO_MEMORY, BAD_DOCUMENT, WRONG_VERSION, CLOSED. */
 kormaglen_answer kormaglen_schema_terms_of_block(
     kormaglen_schema *schema,
     uint32_t version,
+    uint32_t with_faults,
     const uint8_t *block, size_t block_len,
     uint8_t *terms, size_t terms_len);
 

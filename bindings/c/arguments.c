@@ -57,7 +57,7 @@ static void test_null(void) {
     expect_refused("schema", kormaglen_schema_import_lines(NULL, NULL, 0, NULL, 0, NULL, 0), KORMAGLEN_ARGUMENT_NULL, 1);
     expect_refused("schema", kormaglen_schema_export_block(NULL, 2, NULL, 0, NULL, 0), KORMAGLEN_ARGUMENT_NULL, 1);
     expect_refused("schema", kormaglen_schema_values_of_block(NULL, bytes_of("age"), 3, 2, NULL, 0, buffer, 64), KORMAGLEN_ARGUMENT_NULL, 1);
-    expect_refused("schema", kormaglen_schema_terms_of_block(NULL, 2, NULL, 0, buffer, 64), KORMAGLEN_ARGUMENT_NULL, 1);
+    expect_refused("schema", kormaglen_schema_terms_of_block(NULL, 2, 0, NULL, 0, buffer, 64), KORMAGLEN_ARGUMENT_NULL, 1);
     expect_refused("schema", kormaglen_schema_terms_of_text(NULL, bytes_of("age"), 3, bytes_of("7"), 1, buffer, 64), KORMAGLEN_ARGUMENT_NULL, 1);
     expect_refused("schema", kormaglen_schema_ranges_of_text(NULL, bytes_of("age"), 3, bytes_of("*"), 1, buffer, 64), KORMAGLEN_ARGUMENT_NULL, 1);
     expect_refused("document", kormaglen_document_read(2, buffer, 1, NULL), KORMAGLEN_ARGUMENT_NULL, 2);
@@ -69,8 +69,8 @@ static void test_null(void) {
     expect_refused("name", kormaglen_schema_values_of_block(&schema, NULL, 3, 2, NULL, 0, buffer, 64), KORMAGLEN_ARGUMENT_NULL, 2);
     expect_refused("block", kormaglen_schema_values_of_block(&schema, bytes_of("age"), 3, 2, NULL, 1, buffer, 64), KORMAGLEN_ARGUMENT_NULL, 3);
     expect_refused("values", kormaglen_schema_values_of_block(&schema, bytes_of("age"), 3, 2, NULL, 0, NULL, 1), KORMAGLEN_ARGUMENT_NULL, 4);
-    expect_refused("block", kormaglen_schema_terms_of_block(&schema, 2, NULL, 1, buffer, 64), KORMAGLEN_ARGUMENT_NULL, 2);
-    expect_refused("terms", kormaglen_schema_terms_of_block(&schema, 2, NULL, 0, NULL, 1), KORMAGLEN_ARGUMENT_NULL, 3);
+    expect_refused("block", kormaglen_schema_terms_of_block(&schema, 2, 0, NULL, 1, buffer, 64), KORMAGLEN_ARGUMENT_NULL, 2);
+    expect_refused("terms", kormaglen_schema_terms_of_block(&schema, 2, 0, NULL, 0, NULL, 1), KORMAGLEN_ARGUMENT_NULL, 3);
     expect_refused("path", kormaglen_schema_terms_of_text(&schema, NULL, 3, bytes_of("7"), 1, buffer, 64), KORMAGLEN_ARGUMENT_NULL, 2);
     expect_refused("text", kormaglen_schema_terms_of_text(&schema, bytes_of("age"), 3, NULL, 1, buffer, 64), KORMAGLEN_ARGUMENT_NULL, 3);
     expect_refused("terms", kormaglen_schema_terms_of_text(&schema, bytes_of("age"), 3, bytes_of("7"), 1, NULL, 1), KORMAGLEN_ARGUMENT_NULL, 4);
@@ -107,7 +107,7 @@ static void test_empty(void) {
     expect("no path", kormaglen_schema_find_field(&schema, NULL, 0, &found).status == KORMAGLEN_NO_FIELD);
     expect("no name", kormaglen_schema_values_of_block(&schema, NULL, 0, 2, NULL, 0, NULL, 0).status == KORMAGLEN_NO_FIELD);
     expect("no document", kormaglen_schema_values_of_block(&schema, bytes_of("age"), 3, 2, NULL, 0, NULL, 0).status == KORMAGLEN_OK);
-    expect("no document", kormaglen_schema_terms_of_block(&schema, 2, NULL, 0, NULL, 0).status == KORMAGLEN_OK);
+    expect("no document", kormaglen_schema_terms_of_block(&schema, 2, 0, NULL, 0, NULL, 0).status == KORMAGLEN_OK);
     expect("no path", kormaglen_schema_terms_of_text(&schema, NULL, 0, NULL, 0, NULL, 0).status == KORMAGLEN_NO_FIELD);
     kormaglen_answer no_number = kormaglen_schema_terms_of_text(&schema, bytes_of("age"), 3, NULL, 0, NULL, 0);
     expect("no number", no_number.status == KORMAGLEN_BAD_QUERY && no_number.detail == KORMAGLEN_QUERY_WRONG_TYPE && no_number.place == 0);
@@ -140,8 +140,8 @@ static void test_overlap(void) {
     expect("inputs may", kormaglen_schema_terms_of_text(&closed, both, 4, both, 4, both + 4, 60).status == KORMAGLEN_CLOSED);
     expect_refused("name and values", kormaglen_schema_values_of_block(&closed, both, 4, 2, NULL, 0, both, 64), KORMAGLEN_ARGUMENT_OVERLAP, 4);
     expect_refused("block and values", kormaglen_schema_values_of_block(&closed, NULL, 0, 2, both, 4, both + 3, 60), KORMAGLEN_ARGUMENT_OVERLAP, 4);
-    expect_refused("block and terms", kormaglen_schema_terms_of_block(&closed, 2, both, 4, both + 3, 60), KORMAGLEN_ARGUMENT_OVERLAP, 3);
-    expect_refused("a handle", kormaglen_schema_terms_of_block(&shared.schema, 2, shared.bytes, 3, NULL, 0), KORMAGLEN_ARGUMENT_OVERLAP, 2);
+    expect_refused("block and terms", kormaglen_schema_terms_of_block(&closed, 2, 0, both, 4, both + 3, 60), KORMAGLEN_ARGUMENT_OVERLAP, 3);
+    expect_refused("a handle", kormaglen_schema_terms_of_block(&shared.schema, 2, 0, shared.bytes, 3, NULL, 0), KORMAGLEN_ARGUMENT_OVERLAP, 2);
     expect_refused("parent and counts", kormaglen_count_facets(both, 4, NULL, 0, both, 64), KORMAGLEN_ARGUMENT_OVERLAP, 3);
     expect_refused("pairs and counts", kormaglen_count_facets(NULL, 0, both, 4, both + 3, 60), KORMAGLEN_ARGUMENT_OVERLAP, 3);
     expect("inputs may", kormaglen_count_facets(both, 4, both, 4, both + 4, 60).status == KORMAGLEN_BAD_PAIRS);
@@ -220,6 +220,41 @@ static void test_term_texts(void) {
     expect("the size", size.status == KORMAGLEN_TOO_SMALL && size.bytes == 3);
 }
 
+/* In version 2: the numbers 7 and 8, a text in place of a number, and 9. */
+static const char THREE[] = "\x82\0\0\0\0\1\7\0\0\0\0\0\0\0\0\0\0\0\1\x08\0\0\0\0\0\0\0" "\x81\0\0\0\0\0\x81x" "\x81\0\0\0\0\1\x09\0\0\0\0\0\0\0";
+
+/* Their records: a term whole, one that shares twelve bytes with it, the fault of document 1 in field 0, and a term whole. */
+static const char RECORDS[] =
+    "\0\0\0\0\0\0\0\0" "\0\0\0\0\0\0\0\0" "\x0D\0\0\0\0\0\0\0" "\0\0\0\0u\0\0\0\0\0\0\0\7"
+    "\0\0\0\0\0\0\0\0" "\x0C\0\0\0\0\0\0\0" "\1\0\0\0\0\0\0\0" "\x08"
+    "\1\0\0\0\0\0\0\0" "\xFF\xFF\xFF\xFF\xFF\xFF\xFF\xFF" "\x10\0\0\0\0\0\0\0" "\x10\0\0\0\0\0\0\0" "\0\0\0\0\0\0\0\0"
+    "\2\0\0\0\0\0\0\0" "\0\0\0\0\0\0\0\0" "\x0D\0\0\0\0\0\0\0" "\0\0\0\0u\0\0\0\0\0\0\0\x09";
+
+/* A document without terms is refused, or has a record, whichever is asked for; one that can't be read is refused in both cases. */
+static void test_faults(void) {
+    kormaglen_schema schema = {0};
+    uint8_t terms[140], kept[140];
+    size_t block_len = sizeof THREE - 1, len = sizeof RECORDS - 1;
+    memset(kept, 0xA5, sizeof kept);
+    memcpy(terms, kept, sizeof terms);
+    expect("open", kormaglen_schema_open(bytes_of(SCHEMA), strlen(SCHEMA), &schema).status == KORMAGLEN_OK);
+    kormaglen_answer refused = kormaglen_schema_terms_of_block(&schema, 2, 0, bytes_of(THREE), block_len, terms, sizeof terms);
+    expect("refused", refused.status == KORMAGLEN_BAD_DOCUMENT && refused.detail == KORMAGLEN_DOCUMENT_WRONG_TYPE && refused.place == 27);
+    kormaglen_answer small = kormaglen_schema_terms_of_block(&schema, 2, 1, bytes_of(THREE), block_len, terms, len - 1);
+    expect("the size", small.status == KORMAGLEN_TOO_SMALL && small.bytes == len);
+    kormaglen_answer cut = kormaglen_schema_terms_of_block(&schema, 2, 1, bytes_of(THREE), block_len - 1, terms, sizeof terms);
+    expect("cut short", cut.status == KORMAGLEN_BAD_DOCUMENT && cut.detail == KORMAGLEN_DOCUMENT_UNEXPECTED_END && cut.place == 35);
+    expect("nothing is written", memcmp(terms, kept, sizeof terms) == 0);
+    static const uint32_t with_faults[] = {1, 2, 0x80000000, 0xFFFFFFFF};
+    for (size_t i = 0; i < sizeof with_faults / sizeof *with_faults; i++) {
+        memcpy(terms, kept, sizeof terms);
+        kormaglen_answer listed = kormaglen_schema_terms_of_block(&schema, 2, with_faults[i], bytes_of(THREE), block_len, terms, sizeof terms);
+        expect("records", listed.status == KORMAGLEN_OK && listed.bytes == len && memcmp(terms, RECORDS, len) == 0);
+        expect("the rest stays", memcmp(terms + len, kept, sizeof terms - len) == 0);
+    }
+    kormaglen_schema_close(&schema);
+}
+
 static void test_numbers(void) {
     static const uint32_t none[] = {0, 4, 5, 0x7FFFFFFF, 0x80000000, 0xFFFFFFFF};
     for (size_t i = 0; i < sizeof none / sizeof *none; i++) {
@@ -245,7 +280,7 @@ static void test_closed(void) {
     expect("closed", kormaglen_schema_import_lines(&schema, NULL, 0, NULL, 0, NULL, 0).status == KORMAGLEN_CLOSED);
     expect("closed", kormaglen_schema_export_block(&schema, 2, NULL, 0, NULL, 0).status == KORMAGLEN_CLOSED);
     expect("closed", kormaglen_schema_values_of_block(&schema, bytes_of("age"), 3, 2, NULL, 0, buffer, 64).status == KORMAGLEN_CLOSED);
-    expect("closed", kormaglen_schema_terms_of_block(&schema, 2, NULL, 0, buffer, 64).status == KORMAGLEN_CLOSED);
+    expect("closed", kormaglen_schema_terms_of_block(&schema, 2, 0, NULL, 0, buffer, 64).status == KORMAGLEN_CLOSED);
     expect("closed", kormaglen_schema_terms_of_text(&schema, bytes_of("age"), 3, bytes_of("7"), 1, buffer, 64).status == KORMAGLEN_CLOSED);
     expect("closed", kormaglen_schema_ranges_of_text(&schema, bytes_of("age"), 3, bytes_of("*"), 1, buffer, 64).status == KORMAGLEN_CLOSED);
     expect("closed", kormaglen_document_parse(&schema, bytes_of("{}"), 2, &document).status == KORMAGLEN_CLOSED);
@@ -280,6 +315,7 @@ int main(void) {
     test_overlap();
     test_size();
     test_term_texts();
+    test_faults();
     test_numbers();
     test_records();
     test_closed();

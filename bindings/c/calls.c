@@ -218,9 +218,10 @@ kormaglen_answer kormaglen_schema_values_of_block(
 }
 
 kormaglen_answer kormaglen_schema_terms_of_block(
-    kormaglen_schema *schema, uint32_t version, const uint8_t *block, size_t block_len, uint8_t *terms, size_t terms_len) {
+    kormaglen_schema *schema, uint32_t version, uint32_t with_faults, const uint8_t *block, size_t block_len, uint8_t *terms,
+    size_t terms_len) {
     REFUSE_UNLESS_GOOD(uses_schema(schema), reads(block, block_len), writes(terms, terms_len));
-    return raw_schema_terms_of_block(schema, version, input(block), block_len, output(terms), terms_len);
+    return raw_schema_terms_of_block(schema, version, with_faults, input(block), block_len, output(terms), terms_len);
 }
 
 kormaglen_answer kormaglen_schema_terms_of_text(

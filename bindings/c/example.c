@@ -191,10 +191,10 @@ static void print_values(kormaglen_schema *schema, const uint8_t *block, size_t 
 /* Prints how many terms the documents have in all fields that are indexed. */
 static void print_all_terms(kormaglen_schema *schema, const uint8_t *block, size_t block_len) {
     uint8_t terms[256];
-    kormaglen_answer listed = kormaglen_schema_terms_of_block(schema, 2, block, block_len, terms, sizeof terms);
+    kormaglen_answer listed = kormaglen_schema_terms_of_block(schema, 2, 0, block, block_len, terms, sizeof terms);
     expect_ok("terms", listed);
     int count = 0;
-    for (uint64_t at = 0; at < listed.bytes; at += 16 + number_at(terms + at + 8)) {
+    for (uint64_t at = 0; at < listed.bytes; at += 24 + number_at(terms + at + 16)) {
         count += 1;
     }
     printf("terms by the schema: %d\n", count);

@@ -40,7 +40,8 @@ kormaglen_answer raw_schema_values_of_block(
     kormaglen_schema *schema, const uint8_t *name, size_t name_len, uint32_t version, const uint8_t *block, size_t block_len,
     uint8_t *values, size_t values_len);
 kormaglen_answer raw_schema_terms_of_block(
-    kormaglen_schema *schema, uint32_t version, const uint8_t *block, size_t block_len, uint8_t *terms, size_t terms_len);
+    kormaglen_schema *schema, uint32_t version, uint32_t with_faults, const uint8_t *block, size_t block_len, uint8_t *terms,
+    size_t terms_len);
 kormaglen_answer raw_schema_terms_of_text(
     kormaglen_schema *schema, const uint8_t *path, size_t path_len, const uint8_t *text, size_t text_len,
     uint8_t *terms, size_t terms_len);

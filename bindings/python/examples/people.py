@@ -85,7 +85,7 @@ def main() -> None:
         print_query(schema, "age", "36")
         print_query(schema, "more.tags", "new")
         print_values(schema, imported.block, "name")
-        print(f"terms by the schema: {len(schema.terms_of_block(imported.block))}")
+        print(f"terms by the schema: {sum(1 for _ in schema.terms_of_block(imported.block))}")
         print_counts(schema, imported.block, "group")
         print_one(schema)
     encoded = kormaglen.facet_of_text("/staff/research")

@@ -48,7 +48,7 @@ from kormaglen._document import Document
 from kormaglen._fields import Field, Found
 from kormaglen._import import ImportCounts, Imported, LineAnswer, LineAnswers, LineRefusals
 from kormaglen._library import library_version
-from kormaglen._records import FacetCount, FieldValue, count_facets
+from kormaglen._records import FacetCount, FieldValue, TermFault, count_facets
 from kormaglen._refusals import (
     Closed,
     DocumentFault,
@@ -100,6 +100,7 @@ __all__ = [
     "SchemaRefused",
     "Status",
     "Term",
+    "TermFault",
     "VersionRefused",
     "count_facets",
     "end_of_prefix",

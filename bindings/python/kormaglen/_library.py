@@ -73,7 +73,7 @@ _SIGNATURES: Dict[str, Tuple[List[Any], Any]] = {
     "schema_export_block": ([_SCHEMA, _NUMBER] + _GIVEN + _WRITTEN, Answer),
     "schema_find_field": ([_SCHEMA] + _GIVEN + [ctypes.POINTER(FoundField)], Answer),
     "schema_values_of_block": ([_SCHEMA] + _GIVEN + [_NUMBER] + _GIVEN + _WRITTEN, Answer),
-    "schema_terms_of_block": ([_SCHEMA, _NUMBER] + _GIVEN + _WRITTEN, Answer),
+    "schema_terms_of_block": ([_SCHEMA, _NUMBER, _NUMBER] + _GIVEN + _WRITTEN, Answer),
     "schema_terms_of_text": ([_SCHEMA] + _GIVEN + _GIVEN + _WRITTEN, Answer),
     "schema_ranges_of_text": ([_SCHEMA] + _GIVEN + _GIVEN + _WRITTEN, Answer),
     "document_read": ([_NUMBER] + _GIVEN + [_DOCUMENT], Answer),

@@ -1,16 +1,27 @@
-"""The values of a field, and how many documents have a facet: records that the library writes."""
+"""The values of a field, the terms of all, and how many documents have a facet: records that the library
+writes."""
 
 from __future__ import annotations
 
 import ipaddress
 import struct
-from typing import Any, Callable, Dict, Iterable, Iterator, List, NamedTuple, Tuple, Union
+from typing import Any, Callable, Dict, Iterable, Iterator, List, NamedTuple, Optional, Sequence, Tuple, Union
 
 from kormaglen._arguments import Lent, copied, filled, type_name, within
 from kormaglen._fields import HeldSchema
 from kormaglen._handles import opened
 from kormaglen._library import CALLS
-from kormaglen._refusals import Refused, Status, ValueKind, field_refused, pair_refused
+from kormaglen._refusals import (
+    SHOWN,
+    DocumentFault,
+    Refused,
+    Status,
+    ValueKind,
+    detail_text,
+    field_refused,
+    pair_refused,
+)
+from kormaglen._streams import Term
 from kormaglen._types import Buffer
 from kormaglen._values import DateTime, parsed
 
@@ -29,6 +40,32 @@ class FieldValue(NamedTuple):
 
     document: int
     value: Any
+
+
+class TermFault(NamedTuple):
+    """Why a document has no terms by a schema: its number in the block, from 0, the name of the field
+    whose value has none, or None where the schema has no such field, that field's number, and the reason,
+    of `DocumentFault`. Its `str` is a message of one line.
+
+    >>> faults = []
+    >>> list(Schema(SCHEMA).terms_of_block(bytes.fromhex("8100000000008161"), on_fault=faults.append))
+    []
+    >>> faults[0].document, faults[0].field, faults[0].reason.name
+    (0, 'age', 'WRONG_TYPE')
+    """
+
+    document: int
+    field: Optional[str]
+    field_number: int
+    reason: DocumentFault
+
+    def __str__(self) -> str:
+        name = self.field_number if self.field is None else f'"{self.field[:SHOWN]}"'
+        return f"document {self.document}: field {name}: {detail_text(Status.BAD_DOCUMENT, self.reason)}"
+
+
+# With a fault it stands where a term has how many bytes it shares with the one before.
+_NO_TERMS = (1 << 64) - 1
 
 
 class FacetCount(NamedTuple):
@@ -93,14 +130,54 @@ def values_at(schema: HeldSchema, name: bytes, shown: str, version: int, at: int
 def values_in(records: bytes) -> Iterator[FieldValue]:
     """The values of a list of the library's. Raises ValueError for one of a kind that this package has
     no name for."""
-    at = 0
-    while at < len(records):
-        document, kind, length = struct.unpack_from("<QQQ", records, at)
-        at += 24 + length
+    for document, kind, value in _triples_in(records):
         read = _READ.get(kind)
         if read is None:
             raise ValueError(f"a value of kind {kind}: this package is too old for it")
-        yield FieldValue(document, read(records[at - length : at]))
+        yield FieldValue(document, read(value))
+
+
+def _triples_in(records: bytes) -> Iterator[Tuple[int, int, bytes]]:
+    """The two numbers and the bytes of each record of a list of the library's. The length of the bytes
+    is a third number, which stands before them."""
+    at = 0
+    while at < len(records):
+        document, second, length = struct.unpack_from("<QQQ", records, at)
+        at += 24 + length
+        yield document, second, records[at - length : at]
+
+
+def schema_terms_at(schema: HeldSchema, version: int, with_faults: bool, at: int, size: int) -> bytes:
+    """The records of `Schema.terms_of_block`, of bytes at an address."""
+    handle = opened(schema, HeldSchema)
+    with handle.lock:
+        return filled(
+            4 * size,
+            lambda out, out_size: CALLS.kormaglen_schema_terms_of_block(
+                handle.ref, version, with_faults, at, size, out, out_size
+            ),
+        )
+
+
+def schema_terms_in(
+    records: bytes, names: Sequence[str], on_fault: Optional[Callable[[TermFault], object]]
+) -> Iterator[Term]:
+    """The terms of a list of the library's. Each is put together when it is asked for: of the one before
+    it stay the bytes that both share. Faults are handed to `on_fault`, with the names of the fields."""
+    last = bytearray()
+    for document, shared, rest in _triples_in(records):
+        if shared == _NO_TERMS and on_fault is not None:
+            on_fault(_fault_in(document, rest, names))
+        else:
+            last[shared:] = rest
+            yield Term(document, bytes(last))
+
+
+def _fault_in(document: int, record: bytes, names: Sequence[str]) -> TermFault:
+    """The fault of a document, of its record of a reason and the number of a field."""
+    reason, field = struct.unpack_from("<QQ", record)
+    name = names[field] if field < len(names) else None
+    return TermFault(document, name, field, DocumentFault(reason))
 
 
 def count_facets(parent: Buffer, pairs: Iterable[Tuple[int, Buffer]]) -> List[FacetCount]:

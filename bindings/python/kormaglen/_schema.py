@@ -12,7 +12,14 @@ from kormaglen._handles import opened
 from kormaglen._import import ImportCounts, Imported, imported, joined
 from kormaglen._library import CALLS, LINE_ANSWER_SIZE
 from kormaglen._queries import answered, ranges_in, terms_in
-from kormaglen._records import FieldValue, values_at, values_in
+from kormaglen._records import (
+    FieldValue,
+    TermFault,
+    schema_terms_at,
+    schema_terms_in,
+    values_at,
+    values_in,
+)
 from kormaglen._refusals import LineRefused
 from kormaglen._types import Block, BlockFile, Buffer, Lines, LinesFile, TextOrBuffer
 
@@ -187,29 +194,39 @@ class Schema(HeldSchema):
             records = values_at(self, given, name, stored, lent.at, lent.size)
         return list(values_in(records))
 
-    def terms_of_block(self, block: Buffer, version: int = 2) -> List[_streams.Term]:
+    def terms_of_block(
+        self,
+        block: Buffer,
+        version: int = 2,
+        on_fault: Optional[Callable[[TermFault], object]] = None,
+    ) -> Iterator[_streams.Term]:
         """The terms of all fields that are indexed in the documents of a block, also those of the values
         in JSON objects: the terms of each document, in their order, each with the number of its document
         from 0. They are as those of `terms_of_block`.
 
-        Raises DocumentRefused where bytes hold no document, and where one has a value without a term by
-        this schema, VersionRefused for another version, Closed where the schema is closed, TypeError
-        where an argument is of another type, OverflowError where the version doesn't fit 32 bits,
-        BufferError where the bytes aren't contiguous, MemoryError where memory is refused.
+        A document may have a value without a term by this schema, as a number in a field of dates. Without
+        `on_fault` it is refused. Where `on_fault` is a callable, it is called with a `TermFault` of each
+        such document when that is reached, and the terms of the other documents come.
 
-        >>> Schema(SCHEMA).terms_of_block(bytes.fromhex("8100000000012400000000000000"))
+        The library is called at once, and what it refuses is raised then. A term is put together when it
+        is asked for. So what is held is in proportion to the block, however long keys are.
+
+        Raises DocumentRefused where bytes hold no document, and without `on_fault` where one has a value
+        without a term, VersionRefused for another version, Closed where the schema is closed, TypeError
+        where an argument is of another type, OverflowError where the version doesn't fit 32 bits,
+        BufferError where the bytes aren't contiguous, MemoryError where memory is refused. What `on_fault`
+        raises comes when a term is asked for.
+
+        >>> list(Schema(SCHEMA).terms_of_block(bytes.fromhex("8100000000012400000000000000")))
         [Term(document=0, term=b'\\x00\\x00\\x00\\x00u\\x00\\x00\\x00\\x00\\x00\\x00\\x00$')]
         """
         stored = number(version, "version")
-        handle = opened(self, Schema)
-        with Lent(block, "block") as lent, handle.lock:
-            records = filled(
-                4 * lent.size,
-                lambda at, size: CALLS.kormaglen_schema_terms_of_block(
-                    handle.ref, stored, lent.at, lent.size, at, size
-                ),
-            )
-        return [_streams.Term(document, term) for document, term in _streams.records_of(records)]
+        if on_fault is not None and not callable(on_fault):
+            raise TypeError("on_fault: a callable is wanted")
+        with Lent(block, "block") as lent:
+            records = schema_terms_at(self, stored, on_fault is not None, lent.at, lent.size)
+        names = [] if on_fault is None else list(self._kinds())
+        return schema_terms_in(records, names, on_fault)
 
     def terms_of_text(self, path: str, text: str) -> List[bytes]:
         """The terms that a text of a query has at what the path names, in their order. In a field that

@@ -182,6 +182,7 @@ class Fuzzer:
             ),
             "indexing": lambda: values.rng.choice([None, K.TEXT]),
             "on_refused": lambda: values.rng.choice([None, lambda _: None]),
+            "on_fault": lambda: values.rng.choice([None, str, lambda _: None]),
         }
         if name not in by_name or values.chance(0.12):
             return values.anything()
@@ -196,7 +197,8 @@ class Fuzzer:
         except (TypeError, ValueError):
             names = ["value"]
         if self.values.chance(0.5):
-            names = [name for name in names if name not in ("chunk_size", "on_refused", "names", "module")]
+            rare = ("chunk_size", "on_refused", "on_fault", "names", "module")
+            names = [name for name in names if name not in rare]
         if self.values.chance(0.03):
             names = names[:-1] if self.values.chance(0.5) else names + ["more"]
         return [self.argument(name) for name in names]

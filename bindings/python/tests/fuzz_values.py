@@ -29,7 +29,9 @@ LINES = [
     TOKENS.encode(),
 ]
 BLOCK = K.import_lines(SCHEMA, LINES).block
-BLOCKS = [BLOCK, K.migrate_block(2, BLOCK, 3), b"\x80", b"", b'\x81\x07\0\0\0\x08{"a":1}']
+# A number in the field of dates, which has no term.
+FAULT = b"\x81\4\0\0\0\2" + bytes(8)
+BLOCKS = [BLOCK, K.migrate_block(2, BLOCK, 3), BLOCK + FAULT, b"\x80", b"", b'\x81\x07\0\0\0\x08{"a":1}']
 TERMS = [
     b"\0\0\0\0sAda",
     b"\0\0\0\1u\0\0\0\0\0\0\0\x24",

@@ -75,11 +75,13 @@ class Docs(unittest.TestCase):
                 text=True,
                 check=True,
             )
-        first, second, refused, counts = done.stdout.splitlines()
+        first, second, refused, fault, term, counts = done.stdout.splitlines()
         about = "a value is of another kind than the field's"
         self.assertEqual(first, 'line 2: field "age": ' + about + ': {"name":"Bob","age":"old"}')
         self.assertEqual(second, "['Ada'] [36]")
         self.assertTrue(refused.startswith("line 2: ") and refused.endswith(": []"), refused)
+        self.assertEqual(fault, 'document 0: field "added": a value is not of its field\'s type')
+        self.assertEqual(term, "1 2024-05-01T12:00:00Z")
         # One pair in 1 byte, of "Cleo" in 4 + 1 + 1 + 4 bytes and of 7 in 4 + 1 + 8.
         self.assertEqual(counts, "(2, 1, 1, 24)")
 

@@ -10,7 +10,7 @@ import unittest
 from typing import Dict, Type
 
 import kormaglen as K
-from kormaglen import _library, _refusals
+from kormaglen import _library, _records, _refusals
 from tests.common import PACKAGE
 
 HEADER = os.environ.get("KORMAGLEN_HEADER", os.path.join(PACKAGE, os.pardir, "kormaglen.h"))
@@ -67,6 +67,10 @@ class Header(unittest.TestCase):
                     self.assertEqual(
                         kinds.get(parameter.split()[0]), argument if argument in kinds.values() else None
                     )
+
+    def test_the_record_of_a_fault(self) -> None:
+        self.assertRegex(self.text, r"(?m)^#define KORMAGLEN_NO_TERMS UINT64_MAX$")
+        self.assertEqual(_records._NO_TERMS, 2**64 - 1)
 
     def test_structs(self) -> None:
         for name, struct in (

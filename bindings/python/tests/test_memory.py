@@ -78,6 +78,43 @@ class Bounded(unittest.TestCase):
                     self.assertLess(int(done.stdout), 12_000, what)
 
 
+# Prints how many KiB a process took at most for the terms of one key over numbers, of which each is looked
+# at, and none is kept.
+LONG_KEY = """
+import resource, sys
+import kormaglen as K
+schema = K.Schema('[{"name":"more","type":"json_object","options":{"stored":true,"fast":false,"indexing":{}}}]')
+letters, count = int(sys.argv[1]), int(sys.argv[2])
+key, line = "k" * letters, '{"more":{"%s":[%s]}}' % ("k" * letters, ",".join(map(str, range(count))))
+block = schema.import_lines(line).block
+head = b"\\0\\0\\0\\0j" + key.encode() + b"\\0i\\x80"
+number = 0
+for document, term in schema.terms_of_block(block, on_fault=print):
+    assert document == 0 and term[letters + 8 :] == number.to_bytes(7, "big"), term[letters:]
+    assert number % 1000 or term.startswith(head)
+    number += 1
+assert number == count, number
+print(resource.getrusage(resource.RUSAGE_SELF).ru_maxrss)
+"""
+
+
+class LongKeys(unittest.TestCase):
+    """The terms of one key over half as many numbers as it has letters."""
+
+    def test_memory_is_in_proportion_to_the_block(self) -> None:
+        def most(letters: int, count: int) -> int:
+            done = run(LONG_KEY, str(letters), str(count))
+            self.assertEqual(done.returncode, 0, done.stderr)
+            return int(done.stdout)
+
+        alone = most(0, 0)
+        for letters in (5_000, 10_000, 20_000, 40_000):
+            with self.subTest(letters):
+                # A letter and half a number take 6 bytes of the block and some 15 of the records. The terms
+                # would take 785 MB of the last.
+                self.assertLess((most(letters, letters // 2) - alone) * 1024, 100 * letters + (1 << 20))
+
+
 LEAK = """
 import gc, resource
 import kormaglen as K
@@ -88,6 +125,7 @@ def resident():
         return int(file.read().split()[1]) * os.sysconf("SC_PAGE_SIZE")
 schema = K.Schema(SCHEMA)
 block = schema.import_lines('{"name":"x","age":7}\\n' * 100).block
+fault = schema.import_lines('{"when":7}\\n' * 100).block
 def attempt(call):
     try:
         call()
@@ -99,6 +137,8 @@ def once():
         lambda: schema.parse('{"age":1}').write(3), lambda: schema.export_block(block),
         lambda: schema.export_block(block[:-1]), lambda: K.terms_of_block(1, 2, block),
         lambda: list(schema.documents(block)), lambda: schema.import_lines("x\\n" * 10),
+        lambda: next(schema.terms_of_block(block)), lambda: list(schema.terms_of_block(fault, on_fault=str)),
+        lambda: schema.terms_of_block(fault),
         lambda: schema.parse(5), lambda: schema.read(block, 9),
         lambda: schema.export_block(memoryview(block)[::2]),
         lambda: schema.document({"age": [1, 2], "more": {"k": 1}}).to_dict(),

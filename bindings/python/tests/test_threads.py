@@ -152,7 +152,7 @@ for pair in pairs:
 calls = [
     lambda: schema.parse(pairs[0][0]).to_json(), lambda: schema.import_lines(pairs[0][0]),
     lambda: schema.export_block(pairs[1][0]), lambda: K.migrate_block(2, pairs[1][0], 3),
-    lambda: K.terms_of_block(0, 2, pairs[1][0]),
+    lambda: K.terms_of_block(0, 2, pairs[1][0]), lambda: list(schema.terms_of_block(pairs[1][0], 2, str)),
     lambda: [each.to_dict() for each in schema.documents(pairs[1][0])],
 ]
 while time.monotonic() < stop:

@@ -65,7 +65,8 @@ def streams(by: K.Schema) -> Dict[str, int]:
     number, rest = by.find_field("more.k")
     assert rest == "k" and fields[number].name == "more"
     ages: List[K.FieldValue] = by.values_of_block("age", imported.block)
-    assert ages[0].value == 1 and by.terms_of_block(imported.block)[0].document == ages[0].document
+    by_schema: Iterator[K.Term] = by.terms_of_block(imported.block)
+    assert ages[0].value == 1 and next(by_schema).document == ages[0].document
     facets: List[K.FacetCount] = K.count_facets(b"", ((n, K.facet_of_text("/a")) for n in range(3)))
     assert facets[0].documents == 3
     terms: List[bytes] = by.terms_of_text("age", "1")

@@ -42,7 +42,7 @@ fn main() -> Result<(), Refusal> {
     print_query(&mut schema, "more.tags", "new")?;
     print_values(&mut schema, &imported.block, "name")?;
     let terms = schema.terms_of_block(Version::V2, &imported.block)?;
-    println!("terms by the schema: {}", terms.len());
+    println!("terms by the schema: {}", terms.filter(Result::is_ok).count());
     print_counts(&mut schema, &imported.block, "group")?;
     print_one(&mut schema)?;
     let encoded = facet_of_text("/staff/research")?;

@@ -180,6 +180,7 @@ mod c {
         pub(super) fn kormaglen_schema_terms_of_block(
             schema: *mut Handle,
             version: u32,
+            with_faults: u32,
             block: *const u8,
             block_len: usize,
             terms: *mut u8,
@@ -446,17 +447,24 @@ impl SchemaHandle {
         }
     }
 
+    /// Lists terms, and in place of those of a document that has a value without one why it has none.
     pub(crate) fn terms_of_block(
         &mut self,
         version: u32,
         block: &[u8],
         terms: &mut [u8],
     ) -> Answer {
-        let (bytes, len) = (block.as_ptr(), block.len());
-        let (room, room_len) = (terms.as_mut_ptr(), terms.len());
         // SAFETY: both are slices, and they don't overlap. The handle is lent to this call alone.
         unsafe {
-            c::kormaglen_schema_terms_of_block(&mut self.0, version, bytes, len, room, room_len)
+            c::kormaglen_schema_terms_of_block(
+                &mut self.0,
+                version,
+                1,
+                block.as_ptr(),
+                block.len(),
+                terms.as_mut_ptr(),
+                terms.len(),
+            )
         }
     }
 

@@ -35,7 +35,8 @@
 //!
 //! Each call that can be refused returns a [`Refusal`], which prints the reason in words. No call
 //! panics, whatever its input is. After a refusal what a call was given is as it was, but for a
-//! [`Document`] that another one was to replace.
+//! [`Document`] that another one was to replace. A [`TermFault`] says of one document of a block why
+//! it has no terms by a schema, and the terms of the others come.
 //!
 //! # Threads
 //!
@@ -70,9 +71,11 @@ pub use facets::{count_facets, facet_of_text, text_of_facet, FacetCount};
 pub use queries::TermRange;
 pub use reader::{ImportError, ImportedBlocks};
 pub use reasons::{ArgumentReason, DocumentReason, LineReason, QueryReason, SchemaReason};
-pub use refusal::{LineRefusal, QueryRefusal, Refusal};
+pub use refusal::{LineRefusal, QueryRefusal, Refusal, TermFault};
 pub use schema::{find_field, Field, Schema};
-pub use terms::{end_of_prefix, term_of_text, terms, terms_of_block, text_of_term, Term, Terms};
+pub use terms::{
+    end_of_prefix, term_of_text, terms, terms_of_block, text_of_term, SchemaTerms, Term, Terms,
+};
 pub use values::{FieldValue, Value};
 
 /// The version of the library that is linked. That of a library that was built without its proof

@@ -128,7 +128,7 @@ reasons! {
 }
 
 reasons! {
-    /// Why a document of a block is refused.
+    /// Why a document of a block is refused, or has no terms by a schema.
     ///
     /// ```
     /// use kormaglen::{Document, DocumentReason, Refusal, Version};

@@ -14,13 +14,19 @@ pub(crate) fn first_number(list: &mut &[u8]) -> Option<u64> {
     Some(number)
 }
 
-/// Takes this many bytes.
-pub(crate) fn first_bytes(list: &mut &[u8], len: u64) -> Option<Result<Vec<u8>, Refusal>> {
+/// Takes this many bytes, where they lie.
+pub(crate) fn first_slice<'l>(list: &mut &'l [u8], len: u64) -> Option<&'l [u8]> {
     let len = size(len).ok()?;
     let taken = list.get(..len)?;
     *list = &list[len..];
+    Some(taken)
+}
+
+/// Takes this many bytes, as a vector.
+pub(crate) fn first_bytes(list: &mut &[u8], len: u64) -> Option<Result<Vec<u8>, Refusal>> {
+    let taken = first_slice(list, len)?;
     let mut bytes = Vec::new();
-    Some(reserve(&mut bytes, len).map(|()| {
+    Some(reserve(&mut bytes, taken.len()).map(|()| {
         bytes.extend_from_slice(taken);
         bytes
     }))

@@ -253,6 +253,49 @@ impl fmt::Display for QueryRefusal {
 
 impl Error for QueryRefusal {}
 
+/// Why a document has no terms by a schema. It prints as the numbers of the document and the field,
+/// and the library's words for the reason.
+///
+/// ```
+/// use kormaglen::{DocumentReason, Schema, Version};
+///
+/// let json = br#"[{"name":"age","type":"u64","options":{"indexed":true,"stored":true}}]"#;
+/// // A text in field 0.
+/// let mut terms = Schema::open(json)?.terms_of_block(Version::V2, b"\x81\0\0\0\0\0\x81a")?;
+/// let fault = terms.next().unwrap().unwrap_err();
+/// assert_eq!((fault.document, fault.field), (0, 0));
+/// assert_eq!(fault.reason, DocumentReason::WrongType);
+/// assert!(fault.to_string().starts_with("document 0: field 0: "));
+/// # Ok::<(), kormaglen::Refusal>(())
+/// ```
+#[non_exhaustive]
+#[derive(Clone, Copy, Debug, PartialEq, Eq, Hash)]
+pub struct TermFault {
+    /// The number of the document in the block, from 0.
+    pub document: u64,
+    /// The number of the field whose value has no term.
+    pub field: u32,
+    /// Why it has none: `ForeignField`, `WrongType`, `NulInKey` or `NoTerm`.
+    pub reason: DocumentReason,
+}
+
+impl TermFault {
+    /// Of numbers of the library's, which has eight bytes for each.
+    pub(crate) fn of_numbers(document: u64, reason: u64, field: u64) -> TermFault {
+        let number = |wide| u32::try_from(wide).unwrap_or(u32::MAX);
+        let reason = DocumentReason::of_number(number(reason));
+        TermFault { document, field: number(field), reason }
+    }
+}
+
+impl fmt::Display for TermFault {
+    fn fmt(&self, f: &mut fmt::Formatter<'_>) -> fmt::Result {
+        write!(f, "document {}: field {}: {}", self.document, self.field, self.reason)
+    }
+}
+
+impl Error for TermFault {}
+
 impl Answer {
     /// The answer itself, unless it is a refusal.
     pub(crate) fn accepted(self) -> Result<Answer, Refusal> {

@@ -7,7 +7,7 @@ use crate::queries::{first_range, first_term, TermRange};
 use crate::reader::ImportedBlocks;
 use crate::records::records_in;
 use crate::refusal::Refusal;
-use crate::terms::{self, Term};
+use crate::terms::SchemaTerms;
 use crate::values::{first_value, FieldValue};
 use std::fmt;
 use std::io::Read;
@@ -192,34 +192,50 @@ impl Schema {
     }
 
     /// As [`terms_of_block`](crate::terms_of_block()), of all fields that are indexed by this schema,
-    /// and also of the values in JSON objects: the terms of each document, in their order.
+    /// and also of the values in JSON objects: the terms of each document, in their order. A document
+    /// that has a value without a term by this schema has a [`TermFault`](crate::TermFault) in place of
+    /// its terms.
+    ///
+    /// The library lists them at once, and a term is put together as it is asked for. So what is held is
+    /// in proportion to the block, however long the keys of JSON objects are.
     ///
     /// ```
-    /// use kormaglen::{DocumentReason, Refusal, Schema, Version};
+    /// use kormaglen::{DocumentReason, Schema, TermFault, Version};
     ///
     /// let mut schema = Schema::open(
     ///     br#"[{"name":"age","type":"u64","options":{"indexed":true,"stored":true}}]"#,
     /// )?;
-    /// let block = schema.import_lines(b"{}\n{\"age\":258}\n")?.block;
-    /// let terms = schema.terms_of_block(Version::V2, &block)?;
-    /// assert_eq!(terms[0].document, 1);
-    /// assert_eq!(terms[0].bytes, schema.terms_of_text("age", "258")?[0]);
-    /// // A text in field 0.
-    /// let refusal = schema.terms_of_block(Version::V2, b"\x81\0\0\0\0\0\x81a").unwrap_err();
-    /// let reason = DocumentReason::WrongType;
-    /// assert_eq!(refusal, Refusal::BadDocument { reason, start: 0 });
-    /// # Ok::<(), Refusal>(())
+    /// // An age of 258, a text in its place, and an age of 7.
+    /// let block = b"\x81\0\0\0\0\x01\x02\x01\0\0\0\0\0\0\x81\0\0\0\0\0\x81a\
+    ///     \x81\0\0\0\0\x01\x07\0\0\0\0\0\0\0";
+    /// for found in schema.terms_of_block(Version::V2, block)? {
+    ///     match found {
+    ///         Ok(term) => assert!(term.document == 0 || term.document == 2),
+    ///         Err(fault) => {
+    ///             assert_eq!((fault.document, fault.field), (1, 0));
+    ///             assert_eq!(fault.reason, DocumentReason::WrongType);
+    ///         }
+    ///     }
+    /// }
+    /// // Where all documents have to have terms:
+    /// let all: Result<Vec<_>, TermFault> = schema.terms_of_block(Version::V2, block)?.collect();
+    /// assert_eq!(all.unwrap_err().document, 1);
+    /// # Ok::<(), kormaglen::Refusal>(())
     /// ```
     ///
     /// # Errors
     ///
-    /// `BadDocument` of the first document that can't be read or has a value without a term by the
-    /// schema, `Memory`, `TooLarge`.
-    pub fn terms_of_block(&mut self, version: Version, block: &[u8]) -> Result<Vec<Term>, Refusal> {
-        let terms = filled(block.len().saturating_mul(2), |terms| {
+    /// `BadDocument` of the first document that can't be read, `Memory`, `TooLarge`.
+    pub fn terms_of_block(
+        &mut self,
+        version: Version,
+        block: &[u8],
+    ) -> Result<SchemaTerms, Refusal> {
+        // A number takes 14 bytes of a block, and 37 with its term.
+        let records = filled(block.len().saturating_mul(3), |terms| {
             self.handle.terms_of_block(version.number(), block, terms)
         })?;
-        records_in(&terms, terms::first_term)
+        Ok(SchemaTerms::new(records))
     }
 
     /// As [`find_field`](crate::find_field()), by this schema.

@@ -1,12 +1,12 @@
 //! The terms of stored values, and where those of a prefix end.
 
 use crate::blocks::Version;
-use crate::buffer::{append, filled, filled_text};
+use crate::buffer::{append, filled, filled_text, size};
 use crate::calls;
 use crate::document::Document;
 use crate::documents::{documents, Documents};
-use crate::records::{first_bytes, first_number, records_in};
-use crate::refusal::Refusal;
+use crate::records::{first_bytes, first_number, first_slice, records_in};
+use crate::refusal::{Refusal, TermFault};
 use std::fmt;
 use std::iter::FusedIterator;
 
@@ -168,9 +168,82 @@ impl fmt::Debug for Terms<'_> {
 
 /// Takes the first term of a list of the library's, which has for each the number of its document
 /// and its length, and the term.
-pub(crate) fn first_term(list: &mut &[u8]) -> Option<Result<Term, Refusal>> {
+fn first_term(list: &mut &[u8]) -> Option<Result<Term, Refusal>> {
     let (document, len) = (first_number(list)?, first_number(list)?);
     Some(first_bytes(list, len)?.map(|bytes| Term { document, bytes }))
+}
+
+/// What stands with a fault in place of how many bytes a term shares with the one before it.
+const NO_TERMS: u64 = u64::MAX;
+
+/// An iterator over the terms of a block by a schema, and over the faults of documents that have a
+/// value without one, in the order of documents, see
+/// [`Schema::terms_of_block`](crate::Schema::terms_of_block). It goes on after a fault.
+///
+/// It holds the library's list, which has of each term what differs from the one before. The bytes of
+/// a term are put into a vector of its own as it is asked for. Where memory for that is refused, the
+/// program is aborted, as by every `Vec` that grows.
+///
+/// ```
+/// use kormaglen::{Schema, Version};
+///
+/// let mut schema = Schema::open(
+///     br#"[{"name":"age","type":"u64","options":{"indexed":true,"stored":true}}]"#,
+/// )?;
+/// let block = schema.import_lines(b"{\"age\":[258,7]}\n")?.block;
+/// let mut terms = schema.terms_of_block(Version::V2, &block)?;
+/// assert_eq!(terms.next().unwrap().unwrap().bytes, b"\0\0\0\0u\0\0\0\0\0\0\x01\x02");
+/// assert_eq!(terms.next().unwrap().unwrap().bytes, b"\0\0\0\0u\0\0\0\0\0\0\0\x07");
+/// assert!(terms.next().is_none());
+/// # Ok::<(), kormaglen::Refusal>(())
+/// ```
+#[must_use = "terms are put together as they are asked for"]
+#[derive(Clone)]
+pub struct SchemaTerms {
+    // For each term the number of its document, how many of its first bytes are those of the term
+    // before it, and how many others follow, and these.
+    records: Vec<u8>,
+    // How many bytes of the records were read.
+    read: usize,
+    // The last term.
+    last: Vec<u8>,
+}
+
+impl SchemaTerms {
+    pub(crate) fn new(records: Vec<u8>) -> SchemaTerms {
+        SchemaTerms { records, read: 0, last: Vec::new() }
+    }
+}
+
+impl Iterator for SchemaTerms {
+    type Item = Result<Term, TermFault>;
+
+    fn next(&mut self) -> Option<Result<Term, TermFault>> {
+        let mut list = &self.records[self.read..];
+        let (document, shared) = (first_number(&mut list)?, first_number(&mut list)?);
+        let len = first_number(&mut list)?;
+        let mut rest = first_slice(&mut list, len)?;
+        self.read = self.records.len() - list.len();
+        if shared == NO_TERMS {
+            let (reason, field) = (first_number(&mut rest)?, first_number(&mut rest)?);
+            return Some(Err(TermFault::of_numbers(document, reason, field)));
+        }
+        self.last.truncate(size(shared).ok()?);
+        self.last.extend_from_slice(rest);
+        Some(Ok(Term { document, bytes: self.last.clone() }))
+    }
+}
+
+impl FusedIterator for SchemaTerms {}
+
+/// Prints how many bytes of the list were read, and how many it has. The list may be large.
+impl fmt::Debug for SchemaTerms {
+    fn fmt(&self, f: &mut fmt::Formatter<'_>) -> fmt::Result {
+        f.debug_struct("SchemaTerms")
+            .field("read", &self.read)
+            .field("bytes", &self.records.len())
+            .finish_non_exhaustive()
+    }
 }
 
 /// The term of a text. The terms of all texts that begin with it begin with this term.

@@ -5,8 +5,8 @@ mod common;
 use common::{stored_number, stored_text, SCHEMA};
 use kormaglen::{
     count_facets, end_of_prefix, export_block, facet_of_text, find_field, import_lines,
-    migrate_block, term_of_text, terms_of_block, text_of_facet, text_of_term, Document, Refusal,
-    Schema, Value, Version,
+    migrate_block, term_of_text, terms_of_block, text_of_facet, text_of_term, Document,
+    DocumentReason, Refusal, Schema, Value, Version,
 };
 use std::net::Ipv6Addr;
 
@@ -136,12 +136,17 @@ fn a_field_has_values_of_each_kind() {
     assert_eq!(schema.values_of_block("s", Version::V2, &many).unwrap().len(), 5000);
 }
 
+/// The terms of a block by a schema, each with the number of its document. All have some.
+fn terms_by(schema: &mut Schema, block: &[u8]) -> Vec<(u64, Vec<u8>)> {
+    let found: Result<Vec<_>, _> = schema.terms_of_block(Version::V2, block).unwrap().collect();
+    found.unwrap().into_iter().map(|term| (term.document, term.bytes)).collect()
+}
+
 #[test]
 fn documents_have_terms_by_a_schema() {
     let mut schema = Schema::open(INDEXED).unwrap();
     let lines = b"{\"u\":258,\"j\":{\"a\":[7,\"b\"]}}\n";
     let block = [stored_number(258), schema.import_lines(lines).unwrap().block].concat();
-    let terms = schema.terms_of_block(Version::V2, &block).unwrap();
     // As keys are stored in the order of their bytes, `j` comes before `u`.
     let wanted = [
         (0, &b"\0\0\0\x01u\0\0\0\0\0\0\x01\x02"[..]),
@@ -149,11 +154,82 @@ fn documents_have_terms_by_a_schema() {
         (1, b"\0\0\0\x02ja\0sb"),
         (1, b"\0\0\0\x01u\0\0\0\0\0\0\x01\x02"),
     ];
-    assert_eq!(terms.len(), wanted.len());
-    for (term, (document, bytes)) in terms.iter().zip(wanted) {
-        assert_eq!((term.document, &term.bytes[..]), (document, bytes));
+    let found = terms_by(&mut schema, &block);
+    assert_eq!(found, wanted.map(|(document, bytes)| (document, bytes.to_vec())));
+    assert_eq!(terms_by(&mut schema, b""), []);
+}
+
+#[test]
+fn terms_that_begin_alike_are_whole() {
+    let mut schema = Schema::open(INDEXED).unwrap();
+    let line =
+        r#"{"j":{"key":{"inner":[7,7,263,"value","val","values"],"inners":true},"keys":""}}"#;
+    // The keys stand with a byte 1 between two, and a zero byte after them. Of a number with a sign
+    // the highest bit is turned.
+    let terms = [
+        &b"\0\0\0\x02jkey\x01inner\0i\x80\0\0\0\0\0\0\x07"[..],
+        b"\0\0\0\x02jkey\x01inner\0i\x80\0\0\0\0\0\0\x07",
+        b"\0\0\0\x02jkey\x01inner\0i\x80\0\0\0\0\0\x01\x07",
+        b"\0\0\0\x02jkey\x01inner\0svalue",
+        b"\0\0\0\x02jkey\x01inner\0sval",
+        b"\0\0\0\x02jkey\x01inner\0svalues",
+        b"\0\0\0\x02jkey\x01inners\0o\0\0\0\0\0\0\0\x01",
+        b"\0\0\0\x02jkeys\0s",
+    ];
+    let block = schema.import_lines(format!("{line}\n{{}}\n{line}\n").as_bytes()).unwrap().block;
+    let of = |document| terms.map(|bytes| (document, bytes.to_vec()));
+    assert_eq!(terms_by(&mut schema, &block), [of(0), of(2)].concat());
+    for (path, text) in [("j.key.inner", "263"), ("j.key.inners", "true"), ("j.keys", "")] {
+        let asked = schema.terms_of_text(path, text).unwrap();
+        assert!(asked.iter().any(|term| terms.contains(&&term[..])), "{path}");
     }
-    assert_eq!(schema.terms_of_block(Version::V2, b""), Ok(vec![]));
+}
+
+/// Fields that are indexed: 0 of dates, 1 of JSON objects.
+const DATED: &[u8] = br#"[{"name":"added","type":"date",
+"options":{"indexed":true,"fieldnorms":true,"stored":true}},
+{"name":"j","type":"json_object","options":{"stored":true,"fast":false,"indexing":{}}}]"#;
+
+/// The terms of 1970 and of the second after it: the nanoseconds with the highest bit turned.
+const DATES: [&[u8]; 2] = [b"\0\0\0\0d\x80\0\0\0\0\0\0\0", b"\0\0\0\0d\x80\0\0\0\x3b\x9a\xca\0"];
+
+/// Expects of three documents a term of the first and the last, and a fault of the one between.
+fn expect_fault_between(schema: &mut Schema, block: &[u8], terms: [&[u8]; 2]) {
+    let mut found = schema.terms_of_block(Version::V2, block).unwrap();
+    let first = found.next().unwrap().unwrap();
+    assert_eq!((first.document, &first.bytes[..]), (0, terms[0]));
+    let fault = found.next().unwrap().unwrap_err();
+    assert_eq!((fault.document, fault.field, fault.reason), (1, 0, DocumentReason::WrongType));
+    let last = found.next().unwrap().unwrap();
+    assert_eq!((last.document, &last.bytes[..]), (2, terms[1]));
+    assert!(found.next().is_none());
+    // Where all have to have terms, the fault ends it.
+    let all: Result<Vec<_>, _> = schema.terms_of_block(Version::V2, block).unwrap().collect();
+    assert_eq!(all, Err(fault));
+}
+
+#[test]
+fn a_number_in_a_field_of_dates_is_told_between_the_others() {
+    let mut schema = Schema::open(DATED).unwrap();
+    let lines = r#"{"added":"1970-01-01T00:00:00Z"}
+{"added":1714564800}
+{"added":"1970-01-01T00:00:01.5Z"}"#;
+    let block = schema.import_lines(lines.as_bytes()).unwrap().block;
+    // The code of a date is 5, that of a number with a sign 2.
+    let stored = b"\x81\0\0\0\0\x05\0\0\0\0\0\0\0\0\x81\0\0\0\0\x02\xc0\x2e\x32\x66\0\0\0\0";
+    assert!(block.starts_with(stored));
+    expect_fault_between(&mut schema, &block, DATES);
+}
+
+#[test]
+fn a_document_with_a_fault_has_none_of_its_terms() {
+    let mut schema = Schema::open(DATED).unwrap();
+    let date = &b"\x81\0\0\0\0\x05\0\0\0\0\0\0\0\0"[..];
+    // The number 7 at the key k, and after it a text in the field of dates.
+    let object = &b"\x01\0\0\0\x0d\x82\0\x81k\x01\x07\0\0\0\0\0\0\0"[..];
+    let block = [date, b"\x82", object, b"\0\0\0\0\0\x81a", b"\x81", object].concat();
+    let terms = [DATES[0], b"\0\0\0\x01jk\0i\x80\0\0\0\0\0\0\x07"];
+    expect_fault_between(&mut schema, &block, terms);
 }
 
 #[test]

@@ -6,7 +6,7 @@ use common::{stored_number, stored_text, SCHEMA};
 use kormaglen::{
     documents, end_of_prefix, export_block, facet_of_text, find_field, import_lines, migrate_block,
     term_of_text, terms, terms_of_block, text_of_facet, Document, DocumentReason, ImportedBlocks,
-    LineReason, Refusal, Schema, Terms, Version,
+    LineReason, Refusal, Schema, SchemaTerms, Terms, Version,
 };
 use std::thread;
 
@@ -66,6 +66,7 @@ fn eight_threads_use_a_handle_each() {
 fn iterators_are_sent() {
     fn sent<T: Send>() {}
     sent::<Terms<'_>>();
+    sent::<SchemaTerms>();
     sent::<ImportedBlocks<'_, &[u8]>>();
     sent::<Refusal>();
 }
@@ -122,6 +123,7 @@ fn handles_have_answers_for_inputs_without_a_byte() {
     let mut schema = Schema::open(b"[]").unwrap();
     assert_eq!(schema.import_lines(b"").unwrap().lines, []);
     assert_eq!(schema.export_block(Version::V2, b"").unwrap(), "");
+    assert_eq!(schema.terms_of_block(Version::V2, b"").unwrap().count(), 0);
     assert_eq!(schema.import_reader(&b""[..]).count(), 0);
     let reason = DocumentReason::UnexpectedEnd;
     let refusal = Document::read(Version::V2, b"").unwrap_err();

@@ -3,9 +3,8 @@
 
 mod common;
 
-use common::SCHEMA;
+use common::{peak, SCHEMA};
 use kormaglen::{documents, terms, Document, Schema, Version};
-use std::fs;
 use std::io::{self, Read};
 
 /// How many bytes of lines are imported.
@@ -26,13 +25,6 @@ impl Read for Lines {
         self.at = (self.at + len) % self.line.len();
         Ok(len)
     }
-}
-
-/// The most memory that this process had so far, in bytes, where the system says so.
-fn peak() -> Option<u64> {
-    let status = fs::read_to_string("/proc/self/status").ok()?;
-    let line = status.lines().find(|line| line.starts_with("VmHWM:"))?;
-    line.split_whitespace().nth(1)?.parse::<u64>().ok().map(|kib| kib << 10)
 }
 
 fn expect_little(before: u64, task: &str) {

@@ -73,8 +73,18 @@ fn blocks_of_random_bytes_are_read_or_refused() {
                 // A value has one term at most: null, arrays and objects have none.
                 assert!(values.len() >= terms.len());
             }
-            let _ = schema.terms_of_block(version, &block);
             let count = documents(version, &block).count();
+            match schema.terms_of_block(version, &block) {
+                Ok(found) => {
+                    assert!(exported.is_ok());
+                    let numbers: Vec<u64> = found
+                        .map(|each| each.map_or_else(|it| it.document, |it| it.document))
+                        .collect();
+                    assert!(numbers.windows(2).all(|pair| pair[0] <= pair[1]));
+                    assert!(numbers.iter().all(|number| *number < count as u64));
+                }
+                Err(refusal) => assert_eq!(exported, Err(refusal)),
+            }
             match migrate_block(version, &block, Version::V3) {
                 Ok(migrated) => {
                     assert_eq!(documents(Version::V3, &migrated).count(), count);

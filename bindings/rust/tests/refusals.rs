@@ -165,13 +165,13 @@ fn a_document_is_refused_with_the_reason() {
         assert_eq!(terms_of_block(0, version, &block), Err(later));
         let mut schema = Schema::open(SCHEMA).unwrap();
         assert_eq!(schema.values_of_block("u", version, &block), Err(later));
-        assert_eq!(schema.terms_of_block(version, &block), Err(later));
+        assert_eq!(schema.terms_of_block(version, &block).unwrap_err(), later);
         assert!(later.to_string().contains(": at byte 1: "));
     }
 }
 
 #[test]
-fn a_document_without_terms_is_refused_with_the_reason() {
+fn a_document_without_terms_is_told_with_the_field_and_the_reason() {
     let mut schema = Schema::open(
         br#"[{"name":"u","type":"u64","options":{"indexed":true,"stored":true}},
 {"name":"j","type":"json_object","options":{"stored":true,"fast":false,"indexing":{}}}]"#,
@@ -186,11 +186,16 @@ fn a_document_without_terms_is_refused_with_the_reason() {
     ];
     for (pair, reason, number) in rows {
         let block = [b"\x80\x81", pair].concat();
-        let refusal = schema.terms_of_block(Version::V2, &block).unwrap_err();
-        assert_eq!(refusal, Refusal::BadDocument { reason, start: 1 });
+        let mut found = schema.terms_of_block(Version::V2, &block).unwrap();
+        let fault = found.next().unwrap().unwrap_err();
+        assert_eq!((fault.document, fault.reason), (1, reason));
+        assert_eq!(fault.field, u32::from(pair[0]));
         assert_eq!(reason.number(), number);
-        expect_status(refusal, 8);
-        assert!(refusal.to_string().contains(": at byte 1: "));
+        assert!(fault.to_string().starts_with(&format!("document 1: field {}: ", pair[0])));
+        expect_words(fault);
+        for _ in 0..3 {
+            assert!(found.next().is_none());
+        }
         // It can be read.
         assert!(schema.values_of_block("u", Version::V2, &block).is_ok());
     }

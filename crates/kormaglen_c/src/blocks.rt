@@ -2,7 +2,7 @@
 
 ghost use Rattle.kormaglen_c.specs.Answers.{AnswersFill, IsWrongVersion};
 ghost use Rattle.kormaglen_c.specs.Handles.{IsClosedHandle};
-ghost use Rattle.std.specs.Prelude.{◌≡◌, MatchOption};
+ghost use Rattle.std.specs.Prelude.{◌≡◌, ◌==◌, not, MatchOption};
 ghost use Rattle.tv_blocks.specs.FieldValues.{AreNamedValues, IsNamedValuesRefusal};
 ghost use Rattle.tv_blocks.specs.SchemaTerms.{AreSchemaTerms, IsSchemaTermsRefusal};
 ghost use Rattle.tv_blocks.specs.Held.{entries_of};
@@ -70,40 +70,56 @@ fn write_terms(
     alloc: Global,
     schema: &Schema,
     version: u32,
+    with_faults: bool,
     block: &[u8],
     terms: &mut [u8],
 ) -> Answer
     ensures { MatchOption (version_of_number version) (IsWrongVersion terms.old terms.new result)
-        (λ v. AnswersFill (AreSchemaTerms schema.now (version_of v) block.now)
-        (IsSchemaTermsRefusal schema.now (version_of v) block.now) terms.old terms.new result) }
+        (λ v. AnswersFill (AreSchemaTerms with_faults schema.now (version_of v) block.now)
+        (IsSchemaTermsRefusal with_faults schema.now (version_of v) block.now)
+        terms.old terms.new result) }
 {
     match DocStoreVersion::from_u32(version) {
         Ok(version) => written_answer(tv_blocks::schema_terms_of_block(
-            alloc, schema, version, block, terms,
+            alloc,
+            schema,
+            version,
+            with_faults,
+            block,
+            terms,
         )),
         Err(_) => wrong_version(),
     }
 }
 
 /// Writes the terms that the documents of a block have by the schema that the handle holds, see `tv_blocks::schema_terms_of_block`. The version is
-/// 1, 2 or 3.
+/// 1, 2 or 3. `with_faults` is set where it isn't 0.
 #[unsafe(no_mangle)]
 pub extern "C" fn raw_schema_terms_of_block(
     alloc: Global,
     handle: &mut SchemaHandle,
     version: u32,
+    with_faults: u32,
     block: &[u8],
     terms: &mut [u8],
 ) -> Answer
     ensures handle { entries_of handle.new ≡ entries_of handle.old }
     ensures answer { MatchOption (entries_of handle.old) (IsClosedHandle terms.old terms.new result)
         (λ entries. MatchOption (version_of_number version) (IsWrongVersion terms.old terms.new result)
-        (λ v. AnswersFill (AreSchemaTerms entries (version_of v) block.now)
-        (IsSchemaTermsRefusal entries (version_of v) block.now) terms.old terms.new result)) }
+        (λ v. AnswersFill (AreSchemaTerms (not (with_faults == 0)) entries (version_of v) block.now)
+        (IsSchemaTermsRefusal (not (with_faults == 0)) entries (version_of v) block.now)
+        terms.old terms.new result)) }
 {
     match handle.take(alloc) {
         Some(memory) => {
-            let answer = write_terms(alloc, &memory.schema, version, block, terms);
+            let answer = write_terms(
+                alloc,
+                &memory.schema,
+                version,
+                with_faults != 0,
+                block,
+                terms,
+            );
             handle.keep(alloc, memory);
             answer
         }

@@ -3,7 +3,7 @@ use Rattle.std.specs.Prelude.{◌≡◌, ℕ, suc, List, [], ◌∷◌, ◌++◌
 use Rattle.std.specs.Int.{cast_unsigned, to_be_bytes, to_le_bytes, w64, w128}
 use Rattle.std.specs.List.{flat_map}
 use Rattle.serde_json.specs.Written.{compact_text}
-use Rattle.tv_blocks.specs.Records.{record_of}
+use Rattle.tv_blocks.specs.Records.{numbered_record}
 use Rattle.tv_blocks.specs.Refusals.{RefusesDocument, StopsAt}
 use Rattle.tv_blocks.specs.declared.block_error.BlockError.{BlockError}
 use Rattle.tv_blocks.specs.declared.block_error.BlockError.TheVariants as errors
@@ -59,7 +59,7 @@ value_content (object es) = json_content (object es)
 
 -- the number of a document, and then a kind and bytes
 abbrev pub content_record : ℕ → ValueKind × List ℕ → List ℕ
-content_record number content = to_le_bytes w64 number ++ record_of (kind_number content.0) content.1
+content_record number content = numbered_record number (kind_number content.0) content.1
 
 abbrev pub value_record : ℕ → Tree → List ℕ
 value_record number tree = content_record number (value_content tree)

@@ -1,36 +1,72 @@
--- The terms that documents have by a schema, with the numbers of the documents.
-use Rattle.std.specs.Prelude.{◌≡◌, ℕ, suc, List, [], ◌∷◌, ◌++◌, length, map, Ok, Err}
-use Rattle.std.specs.List.{flat_map}
-use Rattle.tv_blocks.specs.Records.{record_of}
+-- The terms that documents have by a schema, with the numbers of the documents, and which documents have none.
+--
+-- The words of the public contract. `with_faults` says whether a document that has a value without a term has a record, or is refused.
+-- `AreSchemaTerms`: these are the records of the documents of a block.
+-- `IsSchemaTermsRefusal`: this document of the block is refused.
+use Rattle.std.specs.Prelude.{◌≡◌, ℕ, suc, ◌-◌, ◌^◌, Bool, false, List, [], ◌∷◌, ◌++◌, drop, length, map, nat_eq, Option, Some, None, Ok, Err}
+use Rattle.std.specs.Int.{to_le_bytes, w64}
+use Rattle.std.specs.List.{All, common_prefix_len}
+use Rattle.tv_blocks.specs.Records.{numbered_record}
 use Rattle.tv_blocks.specs.Refusals.{RefusesDocument, StopsAt}
-use Rattle.tv_blocks.specs.TermsRefusals.{terms_error}
+use Rattle.tv_blocks.specs.TermsRefusals.{refusal_of, terms_error, terms_number}
 use Rattle.tv_blocks.specs.declared.block_error.BlockError.{BlockError}
 use Rattle.tv_blocks.specs.declared.block_error.BlockError.TheVariants as errors
 use Rattle.tv_blocks.specs.declared.terms_refusal.TermsRefusal.{TermsRefusal}
 use Rattle.tv_field.specs.Entry.{Entry}
 use Rattle.tv_format.specs.Tree.{Document}
 use Rattle.tv_format.specs.Version.{Version}
-use Rattle.tv_indexing.specs.DocumentTerms.{document_terms}
+use Rattle.tv_indexing.specs.DocumentTerms.{Terms, document_terms}
 use Rattle.tv_indexing.specs.declared.term_values_error.TermValuesError.{TermValuesError}
 use Rattle.tv_store.specs.BlockMigration.{EncodesBlock}
 use Rattle.tv_store.specs.Documents.{BeginsWithDocument}
+use Rattle.tv_value.specs.declared.field.Field.{Field}
 
--- the records of a document's number and each of its terms
-abbrev pub numbered_terms : ℕ → List (List ℕ) → List ℕ
-numbered_terms number terms = flat_map (record_of number) terms
+-- ---- records
+
+-- how many bytes both begin with
+abbrev pub common_len : List ℕ → List ℕ → ℕ
+common_len before term = common_prefix_len nat_eq before term
+
+-- the record of a term that stands after another
+abbrev pub shared_record : ℕ → List ℕ → List ℕ → List ℕ
+shared_record number before term = numbered_record number (common_len before term) (drop (common_len before term) term)
+
+-- those of terms, each after the one before it
+abbrev pub term_records : ℕ → List ℕ → List (List ℕ) → List ℕ
+term_records number before [] = []
+term_records number before (term ∷ terms) = shared_record number before term ++ term_records number term terms
+
+-- the number of the reason, and that of the field whose value has no term
+abbrev pub fault_bytes : Option (TermsRefusal × Field) → List ℕ
+fault_bytes (Some why) = to_le_bytes w64 (terms_number why.0) ++ to_le_bytes w64 why.1.id
+fault_bytes None = []
+
+-- the record of a document that has no terms
+abbrev pub fault_record : ℕ → TermValuesError → List ℕ
+fault_record number e = numbered_record number (2 ^ 64 - 1) (fault_bytes (refusal_of e))
+
+-- those of a document: of its terms, the first of which shares nothing, or the one of why it has none
+abbrev pub document_records : ℕ → Terms → List ℕ
+document_records number (Ok terms) = term_records number [] terms
+document_records number (Err e) = fault_record number e
 
 -- those of documents, of which the first has this number
-abbrev pub terms_from : ℕ → List (List (List ℕ)) → List ℕ
-terms_from first [] = []
-terms_from first (terms ∷ others) = numbered_terms first terms ++ terms_from (suc first) others
+abbrev pub records_from : ℕ → List Terms → List ℕ
+records_from first [] = []
+records_from first (terms ∷ others) = document_records first terms ++ records_from (suc first) others
 
--- The block encodes documents, each has terms by the schema, and these are their records, the documents counted from 0.
-pub record AreSchemaTerms (schema : List Entry) (v : Version) (block content : List ℕ) : Type 0 where
+-- ---- documents
+
+-- each of its values has its terms
+abbrev pub HasTerms : List Entry → Document → Type 0
+HasTerms schema d = (terms : List (List ℕ)) × (document_terms schema d ≡ Ok terms)
+
+-- The block encodes documents, and these are their records, the documents counted from 0. Without faults each has terms.
+pub record AreSchemaTerms (with_faults : Bool) (schema : List Entry) (v : Version) (block content : List ℕ) : Type 0 where
   pub documents : List Document
   pub encoded : EncodesBlock v block documents
-  pub terms : List (List (List ℕ))
-  pub made : map (document_terms schema) documents ≡ map Ok terms
-  pub listed : content ≡ terms_from 0 terms
+  pub listed : content ≡ records_from 0 (map (document_terms schema) documents)
+  pub have_terms : with_faults ≡ false → All (HasTerms schema) documents
 
 -- ---- why there are none
 
@@ -43,35 +79,42 @@ abbrev pub BeginsWithoutTerms : List Entry → Version → ℕ → TermsRefusal 
 BeginsWithoutTerms schema v start refusal bytes =
     (rest : List ℕ) × (d : Document) × BeginsWithDocument v bytes rest d × HasNoTerms schema start d (errors.NoTerms start refusal)
 
--- the documents of these bytes have terms
-abbrev pub HaveTerms : List Entry → Version → List ℕ → Type 0
-HaveTerms schema v bytes = (content : List ℕ) × AreSchemaTerms schema v bytes content
+-- the documents of these bytes have records
+abbrev pub HaveRecords : Bool → List Entry → Version → List ℕ → Type 0
+HaveRecords with_faults schema v bytes = (content : List ℕ) × AreSchemaTerms with_faults schema v bytes content
 
--- The document that begins there is the first that can't be read or has no terms.
-abbrev pub IsSchemaTermsRefusal : List Entry → Version → List ℕ → BlockError → Type 0
-IsSchemaTermsRefusal schema v block (errors.BadDocument start refusal) = StopsAt (HaveTerms schema v) (λ bytes. RefusesDocument v bytes refusal) block start
-IsSchemaTermsRefusal schema v block (errors.NoTerms start refusal) = StopsAt (HaveTerms schema v) (BeginsWithoutTerms schema v start refusal) block start
-IsSchemaTermsRefusal schema v block e = ⊥
+-- The document that begins there is the first that can't be read or, without faults, has no terms.
+abbrev pub IsSchemaTermsRefusal : Bool → List Entry → Version → List ℕ → BlockError → Type 0
+IsSchemaTermsRefusal with_faults schema v block (errors.BadDocument start refusal) =
+    StopsAt (HaveRecords with_faults schema v) (λ bytes. RefusesDocument v bytes refusal) block start
+IsSchemaTermsRefusal with_faults schema v block (errors.NoTerms start refusal) =
+    (with_faults ≡ false) × StopsAt (HaveRecords with_faults schema v) (BeginsWithoutTerms schema v start refusal) block start
+IsSchemaTermsRefusal with_faults schema v block e = ⊥
 
 -- ---- for private clauses
 
--- the records of the document's terms are appended
-abbrev pub AppendsTerms : List Entry → ℕ → Document → List ℕ → List ℕ → Type 0
-AppendsTerms schema number d old new = (terms : List (List ℕ)) × (document_terms schema d ≡ Ok terms) × (new ≡ old ++ numbered_terms number terms)
+-- the last of the terms, or what was before them
+abbrev pub last_term : List ℕ → List (List ℕ) → List ℕ
+last_term before [] = before
+last_term before (term ∷ terms) = last_term term terms
 
--- it has none, or memory was refused
-abbrev pub IsWithoutTerms : List Entry → ℕ → Document → BlockError → Type 0
-IsWithoutTerms schema start d errors.Memory = Unit {0}
-IsWithoutTerms schema start d e = HasNoTerms schema start d e
+-- the records of the document are appended, and without faults it has terms
+abbrev pub AppendsDocument : Bool → List Entry → ℕ → Document → List ℕ → List ℕ → Type 0
+AppendsDocument with_faults schema number d old new = (with_faults ≡ false → HasTerms schema d) × (new ≡ old ++ document_records number (document_terms schema d))
+
+-- without faults it has none, or memory was refused
+abbrev pub IsWithoutTerms : Bool → List Entry → ℕ → Document → BlockError → Type 0
+IsWithoutTerms with_faults schema start d errors.Memory = Unit {0}
+IsWithoutTerms with_faults schema start d e = (with_faults ≡ false) × HasNoTerms schema start d e
 
 -- a document of the block is refused, or memory was
-abbrev pub IsTermsBlockRefusal : List Entry → Version → List ℕ → BlockError → Type 0
-IsTermsBlockRefusal schema v block errors.Memory = Unit {0}
-IsTermsBlockRefusal schema v block e = IsSchemaTermsRefusal schema v block e
+abbrev pub IsTermsBlockRefusal : Bool → List Entry → Version → List ℕ → BlockError → Type 0
+IsTermsBlockRefusal with_faults schema v block errors.Memory = Unit {0}
+IsTermsBlockRefusal with_faults schema v block e = IsSchemaTermsRefusal with_faults schema v block e
 
 -- so far the records of the documents before the rest of the block have been appended
-pub record SchemaTermsSoFar (schema : List Entry) (v : Version) (block rest content : List ℕ) (number : ℕ) : Type 0 where
+pub record SchemaTermsSoFar (with_faults : Bool) (schema : List Entry) (v : Version) (block rest content : List ℕ) (number : ℕ) : Type 0 where
   pub before : List ℕ
   pub joined : block ≡ before ++ rest
-  pub are : AreSchemaTerms schema v before content
+  pub are : AreSchemaTerms with_faults schema v before content
   pub counted : number ≡ length are.documents

@@ -11,7 +11,7 @@ ghost use Rattle.tv_reader.specs.Version.{version_of};
 
 use crate::block_error::{BlockError, unread};
 use crate::buffer::put_whole;
-use crate::numbered::append_record;
+use crate::numbered::append_numbered;
 use std::alloc::{AllocError, Global};
 use tv_base::SliceSource;
 use tv_doc::document::CompactDoc;
@@ -77,8 +77,7 @@ fn append_content(
     ensures { OnOk result
         (values.new.items ≡ values.old.items ++ content_record document (kind, bytes.now)) }
 {
-    values.extend_from_slice(&document.to_le_bytes())?;
-    append_record(values, kind.number(), bytes)
+    append_numbered(values, document, kind.number(), bytes)
 }
 
 // Appends the record of a value as its text of JSON.

@@ -1,12 +1,13 @@
 //! Why the values of a document have no terms.
 
 ghost use Rattle.std.specs.Prelude.{◌≡◌};
-ghost use Rattle.tv_blocks.specs.TermsRefusals.{terms_error, terms_number};
+ghost use Rattle.tv_blocks.specs.TermsRefusals.{refusal_of, terms_error, terms_number};
 
 use crate::block_error::BlockError;
 use std::error::Error;
 use std::fmt;
 use tv_indexing::TermValuesError;
+use tv_value::field::Field;
 
 /// Why the values of a document have no terms by a schema. (Not in tantivy.)
 #[derive(Clone, Copy, Debug, PartialEq, Eq, Drop)]
@@ -49,16 +50,25 @@ impl TermsRefusal {
     }
 }
 
+// Why a document has no terms, and the field whose value has none. `None` where memory was refused.
+pub(crate) fn refusal_of(error: TermValuesError) -> Option<(TermsRefusal, Field)>
+    ensures { result ≡ refusal_of error }
+{
+    match error {
+        TermValuesError::UnknownField(field) => Some((TermsRefusal::ForeignField, field)),
+        TermValuesError::WrongType(field) => Some((TermsRefusal::WrongType, field)),
+        TermValuesError::NulInPath(field) => Some((TermsRefusal::NulInKey, field)),
+        TermValuesError::NoJsonTerm(field) => Some((TermsRefusal::NoTerm, field)),
+        TermValuesError::Memory => None,
+    }
+}
+
 // What is said of a document that begins at this byte of its block and has no terms.
 pub(crate) fn terms_error(start: u64, error: TermValuesError) -> BlockError
     ensures { result ≡ terms_error start error }
 {
-    let refusal = match error {
-        TermValuesError::UnknownField(_) => TermsRefusal::ForeignField,
-        TermValuesError::WrongType(_) => TermsRefusal::WrongType,
-        TermValuesError::NulInPath(_) => TermsRefusal::NulInKey,
-        TermValuesError::NoJsonTerm(_) => TermsRefusal::NoTerm,
-        TermValuesError::Memory => return BlockError::Memory,
-    };
-    BlockError::NoTerms { start, refusal }
+    match refusal_of(error) {
+        Some((refusal, _)) => BlockError::NoTerms { start, refusal },
+        None => BlockError::Memory,
+    }
 }

@@ -6,7 +6,7 @@ from __future__ import annotations
 import contextlib
 import os
 import uuid
-from typing import Any, Dict, List, NamedTuple, Optional, Sequence, Tuple
+from typing import Any, Dict, Iterator, List, NamedTuple, Optional, Sequence, Tuple
 
 from fsspec.core import OpenFile
 from fsspec.utils import read_block
@@ -128,23 +128,25 @@ def write_piece(part: Part, path: str) -> str:
     return path
 
 
-def terms_at(part: Part, schema: bytes, field: Optional[int], of_objects: bool) -> List[Tuple[int, bytes]]:
+def terms_at(
+    part: Part, schema: bytes, field: Optional[int], of_objects: bool
+) -> Iterator[Tuple[int, bytes]]:
     """The terms of a field in a piece, each with the number of its document there. Where the field is one
     of JSON objects, and where it is None, which is all fields, they are those that the schema has."""
     if field is not None and not of_objects:
-        return [(document, term) for document, term in terms_of_block(field, 2, part[0])]
+        return ((document, term) for document, term in terms_of_block(field, 2, part[0]))
     # (a term begins with the number of its field)
     start = b"" if field is None else field.to_bytes(4, "big")
     with Schema(schema) as by:
         found = by.terms_of_block(part[0])
-    return [(document, term) for document, term in found if term.startswith(start)]
+    return ((document, term) for document, term in found if term.startswith(start))
 
 
 def located_terms(
     part: Part, schema: bytes, field: Optional[int], of_objects: bool
 ) -> Tuple[int, List[Tuple[int, bytes]]]:
     """How many documents a piece has, and the terms of a field there."""
-    return lines_of(part)[1], terms_at(part, schema, field, of_objects)
+    return lines_of(part)[1], list(terms_at(part, schema, field, of_objects))
 
 
 def counted_terms(part: Part, schema: bytes, field: Optional[int], of_objects: bool) -> Counts:

@@ -1,7 +1,10 @@
 //! What several tests need.
 
+use std::fs;
+
 /// A field of each kind that refuses values in its own way: 0 of texts, 1 of numbers, 2 of facets,
 /// 3 of dates, 4 of bytes, 5 of JSON objects.
+#[allow(dead_code)]
 pub const SCHEMA: &[u8] = br#"[{"name":"s","type":"text","options":{"stored":true}},
 {"name":"u","type":"u64","options":{"indexed":false,"stored":true}},
 {"name":"f","type":"facet","options":{"stored":true}},
@@ -24,4 +27,12 @@ pub fn stored_text(text: &str) -> Vec<u8> {
 #[allow(dead_code)]
 pub fn stored_number(number: u64) -> Vec<u8> {
     [&[0x81, 1, 0, 0, 0, 1][..], &number.to_le_bytes()].concat()
+}
+
+/// The most memory that this process had so far, in bytes, where the system says so.
+#[allow(dead_code)]
+pub fn peak() -> Option<u64> {
+    let status = fs::read_to_string("/proc/self/status").ok()?;
+    let line = status.lines().find(|line| line.starts_with("VmHWM:"))?;
+    line.split_whitespace().nth(1)?.parse::<u64>().ok().map(|kib| kib << 10)
 }
