@@ -5,7 +5,7 @@
 
 enum { VERSION = 1, DOCUMENT = 2, FAULTS = 3 };
 enum { FIELD, TYPE, TERM, VALUE, FAULT, COLUMNS };
-enum { HEAD = 24 };
+enum { HEAD = 24, LARGEST_MULTIPLIED = 1 << 22 };
 
 typedef struct document_terms {
     opened_schema *schema;
@@ -37,6 +37,11 @@ static bool is_fault(const uint8_t *record) {
     return shared_len(record) == KORMAGLEN_NO_TERMS;
 }
 
+/* Room for the records of most documents, so that the library is called once; for those of a long one, no more than it has bytes. */
+static size_t guess_size(size_t len) {
+    return len < LARGEST_MULTIPLIED ? 4 * len : len;
+}
+
 static bool fill(call *it, cursor *to) {
     document_terms of = {0};
     if (!cursor_schema(it, to) || !version_argument(it, VERSION, 1, &of.version) || !blob_argument(it, DOCUMENT, &of.blob)
@@ -45,7 +50,8 @@ static bool fill(call *it, cursor *to) {
     }
     of.schema = it->schema;
     note_size(it->schema, of.blob.len);
-    return read_document(it, of.version, of.blob, &it->schema->document) && read_names(it) && append(it, &to->records, write_terms, &of);
+    return read_document(it, of.version, of.blob, &it->schema->document) && read_names(it)
+        && reserve(it, &to->records, guess_size(of.blob.len)) && append(it, &to->records, write_terms, &of);
 }
 
 /* Puts the rest of the record's term after what it shares with the term before. */

@@ -123,7 +123,7 @@ def run_long(number: int) -> None:
             die(f"a key of {letters} letters over {numbers} numbers: {got} in place of {want}")
         grown = status(session, "VmHWM") - before
         print(f"a key of {letters} letters over {numbers} numbers: memory grew by {grown} KiB at most")
-        expect_flat(grown, 6144 + letters // 2)
+        expect_flat(grown, 8192 + letters // 5)
         session.close()
 
 
