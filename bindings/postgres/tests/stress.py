@@ -65,6 +65,8 @@ STATEMENTS = [
     "SELECT count(kormaglen_check(2, stored)), sum(length(kormaglen_migrate(2, stored, 3))) FROM documents",
     "SELECT count(*), sum(length(term)), sum(length(value)) FROM given, documents, kormaglen_terms(s, 2, stored)",
     "SELECT field, fault, count(*) FROM given, documents, kormaglen_terms(replace(s, 'u64', 'i64'), 2, stored, true) GROUP BY field, fault",
+    """SELECT count(*), sum(length(term)) FROM given, kormaglen_terms(s, 2, kormaglen_store(s, format('{"more":{"%s":%s}}', repeat('k', 2000),
+        (SELECT json_agg(i) FROM generate_series(1, 1000) AS i))))""",
     "SELECT sum(kormaglen_bigint(s, 2, stored, 'price')), max(kormaglen_value(s, 2, stored, 'more')) FROM given, documents",
     "SELECT kormaglen_facet_counts('/', id, kormaglen_bytea(s, 2, stored, 'kind')) FROM given, documents",
     "SELECT count(*) FROM given, lines, kormaglen_query_ranges(s, 'more.size', '[1 TO ' || id || ']')",
@@ -112,9 +114,11 @@ def expect_flat(grown: int, most: int) -> None:
 def run_long(number: int) -> None:
     sql = """SELECT count(*), sum(length(term)), sum(value::integer), count(fault) FROM given,
         kormaglen_terms(s, 2, kormaglen_store(s, format('{"more":{"%s":%s}}', repeat('k', ?), (SELECT json_agg(i) FROM generate_series(0, ? - 1) AS i))))"""
+    open_session(documents=1).close()
     for letters in (number // 8, number // 4, number // 2, number):
         numbers = letters // 2
-        session = open_session(documents=1)
+        session = Session()
+        session.ask("SET jit = off; SELECT kormaglen_version()")
         before = status(session, "VmHWM")
         # (a term is the field, a code, the key, a zero byte, a code and the number)
         want = [numbers, numbers * (letters + 4 + 1 + 1 + 1 + 8), numbers * (numbers - 1) // 2, 0]
