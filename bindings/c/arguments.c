@@ -220,6 +220,41 @@ static void test_term_texts(void) {
     expect("the size", size.status == KORMAGLEN_TOO_SMALL && size.bytes == 3);
 }
 
+/* In version 2: the numbers 7 and 8, a text in place of a number, and 9. */
+static const char THREE[] = "\x82\0\0\0\0\1\7\0\0\0\0\0\0\0\0\0\0\0\1\x08\0\0\0\0\0\0\0" "\x81\0\0\0\0\0\x81x" "\x81\0\0\0\0\1\x09\0\0\0\0\0\0\0";
+
+/* Their records: a term whole, one that shares twelve bytes with it, the fault of document 1 in field 0, and a term whole. */
+static const char RECORDS[] =
+    "\0\0\0\0\0\0\0\0" "\0\0\0\0\0\0\0\0" "\x0D\0\0\0\0\0\0\0" "\0\0\0\0u\0\0\0\0\0\0\0\7"
+    "\0\0\0\0\0\0\0\0" "\x0C\0\0\0\0\0\0\0" "\1\0\0\0\0\0\0\0" "\x08"
+    "\1\0\0\0\0\0\0\0" "\xFF\xFF\xFF\xFF\xFF\xFF\xFF\xFF" "\x10\0\0\0\0\0\0\0" "\x10\0\0\0\0\0\0\0" "\0\0\0\0\0\0\0\0"
+    "\2\0\0\0\0\0\0\0" "\0\0\0\0\0\0\0\0" "\x0D\0\0\0\0\0\0\0" "\0\0\0\0u\0\0\0\0\0\0\0\x09";
+
+/* A document without terms is refused, or has a record, whichever is asked for; one that can't be read is refused in both cases. */
+static void test_faults(void) {
+    kormaglen_schema schema = {0};
+    uint8_t terms[140], kept[140];
+    size_t block_len = sizeof THREE - 1, len = sizeof RECORDS - 1;
+    memset(kept, 0xA5, sizeof kept);
+    memcpy(terms, kept, sizeof terms);
+    expect("open", kormaglen_schema_open(bytes_of(SCHEMA), strlen(SCHEMA), &schema).status == KORMAGLEN_OK);
+    kormaglen_answer refused = kormaglen_schema_terms_of_block(&schema, 2, 0, bytes_of(THREE), block_len, terms, sizeof terms);
+    expect("refused", refused.status == KORMAGLEN_BAD_DOCUMENT && refused.detail == KORMAGLEN_DOCUMENT_WRONG_TYPE && refused.place == 27);
+    kormaglen_answer small = kormaglen_schema_terms_of_block(&schema, 2, 1, bytes_of(THREE), block_len, terms, len - 1);
+    expect("the size", small.status == KORMAGLEN_TOO_SMALL && small.bytes == len);
+    kormaglen_answer cut = kormaglen_schema_terms_of_block(&schema, 2, 1, bytes_of(THREE), block_len - 1, terms, sizeof terms);
+    expect("cut short", cut.status == KORMAGLEN_BAD_DOCUMENT && cut.detail == KORMAGLEN_DOCUMENT_UNEXPECTED_END && cut.place == 35);
+    expect("nothing is written", memcmp(terms, kept, sizeof terms) == 0);
+    static const uint32_t with_faults[] = {1, 2, 0x80000000, 0xFFFFFFFF};
+    for (size_t i = 0; i < sizeof with_faults / sizeof *with_faults; i++) {
+        memcpy(terms, kept, sizeof terms);
+        kormaglen_answer listed = kormaglen_schema_terms_of_block(&schema, 2, with_faults[i], bytes_of(THREE), block_len, terms, sizeof terms);
+        expect("records", listed.status == KORMAGLEN_OK && listed.bytes == len && memcmp(terms, RECORDS, len) == 0);
+        expect("the rest stays", memcmp(terms + len, kept, sizeof terms - len) == 0);
+    }
+    kormaglen_schema_close(&schema);
+}
+
 static void test_numbers(void) {
     static const uint32_t none[] = {0, 4, 5, 0x7FFFFFFF, 0x80000000, 0xFFFFFFFF};
     for (size_t i = 0; i < sizeof none / sizeof *none; i++) {
@@ -280,6 +315,7 @@ int main(void) {
     test_overlap();
     test_size();
     test_term_texts();
+    test_faults();
     test_numbers();
     test_records();
     test_closed();

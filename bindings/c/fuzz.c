@@ -432,24 +432,103 @@ static void check_values(const uint8_t *values, uint64_t len) {
     }
 }
 
-/* Of a field that is not of JSON objects, the terms by the schema are those that the field's values have without it. */
-static void compare_terms(const uint8_t *terms, uint64_t len, uint32_t version, const uint8_t *block, size_t block_len) {
-    uint8_t *kept = fresh((size_t)len), *alone = fresh((size_t)len);
-    uint32_t field = (uint32_t)below(7);
-    uint64_t length = 0;
+/* What the records of terms by a schema have come to: how many documents there were, whether the last has no terms, and its last term. */
+typedef struct joined_term {
+    uint64_t documents;
+    int is_fault;
+    uint64_t len;
+    uint8_t bytes[2 * LARGEST + 64];
+} joined_term;
+
+/* A record of a fault is the only one of its document, and names a reason. */
+static void check_fault(const uint8_t *record, uint64_t size, int is_first) {
+    if (!is_first || size != 40) {
+        fail("a document without terms has a record beside that of its fault");
+    }
+    uint64_t detail = number_at(record + 24);
+    if (detail < KORMAGLEN_DOCUMENT_FOREIGN_FIELD || detail > KORMAGLEN_DOCUMENT_NO_TERM || number_at(record + 32) > UINT32_MAX) {
+        fail("a fault without a reason, or of no field");
+    }
+}
+
+/* Puts the rest of a term after what it shares with the one before it, and returns how long the record is. It shares all that it can. */
+static uint64_t join_term(joined_term *term, const uint8_t *record, uint64_t left) {
+    uint64_t size = record_length(record, left, 3), document = number_at(record), shared = number_at(record + 8), rest = size - 24;
+    int is_first = document >= term->documents;
+    if (document + 1 < term->documents || (!is_first && term->is_fault)) {
+        fail("a document before the one before it, or a record after that of a fault");
+    }
+    term->len = is_first ? 0 : term->len;
+    term->documents = document + 1;
+    term->is_fault = shared == KORMAGLEN_NO_TERMS;
+    if (term->is_fault) {
+        check_fault(record, size, is_first);
+        return size;
+    }
+    if (shared > term->len || shared + rest > sizeof term->bytes) {
+        fail("a term shares more than there is, or is too long");
+    }
+    if (shared < term->len && rest > 0 && term->bytes[shared] == record[24]) {
+        fail("a term shares more than its record says");
+    }
+    memcpy(term->bytes + shared, record + 24, (size_t)rest);
+    term->len = shared + rest;
+    return size;
+}
+
+/* The first record of a fault, or NULL. The records end where the answer says. */
+static const uint8_t *first_fault(const uint8_t *terms, uint64_t len) {
+    joined_term term = {0};
+    const uint8_t *found = NULL;
     for (uint64_t at = 0, size; at < len; at += size) {
-        size = record_length(terms + at, len - at, 2);
-        if (size >= 20 && terms[at + 19] == field) {
-            memcpy(kept + length, terms + at, (size_t)size);
-            length += size;
+        size = join_term(&term, terms + at, len - at);
+        if (term.is_fault && found == NULL) {
+            found = terms + at;
         }
     }
-    kormaglen_answer answer = kormaglen_terms_of_block(field, version, block, block_len, alone, (size_t)len);
-    if (answer.status != KORMAGLEN_OK || answer.bytes != length || memcmp(kept, alone, (size_t)length) != 0) {
-        fail("a field has other terms by the schema");
+    return found;
+}
+
+/* Where no document has a fault, both ways write the same. Where one has, it is refused for the reason that its record names. */
+static void compare_ways(kormaglen_answer refusing, const uint8_t *terms, kormaglen_answer listing, const uint8_t *listed) {
+    const uint8_t *fault = listing.status == KORMAGLEN_OK ? first_fault(listed, listing.bytes) : NULL;
+    int is_without = refusing.status == KORMAGLEN_BAD_DOCUMENT && refusing.detail >= KORMAGLEN_DOCUMENT_FOREIGN_FIELD;
+    if (fault != NULL && (!is_without || refusing.detail != number_at(fault + 24))) {
+        fail("a document with a fault is refused for another reason, or not at all");
     }
-    free(kept);
-    free(alone);
+    if (fault == NULL && listing.status == KORMAGLEN_OK
+        && (refusing.status != KORMAGLEN_OK || refusing.bytes != listing.bytes || memcmp(terms, listed, (size_t)listing.bytes) != 0)) {
+        fail("the terms are others where faults are asked for");
+    }
+    if (refusing.status != listing.status && !is_without) {
+        fail("a block is refused in one of two ways");
+    }
+}
+
+/* Of a field that is not of JSON objects, the terms by the schema are those that the field's values have without it. */
+static void compare_terms(const uint8_t *terms, uint64_t len, uint32_t version, const uint8_t *block, size_t block_len) {
+    joined_term term = {0};
+    uint32_t field = (uint32_t)below(7);
+    uint8_t alone[16 * LARGEST];
+    kormaglen_answer answer = kormaglen_terms_of_block(field, version, block, block_len, alone, sizeof alone);
+    if (answer.status == KORMAGLEN_TOO_SMALL) {
+        return;
+    }
+    uint64_t next = 0;
+    for (uint64_t at = 0, size; at < len; at += size) {
+        size = join_term(&term, terms + at, len - at);
+        if (term.bytes[3] != field) {
+            continue;
+        }
+        if (next == answer.bytes || number_at(alone + next) != term.documents - 1 || number_at(alone + next + 8) != term.len
+            || memcmp(alone + next + 16, term.bytes, (size_t)term.len) != 0) {
+            fail("a field has other terms by the schema");
+        }
+        next += record_length(alone + next, answer.bytes - next, 2);
+    }
+    if (answer.status != KORMAGLEN_OK || next != answer.bytes) {
+        fail("a field has more terms without the schema");
+    }
 }
 
 /* The values of a field and the terms of all, by a schema whose fields are indexed, by one whose fields mostly aren't, and by none. */
@@ -469,23 +548,28 @@ static void block_once(void) {
     name_len = below(8) == 0 ? random_bytes(name) : name_len;
     size_t room = below(2 * LARGEST);
     uint32_t version = (uint32_t)below(5);
-    uint8_t *b = copy_of(block, len), *n = copy_of(name, name_len), *values = fresh(room), *terms = fresh(room);
+    uint8_t *b = copy_of(block, len), *n = copy_of(name, name_len), *values = fresh(room);
     kormaglen_answer found = kormaglen_schema_values_of_block(handle, n, name_len, version, b, len, values, room);
     check(21, found, values, room);
     expect_closed(handle->at == NULL, found);
-    kormaglen_answer listed = kormaglen_schema_terms_of_block(handle, version, b, len, terms, room);
-    check(22, listed, terms, room);
-    expect_closed(handle->at == NULL, listed);
     if (found.status == KORMAGLEN_OK) {
         check_values(values, found.bytes);
     }
-    if (listed.status == KORMAGLEN_OK && which == 0) {
-        compare_terms(terms, listed.bytes, version, b, len);
+    uint8_t *terms = fresh(room), *listed = fresh(room);
+    kormaglen_answer refusing = kormaglen_schema_terms_of_block(handle, version, 0, b, len, terms, room);
+    kormaglen_answer listing = kormaglen_schema_terms_of_block(handle, version, 1 + (uint32_t)below(3), b, len, listed, room);
+    check(22, refusing, terms, room);
+    check(22, listing, listed, room);
+    expect_closed(handle->at == NULL, refusing);
+    compare_ways(refusing, terms, listing, listed);
+    if (refusing.status == KORMAGLEN_OK && which == 0) {
+        compare_terms(terms, refusing.bytes, version, b, len);
     }
     free(b);
     free(n);
     free(values);
     free(terms);
+    free(listed);
 }
 
 /* Whether the facet is the other one or lies below it. */

@@ -1,5 +1,6 @@
 pub mod Filling
 pub mod Suffixes
+pub mod Prefixes
 pub mod Blocks
 pub mod LineDocuments
 pub mod Documents

@@ -1,7 +1,8 @@
 //! Terms that documents of a block have by a schema.
 
 ghost use Rattle.std.specs.Prelude.{◌≡◌, ◌≢◌, ◌++◌, ◌∷◌, [], IfErr, IfOk, OnErr, OnOk};
-ghost use Rattle.std.specs.Prelude.{length, take};
+ghost use Rattle.std.specs.Prelude.{◌+◌, ◌≤◌, drop, length, take};
+ghost use Rattle.std.specs.Int.{from_le_bytes, w64};
 ghost use Rattle.tv_blocks.specs.Buffer.{FillsBuffer};
 ghost use Rattle.tv_blocks.specs.SchemaTerms.{AppendsDocument, AreSchemaTerms, IsSchemaTermsRefusal};
 ghost use Rattle.tv_blocks.specs.SchemaTerms.{IsTermsBlockRefusal, IsWithoutTerms};
@@ -34,12 +35,29 @@ struct TermRecords {
     content: Vec<u8>,
 }
 
-// The length of the longest common prefix.
-fn common_len(before: &[u8], term: &[u8]) -> usize
-    ensures { result ≡ common_len before.now term.now }
+// The number in the eight bytes at this place.
+#[inline(always)]
+fn word_at(bytes: &[u8], at: usize) -> u64
+    requires { at + 8 ≤ length bytes.now }
+    ensures { result ≡ from_le_bytes w64 (take 8 (drop at bytes.now)) }
 {
+    match bytes[at..].first_chunk::<8>() {
+        Some(word) => u64::from_le_bytes(*word),
+        None => 0,
+    }
+}
+
+// The length of the longest common prefix. Eight bytes are compared at a time: a key above many values is compared once for each of them.
+fn common_len(before: &[u8], term: &[u8]) -> usize
+    ensures len { result ≡ common_len before.now term.now }
+    ensures within { result ≤ length term.now }
+{
+    let both = before.len().min(term.len());
     let mut len = 0;
-    while len < before.len() && len < term.len() && before[len] == term[len] {
+    while both - len >= 8 && word_at(before, len) == word_at(term, len) {
+        len += 8;
+    }
+    while len < both && before[len] == term[len] {
         len += 1;
     }
     len
