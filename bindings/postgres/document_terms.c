@@ -76,6 +76,7 @@ static void add_fault(const call *it, const uint8_t *record) {
 
 /* Adds a row for each record. */
 static void add_rows(const call *it, const buffer *records) {
+    /* (it takes its memory before the rows do, and so it stays from one to the next) */
     buffer term = {0};
     reserve(it, &term, 1);
     const MemoryContext before = begin_rows(it);
