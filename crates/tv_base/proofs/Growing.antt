@@ -1,6 +1,6 @@
 -- How the memory of a buffer grows by one write after the other.
-use Rattle.std.proofs.Common.{◌≡◌, ℕ, ◌+◌, ◌^◌, ◌≤◌, ◌<◌, List, ◌++◌, length, max, leb, Result, Ok, Err, OnOk, arith, ap, subst, ◌∙◌}
-use Rattle.tv_base.specs.Buffer.{Buffer, Extends, Grows, GrowsWithin, capacity, grown}
+use Rattle.std.proofs.Common.{◌≡◌, ℕ, ◌+◌, ◌≤◌, List, ◌++◌, length, Result, Ok, Err, OnOk, arith, ap, subst, ◌∙◌}
+use Rattle.tv_base.specs.Buffer.{Buffer, Extends, Grows, GrowsWithin}
 
 pub grows_then : {most : ℕ} {a b c : Buffer} → GrowsWithin most a b → GrowsWithin most b c → GrowsWithin most a c
 grows_then {most} {a} {b} {c} first second = record {

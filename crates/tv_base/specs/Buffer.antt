@@ -18,9 +18,9 @@ buffer_code =
 abbrev pub capacity : Buffer → ℕ
 capacity b = length b.items + b.spare
 
--- The capacity after room was made for `need` bytes in all: as it was where that suffices; else twice that and 512 more, or what is needed.
+-- The capacity after room was made for `need` bytes in all: as it was where that suffices; else the greatest of what is needed, twice that, and 512.
 abbrev pub grown : ℕ → ℕ → ℕ
-grown old need = if leb need old then old else max need (2 * old + 512)
+grown old need = if leb need old then old else max (max need (2 * old)) 512
 
 -- Room was made for `need` bytes in all, or it was missing and memory was refused, and then the capacity is as it was.
 abbrev pub Grows : {T E : Type 0} → Result T E → Buffer → Buffer → ℕ → Type 0
@@ -39,10 +39,10 @@ abbrev pub Extends : {T E : Type 0} → Result T E → Buffer → Buffer → Lis
 Extends (Ok x) old new bytes = (new.items ≡ old.items ++ bytes) × (capacity new ≡ grown (capacity old) (length old.items + length bytes)) × (length new.items < 2 ^ 63)
 Extends (Err e) old new bytes = (new.items ≡ old.items) × (capacity new ≡ capacity old) × (capacity old < length old.items + length bytes)
 
--- Memory grew only where the capacity was below `most`, and then to twice that and 512 more at most: what writes leave that keep within `most` bytes.
+-- Memory grew only where the capacity was below `most`, and then to twice that or to 512 at most: what writes leave that keep within `most` bytes.
 pub record GrowsWithin (most : ℕ) (old new : Buffer) : Type 0 where
   pub same : most ≤ capacity old → capacity new ≡ capacity old
-  pub bound : capacity new ≤ max (capacity old) (2 * most + 512)
+  pub bound : capacity new ≤ max (capacity old) (max (2 * most) 512)
 
 -- The bytes stand in a list from this place up to `end`, and what was before it is as it was.
 pub record Stored (old new : List ℕ) (at : ℕ) (bytes : List ℕ) (end : ℕ) : Type 0 where

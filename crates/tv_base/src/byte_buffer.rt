@@ -4,7 +4,7 @@ ghost use Rattle.std.specs.Prelude.{◌≡◌, ◌+◌, ◌≤◌, ◌<◌, ◌^
 ghost use Rattle.std.specs.Prelude.{vec_capacity, vec_len};
 ghost use Rattle.tv_base.specs.Buffer.{Extends, Grows, Puts, capacity, grown};
 
-use crate::fixed_copy::copy_part;
+use crate::fixed_copy::{copy_first, copy_part};
 use std::alloc::{AllocError, Global};
 use std::marker::Model;
 use std::{fmt, mem};
@@ -20,8 +20,8 @@ const MOST_AHEAD: usize = 16384;
 /// The bytes are the first `len` of those in memory. What lies after them is set ahead, so that a short part is stored by one test of room and
 /// two copies of a fixed size, and `reserve` serves for several parts that are then stored by the `put` calls with no test.
 ///
-/// Memory grows to what is needed, or to twice what there is and 512 bytes more if that is greater. After an error the bytes and their memory are
-/// as they were.
+/// Memory grows to what is needed, or to twice what there is if that is greater, and to 512 bytes at least. After an error the bytes and their
+/// memory are as they were.
 pub struct ByteBuffer {
     bytes: Vec<u8>,
     len: usize,
@@ -210,14 +210,25 @@ impl ByteBuffer {
     }
 
     /// Appends `head` and then `content`, with one test of room. The only error is that memory was refused.
-    #[inline(always)]
-    pub fn extend_from_parts(&mut self, head: &[u8], content: &[u8]) -> Result<(), AllocError>
-        ensures { Extends result self.old self.new (head.now ++ content.now) }
+    #[inline(never)]
+    pub fn extend_from_head(&mut self, head: u8, content: &[u8]) -> Result<(), AllocError>
+        ensures { Extends result self.old self.new (head ∷ content.now) }
     {
-        let len = head.len().checked_add(content.len()).ok_or(AllocError)?;
+        let len = content.len().checked_add(1).ok_or(AllocError)?;
         self.reserve(len)?;
-        self.put_slice(head);
+        self.put_byte(head);
         self.put_slice(content);
+        Ok(())
+    }
+
+    /// Appends the `N` bytes of `chunk`, by one copy of that size. `N` is a power of two, at most 64: with another the program is not compiled. The
+    /// only error is that memory was refused.
+    #[inline(always)]
+    pub fn extend_from_chunk<const N: usize>(&mut self, chunk: &[u8; N]) -> Result<(), AllocError>
+        ensures { Extends result self.old self.new chunk.now }
+    {
+        self.reserve(N)?;
+        self.len = copy_first::<N>(self.bytes.as_mut_slice(), self.len, chunk);
         Ok(())
     }
 
@@ -262,8 +273,8 @@ fn make_room(bytes: &mut Vec<u8>, need: usize) -> Result<(), AllocError>
         return Ok(());
     }
     let twice = capacity.checked_mul(2).ok_or(AllocError)?;
-    let more = twice.checked_add(FIRST_ROOM).ok_or(AllocError)?;
-    bytes.reserve_exact(need.max(more) - bytes.len())
+    let wanted = need.max(twice).max(FIRST_ROOM);
+    bytes.reserve_exact(wanted - bytes.len())
 }
 
 // Sets bytes after those that there are, so that there are `need` at least, and some more where there is memory for them.

@@ -7,7 +7,7 @@ use std::simd::Simd;
 
 // Copies the first `N` bytes of `part` to the place `at`, by one load and one store, and returns where they end.
 #[inline(always)]
-fn copy_first<const N: usize>(to: &mut [u8], at: usize, part: &[u8]) -> usize
+pub(crate) fn copy_first<const N: usize>(to: &mut [u8], at: usize, part: &[u8]) -> usize
     requires { (N ≤ length part.now) × (at + N ≤ length to.old) }
     ensures { Stored to.old to.new at (take N part.now) result }
 {

@@ -256,6 +256,6 @@ refused {most} (Err x) old places t new left e is not = subst (PutNot most old t
 pub grows_same : (most : ℕ) (a : Buffer) → GrowsWithin most a a
 grows_same most a = record { same = λ h. refl; bound = omega arith }
 
--- what is written within a bound that is at most 524032 bytes, or the capacity, takes at most 1 MiB more
-pub grows_little : {most : ℕ} (a b : Buffer) → most ≤ max (capacity a) 524032 → GrowsWithin most a b → capacity b ≤ capacity a + 1048576
+-- what is written within a bound that is at most 524288 bytes, or the capacity, takes at most 1 MiB more
+pub grows_little : {most : ℕ} (a b : Buffer) → most ≤ max (capacity a) 524288 → GrowsWithin most a b → capacity b ≤ capacity a + 1048576
 grows_little {most} a b bound grows = elim (cases_lt (capacity a) most) [ inl few ↦ omega (arith, few, bound, grows.bound) | inr enough ↦ omega (arith, grows.same (omega (arith, enough))) ]

@@ -14,7 +14,7 @@ use tv_value::value::Value;
 const MAX_UNCOUNTED: u64 = 1048576;
 
 // While a heap is at most this long, the memory that it grows to is at most 1 MiB.
-const MAX_GROWN: usize = 524032;
+const MAX_GROWN: usize = 524288;
 
 // Whether a heap of this length is at most `most` bytes long after this many bytes more and their length.
 #[inline(always)]
@@ -44,7 +44,7 @@ pub(crate) fn has_value_room(len: usize, room: Option<u32>, most: u64) -> bool
 pub(crate) fn uncounted_most(len: usize, capacity: usize) -> u64
     requires { len ≤ 4294967295 }
     ensures { result
-        ≡ min (len + min ((4294967295 - len) / 10) 1048576) (max capacity 524032) }
+        ≡ min (len + min ((4294967295 - len) / 10) 1048576) (max capacity 524288) }
 {
     let more = ((MAX_HEAP_LEN - len as u64) / 10).min(MAX_UNCOUNTED);
     (len as u64 + more).min(capacity.max(MAX_GROWN) as u64)

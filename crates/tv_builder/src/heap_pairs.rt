@@ -1,7 +1,7 @@
 //! Pairs of a field and a value, the values in one heap.
 
 ghost use Rattle.std.specs.Prelude.{◌≡◌, ◌<◌, ◌≤◌, ◌^◌, [], ◌∷◌, ◌++◌, OnOk, OnErr, IfOk, IfSome};
-ghost use Rattle.std.specs.Prelude.{IfNone, length};
+ghost use Rattle.std.specs.Prelude.{IfNone, length, vec_capacity, vec_len};
 ghost use Rattle.tv_builder.specs.Holds.{Holds, Holds-prop};
 ghost use Rattle.tv_builder.specs.Keeping.{KeepsPair};
 ghost use Rattle.tv_builder.specs.TreeBytes.{document_heap};
@@ -33,11 +33,22 @@ pub fn push_pair(pairs: &mut Vec<HeapPair>, pair: HeapPair) -> Result<(), AllocE
     ensures ok { OnOk result (pairs.new.items ≡ pairs.old.items ++ pair ∷ []) }
     ensures err { OnErr result (pairs.new.items ≡ pairs.old.items) }
 {
-    if pairs.is_empty() {
-        pairs.reserve(FIRST_PAIRS)?;
+    if pairs.len() == pairs.capacity() {
+        make_room(pairs)?;
     }
-    pairs.push(pair)?;
+    pairs.push_reserved(pair);
     Ok(())
+}
+
+// Makes room for a pair, and for the first ones together.
+#[cold]
+#[inline(never)]
+fn make_room(pairs: &mut Vec<HeapPair>) -> Result<(), AllocError>
+    ensures items { pairs.new.items ≡ pairs.old.items }
+    ensures room { OnOk result (vec_len pairs.new < vec_capacity pairs.new) }
+{
+    let more = if pairs.is_empty() { FIRST_PAIRS } else { 1 };
+    pairs.reserve(more)
 }
 
 // Keeps the pair of a field and a value that was written after the first `len` bytes of the heap. Where memory is refused, the heap is

@@ -38,7 +38,7 @@ fn push_eight(heap: &mut ByteBuffer, number: u64) -> Result<(), AllocError>
     ensures grows { GrowsWithin (length heap.old.items + length (eight_bytes number)) heap.old
         heap.new }
 {
-    heap.extend_from_slice(&number.to_le_bytes())
+    heap.extend_from_chunk(&number.to_le_bytes())
 }
 
 // Adds the sixteen bytes of a number, the lowest first.
@@ -49,7 +49,7 @@ fn push_sixteen(heap: &mut ByteBuffer, number: u128) -> Result<(), AllocError>
     ensures grows { GrowsWithin (length heap.old.items + length (sixteen_bytes number)) heap.old
         heap.new }
 {
-    heap.extend_from_slice(&number.to_le_bytes())
+    heap.extend_from_chunk(&number.to_le_bytes())
 }
 
 /// Adds a child's type and address. (Not in tantivy.) The addresses in a short document have one byte or two. The only error is that memory
@@ -64,7 +64,7 @@ pub fn push_place(places: &mut ByteBuffer, place: Place) -> Result<(), AllocErro
     let address = place.address;
     let code = place.value_type.to_code();
     if address < 128 {
-        return places.extend_from_slice(&[code, address as u8 + 128]);
+        return places.extend_from_chunk(&[code, address as u8 + 128]);
     }
     if address < 16384 {
         let last = (address / 128) as u8 + 128;

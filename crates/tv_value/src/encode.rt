@@ -1,7 +1,7 @@
 //! Encodings of numbers, texts and tokens, appended to a buffer of bytes.
 
 ghost use Rattle.std.specs.Prelude.{◌≡◌, ◌+◌, ◌<◌, ◌^◌, ◌++◌, length, OnOk, OnErr};
-ghost use Rattle.tv_base.specs.Buffer.{GrowsWithin};
+ghost use Rattle.tv_base.specs.Buffer.{Extends, GrowsWithin};
 ghost use Rattle.tv_base.specs.Number.{vnum};
 ghost use Rattle.tv_base.specs.Parts.{short_sized};
 ghost use Rattle.tv_base.specs.Sink.{IsPrefix};
@@ -26,8 +26,16 @@ pub fn push_number(bytes: &mut ByteBuffer, number: u64) -> Result<(), AllocError
         return bytes.push(number as u8 + 128);
     }
     if number < 16384 {
-        return bytes.extend_from_slice(&[(number % 128) as u8, (number / 128) as u8 + 128]);
+        return bytes.extend_from_chunk(&[(number % 128) as u8, (number / 128) as u8 + 128]);
     }
+    push_long_number(bytes, number)
+}
+
+// Appends the shortest encoding of `number`, by a call that isn't expanded in place.
+#[inline(never)]
+fn push_long_number(bytes: &mut ByteBuffer, number: u64) -> Result<(), AllocError>
+    ensures { Extends result bytes.old bytes.new (vnum number) }
+{
     let (encoding, len) = VInt(number).spelling();
     bytes.extend_from_slice(&encoding[..len])
 }
@@ -43,9 +51,21 @@ pub fn push_sized(bytes: &mut ByteBuffer, content: &[u8]) -> Result<(), AllocErr
 {
     let len = content.len();
     if len < 128 {
-        return bytes.extend_from_parts(&[len as u8 + 128], content);
+        return bytes.extend_from_head(len as u8 + 128, content);
     }
-    push_number(bytes, len as u64)?;
+    push_long(bytes, content)
+}
+
+// Appends the length of `content`, and `content`, by a call that isn't expanded in place.
+#[inline(never)]
+#[tactic(auto, using(tv_base::proofs::Growing::grows_then, tv_base::proofs::Growing::grows_more))]
+fn push_long(bytes: &mut ByteBuffer, content: &[u8]) -> Result<(), AllocError>
+    ensures ok { OnOk result (bytes.new.items ≡ bytes.old.items ++ short_sized content.now) }
+    ensures err { OnErr result (IsPrefix bytes.old.items bytes.new.items) }
+    ensures grows { GrowsWithin (length bytes.old.items + length (short_sized content.now))
+        bytes.old bytes.new }
+{
+    push_number(bytes, content.len() as u64)?;
     bytes.extend_from_slice(content)
 }
 

@@ -1,5 +1,5 @@
 use Rattle.std.proofs.Common.{◌≡◌, ℕ, ◌-◌, ◌^◌, ◌<◌, List, [], length, Ok, refl, sym, subst, ap, ◌∙◌, arith}
-use Rattle.tv_blocks.specs.SchemaTerms.{AppendsTerms, IsTermsBlockRefusal, SchemaTermsSoFar}
+use Rattle.tv_blocks.specs.SchemaTerms.{AppendsDocument, IsTermsBlockRefusal, SchemaTermsSoFar}
 use Rattle.tv_doc.specs.Document.{document_of}
 use Rattle.tv_reader.specs.Version.{version_of}
 use Rattle.tv_reader.specs.declared.version.DocStoreVersion.{DocStoreVersion}
@@ -11,15 +11,16 @@ use Rattle.tv_store.proofs.Resuming.{reads_live}
 use Rattle.tv_store.proofs.BlockMigration.{no_more_left}
 use Rattle.tv_blocks.proofs.SchemaTerms.{more_terms, no_terms_yet, unread_terms}
 use Rattle.tv_blocks.proofs.Stops.{unread_at}
-use Rattle.tv_blocks.proofs.schema_terms.append_block.Goals as goal
+use Rattle.tv_blocks.proofs.schema_terms.block_records.Goals as goal
 
 pub loop-reader-init : goal.loop-reader-init
 loop-reader-init c = record {
   not_failed = c.new-reader.ensures.not_failed;
   version = c.new-reader.ensures.version;
-  few = let all = ap length c.new-source.ensures in omega (arith, all);
-  so_far = subst (λ (l : List ℕ). SchemaTermsSoFar c.args.schema.now (version_of c.args.version) c.args.block.now l c.args.content.now.items 0) (sym c.new-source.ensures)
-      (no_terms_yet c.args.schema.now (version_of c.args.version) c.args.block.now c.args.content.now.items c.requires);
+  few = let all = ap length c.new-source.ensures in omega (arith, all, c.new-records.ensures.document);
+  so_far = subst (λ (l : List ℕ). SchemaTermsSoFar c.args.with_faults c.args.schema.now (version_of c.args.version) c.args.block.now l c.new-records.result.content.items c.new-records.result.document) (sym c.new-source.ensures)
+      (subst (λ (n : ℕ). SchemaTermsSoFar c.args.with_faults c.args.schema.now (version_of c.args.version) c.args.block.now c.args.block.now c.new-records.result.content.items n) (sym c.new-records.ensures.document)
+      (no_terms_yet c.args.with_faults c.args.schema.now (version_of c.args.version) c.args.block.now c.new-records.result.content.items c.new-records.ensures.content));
 }
 
 pub loop-reader-preserved : goal.loop-reader-preserved
@@ -27,12 +28,17 @@ loop-reader-preserved c =
     let i = c.loop-reader.invariant in
     let is = c.in-Ok-true.is ∙ ap Ok c.in-Ok-true.field-0-test in
     let reads = reads_live reading AlreadyFailed i.not_failed (rw c.in-Ok-true.field-0-test at c.in-Ok-true.ensures.reads) in
+    let appended = c.in_ok-append_document-in-Ok-true.ensures in
+    let d = document_of c.advance.new.self.document in
+    let number = c.loop-reader.records.document in
+    let content = c.append_document.new.records.content.items in
     record {
       not_failed = c.in-Ok-true.ensures.not_failed;
       version = c.advance.ensures.version ∙ i.version;
-      few = omega (arith, i.few, c.advance.ensures.fewer tt is);
-      so_far = more_terms (document_of c.advance.new.self.document) i.so_far (subst (λ (w : DocStoreVersion). BeginsWithDocument (version_of w) c.loop-reader.source.rest.now c.advance.new.source.rest.now (document_of c.advance.new.self.document)) i.version (reads.found tt))
-          (subst (λ d. AppendsTerms c.args.schema.now c.loop-reader.number (document_of d) c.loop-reader.content.items c.append_document.new.content.items) c.document.ensures c.in_ok-append_document-in-Ok-true.ensures.ok);
+      few = omega (arith, i.few, c.advance.ensures.fewer tt is, appended.document);
+      so_far = subst (λ (n : ℕ). SchemaTermsSoFar c.args.with_faults c.args.schema.now (version_of c.args.version) c.args.block.now c.advance.new.source.rest.now content n) (omega (arith, appended.document))
+          (more_terms d i.so_far (subst (λ (w : DocStoreVersion). BeginsWithDocument (version_of w) c.loop-reader.source.rest.now c.advance.new.source.rest.now d) i.version (reads.found tt))
+          (subst (λ e. AppendsDocument c.args.with_faults c.args.schema.now number (document_of e) c.loop-reader.records.content.items content) c.document.ensures appended.ok));
     }
 
 pub returns-in-Err-clause-err : goal.returns-in-Err-clause-err
@@ -44,7 +50,7 @@ returns-in-Err-clause-err c =
     let rest = c.loop-reader.source.rest.now in
     let known : length rest < 2 ^ 64 - 1 = no_more_left c.args.block.now m.before rest m.joined (omega arith) in
     let some : rest ≡ [] → SaysNothing c.in-Err.error = λ empty. c.in-Err.ensures.ended i.not_failed tt empty in
-    subst (IsTermsBlockRefusal c.args.schema.now v c.args.block.now) (sym c.unread.ensures)
+    subst (IsTermsBlockRefusal c.args.with_faults c.args.schema.now v c.args.block.now) (sym c.unread.ensures)
     (unread_terms _ _ m (ap (λ n. length c.args.block.now - n) (ap length c.rest.ensures))
     (unread_at (HasNoRoom v) v rest _ c.in-Err.error some (λ r refusal. subst (λ (w : DocStoreVersion). NoDocument (version_of w) rest r) i.version (refusal_is_true (tt, known) reads c.in-Err.error r refl refusal))
     (λ full. subst (λ (w : DocStoreVersion). HasNoRoom (version_of w) rest) i.version (reads.no_room tt c.in-Err.error refl full)) reads.errors))

@@ -1,5 +1,4 @@
-use Rattle.std.proofs.Common.{◌≡◌, ◌+◌, ◌-◌, ◌/◌, ◌≤◌, min, max, length, subst, arith, ◌∙◌}
-use Rattle.tv_base.specs.Buffer.{capacity}
+use Rattle.std.proofs.Common.{◌+◌, ◌-◌, ◌/◌, ◌≤◌, min, length, subst, arith}
 use Rattle.tv_builder.specs.Whole.{Put}
 use Rattle.tv_builder.proofs.Rooms.{paid_within}
 use Rattle.tv_builder.proofs.whole.put_within.Goals as goal

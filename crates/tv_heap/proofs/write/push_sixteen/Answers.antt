@@ -7,9 +7,9 @@ use Rattle.tv_heap.proofs.write.push_sixteen.Goals as goal
 pub returns-clause-ok : goal.returns-clause-ok
 returns-clause-ok c =
     let same : c.to_le_bytes.result ≡ sixteen_bytes c.args.number = search (rules, sixteen_bytes_is) in
-    extends_ok c.extend_from_slice.result _ _ same c.extend_from_slice.ensures
+    extends_ok c.extend_from_chunk.result _ _ same c.extend_from_chunk.ensures
 
 pub returns-clause-grows : goal.returns-clause-grows
 returns-clause-grows c =
     let same : c.to_le_bytes.result ≡ sixteen_bytes c.args.number = search (rules, sixteen_bytes_is) in
-    extends_within c.extend_from_slice.result _ _ same c.extend_from_slice.ensures
+    extends_within c.extend_from_chunk.result _ _ same c.extend_from_chunk.ensures

@@ -16,11 +16,11 @@ returns-then-number-lt16384-clause-ok c =
     let n = c.args.number in
     let small = c.if-number-lt16384.true in
     let two : vnum n ≡ n % 128 ∷ (n / 128 + 128) ∷ [] = vnum-large n c.if-number-lt128.false (omega (arith, small)) ∙ ap (λ z. n % 128 ∷ z) (vnum-small (n / 128) (omega (arith, small))) in
-    extends_ok c.extend_from_slice.result _ _ (sym two) c.extend_from_slice.ensures
+    extends_ok c.extend_from_chunk.result _ _ (sym two) c.extend_from_chunk.ensures
 
 pub returns-then-number-lt16384-clause-grows : goal.returns-then-number-lt16384-clause-grows
 returns-then-number-lt16384-clause-grows c =
     let n = c.args.number in
     let small = c.if-number-lt16384.true in
     let two : vnum n ≡ n % 128 ∷ (n / 128 + 128) ∷ [] = vnum-large n c.if-number-lt128.false (omega (arith, small)) ∙ ap (λ z. n % 128 ∷ z) (vnum-small (n / 128) (omega (arith, small))) in
-    extends_within c.extend_from_slice.result _ _ (sym two) c.extend_from_slice.ensures
+    extends_within c.extend_from_chunk.result _ _ (sym two) c.extend_from_chunk.ensures
