@@ -329,8 +329,8 @@ kormaglen_answer kormaglen_schema_values_of_block(
  * block, however long the keys are.
  *
  * A document that has a value without a term by the schema is refused where with_faults is 0. Where it is not, such a document has one record:
- * its number; KORMAGLEN_NO_TERMS; the length 16; and then 15 to 18 of kormaglen_document_detail, and the number of the field whose value
- * has no term, in eight bytes each, the lowest first. A document that can't be read is refused in both cases.
+ * its number; KORMAGLEN_NO_TERMS, which is 2^64 - 1; the length 16; and then 15 to 18 of kormaglen_document_detail, and the number of the
+ * field whose value has no term, in eight bytes each, the lowest first. A document that can't be read is refused in both cases.
  * Refusals: TOO_SMALL, NO_MEMORY, BAD_DOCUMENT, WRONG_VERSION, CLOSED. */
 kormaglen_answer kormaglen_schema_terms_of_block(
     kormaglen_schema *schema,

@@ -111,8 +111,10 @@ void put_number(uint8_t *start, uint64_t number);
 
 /* ---- rows.c: rows of a function that returns a set */
 
-void begin_rows(const call *it);
+/* Has the current memory be that of one row, which is empty again after each add_row. Returns what was current, for end_rows. */
+MemoryContext begin_rows(const call *it);
 void add_row(const call *it, Datum *values, bool *nulls);
+void end_rows(MemoryContext before);
 
 /* ---- term_texts.c and value_texts.c: the text of a value, as the library's JSON has it */
 

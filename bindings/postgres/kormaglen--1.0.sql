@@ -58,9 +58,10 @@ COMMENT ON FUNCTION kormaglen_values IS 'all values of a field, each with its ki
 
 -- Terms, of documents and of texts of queries.
 
-CREATE FUNCTION kormaglen_terms(schema text, version integer, document bytea, OUT field text, OUT term bytea, OUT value text)
+CREATE FUNCTION kormaglen_terms(schema text, version integer, document bytea, faults boolean DEFAULT false,
+    OUT field text, OUT term bytea, OUT value text, OUT fault text)
     RETURNS SETOF record AS 'MODULE_PATHNAME', 'sql_terms' LANGUAGE C IMMUTABLE STRICT PARALLEL SAFE COST 200 ROWS 16;
-COMMENT ON FUNCTION kormaglen_terms IS 'the terms of a stored document, each with the name of its field and its value as a text';
+COMMENT ON FUNCTION kormaglen_terms IS 'the terms of a stored document, each with the name of its field and its value as a text; with faults, why there are none';
 
 CREATE FUNCTION kormaglen_field(schema text, path text) RETURNS bigint
     AS 'MODULE_PATHNAME', 'sql_field' LANGUAGE C IMMUTABLE STRICT PARALLEL SAFE COST 10;

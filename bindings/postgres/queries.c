@@ -199,12 +199,12 @@ Datum sql_query_terms(PG_FUNCTION_ARGS) {
     query of = query_arguments(&it);
     buffer terms = {0};
     append_terms(&it, &of, &terms);
-    begin_rows(&it);
+    const MemoryContext before = begin_rows(&it);
     for (size_t at = 0; at < terms.len; at += term_record_len(terms.start + at)) {
         bytea *term = make_blob(&it, term_of(terms.start + at));
         add_row(&it, (Datum[]){PointerGetDatum(term)}, (bool[]){false});
-        pfree(term);
     }
+    end_rows(before);
     return (Datum)0;
 }
 
@@ -215,12 +215,13 @@ Datum sql_query_ranges(PG_FUNCTION_ARGS) {
     query of = query_arguments(&it);
     buffer ranges = {0};
     append_ranges(&it, &of, &ranges);
-    begin_rows(&it);
+    const MemoryContext before = begin_rows(&it);
     for (size_t at = 0; at < ranges.len; at += range_record_len(ranges.start + at)) {
         const uint8_t *record = ranges.start + at;
         bytea *start = make_blob(&it, start_of(record));
         bytea *end = has_end(record) ? make_blob(&it, end_of(record)) : NULL;
         add_row(&it, (Datum[]){PointerGetDatum(start), PointerGetDatum(end)}, (bool[]){false, end == NULL});
     }
+    end_rows(before);
     return (Datum)0;
 }

@@ -104,7 +104,7 @@ Datum sql_values(PG_FUNCTION_ARGS) {
     static const signature NAMES = {"kormaglen_values", {"schema", "version", "document", "field"}};
     call it = {.signature = &NAMES, .fcinfo = fcinfo};
     buffer values = read_values(&it);
-    begin_rows(&it);
+    const MemoryContext before = begin_rows(&it);
     for (size_t at = 0; at < values.len; at += value_record_len(values.start + at)) {
         const value of = value_at(values.start + at);
         const bool is_null = of.kind == KORMAGLEN_VALUE_NULL;
@@ -112,6 +112,7 @@ Datum sql_values(PG_FUNCTION_ARGS) {
         text *value = is_null ? NULL : text_of(&it, of);
         add_row(&it, (Datum[]){PointerGetDatum(kind), PointerGetDatum(value)}, (bool[]){false, is_null});
     }
+    end_rows(before);
     return (Datum)0;
 }
 

@@ -65,6 +65,15 @@ bool number_argument(call *it, int number, sqlite3_int64 *given) {
     return true;
 }
 
+bool truth_argument(call *it, int number, bool *given) {
+    sqlite3_int64 value = 0;
+    if (it->arguments[number] != NULL && !number_argument(it, number, &value)) {
+        return false;
+    }
+    *given = value == 1;
+    return value == 0 || value == 1 || fail_argument(it, number, "0 or 1 is wanted");
+}
+
 bool path_argument(call *it, int number, bytes *path) {
     it->path = it->arguments[number];
     return text_argument(it, number, path);

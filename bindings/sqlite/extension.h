@@ -72,6 +72,8 @@ bool text_argument(call *it, int number, bytes *text);
 bool blob_argument(call *it, int number, bytes *blob);
 bool version_argument(call *it, int number, uint32_t least, uint32_t *version);
 bool number_argument(call *it, int number, sqlite3_int64 *given);
+/* 0 or 1; false where the argument is left out. */
+bool truth_argument(call *it, int number, bool *given);
 /* A text that names a field, or a path to one. */
 bool path_argument(call *it, int number, bytes *path);
 
@@ -199,7 +201,7 @@ void give_range_end(call *it);
 
 /* ---- tables.c */
 
-/* A cursor over a table of records. */
+/* A cursor over a table of records. An argument that is left out is NULL. */
 typedef struct cursor {
     sqlite3_vtab_cursor base;
     sqlite3_value *arguments[ARGUMENTS];
@@ -207,6 +209,7 @@ typedef struct cursor {
     buffer records;
     size_t at;
     sqlite3_int64 row;
+    buffer term; /* of the record, where records share bytes of terms */
 } cursor;
 
 /* A table-valued function. Its columns stand before its arguments, which are hidden columns. */
@@ -214,9 +217,11 @@ struct table {
     signature signature;
     const char *declaration;
     int columns;
-    double rows; /* how many there are, by and large */
+    bool has_option; /* whether the last argument may be left out */
+    double rows;     /* how many there are, by and large */
     bool (*fill)(call *it, cursor *to);
     size_t (*record_len)(const uint8_t *record);
+    bool (*enter_record)(call *it, cursor *at); /* called at each record; NULL where there is nothing to do */
     void (*give_column)(call *it, const cursor *at, int column);
 };
 

@@ -62,8 +62,9 @@ static int constraint_of(const sqlite3_index_info *plan, int column) {
     return found;
 }
 
-/* The plan's number is 0, or that of the first argument that is missing, from 1. Where conditions are joined by OR, SQLite also asks for
- * plans of a part of them, without the arguments: so these aren't refused here, but cost more than any other. */
+/* The plan's number is 0, or that of the first argument that is missing, from 1; one that may be left out is not missing. Where conditions
+ * are joined by OR, SQLite also asks for plans of a part of them, without the arguments: so these aren't refused here, but cost more than
+ * any other. */
 static int plan_table(sqlite3_vtab *planned, sqlite3_index_info *plan) {
     const table *it = ((connected_table *)(void *)planned)->data->table;
     int count = count_arguments(&it->signature);
@@ -71,6 +72,9 @@ static int plan_table(sqlite3_vtab *planned, sqlite3_index_info *plan) {
         int constraint = constraint_of(plan, it->columns + i);
         if (constraint == NOT_YET) {
             return SQLITE_CONSTRAINT;
+        }
+        if (constraint == MISSING && it->has_option && i == count - 1) {
+            break;
         }
         if (constraint == MISSING) {
             plan->idxNum = i + 1;
@@ -96,7 +100,7 @@ static int open_cursor(sqlite3_vtab *it, sqlite3_vtab_cursor **opened) {
     return SQLITE_OK;
 }
 
-/* Empties a cursor, which keeps the memory of its records. */
+/* Empties a cursor, which keeps the memory of its records and of its term. */
 static void clear_cursor(cursor *it) {
     for (int i = 0; i < ARGUMENTS; i++) {
         sqlite3_value_free(it->arguments[i]);
@@ -105,6 +109,7 @@ static void clear_cursor(cursor *it) {
     give_back_schema(it->schema);
     it->schema = NULL;
     it->records.len = 0;
+    it->term.len = 0;
     it->at = 0;
     it->row = 0;
 }
@@ -113,6 +118,7 @@ static int close_cursor(sqlite3_vtab_cursor *base) {
     cursor *it = (cursor *)(void *)base;
     clear_cursor(it);
     sqlite3_free(it->records.start);
+    sqlite3_free(it->term.start);
     sqlite3_free(it);
     return SQLITE_OK;
 }
@@ -127,7 +133,7 @@ bool cursor_schema(call *it, cursor *to) {
     return to->schema != NULL;
 }
 
-/* Ends a call that gave no rows: the message goes to the table, where SQLite looks for it. */
+/* Ends a call that gives no more rows: the message goes to the table, where SQLite looks for it. */
 static int report_fault(cursor *it, fault why) {
     it->records.len = 0;
     sqlite3_free(it->base.pVtab->zErrMsg);
@@ -135,12 +141,27 @@ static int report_fault(cursor *it, fault why) {
     return why.code;
 }
 
+/* A call of the table's function. */
+static call call_of(cursor *it) {
+    const connected_table *of = table_of(it);
+    return (call){
+        .signature = &of->data->table->signature, .db = of->db, .arguments = it->arguments, .cache = of->data->cache, .limit = INT32_MAX};
+}
+
+static bool is_past_end(const cursor *it) {
+    return it->at >= it->records.len;
+}
+
+/* Does what the table does at each record, where the cursor is at one. */
+static bool enter_record(call *it, cursor *at) {
+    const table *table = table_of(at)->data->table;
+    return table->enter_record == NULL || is_past_end(at) || table->enter_record(it, at);
+}
+
 static int start_cursor(sqlite3_vtab_cursor *base, int missing, const char *words, int count, sqlite3_value **arguments) {
     (void)words;
     cursor *it = (cursor *)(void *)base;
-    const connected_table *of = table_of(it);
-    call filling = {.signature = &of->data->table->signature, .db = of->db, .arguments = it->arguments, .cache = of->data->cache};
-    filling.limit = INT32_MAX;
+    call filling = call_of(it);
     clear_cursor(it);
     if (missing > 0) {
         fail_argument(&filling, missing - 1, "it is missing");
@@ -154,31 +175,39 @@ static int start_cursor(sqlite3_vtab_cursor *base, int missing, const char *word
         }
         has_null = has_null || sqlite3_value_type(arguments[i]) == SQLITE_NULL;
     }
-    return has_null || of->data->table->fill(&filling, it) ? SQLITE_OK : report_fault(it, filling.fault);
+    bool is_there = has_null || (table_of(it)->data->table->fill(&filling, it) && enter_record(&filling, it));
+    return is_there ? SQLITE_OK : report_fault(it, filling.fault);
 }
 
 static int advance_cursor(sqlite3_vtab_cursor *base) {
     cursor *it = (cursor *)(void *)base;
+    call going = call_of(it);
     it->at += table_of(it)->data->table->record_len(it->records.start + it->at);
     it->row += 1;
-    return SQLITE_OK;
+    return enter_record(&going, it) ? SQLITE_OK : report_fault(it, going.fault);
 }
 
 static int is_at_end(sqlite3_vtab_cursor *base) {
-    const cursor *it = (cursor *)(void *)base;
-    return it->at >= it->records.len;
+    return is_past_end((cursor *)(void *)base);
+}
+
+/* An argument that is left out has no value. */
+static void give_argument(sqlite3_context *context, sqlite3_value *argument) {
+    if (argument != NULL) {
+        sqlite3_result_value(context, argument);
+    }
 }
 
 static int give_column(sqlite3_vtab_cursor *base, sqlite3_context *context, int column) {
     cursor *it = (cursor *)(void *)base;
-    const connected_table *of = table_of(it);
-    const table *table = of->data->table;
+    const table *table = table_of(it)->data->table;
     if (column >= table->columns) {
-        sqlite3_result_value(context, it->arguments[column - table->columns]);
+        give_argument(context, it->arguments[column - table->columns]);
         return SQLITE_OK;
     }
-    call giving = {.signature = &table->signature, .db = of->db, .context = context, .arguments = it->arguments, .cache = of->data->cache};
-    giving.limit = (size_t)sqlite3_limit(of->db, SQLITE_LIMIT_LENGTH, -1);
+    call giving = call_of(it);
+    giving.context = context;
+    giving.limit = (size_t)sqlite3_limit(giving.db, SQLITE_LIMIT_LENGTH, -1);
     table->give_column(&giving, it, column);
     report(context, giving.fault);
     return SQLITE_OK;

@@ -42,6 +42,20 @@ SELECT id FROM term WHERE term >= kormaglen_range_start((SELECT json FROM priced
 EXPLAIN (COSTS OFF)
 SELECT id FROM kormaglen_query_ranges(:s, 'price', '[10 TO 300}') AS r JOIN term AS t ON t.term >= r.start AND t.term < r.end;
 SELECT id FROM kormaglen_query_ranges(:s, 'price', '[10 TO 300}') AS r JOIN term AS t ON t.term >= r.start AND t.term < r.end;
+-- a trigger that lets documents without terms be stored
+CREATE TABLE received(id integer, stored bytea);
+CREATE TABLE fault(id integer, field text, reason text);
+CREATE FUNCTION index_received() RETURNS trigger LANGUAGE plpgsql AS $$
+BEGIN
+    INSERT INTO term SELECT DISTINCT t.term, new.id FROM kormaglen_terms('[{"name":"price","type":"u64","options":{"indexed":true,"stored":true}}]', 2, new.stored, true) AS t WHERE t.fault IS NULL;
+    INSERT INTO fault SELECT new.id, t.field, t.fault FROM kormaglen_terms('[{"name":"price","type":"u64","options":{"indexed":true,"stored":true}}]', 2, new.stored, true) AS t WHERE t.fault IS NOT NULL;
+    RETURN NULL;
+END $$;
+CREATE TRIGGER came AFTER INSERT ON received FOR EACH ROW EXECUTE FUNCTION index_received();
+INSERT INTO received VALUES (11, '\x8100000000010900000000000000'), (12, '\x8100000000008178'), (13, '\x80');
+SELECT id FROM received;
+SELECT id, hex(term) FROM term WHERE id > 10;
+SELECT * FROM fault;
 -- more schemas in one statement than are kept, and each again
 SELECT hex(string_agg(kormaglen_store(replace('[{"name":"price","type":"u64","options":{"indexed":true,"stored":true}}]', 'price', 'p' || i % 9), format('{"p%s":%s}', i % 9, i)), '' ORDER BY i)) FROM generate_series(1, 20) AS i WHERE i > 17;
 SELECT count(*), sum(kormaglen_bigint(schema, 2, kormaglen_store(schema, format('{"p%s":%s}', i % 9, i)), 'p' || i % 9))

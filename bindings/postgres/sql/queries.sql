@@ -7,6 +7,22 @@ SELECT json AS s FROM schema \gset
 SELECT kormaglen_field(:'s', 'name'), kormaglen_field(:'s', 'price'), kormaglen_field(:'s', 'more'), kormaglen_field(:'s', 'more.a.b'), kormaglen_field(:'s', NULL);
 -- the terms of a document, of indexed fields
 SELECT field, hex(term), value FROM kormaglen_terms(:'s', 2, kormaglen_store(:'s', '{"name":["Lamp","lamp"],"price":20,"kind":"/shop/light","added":"1970-01-01T00:00:01.5Z","more":{"a":1},"note":"x"}'));
+-- terms that share bytes with the one before, all of them or none
+SELECT hex(term), value FROM kormaglen_terms(:'s', 2, kormaglen_store(:'s', '{"name":["lamps","lamp","lamp","la"],"more":{"a":[1,1,2],"aa":{"b":"x","bb":"xy"}}}'));
+-- three documents, of which the second has a number in a field of dates: by itself, and with faults
+CREATE TABLE added(id integer, stored bytea);
+INSERT INTO added VALUES (1, kormaglen_store(:'s', '{"name":"a"}')), (2, kormaglen_store(replace(:'s', 'date', 'u64'), '{"added":1714564800,"name":"b"}')), (3, kormaglen_store(:'s', '{"price":20}'));
+SELECT hex(stored) FROM added WHERE id = 2;
+SELECT id, field, hex(term), fault FROM added, kormaglen_terms(:'s', 2, stored);
+SELECT id, field, hex(term), fault FROM added, kormaglen_terms(:'s', 2, stored, false) WHERE id <> 2;
+SELECT id, field, hex(term), value, fault FROM added, kormaglen_terms(:'s', 2, stored, faults => true);
+SELECT id FROM added, kormaglen_terms(:'s', 2, stored, true) WHERE fault IS NULL;
+-- each fault: a field that is not there, another type, a key with U+0000, bytes in a JSON object
+SELECT t.* FROM unnest(ARRAY['\x8109000000010100000000000000', '\x810100000000826162', '\x81040000000D82008100020100000000000000', '\x81040000000D8200816104818B']::bytea[]) AS stored, kormaglen_terms(:'s', 2, stored, true) AS t;
+-- the term of another value comes before: it is left out, too
+SELECT * FROM kormaglen_terms(:'s', 2, '\x820000000000846C616D70010000000082616B', true);
+-- NULL for whether there are faults
+SELECT count(*) FROM added, kormaglen_terms(:'s', 2, stored, NULL);
 -- in JSON objects: a text, a number, a truth value and a date
 SELECT field, hex(term) FROM kormaglen_terms(:'s', 2, kormaglen_store(:'s', '{"more":{"a":["x",1,true],"b":{"c":"y"}}}'));
 -- in the list of what is selected

@@ -26,6 +26,8 @@ SELECT refusals('kormaglen_migrate', $$2, '\x8080', 3$$, $$2, '\x81000000000902'
 SELECT refusals('kormaglen_terms', $$:s, 2, '\x8080'$$, $$:s, 2, '\x81'$$);
 -- documents that have no terms by the schema: a field that it has not, a text in a field of numbers
 SELECT refusals('kormaglen_terms', $$:s, 2, '\x8109000000010100000000000000'$$, $$:s, 2, '\x8101000000008178'$$);
+-- with faults a document that is not read is refused as before
+SELECT refusals('kormaglen_terms', $$:s, 2, '\x8080', true$$, $$:s, 2, '\x81', true$$, $$:s, 2, '\x80', 1$$);
 -- facets
 SELECT refusals('kormaglen_facet', $$'shop'$$, $$''$$);
 SELECT refusals('kormaglen_facet_text', $$'\xFF'$$);

@@ -70,7 +70,7 @@ static size_t call_value(state *it, size_t i) {
 
 static size_t call_terms(state *it, size_t i) {
     const bytes of = it->stored[i];
-    return expect(kormaglen_schema_terms_of_block(&it->schema, 2, of.start, of.len, it->written, sizeof it->written));
+    return expect(kormaglen_schema_terms_of_block(&it->schema, 2, 0, of.start, of.len, it->written, sizeof it->written));
 }
 
 static void read_lines(const char *path, state *to) {

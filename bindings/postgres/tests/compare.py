@@ -2,8 +2,9 @@
 compare.py LINES BLOCK QUERIES. LINES is what ../sqlite/tests/make_lines.py prints, BLOCK what ../c/import_file.c makes of its documents.
 
 Each document is stored alone, and all of them have to be the block. Each is read back and has to have the values of its line, as JSON and field by
-field. Then the terms go to a table, and random ranges, prefixes, facets and paths into JSON objects have to find as many documents there as a scan of
-the lines' values does, with the table's index in the plan."""
+field. By a schema in which a field has another type, the documents with a value there have a fault, and the others their terms. Then the terms go to
+a table, and random ranges, prefixes, facets and paths into JSON objects have to find as many documents there as a scan of the lines' values does, with
+the table's index in the plan."""
 
 import json
 import random
@@ -133,6 +134,20 @@ def compare_values(session: Session, schema: str) -> None:
     print(f"{count} fields have the values of the JSON")
 
 
+def compare_faults(session: Session, schema: str, priced: set[int]) -> None:
+    """Prices of another type: one fault of each document that has some, and the terms of all others."""
+    faults = "SELECT id, field, term, value, fault FROM document, kormaglen_terms(?, 2, stored, true) WHERE fault IS NOT NULL ORDER BY id"
+    other = schema.replace('"u64"', '"i64"')
+    want = [[str(number), "price", None, None, "a value is not of its field's type"] for number in sorted(priced)]
+    if session.ask(faults, other) != want:
+        sys.exit(f"there are not {len(want)} documents without terms")
+    terms = """SELECT count(*), md5(string_agg(concat(id, field, term), '' ORDER BY id, n)) FROM document,
+        kormaglen_terms(?, 2, stored, true) WITH ORDINALITY AS of(field, term, value, fault, n)
+        WHERE fault IS NULL AND kormaglen_value(?, 2, stored, 'price') IS NULL"""
+    expect("terms of the others", session.ask(terms, other, other), session.ask(terms, schema, schema))
+    print(f"{len(want)} documents without terms, as in the lines")
+
+
 def index_all(session: Session) -> None:
     start = time.monotonic()
     session.ask("""CREATE TABLE term AS SELECT DISTINCT t.term, id
@@ -208,6 +223,7 @@ def main() -> None:
     store_all(session, schema, lines_file)
     compare_stored(session, schema, lines, block)
     compare_values(session, schema)
+    compare_faults(session, schema, {number for number, _ in by_path["price"]})
     index_all(session)
     compare_queries(session, schema, by_path, int(count))
     compare_counts(session, by_path)

@@ -1,5 +1,6 @@
 """The extension where things go wrong: stress.py PART NUMBER.
 
+    long NUMBER       documents of one key, of up to NUMBER letters, over half as many numbers; memory grows in proportion to them
     refused NUMBER    this number of calls that are refused; the memory of the server's process stays as it is
     broken NUMBER     statements, until this number were broken off, by a time limit or by another session
     limited NUMBER    statements with a limit on the process's memory, in this number of steps of 256 KiB above what it has
@@ -50,6 +51,8 @@ REFUSED = [
     ("kormaglen_term(s, 'more.size', '1')", "21000"),
     ("kormaglen_range_end(s, 'price', '[2 TO 1]')", "22023"),
     ("(SELECT count(*) FROM kormaglen_terms(s, 2, '\\x81'))", "XX001"),
+    ("(SELECT count(*) FROM kormaglen_terms(s, 2, d || d, true))", "XX001"),
+    ("(SELECT count(*) FROM kormaglen_terms(replace(s, 'u64', 'i64'), 2, d))", "42804"),
     ("(SELECT count(*) FROM kormaglen_query_ranges(s, 'price', '1*'))", "22023"),
     ("(SELECT kormaglen_facet_counts('/', n, '\\xFF') FROM generate_series(1, 3) AS n)", "22P03"),
     ("'\\x81'::bytea::stored_document", "23514"),
@@ -61,6 +64,9 @@ STATEMENTS = [
     "SELECT sum(length(kormaglen_json(s, 2, stored)::text)) FROM given, documents",
     "SELECT count(kormaglen_check(2, stored)), sum(length(kormaglen_migrate(2, stored, 3))) FROM documents",
     "SELECT count(*), sum(length(term)), sum(length(value)) FROM given, documents, kormaglen_terms(s, 2, stored)",
+    "SELECT field, fault, count(*) FROM given, documents, kormaglen_terms(replace(s, 'u64', 'i64'), 2, stored, true) GROUP BY field, fault",
+    """SELECT count(*), sum(length(term)) FROM given, kormaglen_terms(s, 2, kormaglen_store(s, format('{"more":{"%s":%s}}', repeat('k', 2000),
+        (SELECT json_agg(i) FROM generate_series(1, 1000) AS i))))""",
     "SELECT sum(kormaglen_bigint(s, 2, stored, 'price')), max(kormaglen_value(s, 2, stored, 'more')) FROM given, documents",
     "SELECT kormaglen_facet_counts('/', id, kormaglen_bytea(s, 2, stored, 'kind')) FROM given, documents",
     "SELECT count(*) FROM given, lines, kormaglen_query_ranges(s, 'more.size', '[1 TO ' || id || ']')",
@@ -103,6 +109,26 @@ def expect_flat(grown: int, most: int) -> None:
     """Memory grows by at most `most` KiB, but for valgrind's own, which finds leaks itself."""
     if grown > most and "valgrind" not in os.environ.get("WRAPPER", ""):
         die("memory grew")
+
+
+def run_long(number: int) -> None:
+    sql = """SELECT count(*), sum(length(term)), sum(value::integer), count(fault) FROM given,
+        kormaglen_terms(s, 2, kormaglen_store(s, format('{"more":{"%s":%s}}', repeat('k', ?), (SELECT json_agg(i) FROM generate_series(0, ? - 1) AS i))))"""
+    open_session(documents=1).close()
+    for letters in (number // 8, number // 4, number // 2, number):
+        numbers = letters // 2
+        session = Session()
+        session.ask("SET jit = off; SELECT kormaglen_version()")
+        before = status(session, "VmHWM")
+        # (a term is the field, a code, the key, a zero byte, a code and the number)
+        want = [numbers, numbers * (letters + 4 + 1 + 1 + 1 + 8), numbers * (numbers - 1) // 2, 0]
+        got = session.ask(sql, letters, numbers)
+        if got != [[str(each) for each in want]]:
+            die(f"a key of {letters} letters over {numbers} numbers: {got} in place of {want}")
+        grown = status(session, "VmHWM") - before
+        print(f"a key of {letters} letters over {numbers} numbers: memory grew by {grown} KiB at most")
+        expect_flat(grown, 8192 + letters // 5)
+        session.close()
 
 
 def run_refused(number: int) -> None:
@@ -278,6 +304,7 @@ RANDOM = [
     "kormaglen_facet_text({d})", "kormaglen_facet({text})", "kormaglen_field({s}, {path})", "kormaglen_term({s}, {path}, {text})",
     "kormaglen_term_text({d})", "kormaglen_term_text(kormaglen_term({s}, {path}, {text}))",
     "kormaglen_range_start({s}, {path}, {text})", "kormaglen_range_end({s}, {path}, {text})", "(SELECT count(*) FROM kormaglen_terms({s}, {v}, {d}))",
+    "(SELECT count(*) FROM kormaglen_terms({s}, {v}, {d}, true))",
     "(SELECT count(*) FROM kormaglen_values({s}, {v}, {d}, {field}))", "(SELECT count(*) FROM kormaglen_query_terms({s}, {path}, {text}))",
     "(SELECT count(*) FROM kormaglen_query_ranges({s}, {path}, {text}))", "(SELECT kormaglen_facet_counts({text}, 1, convert_to({path}, 'UTF8')))",
 ]
@@ -335,7 +362,7 @@ def run_random(number: int) -> None:
         die("a function accepted nothing")
 
 
-PARTS = {"refused": run_refused, "broken": run_broken, "limited": run_limited, "large": run_large, "random": run_random}
+PARTS = {"long": run_long, "refused": run_refused, "broken": run_broken, "limited": run_limited, "large": run_large, "random": run_random}
 
 
 def main() -> None:

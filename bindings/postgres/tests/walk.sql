@@ -34,6 +34,9 @@ INSERT INTO product VALUES (100001, kormaglen_store(:'schema', '{"name":"Lamp sh
 VACUUM ANALYZE product, term;
 SELECT field, value, term FROM product, kormaglen_terms(:'schema', 2, stored) WHERE id = 100001;
 
+SELECT count(*) FROM product, kormaglen_terms(replace(:'schema', 'u64', 'i64'), 2, stored);
+SELECT id, field, term, fault FROM product, kormaglen_terms(replace(:'schema', 'u64', 'i64'), 2, stored, true) WHERE id IN (3, 4, 100001) AND field = 'price';
+
 SELECT count(DISTINCT id) FROM term
 WHERE term >= kormaglen_range_start(:'schema', 'price', '[12 TO 20}') AND term < kormaglen_range_end(:'schema', 'price', '[12 TO 20}');
 

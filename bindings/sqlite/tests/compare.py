@@ -2,9 +2,9 @@
 compare.py EXTENSION LINES BLOCK QUERIES. LINES is what make_lines.py prints, BLOCK what c/import_file.c makes of its documents.
 
 Each document is stored alone, and all of them have to be the block. Each is read back and has to have the values of its line, as JSON and one by
-one; so have random dates and addresses. Facets are counted as in the lines. Then the terms go to a table without rowids, and random ranges, prefixes,
-facets and paths into JSON objects have to find as many documents there as are found by a scan of what SQLite's JSON functions read from the
-documents."""
+one; so have random dates and addresses. Facets are counted as in the lines. By a schema in which a field has another type, the documents with a value
+there have a fault, and the others their terms. Then the terms go to a table without rowids, and random ranges, prefixes, facets and paths into JSON
+objects have to find as many documents there as are found by a scan of what SQLite's JSON functions read from the documents."""
 
 import json
 import random
@@ -183,6 +183,20 @@ def compare_counts(db: sqlite3.Connection, schema: str, lines: list[str]) -> Non
     print("counts of facets, as in the lines")
 
 
+def compare_faults(db: sqlite3.Connection, schema: str, lines: list[str]) -> None:
+    """Prices of another type: one fault of each document that has some, and the terms of all others."""
+    sql = "SELECT document.id, field, term, value, fault FROM document, kormaglen_terms(?, 2, stored, TRUE) ORDER BY document.id"
+    priced = {number for number, line in enumerate(lines, 1) if values_of_line(line, "price")}
+    without = [row for row in db.execute(sql, (schema,)) if row[0] not in priced]
+    rows = db.execute(sql, (schema.replace('"u64"', '"i64"'),)).fetchall()
+    faults = [row for row in rows if row[4] is not None]
+    if faults != [(number, "price", None, None, "a value is not of its field's type") for number in sorted(priced)]:
+        sys.exit(f"{len(faults)} documents without terms, in place of {len(priced)}")
+    if [row for row in rows if row[4] is None] != without:
+        sys.exit("another document's terms differ")
+    print(f"{len(faults)} documents without terms, as in the lines")
+
+
 def index_all(db: sqlite3.Connection, schema: str) -> None:
     db.execute("CREATE TABLE term(term BLOB, id INTEGER, PRIMARY KEY (term, id)) WITHOUT ROWID")
     start = time.monotonic()
@@ -228,6 +242,7 @@ def main() -> None:
     compare_values(db, schema, lines)
     compare_texts(db, len(lines))
     compare_counts(db, schema, lines)
+    compare_faults(db, schema, lines)
     index_all(db, schema)
     compare_queries(db, schema, int(count))
 

@@ -1,5 +1,6 @@
 /* The extension where things go wrong, as a part of this program: stress PART NUMBER.
  *
+ *   long NUMBER          documents of one key, of up to NUMBER letters, over half as many numbers; memory grows in proportion to them
  *   refused NUMBER       NUMBER calls that are refused; resident memory stays as it is
  *   interrupted NUMBER   statements, until NUMBER were interrupted
  *   limited NUMBER       statements with a limit on SQLite's memory, in NUMBER steps of 100 bytes above what is in use
@@ -14,7 +15,6 @@
 #include <stdio.h>
 #include <stdlib.h>
 #include <string.h>
-#include <unistd.h>
 
 int sqlite3_kormaglen_init(sqlite3 *db, char **message, const void *api);
 
@@ -35,6 +35,9 @@ static const char *const STATEMENTS[] = {
     "SELECT kormaglen_field(?1, 'more.size'), hex(kormaglen_term(?1, 'price', '20')), hex(kormaglen_term(?1, 'more.a', 'x'))",
     "SELECT hex(kormaglen_range_start(?1, 'price', '[1 TO 2}')), hex(kormaglen_range_end(?1, 'name', 'la*'))",
     "SELECT field, hex(term), value, kormaglen_version FROM kormaglen_terms(?1, 2, kormaglen_store(?1, ?2))",
+    "SELECT field, type, hex(term), value, fault, kormaglen_faults FROM kormaglen_terms(?1, 2, kormaglen_store(?1, ?2), TRUE)",
+    "SELECT of.value, field, fault, hex(term) FROM json_each('[0,1]') AS of, kormaglen_terms(replace(?1, 'u64', 'i64'), 2, "
+    "kormaglen_store(?1, '{\"name\":[\"a\",\"ab\"]' || iif(of.value, ',\"price\":1}', '}')), of.value)",
     "SELECT kormaglen_term_text(kormaglen_term(?1, 'price', '20')), kormaglen_term_text(kormaglen_term(?1, 'kind', '/shop'))",
     "SELECT hex(term) FROM kormaglen_query_terms(?1, 'more.size', '12')",
     "SELECT hex(start), hex(\"end\") FROM kormaglen_query_ranges(?1, 'more.size', '[1 TO 2]')",
@@ -58,6 +61,9 @@ static const char *const STATEMENTS[] = {
     "SELECT kormaglen_store(replace(?1, 'u64', 'u65'), ?2)",
     "SELECT kormaglen_field(?1, 'nothing')",
     "SELECT term FROM kormaglen_terms(?1, 2, x'81')",
+    "SELECT term FROM kormaglen_terms(?1, 2, x'81', TRUE)",
+    "SELECT term FROM kormaglen_terms(?1, 2, x'80', 2)",
+    "SELECT term FROM kormaglen_terms(replace(?1, 'u64', 'i64'), 2, kormaglen_store(?1, ?2))",
     "SELECT start FROM kormaglen_query_ranges(?1, 'price', '[2 TO 1]')",
     "SELECT kormaglen_value(?1, 2, x'80', 'nothing')",
     "SELECT kormaglen_value(?1, 2, x'8101000000', 'price')",
@@ -68,7 +74,7 @@ static const char *const STATEMENTS[] = {
     "SELECT facet FROM kormaglen_facet_counts('/', x'00') WHERE ?1 <> ''",
     "SELECT facet FROM kormaglen_facet_counts(substr(?1, 1, 1), x'')",
 };
-enum { COUNT = sizeof STATEMENTS / sizeof *STATEMENTS, FIRST_REFUSED = 18 };
+enum { COUNT = sizeof STATEMENTS / sizeof *STATEMENTS, FIRST_REFUSED = 20 };
 
 typedef struct outcome {
     int code;
@@ -195,6 +201,7 @@ static void close_early(void) {
         "SELECT kormaglen_store(?1, ?2) FROM json_each('[1,2,3]')",
         "SELECT kormaglen_store((SELECT ?1), ?2) FROM json_each('[1,2,3]')",
         "SELECT field, term FROM kormaglen_terms(?1, 2, kormaglen_store(?1, ?2))",
+        "SELECT field, term, fault FROM kormaglen_terms(?1, 2, kormaglen_store(?1, ?2), TRUE)",
         "SELECT value FROM kormaglen_values(?1, 2, kormaglen_store(?1, ?2), 'name')",
     };
     enum { STATEMENTS_OPEN = sizeof SQL / sizeof *SQL };
@@ -234,14 +241,51 @@ static bool is_cut_short(int number, const outcome *done, int code) {
 
 /* ---- the parts */
 
-static long resident(void) {
-    long pages = 0;
-    FILE *file = fopen("/proc/self/statm", "r");
-    if (file == NULL || fscanf(file, "%*s %ld", &pages) != 1) {
+/* A figure of the process's memory, in KiB. */
+static long memory_status(const char *key) {
+    char line[256];
+    long figure = -1;
+    FILE *file = fopen("/proc/self/status", "r");
+    while (file != NULL && figure < 0 && fgets(line, sizeof line, file) != NULL) {
+        figure = strncmp(line, key, strlen(key)) == 0 ? atol(line + strlen(key)) : -1;
+    }
+    if (figure < 0) {
         die("memory", "it can't be read");
     }
     fclose(file);
-    return pages * (sysconf(_SC_PAGESIZE) / 1024);
+    return figure;
+}
+
+static long resident(void) {
+    return memory_status("VmRSS:");
+}
+
+/* Of the numbers below one, under a key of so many letters: how many terms they have, how long these are together, and the sum of their values. */
+static const char LONG[] = "WITH RECURSIVE n(i) AS (VALUES(0) UNION ALL SELECT i + 1 FROM n WHERE i + 1 < %ld), "
+                           "line(json) AS (SELECT '{\"more\":{\"' || printf('%%.*c', %ld, 'k') || '\":' || json_group_array(i) || '}}' FROM n) "
+                           "SELECT count(*), sum(length(term)), sum(value), count(fault) FROM line, kormaglen_terms(?1, 2, kormaglen_store(?1, json))";
+
+static void run_long(long number) {
+    /* (a term is the field, a code, the key, a zero byte, a code and the number) */
+    enum { SIZES = 4, TERM_LEN = 4 + 1 + 1 + 1 + 8, KIB = 1024, MOST_EACH = 200 };
+    sqlite3 *db = open_database();
+    long before = resident();
+    for (long letters = number >> (SIZES - 1); letters <= number; letters *= 2) {
+        char sql[sizeof LONG + 64], want[128];
+        long numbers = letters / 2;
+        snprintf(sql, sizeof sql, LONG, numbers, letters);
+        snprintf(want, sizeof want, "%ld|%ld|%ld|0|", numbers, numbers * (letters + TERM_LEN), numbers * (numbers - 1) / 2);
+        outcome done = run(db, sql);
+        if (done.code != SQLITE_OK || strcmp(done.text, want) != 0) {
+            die(want, done.text);
+        }
+        long grown = memory_status("VmHWM:") - before;
+        printf("a key of %ld letters over %ld numbers: memory grew by %ld KiB at most\n", letters, numbers, grown);
+        if (grown > KIB + letters * MOST_EACH / KIB) {
+            die("memory", "it grew by more than in proportion");
+        }
+    }
+    sqlite3_close(db);
 }
 
 /* Statements stay prepared, and each run of one is a refused call. */
@@ -422,6 +466,7 @@ static const char *const RANDOM_STATEMENTS[] = {
     "SELECT kormaglen_range_start(?1, ?6, ?4)",
     "SELECT kormaglen_range_end(?1, ?6, ?4)",
     "SELECT * FROM kormaglen_terms(?1, ?5, ?3)",
+    "SELECT * FROM kormaglen_terms(?1, ?5, ?3, ?5 - 1)",
     "SELECT * FROM kormaglen_query_terms(?1, ?6, ?4)",
     "SELECT * FROM kormaglen_query_ranges(?1, ?6, ?4)",
     "SELECT kormaglen_value(?1, ?5, ?3, ?6)",
@@ -518,7 +563,8 @@ typedef struct part {
 } part;
 
 int main(int count, char **words) {
-    static const part PARTS[] = {{"refused", run_refused},
+    static const part PARTS[] = {{"long", run_long},
+                                 {"refused", run_refused},
                                  {"interrupted", run_interrupted},
                                  {"limited", run_limited},
                                  {"starved", run_starved},

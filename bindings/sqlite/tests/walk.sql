@@ -28,6 +28,9 @@ INSERT OR IGNORE INTO term SELECT term, id FROM product, kormaglen_terms(:schema
 INSERT INTO product(stored) VALUES (kormaglen_store(:schema, '{"name":"Lamp shade","price":19}'));
 SELECT field, type, value, hex(term) FROM product, kormaglen_terms(:schema, 2, stored) WHERE id = 3;
 
+SELECT count(*) FROM product, kormaglen_terms(replace(:schema, 'u64', 'i64'), 2, stored);
+SELECT id, field, term, fault FROM product, kormaglen_terms(replace(:schema, 'u64', 'i64'), 2, stored, TRUE) WHERE id < 3;
+
 SELECT id FROM term
 WHERE term >= kormaglen_range_start(:schema, 'price', '[12 TO 20}') AND term < kormaglen_range_end(:schema, 'price', '[12 TO 20}');
 EXPLAIN QUERY PLAN SELECT id FROM term

@@ -92,8 +92,9 @@ fn write_terms(
     }
 }
 
-/// Writes the terms that the documents of a block have by the schema that the handle holds, see `tv_blocks::schema_terms_of_block`. The version is
-/// 1, 2 or 3. `with_faults` is set where it isn't 0.
+/// Writes at the front of `terms` the terms that the documents of `block` have by the schema that `handle` holds, see
+/// `tv_blocks::schema_terms_of_block`. `version` is 1, 2 or 3. Documents without terms have records where `with_faults` isn't 0. `handle` holds the
+/// same schema afterwards. After a refusal, also of a closed handle or of another version, `terms` is as it was.
 #[unsafe(no_mangle)]
 pub extern "C" fn raw_schema_terms_of_block(
     alloc: Global,

@@ -46,10 +46,10 @@ takes_one old new term document last content start terms before = (
   document ∙ before.0,
   last ∙ sym (last_term-snoc start.last.items terms term),
   content ∙ ap (λ (n : ℕ). old.content.items ++ shared_record n old.last.items term) before.0
-  ∙ ap (λ (l : List ℕ). old.content.items ++ shared_record start.document l term) before.1
-  ∙ ap (λ (l : List ℕ). l ++ shared_record start.document (last_term start.last.items terms) term) before.2
-  ∙ append_assoc start.content.items (term_records start.document start.last.items terms) (shared_record start.document (last_term start.last.items terms) term)
-  ∙ ap (λ (l : List ℕ). start.content.items ++ l) (sym (term_records-snoc start.document start.last.items terms term)),
+      ∙ ap (λ (l : List ℕ). old.content.items ++ shared_record start.document l term) before.1
+      ∙ ap (λ (l : List ℕ). l ++ shared_record start.document (last_term start.last.items terms) term) before.2
+      ∙ append_assoc start.content.items (term_records start.document start.last.items terms) (shared_record start.document (last_term start.last.items terms) term)
+      ∙ ap (λ (l : List ℕ). start.content.items ++ l) (sym (term_records-snoc start.document start.last.items terms term)),
 )
 
 pub takes_none : (old new : TermRecords) → new.document ≡ old.document → new.last.items ≡ old.last.items → new.content.items ≡ old.content.items → Takes HaveTaken old new []

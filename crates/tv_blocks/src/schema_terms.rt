@@ -207,17 +207,19 @@ fn block_records(
     }
 }
 
-/// Writes the terms that the documents of a block have by the schema, see `tv_indexing::term_values`, in their order, and returns how many bytes
-/// these take.
+/// Writes the terms that the documents of `block`, which is of the version `version`, have by `schema`, see `tv_indexing::term_values`, in their
+/// order, at the front of `terms`, and returns how many bytes these take. (Not in tantivy.)
 ///
-/// A term stands as the number of its document, from 0, how many of its first bytes are those of the term before it in the document, and the length
-/// of the rest, each in eight bytes, the lowest first; then the rest. So what is written is in proportion to the block, however long its keys are.
+/// Each term stands as three numbers in eight bytes, the lowest first, and then bytes: the number of its document, from 0; how many of its first bytes
+/// are those of the term before it in the document, 0 for the first; the length of the rest; and the rest. So what is written is in proportion to the
+/// block, however long its keys are, and so is the memory that is taken from `alloc` meanwhile.
 ///
-/// Where `with_faults` is set, a document that has a value without a term has one record: its number, 2^64 - 1, the length 16, and then the number of
-/// the `TermsRefusal` and that of the value's field, in eight bytes each. Where it isn't set, such a document is refused.
+/// `with_faults` says what becomes of a document that has a value without a term. Where it is set, the document has one record: its number,
+/// 2^64 - 1, the length 16, and then the number of the `TermsRefusal` and that of the value's field, in eight bytes each, the lowest first. Where it
+/// isn't set, the document is refused.
 ///
-/// Errors: `BadDocument` for the first document that can't be read, or `NoTerms` for one before it that has a value without a term; `TooSmall`,
-/// `Memory`. The buffer then stays as it is.
+/// Errors: `BadDocument` for the first document that can't be read, or `NoTerms`, where `with_faults` isn't set, for one before it that has a value
+/// without a term; `TooSmall` where `terms` is too small, with how many bytes are needed; `Memory`. `terms` then stays as it is.
 pub fn schema_terms_of_block(
     alloc: Global,
     schema: &Schema,

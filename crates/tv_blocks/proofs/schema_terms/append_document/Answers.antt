@@ -24,11 +24,10 @@ returns-in_ok-append_fault-in-Err-clause-ok c =
     let kept = some_taken (record { document = records.document; last = c.clear.new.self; content = records.content }) taken c.in-Err.ensures.kept in
     let len : c.len-len.result ≡ length old = omega (arith, c.len-len.ensures, records.content.ok.0) in
     let cut = c.truncate.ensures.items ∙ ap (λ n. take n taken.content.items) len ∙ kept.1 in
-    let none = c.in-Err.ensures.refused c.in_ok-append_fault-in-Err.ensures.told in
-    (
+    let none = c.in-Err.ensures.refused c.in_ok-append_fault-in-Err.ensures.told in (
       λ without. let both : true ≡ false = sym c.if-with_faults.true ∙ without in absurd cc,
       c.in_ok-append_fault-in-Err.ensures.appended ∙ ap (λ (l : List ℕ). l ++ fault_record taken.document error) cut ∙ ap (λ (n : ℕ). old ++ fault_record n error) kept.0
-      ∙ ap (λ t. old ++ document_records records.document t) (sym none),
+          ∙ ap (λ t. old ++ document_records records.document t) (sym none),
     )
 
 pub returns-in_ok-append_fault-in-Err-clause-document : goal.returns-in_ok-append_fault-in-Err-clause-document

@@ -9,7 +9,7 @@ loop-len-preserved c =
     let term = c.args.term.now in
     let at = c.loop-len.len in
     let same = common_len-word before term at c.word_at.result c.word_at-in-loop-len.result c.type_inv.before c.type_inv.term
-        (omega (arith, c.loop-len-test.true, c.min-both.ensures)) (omega (arith, c.loop-len-test.true, c.min-both.ensures)) c.word_at.ensures c.word_at-in-loop-len.ensures c.if-word_at.true in
+    (omega (arith, c.loop-len-test.true, c.min-both.ensures)) (omega (arith, c.loop-len-test.true, c.min-both.ensures)) c.word_at.ensures c.word_at-in-loop-len.ensures c.if-word_at.true in
     record {
       within = omega (arith, c.loop-len-test.true);
       so_far = c.loop-len.invariant.so_far ∙ ap (λ n. at + n) same ∙ omega arith;
