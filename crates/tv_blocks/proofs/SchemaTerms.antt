@@ -1,8 +1,8 @@
 -- The records of documents by a schema, term by term and document by document.
-use Rattle.std.proofs.Common.{◌≡◌, ℕ, suc, ◌+◌, ◌-◌, ◌<◌, ◌≤◌, Bool, true, false, List, [], ◌∷◌, ◌++◌, get_or, length, map, drop, take, nat_eq, Ok, Err, refl, sym, subst, ap, ◌∙◌, arith, append_assoc, append-nil, length-append}
+use Rattle.std.proofs.Common.{◌≡◌, ℕ, suc, ◌+◌, ◌-◌, Bool, List, [], ◌∷◌, ◌++◌, length, map, take, Ok, Err, refl, sym, subst, ap, ◌∙◌, arith, append_assoc, append-nil, length-append}
 use Rattle.std.proofs.Math.Seq.{take-append_seam}
 use Rattle.std.proofs.lemmas.List.{length-map, map-append}
-use Rattle.std.proofs.lemmas.List.Elements.{All-append}
+use Rattle.std.proofs.lemmas.List.Elements.{All-nil, All-push}
 use Rattle.tv_blocks.specs.Refusals.{RefusesDocument}
 use Rattle.tv_blocks.specs.SchemaTerms.{AppendsDocument, HasTerms, IsTermsBlockRefusal, SchemaTermsSoFar, document_records, last_term, records_from, shared_record, term_records}
 use Rattle.tv_blocks.specs.declared.block_error.BlockError.{BlockError}
@@ -61,9 +61,9 @@ taken : (old new : TermRecords) (terms : List (List ℕ)) → Takes HaveTaken ol
 taken old new terms takes = takes old [] (refl, refl, sym (append-nil old.content.items))
 
 -- all terms of a document
-pub all_taken : {schema : List Entry} (d : Document) (old new : TermRecords) → old.last.items ≡ [] → TakesAll HaveTaken old new (document_terms schema d)
+pub all_taken : (schema : List Entry) (d : Document) (old new : TermRecords) → old.last.items ≡ [] → TakesAll HaveTaken old new (document_terms schema d)
     → HasTerms schema d × (new.document ≡ old.document) × (new.content.items ≡ old.content.items ++ document_records old.document (document_terms schema d))
-all_taken {schema} d old new none takes = cases (document_terms schema d) takes where
+all_taken schema d old new none takes = cases (document_terms schema d) takes where
   cases : (t : Terms) → TakesAll HaveTaken old new t → ((terms : List (List ℕ)) × (t ≡ Ok terms)) × (new.document ≡ old.document) × (new.content.items ≡ old.content.items ++ document_records old.document t)
   cases (Ok terms) all =
       let h = taken old new terms all in
@@ -80,7 +80,7 @@ some_taken old new takes =
 
 pub no_terms_yet : (with_faults : Bool) (schema : List Entry) (v : Version) (block content : List ℕ) → content ≡ [] → SchemaTermsSoFar with_faults schema v block block content 0
 no_terms_yet with_faults schema v block content none =
-    record { before = []; joined = refl; are = record { documents = []; encoded = refl; listed = none; have_terms = λ _. tt }; counted = refl }
+    record { before = []; joined = refl; are = record { documents = []; encoded = refl; listed = none; have_terms = λ _. All-nil (HasTerms schema) }; counted = refl }
 
 records-snoc : (first : ℕ) (documents : List Terms) (last : Terms) → records_from first (documents ++ last ∷ []) ≡ records_from first documents ++ document_records (first + length documents) last
 records-snoc first [] last =
@@ -107,7 +107,7 @@ more_terms {with_faults} {schema} {v} {block} {rest} {now} {content} {more} {num
         encoded = each-snoc (EncodesDocument Legacy v) m.before b.prefix documents d m.are.encoded b.encoded;
         listed = added.1 ∙ ap (λ (l : List ℕ). l ++ document_records number last) m.are.listed ∙ ap (λ (n : ℕ). records_from 0 outcomes ++ document_records n last) at
             ∙ sym (records-snoc 0 outcomes last) ∙ ap (records_from 0) (sym (map-append (document_terms schema) documents (d ∷ [])));
-        have_terms = λ without. All-append (HasTerms schema) documents (d ∷ []) (m.are.have_terms without) (added.0 without, tt);
+        have_terms = λ without. All-push (HasTerms schema) documents d (m.are.have_terms without) (added.0 without);
       };
       counted = let sum = length-append documents (d ∷ []) in omega (arith, sum, m.counted);
     }

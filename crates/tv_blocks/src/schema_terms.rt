@@ -1,6 +1,6 @@
 //! Terms that documents of a block have by a schema.
 
-ghost use Rattle.std.specs.Prelude.{◌≡◌, ◌≢◌, ◌++◌, ◌∷◌, [], IfErr, IfOk, OnErr, OnOk};
+ghost use Rattle.std.specs.Prelude.{◌≡◌, ◌≢◌, ◌++◌, [], IfErr, IfOk, OnErr, OnOk};
 ghost use Rattle.std.specs.Prelude.{◌+◌, ◌≤◌, drop, length, take};
 ghost use Rattle.std.specs.Int.{from_le_bytes, w64};
 ghost use Rattle.tv_blocks.specs.Buffer.{FillsBuffer};

@@ -1,4 +1,4 @@
-use Rattle.std.proofs.Common.{ℕ, Bool, List, Err, arith, length, refl, sym, ap, take, true, false, ◌≡◌, ◌++◌, ◌∙◌}
+use Rattle.std.proofs.Common.{ℕ, List, arith, length, sym, ap, take, true, false, ◌≡◌, ◌++◌, ◌∙◌}
 use Rattle.tv_blocks.specs.SchemaTerms.{document_records, fault_record}
 use Rattle.tv_doc.specs.Document.{document_of}
 use Rattle.tv_blocks.proofs.SchemaTerms.{all_taken, some_taken}
@@ -7,13 +7,13 @@ use Rattle.tv_blocks.proofs.schema_terms.append_document.Goals as goal
 pub returns-in-Ok-clause-ok : goal.returns-in-Ok-clause-ok
 returns-in-Ok-clause-ok c =
     let records = c.args.records.now in
-    let all = all_taken (document_of c.args.document.now) (record { document = records.document; last = c.clear.new.self; content = records.content }) c.visit_terms.new.visitor c.clear.ensures.items c.in-Ok.ensures.made in
+    let all = all_taken c.args.schema.now (document_of c.args.document.now) (record { document = records.document; last = c.clear.new.self; content = records.content }) c.visit_terms.new.visitor c.clear.ensures.items c.in-Ok.ensures.made in
     (λ without. all.0, all.2)
 
 pub returns-in-Ok-clause-document : goal.returns-in-Ok-clause-document
 returns-in-Ok-clause-document c =
     let records = c.args.records.now in
-    (all_taken (document_of c.args.document.now) (record { document = records.document; last = c.clear.new.self; content = records.content }) c.visit_terms.new.visitor c.clear.ensures.items c.in-Ok.ensures.made).1
+    (all_taken c.args.schema.now (document_of c.args.document.now) (record { document = records.document; last = c.clear.new.self; content = records.content }) c.visit_terms.new.visitor c.clear.ensures.items c.in-Ok.ensures.made).1
 
 pub returns-in_ok-append_fault-in-Err-clause-ok : goal.returns-in_ok-append_fault-in-Err-clause-ok
 returns-in_ok-append_fault-in-Err-clause-ok c =

@@ -1,5 +1,4 @@
-use Rattle.std.proofs.Common.{◌≡◌, ◌+◌, ap, arith, sym, ◌∙◌, drop}
-use Rattle.tv_blocks.specs.SchemaTerms.{common_len}
+use Rattle.std.proofs.Common.{◌+◌, ap, arith, ◌∙◌}
 use Rattle.tv_blocks.proofs.Prefixes.{common_len-end, common_len-word}
 use Rattle.tv_blocks.proofs.schema_terms.common_len.Goals as goal
 
