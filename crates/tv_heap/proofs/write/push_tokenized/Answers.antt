@@ -1,4 +1,4 @@
-use Rattle.std.proofs.Common.{◌≡◌, ◌∙◌, ◌+◌, ◌≤◌, ◌++◌, ap, append_assoc, arith, length, length-append, sym}
+use Rattle.std.proofs.Common.{◌∙◌, ◌+◌, ◌≤◌, ◌++◌, ap, append_assoc, arith, length, length-append, sym}
 use Rattle.std.specs.List.{flat_map}
 use Rattle.tv_base.proofs.Growing.{grows_more, grows_then}
 use Rattle.tv_base.specs.Buffer.{GrowsWithin}

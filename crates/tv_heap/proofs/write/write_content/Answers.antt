@@ -1,4 +1,4 @@
-use Rattle.std.proofs.Common.{◌≡◌, ◌∙◌, refl, ap, sym, arith, length}
+use Rattle.std.proofs.Common.{◌∙◌, refl, ap, sym, arith, length}
 use Rattle.tv_heap.specs.LeafBytes.{content_address, content_bytes}
 use Rattle.tv_value.specs.LeafParts.{content_of}
 use Rattle.tv_heap.proofs.TypeCodes.{leaf_code}

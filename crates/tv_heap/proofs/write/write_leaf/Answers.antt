@@ -1,4 +1,4 @@
-use Rattle.std.proofs.Common.{◌≡◌, ◌∙◌, refl, ap, sym}
+use Rattle.std.proofs.Common.{◌∙◌, refl, ap, sym}
 use Rattle.tv_heap.specs.LeafBytes.{content_address}
 use Rattle.tv_value.specs.LeafParts.{content_of}
 use Rattle.tv_value.specs.Lent.{leaf_of}

@@ -1,4 +1,4 @@
-use Rattle.std.proofs.Common.{◌≡◌, ◌++◌, length, ap, sym}
+use Rattle.std.proofs.Common.{◌++◌, length, ap, sym}
 use Rattle.tv_base.proofs.Growing.{extends_ok, extends_within}
 use Rattle.tv_base.proofs.Numbers.{vnum-small}
 use Rattle.tv_value.proofs.encode.push_sized.Goals as goal
