@@ -148,8 +148,8 @@ pub(crate) fn create_optional(
     }
 }
 
-/// Ends the outputs of a command, of which the first is what the others are about: what is buffered is written to last, and then the files have their names. Where
-/// one of them can't be written, all files are as they were.
+/// Ends the outputs of a command, of which the first is what the others are about: what is buffered is written to last,
+/// and then the files have their names. Where one of them can't be written, all files are as they were.
 pub(crate) fn finish_all(rt: &HostRuntime, outputs: Vec<Output>) -> Result<(), Failure> {
     let mut parts = Vec::new(rt.alloc());
     for output in outputs {

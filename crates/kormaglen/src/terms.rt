@@ -292,7 +292,7 @@ fn begin(rt: &HostRuntime, given: &ArgMatches<'_>) -> Result<Counting, Failure> 
     })
 }
 
-/// Prints the terms of a field in their order. Memory is kept for as many as `--memory` lets it, and for those of one document, without their path.
+/// Prints the terms of a field in their order. Memory is kept for terms of `--memory` bytes, and for those of one document, without their path.
 pub(crate) fn terms(rt: &HostRuntime, given: &ArgMatches<'_>) -> Result<Ending, Failure> {
     let mut counting = begin(rt, given)?;
     let wanted = fields_within(rt.alloc(), given, &[counting.wanted.wanted.field()])?;

@@ -1,4 +1,5 @@
-//! Values of great depth, in documents and by themselves, documents read in place and within limits, the laws of calls in use, a store of your own, and calls that fail.
+//! Values of great depth, in documents and by themselves, documents read in place and within limits, the laws of calls in use,
+//! a store of your own, and calls that fail.
 
 mod any_depth;
 mod blocks;

@@ -47,7 +47,7 @@ fn word_at(bytes: &[u8], at: usize) -> u64
     }
 }
 
-// The length of the longest common prefix. Eight bytes are compared at a time: a key above many values is compared once for each of them.
+// The length of the longest common prefix of `before` and `term`. Eight bytes are compared at a time, since a key is compared for each value below it.
 fn common_len(before: &[u8], term: &[u8]) -> usize
     ensures len { result ≡ common_len before.now term.now }
     ensures within { result ≤ length term.now }
@@ -63,7 +63,7 @@ fn common_len(before: &[u8], term: &[u8]) -> usize
     len
 }
 
-// Keeps this many bytes, and puts these after them. After an error the buffer is as it was.
+// Keeps the first `kept` bytes of `buffer`, and puts `end` after them. After an error `buffer` is as it was.
 fn replace_end(buffer: &mut Vec<u8>, kept: usize, end: &[u8]) -> Result<(), AllocError>
     ensures made { OnOk result (buffer.new.items ≡ take kept buffer.old.items ++ end.now) }
     ensures unchanged { OnErr result (buffer.new.items ≡ buffer.old.items) }
