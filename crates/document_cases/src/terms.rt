@@ -7,9 +7,11 @@ use std::alloc::Global;
 use std::fmt::Write;
 use tv_doc::document::CompactDoc;
 use tv_indexing::{
-    TermList, range_of_text, ranges_of_text, term_values, terms_of_text, text_of_term,
+    IndexedField, TermList, TextTermsError, range_of_text, ranges_of_text, term_values,
+    terms_of_text, text_of_term,
 };
 use tv_schema::Schema;
+use tv_term::TermRange;
 
 /// What a call about terms returns.
 pub fn answer(alloc: Global, call: &[&str]) -> Result<String> {
@@ -31,6 +33,7 @@ fn answer_with(alloc: Global, schema: &Schema, name: &str, call: &[&str]) -> Res
         "bytes" => printed_bytes(alloc, call),
         "range" => of_range(alloc, schema, call),
         "ranges" => of_ranges(alloc, schema, call),
+        "below" => of_below(alloc, schema, call),
         _ => Err(anyhow!("an unknown call about terms")),
     }
 }
@@ -88,6 +91,26 @@ fn of_ranges(alloc: Global, schema: &Schema, call: &[&str]) -> Result<String> {
         ends.push(words::ends(alloc, range.start(), range.end())?)?;
     }
     words::joined(alloc, ends.as_slice())
+}
+
+// Where the range of a text and of what is below it begins and ends, or why there is none.
+fn of_below(alloc: Global, schema: &Schema, call: &[&str]) -> Result<String> {
+    let (path, text) = path_and_text(alloc, call)?;
+    match range_below(alloc, schema, path.as_str(), text.as_str()) {
+        Ok(range) => words::ends(alloc, range.start(), range.end()),
+        Err(error) => words::error(alloc, error),
+    }
+}
+
+// The range of a text and of what is below it.
+fn range_below(
+    alloc: Global,
+    schema: &Schema,
+    path: &str,
+    text: &str,
+) -> Result<TermRange, TextTermsError> {
+    let field = IndexedField::of(alloc, schema, path)?;
+    field.below(alloc, text)
 }
 
 // Why texts are refused, and the terms of the other ones in one list.

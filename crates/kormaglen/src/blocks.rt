@@ -10,11 +10,10 @@ use clap::ArgMatches;
 use std::alloc::Global;
 use tantivy_schema::schema::document::DeserializeError;
 use tantivy_schema::schema::{Field, Schema};
-use tantivy_schema::store::LimitedReadError;
-use tv_command::check::check_block;
-use tv_command::documents::{BlockError, Wanted};
-use tv_command::export::export_block;
-use tv_command::work_error::WorkError;
+use tantivy_schema::store::{LimitedReadError, Projection, RefusedDocument};
+use tv_lines::check::check_block;
+use tv_lines::export::export_block;
+use tv_lines::work_error::WorkError;
 
 /// What broke the work on a block off, of which the results go to the output of this name.
 pub(crate) fn broken(
@@ -48,32 +47,52 @@ fn fields_of(alloc: Global, schema: &Schema, names: &str) -> Result<Vec<Field>, 
 }
 
 // What is to be printed of each document.
-fn wanted(alloc: Global, given: &ArgMatches<'_>, schema: &Schema) -> Result<Wanted, Failure> {
+fn projection(
+    alloc: Global,
+    given: &ArgMatches<'_>,
+    schema: &Schema,
+) -> Result<Projection, Failure> {
     let limits = limits(given);
     let Some(names) = given.get_str("fields") else {
-        return Ok(Wanted::All(limits));
+        return Ok(Projection::All(limits));
     };
     if limits.bytes.is_some() || limits.depth.is_some() {
         return Err(wrong_use(alloc, "--fields", "it can't stand beside a limit"));
     }
-    Ok(Wanted::Fields(fields_of(alloc, schema, names)?))
+    Ok(Projection::Fields(fields_of(alloc, schema, names)?))
 }
 
-// Appends what is wanted of the documents of a block to a sink, as lines of JSON.
+// Appends what `projection` keeps of the documents of a block to a sink, as lines of JSON.
 fn export_into(
     rt: &HostRuntime,
     given: &ArgMatches<'_>,
     schema: &Schema,
-    wanted: Wanted,
+    projection: &Projection,
     source: &mut BlockSource,
     sink: &mut OutputSink,
 ) -> Result<u64, WorkError> {
     let (alloc, version) = (rt.alloc(), version(given, "version"));
     let mut progress = Progress::of(rt, given, &[text(given, "BLOCK")]);
     let exported = if given.get_flag("pretty") {
-        export_pretty(alloc, schema, version, wanted, source, sink, &mut progress)
+        export_pretty(
+            alloc,
+            schema,
+            version,
+            projection,
+            source,
+            sink,
+            &mut progress,
+        )
     } else {
-        export_block(alloc, schema, version, wanted, source, sink, &mut progress)
+        export_block(
+            alloc,
+            schema,
+            version,
+            projection,
+            source,
+            sink,
+            &mut progress,
+        )
     };
     progress.end();
     exported
@@ -93,28 +112,28 @@ pub(crate) fn finish_work(
     Ok(Ending::Done)
 }
 
-// Prints what is wanted of the documents that a source has left.
+// Prints what `projection` keeps of the documents that a source has left.
 fn export_from(
     rt: &HostRuntime,
     given: &ArgMatches<'_>,
     schema: &Schema,
-    wanted: Wanted,
+    projection: &Projection,
     mut source: BlockSource,
 ) -> Result<Ending, Failure> {
     let mut output = create(rt, text(given, "output"))?;
-    let exported = export_into(rt, given, schema, wanted, &mut source, output.sink());
+    let exported = export_into(rt, given, schema, projection, &mut source, output.sink());
     finish_work(rt, given, output, exported)
 }
 
 /// Prints the documents of a block as lines of JSON.
 pub(crate) fn export(rt: &HostRuntime, given: &ArgMatches<'_>) -> Result<Ending, Failure> {
     let schema = schema_given(rt, given)?;
-    let wanted = wanted(rt.alloc(), given, &schema)?;
+    let projection = projection(rt.alloc(), given, &schema)?;
     export_from(
         rt,
         given,
         &schema,
-        wanted,
+        &projection,
         source(rt, text(given, "BLOCK"))?,
     )
 }
@@ -131,7 +150,7 @@ fn is_of_bytes(error: &LimitedReadError) -> bool {
 fn verdict(
     alloc: Global,
     name: &str,
-    checked: Result<u64, BlockError>,
+    checked: Result<u64, RefusedDocument>,
 ) -> Result<(Ending, String), Failure> {
     match checked {
         Ok(documents) => {
@@ -153,7 +172,7 @@ fn checked(
     rt: &HostRuntime,
     given: &ArgMatches<'_>,
     mut source: BlockSource,
-) -> Result<u64, BlockError> {
+) -> Result<u64, RefusedDocument> {
     let mut progress = Progress::of(rt, given, &[text(given, "BLOCK")]);
     let (version, limits) = (version(given, "version"), limits(given));
     let checked = check_block(rt.alloc(), version, limits, &mut source, &mut progress);

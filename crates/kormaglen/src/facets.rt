@@ -173,8 +173,8 @@ fn print_all(rt: &HostRuntime, given: &ArgMatches<'_>, counts: &TermCounts) -> R
 /// Counts documents by the children of a facet. Memory is kept for the children that are found, and for one document.
 pub(crate) fn facets(rt: &HostRuntime, given: &ArgMatches<'_>) -> Result<Ending, Failure> {
     let mut counting = begin(rt, given, &schema_given(rt, given)?)?;
-    let wanted = fields_within(rt.alloc(), given, &[counting.field])?;
-    visit_block(rt, given, wanted, &mut counting)?;
+    let projection = fields_within(rt.alloc(), given, &[counting.field])?;
+    visit_block(rt, given, &projection, &mut counting)?;
     print_all(rt, given, &counting.counts)?;
     Ok(Ending::Done)
 }

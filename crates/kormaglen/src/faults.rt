@@ -6,9 +6,9 @@ use crate::progress::ERASING;
 use std::alloc::{AllocError, Global};
 use std::io::Eprint;
 use tantivy_schema::schema::{Field, Schema, TermValuesError};
-use tv_command::find::DocumentOutcome;
-use tv_command::report::DocumentReport;
-use tv_command::terms::{first_unstored, name_of, name_of_faulty};
+use tv_lines::find::DocumentOutcome;
+use tv_lines::report::DocumentReport;
+use tv_lines::terms::{first_unstored, name_of, name_of_faulty};
 
 /// Tells on the standard error which documents of a block can't be searched, and why.
 #[derive(Drop)]

@@ -16,9 +16,9 @@ use std::alloc::{AllocError, Global};
 use std::io::{self, Eprint, Write};
 use tantivy_schema::common::{ByteSink, WriteSink};
 use tantivy_schema::schema::Schema;
-use tv_command::documents::Wanted;
-use tv_command::find::{FindError, Found, find_in_block};
-use tv_command::report::{DocumentReport, Report};
+use tantivy_schema::store::Projection;
+use tv_lines::find::{FindError, Found, find_in_block};
+use tv_lines::report::{DocumentReport, Report};
 use tv_query::{Query, QueryError, QueryReason};
 
 // Takes what is written, and keeps nothing.
@@ -98,20 +98,24 @@ fn report(rt: &HostRuntime, text: &str, error: &QueryError) -> Result<(), Failur
 }
 
 // What is read of each document: all of it, or for their number alone what the query needs.
-fn wanted(alloc: Global, given: &ArgMatches<'_>, query: &Query) -> Result<Wanted, AllocError> {
+fn projection(
+    alloc: Global,
+    given: &ArgMatches<'_>,
+    query: &Query,
+) -> Result<Projection, AllocError> {
     if given.get_flag("count") {
         return fields_within(alloc, given, query.fields());
     }
-    Ok(Wanted::All(limits(given)))
+    Ok(Projection::All(limits(given)))
 }
 
-// Appends the lines of what is wanted of the documents of a source that the query matches.
+// Appends the lines of what `projection` keeps of the documents of a source that the query matches.
 fn find_from<K: ByteSink>(
     rt: &HostRuntime,
     given: &ArgMatches<'_>,
     schema: &Schema,
     query: &Query,
-    wanted: Wanted,
+    projection: &Projection,
     source: &mut BlockSource,
     sink: &mut K,
 ) -> Result<Found, FindError<Failure>> {
@@ -125,7 +129,7 @@ fn find_from<K: ByteSink>(
         rt.alloc(),
         schema,
         version(given, "version"),
-        wanted,
+        projection,
         query,
         source,
         sink,
@@ -144,9 +148,9 @@ fn find_into<K: ByteSink>(
     query: &Query,
     sink: &mut K,
 ) -> Result<Found, Failure> {
-    let wanted = wanted(rt.alloc(), given, query)?;
+    let projection = projection(rt.alloc(), given, query)?;
     let mut source = source(rt, text(given, "BLOCK"))?;
-    match find_from(rt, given, schema, query, wanted, &mut source, sink) {
+    match find_from(rt, given, schema, query, &projection, &mut source, sink) {
         Ok(found) => Ok(found),
         Err(FindError::Work(error)) => Err(broken(rt.alloc(), given, "-", error)),
         Err(FindError::Report(failure)) => Err(failure),

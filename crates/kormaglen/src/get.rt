@@ -10,7 +10,7 @@ use std::alloc::Global;
 use std::collections::BTreeMap;
 use std::fs::{self, File};
 use tantivy_schema::schema::{Document, Schema};
-use tv_command::documents::{BlockError, DocumentReader, Wanted};
+use tantivy_schema::store::{BlockReader, Projection, RefusedDocument};
 
 // A document that is asked for: how often it is still to be printed, and its JSON once it was read.
 #[derive(Drop)]
@@ -186,12 +186,13 @@ impl Answers {
 
 // Passes over this many documents, and says whether there were as many.
 fn pass(
-    reader: &mut DocumentReader,
+    reader: &mut BlockReader,
     source: &mut BlockSource,
+    projection: &Projection,
     documents: u64,
-) -> Result<bool, BlockError> {
+) -> Result<bool, RefusedDocument> {
     for _ in 0..documents {
-        if !reader.pass(source)? {
+        if !reader.pass_by(source, projection)? {
             return Ok(false);
         }
     }
@@ -200,20 +201,20 @@ fn pass(
 
 // Reads the document after this many others, and says whether there is one.
 fn read_after(
-    reader: &mut DocumentReader,
+    reader: &mut BlockReader,
     source: &mut BlockSource,
+    projection: &Projection,
     documents: u64,
-) -> Result<bool, BlockError> {
-    match pass(reader, source, documents) {
-        Ok(true) => reader.advance(source),
+) -> Result<bool, RefusedDocument> {
+    match pass(reader, source, projection, documents) {
+        Ok(true) => reader.advance_by(source, projection),
         other => other,
     }
 }
 
 // A reader of the documents of the block that the words name, from this one on, which begins at this byte.
-fn reader_at(alloc: Global, given: &ArgMatches<'_>, documents: u64, byte: u64) -> DocumentReader {
-    let wanted = Wanted::All(limits(given));
-    DocumentReader::starting_at(alloc, version(given, "version"), wanted, documents, byte)
+fn reader_at(alloc: Global, given: &ArgMatches<'_>, documents: u64, byte: u64) -> BlockReader {
+    BlockReader::starting_at(alloc, version(given, "version"), documents, byte)
 }
 
 // Reads the documents of these numbers, of which none is below the one before, by one pass over the block.
@@ -227,12 +228,13 @@ fn read_in_order(
     let alloc = rt.alloc();
     let mut source = source(&rt, block)?;
     let mut reader = reader_at(alloc, given, 0, 0);
+    let projection = Projection::All(limits(given));
     let mut read: u64 = 0;
     for number in numbers {
         if *number < read {
             continue;
         }
-        match read_after(&mut reader, &mut source, *number - read) {
+        match read_after(&mut reader, &mut source, &projection, *number - read) {
             Ok(true) => answers.take(*number, reader.document().to_json(alloc, schema)?)?,
             Ok(false) => break,
             Err(error) => return Err(failed(alloc, block, error)),
@@ -268,7 +270,7 @@ fn json_at(
     let block = text(given, "BLOCK");
     let mut source = source_at(alloc, block, file, byte)?;
     let mut reader = reader_at(alloc, given, number, byte);
-    match reader.advance(&mut source) {
+    match reader.advance_by(&mut source, &Projection::All(limits(given))) {
         Ok(true) => Ok(Some(reader.document().to_json(alloc, schema)?)),
         Ok(false) => Ok(None),
         Err(error) => Err(failed(alloc, block, error)),

@@ -6,15 +6,18 @@ use crate::ending::{Ending, Failure, failed, write_failed};
 use crate::escaped::escaped;
 use crate::faults::why_faulty;
 use crate::files::{Output, create, create_optional, finish_all};
-use crate::inputs::{lines, schema_given, text, written_version};
+use crate::inputs::{schema_given, source, text, written_version};
 use crate::progress::{ERASING, Progress};
 use clap::ArgMatches;
 use std::alloc::{AllocError, AllocFailed, Global};
 use std::io::Eprint;
+use tantivy_schema::schema::document::ParseBuffers;
 use tantivy_schema::schema::{Schema, TermValuesError};
-use tv_command::import::{ImportError, ImportRules, LineError, LineImporter, LineOutcome};
-use tv_command::imports::{ImportLinesError, import_lines};
-use tv_command::report::{LineReport, Report};
+use tv_lines::Halt;
+use tv_lines::import::{FaultRule, ImportRules, LineImporter, LineOutcome};
+use tv_lines::imports::{ImportLinesError, import_lines};
+use tv_lines::line_document::LineError;
+use tv_lines::report::{LineReport, Report};
 
 // The report of an import: where lines that are refused are reported, where documents begin, and how many there were of each kind.
 #[derive(Drop)]
@@ -34,9 +37,15 @@ struct Reports<'s> {
 
 // The rules that the words give.
 fn rules(given: &ArgMatches<'_>) -> ImportRules {
+    let strict = given.get_flag("strict");
     ImportRules {
         version: written_version(given, "store-version"),
-        strict: given.get_flag("strict"),
+        strict,
+        faults: if strict {
+            FaultRule::Refuse
+        } else {
+            FaultRule::Tell
+        },
     }
 }
 
@@ -119,11 +128,12 @@ fn broken(
     error: ImportLinesError<Failure>,
 ) -> Failure {
     match error {
-        ImportLinesError::Import(ImportError::Read(kind)) => failed(alloc, name, kind),
-        ImportLinesError::Import(ImportError::Write(kind)) => {
+        ImportLinesError::Import(Halt::Read(kind)) => failed(alloc, name, kind),
+        ImportLinesError::Import(Halt::Write(kind)) => {
             write_failed(alloc, text(given, "output"), kind)
         }
-        ImportLinesError::Import(ImportError::Memory) => Failure::Memory,
+        ImportLinesError::Import(Halt::Memory) => Failure::Memory,
+        ImportLinesError::Import(Halt::TooLong) => failed(alloc, name, "it has too many bytes"),
         ImportLinesError::Report(failure) => failure,
         ImportLinesError::TooMany => failed(alloc, name, "it has too many lines"),
     }
@@ -135,16 +145,18 @@ fn import_file(
     given: &ArgMatches<'_>,
     schema: &Schema,
     importer: &mut LineImporter,
+    buffers: &mut ParseBuffers,
     block: &mut Output,
     progress: &mut Progress,
 ) -> Result<(), Failure> {
     let alloc = reports.rt.alloc();
-    let mut reader = lines(&reports.rt, reports.name.as_str())?;
+    let mut source = source(&reports.rt, reports.name.as_str())?;
     progress.begin_input();
     match import_lines(
         importer,
         schema,
-        &mut reader,
+        buffers,
+        &mut source,
         block.sink(),
         reports,
         progress,
@@ -165,9 +177,18 @@ fn import_each(
 ) -> Result<(), Failure> {
     let alloc = reports.rt.alloc();
     let mut importer = LineImporter::new(alloc, rules(given));
+    let mut buffers = ParseBuffers::new(alloc);
     for name in names {
         reports.name = String::from_str(alloc, name)?;
-        import_file(reports, given, schema, &mut importer, block, progress)?;
+        import_file(
+            reports,
+            given,
+            schema,
+            &mut importer,
+            &mut buffers,
+            block,
+            progress,
+        )?;
     }
     Ok(())
 }

@@ -5,7 +5,7 @@ use clap::ArgMatches;
 use either::Either;
 use std::alloc::Global;
 use std::fs::{self, File};
-use std::io::{self, BufReader, Input, Read, Seek, SeekFrom};
+use std::io::{Input, Read, Seek, SeekFrom};
 use tantivy_schema::common::BufferedSource;
 use tantivy_schema::schema::Schema;
 use tantivy_schema::store::{DocStoreVersion, ReadLimits, WriteVersion};
@@ -30,15 +30,6 @@ pub(crate) fn open(rt: &HostRuntime, name: &str) -> Result<Origin, Failure> {
         return Ok(Either::Right(rt.reader()));
     }
     Ok(Either::Left(of_file(rt.alloc(), name, fs::open(rt, name))?))
-}
-
-/// A reader of lines of a file.
-pub(crate) fn lines(rt: &HostRuntime, name: &str) -> Result<BufReader<Origin>, Failure> {
-    let origin = open(rt, name)?;
-    match BufReader::with_capacity(rt.alloc(), PIECE, origin) {
-        Ok(reader) => Ok(reader),
-        Err(_) => Err(Failure::Memory),
-    }
 }
 
 /// A source of the bytes of a file.

@@ -1,4 +1,4 @@
-//! The command `kormaglen`: its words, its files, and what it prints. `kormaglen --help` says what it does, and the work is that of `tv_command`.
+//! The command `kormaglen`: its words, its files, and what it prints. `kormaglen --help` says what it does, and the work is that of `tv_lines`.
 #![tactic(auto)]
 
 mod arguments;

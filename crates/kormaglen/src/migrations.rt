@@ -6,8 +6,21 @@ use crate::files::{OutputSink, create};
 use crate::inputs::{BlockSource, source, text, version, written_version};
 use crate::progress::Progress;
 use clap::ArgMatches;
-use tv_command::migrate::migrate_block;
-use tv_command::work_error::WorkError;
+use tantivy_schema::schema::document::SerializeError;
+use tantivy_schema::store::{MigrateBlockError, migrate_block};
+use tv_lines::work_error::WorkError;
+
+// The same, as the work on a block says it.
+fn told(error: MigrateBlockError) -> WorkError {
+    match error {
+        MigrateBlockError::Read(refused) => WorkError::Read(refused),
+        MigrateBlockError::Write { error, .. } => match error {
+            SerializeError::Io(kind) => WorkError::Write(kind),
+            _ => WorkError::Memory,
+        },
+        MigrateBlockError::TooMany => WorkError::TooMany,
+    }
+}
 
 // Appends the documents that a source has left to a sink, in another version.
 fn migrate_into(
@@ -20,7 +33,10 @@ fn migrate_into(
     let mut progress = Progress::of(rt, given, &[text(given, "BLOCK")]);
     let migrated = migrate_block(rt.alloc(), source, from, sink, to, &mut progress);
     progress.end();
-    migrated
+    match migrated {
+        Ok(documents) => Ok(documents),
+        Err(error) => Err(told(error)),
+    }
 }
 
 /// Writes the documents of a block in another version.

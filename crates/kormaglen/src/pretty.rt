@@ -6,11 +6,10 @@ use crate::progress::Progress;
 use serde_json::Value;
 use std::alloc::{AllocError, Global};
 use tantivy_schema::schema::{Document, Schema};
-use tantivy_schema::store::DocStoreVersion;
+use tantivy_schema::store::{BlockReader, DocStoreVersion, Projection};
 use tv_base::write::write_all;
-use tv_command::documents::{DocumentReader, Wanted};
-use tv_command::watch::Watch;
-use tv_command::work_error::WorkError;
+use tantivy_schema::store::Watch;
+use tv_lines::work_error::WorkError;
 
 /// A text of JSON, over several lines. What isn't JSON stays as it is.
 pub(crate) fn pretty_text(alloc: Global, json: &str) -> Result<String, AllocError> {
@@ -30,27 +29,27 @@ fn write_pretty(alloc: Global, json: &str, sink: &mut OutputSink) -> Result<(), 
     }
 }
 
-/// Appends what is wanted of the documents of a block to a sink, as `export_block` does, but over several lines. `progress` is advanced after the same
+/// Appends what `projection` keeps of the documents of a block to a sink, as `export_block` does, but over several lines. `progress` is advanced after the same
 /// documents.
 pub(crate) fn export_pretty(
     alloc: Global,
     schema: &Schema,
     version: DocStoreVersion,
-    wanted: Wanted,
+    projection: &Projection,
     source: &mut BlockSource,
     sink: &mut OutputSink,
     progress: &mut Progress,
 ) -> Result<u64, WorkError> {
-    let mut reader = DocumentReader::new(alloc, version, wanted);
+    let mut reader = BlockReader::new(alloc, version);
     for documents in 0..u64::MAX {
-        match reader.advance(source) {
+        match reader.advance_by(source, projection) {
             Ok(true) => {
                 write_pretty(
                     alloc,
                     reader.document().to_json(alloc, schema)?.as_str(),
                     sink,
                 )?;
-                progress.advance(reader.bytes());
+                progress.advance(reader.start());
             }
             Ok(false) => return Ok(documents),
             Err(error) => return Err(WorkError::Read(error)),

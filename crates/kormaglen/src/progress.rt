@@ -7,7 +7,7 @@ use std::alloc::{AllocError, Global};
 use std::fs;
 use std::io::{Eprint, IsTerminal};
 use std::time::{Duration, Instant};
-use tv_command::watch::Watch;
+use tantivy_schema::store::Watch;
 
 // Nothing is shown before this many milliseconds have passed.
 const WAITING: u64 = 500;

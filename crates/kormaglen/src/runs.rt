@@ -6,7 +6,7 @@ use std::alloc::Global;
 use std::fs::{self, File};
 use std::io::{self, BufWriter, Seek, SeekFrom};
 use tantivy_schema::common::{BufferedSource, WriteSink};
-use tv_command::runs::{Merge, MergeError, write_pair};
+use tv_lines::term_runs::{Merge, MergeError, write_pair};
 
 // This many bytes of a run are read or written at once.
 const PIECE: usize = 16384;

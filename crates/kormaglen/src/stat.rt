@@ -9,7 +9,7 @@ use crate::visits::{Visit, visit_block};
 use clap::ArgMatches;
 use std::alloc::{AllocError, Global};
 use tantivy_schema::schema::{Document, Schema, TantivyDocument};
-use tv_command::documents::Wanted;
+use tantivy_schema::store::Projection;
 
 // What is counted of a block.
 struct Counts {
@@ -129,7 +129,7 @@ fn begin(alloc: Global, fields: usize) -> Result<Counts, AllocError> {
 pub(crate) fn stat(rt: &HostRuntime, given: &ArgMatches<'_>) -> Result<Ending, Failure> {
     let schema = schema_given(rt, given)?;
     let mut counts = begin(rt.alloc(), schema.num_fields())?;
-    visit_block(rt, given, Wanted::All(limits(given)), &mut counts)?;
+    visit_block(rt, given, &Projection::All(limits(given)), &mut counts)?;
     let mut output = create(rt, "-")?;
     print_counts(&mut output, &counts)?;
     print_fields(&mut output, &schema, &counts)?;

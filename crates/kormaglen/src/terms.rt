@@ -19,8 +19,8 @@ use tantivy_schema::schema::{
     Schema, TantivyDocument, TermList, TermValuesError, TermVisitor, Type, text_of_term,
     visit_terms,
 };
-use tv_command::find::DocumentOutcome;
-use tv_command::report::DocumentReport;
+use tv_lines::find::DocumentOutcome;
+use tv_lines::report::DocumentReport;
 use tv_query::{QueryReason, Selection, Wanted};
 
 // How many bytes the number of a field and the code of a type have, with which a term starts.
@@ -295,8 +295,8 @@ fn begin(rt: &HostRuntime, given: &ArgMatches<'_>) -> Result<Counting, Failure> 
 /// Prints the terms of a field in their order. Memory is kept for terms of `--memory` bytes, and for those of one document, without their path.
 pub(crate) fn terms(rt: &HostRuntime, given: &ArgMatches<'_>) -> Result<Ending, Failure> {
     let mut counting = begin(rt, given)?;
-    let wanted = fields_within(rt.alloc(), given, &[counting.wanted.wanted.field()])?;
-    visit_block(rt, given, wanted, &mut counting)?;
+    let projection = fields_within(rt.alloc(), given, &[counting.wanted.wanted.field()])?;
+    visit_block(rt, given, &projection, &mut counting)?;
     let mut printer = Printer {
         alloc: rt.alloc(),
         output: create(rt, "-")?,

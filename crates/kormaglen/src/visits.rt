@@ -6,8 +6,8 @@ use crate::progress::Progress;
 use clap::ArgMatches;
 use std::alloc::{AllocError, Global};
 use tantivy_schema::schema::{Field, TantivyDocument};
-use tv_command::documents::{DocumentReader, Wanted};
-use tv_command::watch::Watch;
+use tantivy_schema::store::{BlockReader, Projection};
+use tantivy_schema::store::Watch;
 
 /// What is done with each document of a block.
 pub(crate) trait Visit {
@@ -20,41 +20,41 @@ pub(crate) fn fields_within(
     alloc: Global,
     given: &ArgMatches<'_>,
     fields: &[Field],
-) -> Result<Wanted, AllocError> {
+) -> Result<Projection, AllocError> {
     let limits = limits(given);
     if limits.bytes.is_some() || limits.depth.is_some() {
-        return Ok(Wanted::All(limits));
+        return Ok(Projection::All(limits));
     }
-    Ok(Wanted::Fields(Vec::from_slice(alloc, fields)?))
+    Ok(Projection::Fields(Vec::from_slice(alloc, fields)?))
 }
 
-// Shows what is wanted of the documents that a source has left to a visitor.
+// Shows what `projection` keeps of the documents that a source has left to a visitor.
 fn visit_left<V: Visit>(
     alloc: Global,
     given: &ArgMatches<'_>,
-    wanted: Wanted,
+    projection: &Projection,
     source: &mut BlockSource,
     visitor: &mut V,
     progress: &mut Progress,
 ) -> Result<(), Failure> {
-    let mut reader = DocumentReader::new(alloc, version(given, "version"), wanted);
+    let mut reader = BlockReader::new(alloc, version(given, "version"));
     for _ in 0..u64::MAX {
-        match reader.advance(source) {
+        match reader.advance_by(source, projection) {
             Ok(true) => {}
             Ok(false) => break,
             Err(error) => return Err(failed(alloc, text(given, "BLOCK"), error)),
         }
-        visitor.visit(reader.document(), reader.bytes())?;
-        progress.advance(reader.bytes());
+        visitor.visit(reader.document(), reader.start())?;
+        progress.advance(reader.start());
     }
     Ok(())
 }
 
-/// Shows what is wanted of the documents of the block that the words name to a visitor, and how far that has come.
+/// Shows what `projection` keeps of the documents of the block that the words name to a visitor, and how far that has come.
 pub(crate) fn visit_block<V: Visit>(
     rt: &HostRuntime,
     given: &ArgMatches<'_>,
-    wanted: Wanted,
+    projection: &Projection,
     visitor: &mut V,
 ) -> Result<(), Failure> {
     let name = text(given, "BLOCK");
@@ -63,7 +63,7 @@ pub(crate) fn visit_block<V: Visit>(
     let visited = visit_left(
         rt.alloc(),
         given,
-        wanted,
+        projection,
         &mut source,
         visitor,
         &mut progress,

@@ -14,7 +14,7 @@ use tantivy_schema::schema::document::{
 use tantivy_schema::schema::{
     Field, JsonObjectOptions, OwnedValue, STORED, Schema, TantivyDocument,
 };
-use tantivy_schema::store::{DocStoreVersion, WriteVersion, migrate, migrate_block};
+use tantivy_schema::store::{DocStoreVersion, Unwatched, WriteVersion, migrate, migrate_block};
 
 // The bytes that are written of a document.
 fn written(alloc: Global, document: &TantivyDocument, schema: &Schema) -> Result<String> {
@@ -137,11 +137,12 @@ fn migrated(alloc: Global, call: &[&str]) -> Result<String> {
 fn migrated_block(alloc: Global, call: &[&str]) -> Result<String> {
     let (from, to, word) = words::three(call)?;
     let block = reads::bytes(alloc, word)?;
+    let mut source = SliceSource::new(&block);
     let mut sink = VecSink::new(alloc);
-    let from = reads::version(from)?;
-    let answer = match migrate_block(alloc, &block, from, &mut sink, written_version(to)?) {
+    let (from, to) = (reads::version(from)?, written_version(to)?);
+    let answer = match migrate_block(alloc, &mut source, from, &mut sink, to, &mut Unwatched) {
         Ok(number) => format!(in alloc; "{number} documents")?,
-        Err(failed) => format!(in alloc; "error {:?} at {}", failed.error, failed.start)?,
+        Err(failed) => format!(in alloc; "error: {failed}")?,
     };
     let digits = words::digits(alloc, sink.as_slice())?;
     Ok(format!(in alloc; "{answer}, {digits}")?)

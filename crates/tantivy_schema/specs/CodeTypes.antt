@@ -33,6 +33,8 @@ pub use Rattle.tv_store.specs.declared.round_trip.RoundTrip
 pub use Rattle.tv_store.specs.declared.round_trip.RoundTripError
 pub use Rattle.tv_store.specs.declared.migration.MigrateError
 pub use Rattle.tv_store.specs.declared.block_migration.MigrateBlockError
+pub use Rattle.tv_store.specs.declared.block.RefusedDocument
+pub use Rattle.tv_store.specs.declared.projection.Projection
 pub use Rattle.tv_store.specs.declared.limits.LimitedReadError
 pub use Rattle.tv_store.specs.declared.limits.ReadLimit
 pub use Rattle.tv_store.specs.declared.limits.ReadLimits
@@ -97,4 +99,4 @@ pub use Rattle.tv_typed.specs.declared.object.BinaryObjectDeserializer
 pub use Rattle.tv_typed.specs.declared.document.BinaryDocumentDeserializer
 -- how a run over lines ends
 pub use Rattle.tv_lines.specs.declared.halt.Halt
-pub use Rattle.tv_lines.specs.declared.run_end.RunEnd
+pub use Rattle.tv_lines.specs.declared.runs.RunEnd

@@ -93,6 +93,7 @@ pub use Rattle.tv_indexing.specs.LeafTerms
 pub use Rattle.tv_indexing.specs.DocumentTerms
 pub use Rattle.tv_indexing.specs.TermFault
 pub use Rattle.tv_indexing.specs.Visits as TermVisits
+pub use Rattle.tv_indexing.specs.Unless
 pub use Rattle.tv_indexing.specs.IndexedField
 pub use Rattle.tv_indexing.specs.TextTerms
 pub use Rattle.tv_indexing.specs.TextRange
@@ -150,7 +151,9 @@ pub use Rattle.tv_store.specs.BlockMigration
 pub use Rattle.tv_writer.specs.Error as StoreError
 pub use Rattle.tv_store.specs.Decoder
 pub use Rattle.tv_store.specs.Blocks
+pub use Rattle.tv_store.specs.BlockSteps
 pub use Rattle.tv_store.specs.Limits
+pub use Rattle.tv_store.specs.Projections
 pub use Rattle.tv_reading.specs.ChosenFields
 pub use Rattle.tv_reading.specs.Documents as DecodedDocuments
 pub use Rattle.tv_reading.specs.Prefix as DecoderPrefix
@@ -185,5 +188,6 @@ pub mod CodeTypes
 -- lines of JSON and their answers
 pub use Rattle.tv_lines.specs.Lines
 pub use Rattle.tv_lines.specs.Answers
+pub use Rattle.tv_lines.specs.Halts
 pub use Rattle.tv_lines.specs.Run
 pub use Rattle.tv_lines.specs.Status as RunStatus

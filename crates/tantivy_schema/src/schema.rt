@@ -34,8 +34,8 @@ pub use tv_field::{
     is_valid_field_name,
 };
 pub use tv_indexing::{
-    TermIter, TermList, TermValuesError, TermVisitor, TextTermsError, bounds_of_text, is_among,
-    range_between_texts, range_of_text, ranges_between_texts, ranges_of_text, term_fault,
+    IndexedField, TermIter, TermList, TermValuesError, TermVisitor, TextTermsError, bounds_of_text,
+    is_among, range_between_texts, range_of_text, ranges_between_texts, ranges_of_text, term_fault,
     term_values, term_values_of_fields, terms_of_text, text_of_term, visit_terms,
 };
 pub use tv_options::{

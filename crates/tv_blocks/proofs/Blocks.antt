@@ -1,8 +1,9 @@
 -- Documents of a block, one after the other.
-use Rattle.std.proofs.Common.{◌≡◌, ◌≢◌, ℕ, List, [], ◌∷◌, ◌++◌, length, refl, sym, subst, append_assoc}
-use Rattle.tv_blocks.specs.Blocks.{AppendsLine, ArePrintedLines, IsRefusedBlock, PrintedSoFar}
-use Rattle.tv_blocks.specs.Blocks.ArePrintedLines.{no_lines, next_line}
-use Rattle.tv_blocks.specs.Refusals.{document_refusal, migration_refusal}
+use Rattle.std.proofs.Common.{◌≡◌, ℕ, ◌-◌, ◌^◌, ◌<◌, List, [], ◌∷◌, ◌++◌, length, refl, sym, subst, ap, ◌∙◌, arith, append_assoc, length-append}
+use Rattle.tv_blocks.specs.Blocks.{IsRefusedBlock, PrintedSoFar}
+use Rattle.tv_lines.specs.Printing.{AppendsLine, ArePrintedLines}
+use Rattle.tv_lines.specs.Printing.ArePrintedLines.{no_lines, next_line}
+use Rattle.tv_blocks.specs.Refusals.{document_refusal, migration_refusal, refusal_within}
 use Rattle.tv_field.specs.Entry.{Entry}
 use Rattle.tv_format.specs.Encoding.{EncodesDocument}
 use Rattle.tv_format.specs.InputError.{Refusal, corrupted, no_text_key}
@@ -16,11 +17,15 @@ use Rattle.tv_reader.specs.declared.error.DeserializeError.{DeserializeError}
 use Rattle.tv_reader.specs.declared.error.DeserializeError.TheVariants as errors
 use Rattle.tv_reader.specs.declared.value_type.ValueType.{ValueType}
 use Rattle.tv_reader.specs.declared.value_type.ValueType.TheVariants as types
-use Rattle.tv_store.specs.BlockMigration.{EncodesBlock, IsUnmigrated, IsUnread}
+use Rattle.tv_store.specs.BlockMigration.{EncodesBlock, IsUnmigrated}
 use Rattle.tv_store.specs.Documents.{BeginsWithDocument, NoDocument, HasNoRoom, IsReadingError, SaysNothing}
-use Rattle.tv_store.proofs.BlockMigration.{each-snoc, joined_more}
-use Rattle.tv_store.specs.declared.migration.MigrateError.{MigrateError}
-use Rattle.tv_store.specs.declared.migration.MigrateError.TheVariants.{Read, Write}
+use Rattle.tv_store.proofs.BlocksSoFar.{each-snoc, joined_more}
+use Rattle.tv_store.specs.Projections.{IsReason, no_limits}
+use Rattle.tv_store.specs.declared.block_migration.MigrateBlockError.{MigrateBlockError}
+use Rattle.tv_store.specs.declared.block_migration.MigrateBlockError.TheVariants.{Read, Write, TooMany}
+use Rattle.tv_store.specs.declared.limits.LimitedReadError.{LimitedReadError}
+use Rattle.tv_store.specs.declared.limits.LimitedReadError.TheVariants as limited
+use Rattle.tv_store.specs.declared.projection.Projection.TheVariants.{All}
 
 -- ---- printing
 
@@ -59,18 +64,25 @@ breaks v block before behind documents start (errors.TypeMismatch other actual) 
 breaks v block before behind documents start e joined at some encoded refused full may = tt
 
 -- of a document that isn't migrated
-unread_breaks : (v : Version) (block before behind : List ℕ) (documents : List Document) (start : ℕ) (e : DeserializeError) → block ≡ before ++ behind → start ≡ length before → behind ≢ []
-    → EncodesBlock v before documents → IsUnread v behind e → IsRefusedBlock v block (document_refusal start e)
-unread_breaks v block before behind documents start (errors.CorruptedValue c) joined at some encoded unread =
-    record { before = before; behind = behind; joined = joined; measured = at; some = some; documents = documents; encoded = encoded; refused = unread }
-unread_breaks v block before behind documents start (errors.TypeMismatch types.String actual) joined at some encoded unread =
-    record { before = before; behind = behind; joined = joined; measured = at; some = some; documents = documents; encoded = encoded; refused = (value_type_code actual, unread) }
-unread_breaks v block before behind documents start errors.HeapFull joined at some encoded unread =
-    record { before = before; behind = behind; joined = joined; measured = at; some = some; documents = documents; encoded = encoded; refused = unread }
-unread_breaks v block before behind documents start errors.Memory joined at some encoded unread = tt
-unread_breaks v block before behind documents start _ joined at some encoded unread = absurd unread
+unread_breaks : (v : Version) (block before behind left : List ℕ) (documents : List Document) (start : ℕ) (e : DeserializeError) → block ≡ before ++ behind → start ≡ length before → EncodesBlock v before documents → length behind < 2 ^ 64 - 1
+    → IsReason v (All no_limits) behind left (limited.Read e) → IsRefusedBlock v block (document_refusal start e)
+unread_breaks v block before behind left documents start (errors.CorruptedValue c) joined at encoded few reason =
+    record { before = before; behind = behind; joined = joined; measured = at; some = reason.at_end; documents = documents; encoded = encoded; refused = reason.true_of few }
+unread_breaks v block before behind left documents start (errors.TypeMismatch types.String actual) joined at encoded few reason =
+    record { before = before; behind = behind; joined = joined; measured = at; some = reason.at_end; documents = documents; encoded = encoded; refused = (value_type_code actual, reason.true_of few) }
+unread_breaks v block before behind left documents start (errors.TypeMismatch other actual) joined at encoded few reason = absurd (reason.true_of few)
+unread_breaks v block before behind left documents start errors.HeapFull joined at encoded few reason =
+    record { before = before; behind = behind; joined = joined; measured = at; some = reason.at_end; documents = documents; encoded = encoded; refused = reason.true_of few }
+unread_breaks v block before behind left documents start e joined at encoded few reason = tt
 
-pub migration_breaks : (from to : Version) (block before behind next : List ℕ) (documents : List Document) (start : ℕ) (error : MigrateError) → block ≡ before ++ behind → start ≡ length before → behind ≢ []
-    → EncodesBlock from before documents → IsUnmigrated from to behind next error → IsRefusedBlock from block (migration_refusal start error)
-migration_breaks from to block before behind next documents start (Read e) joined at some encoded unmigrated = unread_breaks from block before behind documents start e joined at some encoded unmigrated.0
-migration_breaks from to block before behind next documents start (Write e) joined at some encoded unmigrated = tt
+pub migration_breaks : (from to : Version) (block before behind left next : List ℕ) (documents : List Document) (error : MigrateBlockError) → block ≡ before ++ behind → length block < 2 ^ 63 → EncodesBlock from before documents
+    → IsUnmigrated from to behind left (length documents) (length before) next error → IsRefusedBlock from block (migration_refusal error)
+migration_breaks from to block before behind left next documents (Read e) joined small encoded unmigrated =
+    let sum = ap length joined ∙ length-append before behind in
+    by_error e.error unmigrated.2.reason (unmigrated.2.begins (omega (arith, small, sum)))
+  where
+    by_error : (why : LimitedReadError) → IsReason from (All no_limits) behind left why → e.start ≡ length before → IsRefusedBlock from block (refusal_within e.start why)
+    by_error (limited.Read why) reason at = unread_breaks from block before behind left documents e.start why joined at encoded (omega (arith, small, ap length joined, length-append before behind)) reason
+    by_error (limited.Limit l) reason at = tt
+migration_breaks from to block before behind left next documents (Write document start e) joined small encoded unmigrated = tt
+migration_breaks from to block before behind left next documents TooMany joined small encoded unmigrated = tt

@@ -1,9 +1,9 @@
 -- The records of the values of a field.
-use Rattle.std.proofs.Common.{◌≡◌, ℕ, suc, ◌+◌, ◌-◌, ◌<◌, Bool, true, false, ◌||◌, cond, List, [], ◌∷◌, ◌++◌, length, map, Result, Ok, Err, refl, sym, ap, ◌∙◌, arith, append_assoc, append-nil, length-append}
+use Rattle.std.proofs.Common.{◌≡◌, ℕ, suc, ◌+◌, Bool, true, false, ◌||◌, cond, List, [], ◌∷◌, ◌++◌, length, map, Result, Ok, Err, refl, sym, ap, ◌∙◌, arith, append_assoc, append-nil, length-append}
 use Rattle.std.specs.List.{filter, flat_map}
 use Rattle.std.specs.Prelude.{OnOk, nat_eq}
 use Rattle.tv_base.specs.Parts.{Begins}
-use Rattle.tv_blocks.proofs.Stops.{IsUnreadAt, RefusesBy, fewer_left}
+use Rattle.tv_blocks.proofs.Stops.{IsUnreadAt, RefusesBy}
 use Rattle.tv_blocks.specs.FieldValues.{IsValuesBlockRefusal, RefusesValues, ValuesSoFar, content_record, document_values, leaf_content, value_record, values_from}
 use Rattle.tv_blocks.specs.declared.block_error.BlockError.{BlockError}
 use Rattle.tv_blocks.specs.declared.block_error.BlockError.TheVariants as blocks
@@ -16,7 +16,7 @@ use Rattle.tv_format.specs.Tree.{Document, Leaf, Tree, leaf}
 use Rattle.tv_format.specs.Version.{Version}
 use Rattle.tv_legacy.specs.Legacy.{Legacy}
 use Rattle.tv_reading.specs.ChosenFields.{HasNoRoomChosen, chosen, is_among}
-use Rattle.tv_store.proofs.BlockMigration.{each-snoc, joined_more, rest_at}
+use Rattle.tv_store.proofs.BlocksSoFar.{each-snoc, joined_more, start_at}
 use Rattle.tv_store.specs.Reading.{EncodesChosenPairs}
 use Rattle.tv_value.specs.declared.field.Field.{Field}
 
@@ -80,9 +80,6 @@ more_values {v} {block} {rest} {now} {content} {more} {number} field pairs m b a
           ∙ ap (λ (n : ℕ). values_from 0 field.id m.documents ++ document_values n field.id d) at ∙ sym (values-snoc 0 field.id m.documents d);
     }
 
-pub fewer_values : (v : Version) {rest now : List ℕ} (field : Field) (pairs : Document) → Begins (λ b. EncodesChosenPairs v (field ∷ []) b pairs) rest now → length now < length rest
-fewer_values v {rest} {now} field pairs b = fewer_left v b.prefix rest now b.encoded.0 b.joined b.encoded.1
-
 -- ---- where they stop
 
 as_values : (v : Version) (field : Field) (bytes : List ℕ) (refusal : DocumentRefusal) → RefusesBy (HasNoRoomChosen v (field ∷ [])) v refusal bytes → RefusesValues v field.id refusal bytes
@@ -90,9 +87,9 @@ as_values v field bytes (documents.Corrupted cause) h = h
 as_values v field bytes documents.KeyIsNoText h = h
 as_values v field bytes documents.HeapFull h = h
 
-pub unread_values : {v : Version} {block rest content : List ℕ} {number : ℕ} (field : Field) (start : ℕ) (e : BlockError) → ValuesSoFar v field.id block rest content number → start ≡ length block - length rest
+pub unread_values : {v : Version} {block rest content : List ℕ} {number : ℕ} (field : Field) (start : ℕ) (e : BlockError) → ValuesSoFar v field.id block rest content number → start + length rest ≡ length block
     → IsUnreadAt (HasNoRoomChosen v (field ∷ [])) v rest start e → IsValuesBlockRefusal v field.id block e
 unread_values {v} {block} {rest} {content} field start (blocks.BadDocument place refusal) m at unread =
-    record { before = m.before; behind = rest; joined = m.joined; measured = unread.0 ∙ at ∙ rest_at block m.before rest m.joined; good = (m.documents, m.encoded); some = unread.1; refused = as_values v field rest refusal unread.2 }
+    record { before = m.before; behind = rest; joined = m.joined; measured = unread.0 ∙ start_at block m.before rest start m.joined at; good = (m.documents, m.encoded); some = unread.1; refused = as_values v field rest refusal unread.2 }
 unread_values {v} {block} {rest} {content} field start blocks.Memory m at unread = tt
 unread_values {v} {block} {rest} {content} field start e m at unread = absurd unread

@@ -1,70 +1,65 @@
 -- What becomes of lines.
-use Rattle.std.proofs.Common.{◌≡◌, ◌≢◌, ◌==◌, ℕ, arith, true, false, List, [], ◌∷◌, ◌++◌, length, Result, Ok, Err, refl, sym, subst, append_assoc, append-nil}
-use borrow.Author.Tests.{eqb-true}
-use Rattle.std.specs.Prelude.{IfOk}
-use Rattle.std.specs.declared.alloc.AllocError.{AllocError}
-use Rattle.tv_blocks.specs.Imports.{AppendsImported, ImportedSoFar, ImportsEach, ImportsLine, Outcomes, Stores, line_answer}
-use Rattle.tv_blocks.specs.Imports.ImportsLine.{refused, written}
-use Rattle.tv_blocks.specs.Imports.Outcomes.{next_outcome, no_outcomes}
-use Rattle.tv_blocks.specs.LineRefusals.{IsLineDocument, RefusesLine}
+use Rattle.std.proofs.Common.{◌≡◌, ℕ, List, [], ◌∷◌, ◌++◌, Some, None, map, append-nil, refl, sym, subst, ap, ◌∙◌}
+use Rattle.std.proofs.lemmas.List.{map-append}
+use Rattle.tv_blocks.proofs.LineDocuments.{lenient_of}
+use Rattle.tv_blocks.specs.Imports.{ImportsEach, IsLenientOutcome, lenient, line_answer}
 use Rattle.tv_blocks.specs.declared.import.LineAnswer.{LineAnswer}
-use Rattle.tv_blocks.specs.declared.import.LineOutcome.{LineOutcome}
-use Rattle.tv_blocks.specs.declared.import.LineOutcome.TheVariants as outcome
-use Rattle.tv_blocks.specs.declared.line_refusal.LineRefusal.{LineRefusal}
 use Rattle.tv_field.specs.Entry.{Entry}
-use Rattle.tv_format.specs.Short.{short_document}
-use Rattle.tv_format.specs.Tree.{Document}
-use Rattle.tv_format.specs.Version.{V2}
-use Rattle.tv_lines.specs.Lines.{FirstLine, Lines}
-use Rattle.tv_lines.specs.Lines.Lines.{no_lines, next_line}
-use Rattle.tv_store.specs.Stored.{stored}
+use Rattle.tv_lines.proofs.WholeImports.{all_lines, first-snoc, outcomes-snoc}
+use Rattle.tv_lines.specs.Importing.{Imports, IsOutcome}
+use Rattle.tv_lines.specs.WholeImports.{FirstLines, Outcomes}
+use Rattle.tv_lines.specs.WholeImports.FirstLines.{none_first}
+use Rattle.tv_lines.specs.WholeImports.Outcomes.{no_outcomes}
+use Rattle.tv_lines.specs.declared.import.LineOutcome.{LineOutcome}
+use Rattle.tv_lines.specs.declared.import.LineOutcome.TheVariants.{Refused, Stored}
+use Rattle.tv_lines.specs.declared.line_document.LineError.TheVariants as errors
 
--- ---- one line
+lenient_outcome : (schema : List Entry) (line text : List ℕ) (said : LineOutcome) → IsOutcome schema lenient line text said → IsLenientOutcome said
+lenient_outcome schema line text (Stored size fault) h = tt
+lenient_outcome schema line text (Refused (errors.Unsearchable name why)) h = absurd h.0.2
+lenient_outcome schema line text (Refused errors.NotUtf8) h = lenient_of schema line errors.NotUtf8 h.0
+lenient_outcome schema line text (Refused (errors.NoObject start fault)) h = lenient_of schema line (errors.NoObject start fault) h.0
+lenient_outcome schema line text (Refused (errors.Float name json)) h = lenient_of schema line (errors.Float name json) h.0
+lenient_outcome schema line text (Refused (errors.Refused e)) h = lenient_of schema line (errors.Refused e) h.0
 
--- the bytes of its document, and how many these are
-pub stored_appends : (schema : List Entry) (line old new : List ℕ) (pairs : Document) (result : Result LineOutcome AllocError) → IsLineDocument schema line pairs
-    → IfOk result (Stores (short_document V2 (stored schema pairs)) old new) → IfOk result (AppendsImported schema line old new)
-stored_appends schema line old new pairs (Ok said) is stores =
-    (short_document V2 (stored schema pairs), written pairs is refl stores.1, stores.0)
-stored_appends schema line old new pairs (Err failed) is stores = tt
+-- what is said of a line has numbers
+pub is_lenient : (schema : List Entry) (input rest old new : List ℕ) (said : LineOutcome) → Imports schema lenient input rest old new (Some said) → IsLenientOutcome said
+is_lenient schema input rest old new said h = lenient_outcome schema h.1.1 h.0 said h.1.3
 
--- nothing
-pub refused_appends : (schema : List Entry) (line old : List ℕ) (why : LineRefusal) → RefusesLine schema line why → AppendsImported schema line old old (outcome.Refused why)
-refused_appends schema line old why refuses = ([], refused why refuses refl refl, sym (append-nil old))
+-- So far these lines, before the rest of the input, have been imported.
+pub record ImportedSoFar (schema : List Entry) (input rest block : List ℕ) (answers : List LineAnswer) : Type 0 where
+  pub lines : List (List ℕ)
+  pub first : FirstLines input lines rest
+  pub outcomes : List LineOutcome
+  pub each : Outcomes schema lenient lines block outcomes
+  pub answered : answers ≡ map (line_answer schema) outcomes
 
--- ---- line by line
-
-outcomes-snoc : (schema : List Entry) (lines : List (List ℕ)) (line block bytes : List ℕ) (answers : List LineAnswer) (said : LineOutcome) → Outcomes schema lines block answers → ImportsLine schema line bytes said
-    → Outcomes schema (lines ++ line ∷ []) (block ++ bytes) (answers ++ line_answer said ∷ [])
-outcomes-snoc schema [] line [] bytes (_ ∷ _) said h one = elim h [ ]
-outcomes-snoc schema [] line (_ ∷ _) bytes answers said h one = elim h [ ]
-outcomes-snoc schema [] line [] bytes [] said no_outcomes one =
-    subst (λ (l : List ℕ). Outcomes schema (line ∷ []) l (line_answer said ∷ [])) (append-nil bytes) (next_outcome one no_outcomes)
-outcomes-snoc schema (first ∷ lines) line block bytes answers said (next_outcome {bytes = some} {block = others} {said = told} {answers = rest} is more) one =
-    subst (λ (l : List ℕ). Outcomes schema ((first ∷ lines) ++ line ∷ []) l ((line_answer told ∷ rest) ++ line_answer said ∷ [])) (sym (append_assoc some others bytes))
-    (next_outcome is (outcomes-snoc schema lines line others bytes rest said more one))
-
-pub imported_none : (schema : List Entry) (input block : List ℕ) (answers : List LineAnswer) → block ≡ [] → answers ≡ [] → ImportedSoFar schema input input block answers
-imported_none schema input block answers no_block none =
-    record { lines = []; cut = λ more lines. lines; outcomes = subst (λ a. Outcomes schema [] block a) (sym none) (subst (λ b. Outcomes schema [] b []) (sym no_block) no_outcomes) }
-
-pub imported_more : {schema : List Entry} {input rest now block more line : List ℕ} {answers others : List LineAnswer} {said : LineOutcome} → ImportedSoFar schema input rest block answers
-    → rest ≢ [] → FirstLine rest line now → AppendsImported schema line block more said → others ≡ answers ++ line_answer said ∷ [] → ImportedSoFar schema input now more others
-imported_more {schema} {input} {rest} {now} {block} {more} {line} {answers} {others} {said} m some first appends answered = record {
-  lines = m.lines ++ line ∷ [];
-  cut = λ behind lines. subst (Lines input) (sym (append_assoc m.lines (line ∷ []) behind)) (m.cut (line ∷ behind) (next_line some first lines));
-  outcomes = subst (λ a. Outcomes schema (m.lines ++ line ∷ []) more a) (sym answered) (subst (λ b. Outcomes schema (m.lines ++ line ∷ []) b (answers ++ line_answer said ∷ [])) (sym appends.2)
-      (outcomes-snoc schema m.lines line block appends.0 answers said m.outcomes appends.1));
+pub imported_none : (schema : List Entry) (input rest block : List ℕ) (answers : List LineAnswer) → rest ≡ input → block ≡ [] → answers ≡ [] → ImportedSoFar schema input rest block answers
+imported_none schema input rest block answers is no_block none = record {
+  lines = [];
+  first = subst (FirstLines input []) (sym is) none_first;
+  outcomes = [];
+  each = subst (λ (b : List ℕ). Outcomes schema lenient [] b []) (sym no_block) no_outcomes;
+  answered = none;
 }
 
-pub imported_all : {schema : List Entry} {input rest block : List ℕ} {answers : List LineAnswer} → ImportedSoFar schema input rest block answers → rest ≡ [] → ImportsEach schema input block answers
-imported_all {schema} {input} {rest} {block} {answers} m none =
-    (m.lines, subst (Lines input) (append-nil m.lines) (m.cut [] (subst (λ (l : List ℕ). Lines l []) (sym none) no_lines)), m.outcomes)
+pub imported_more : {schema : List Entry} {input rest behind block now : List ℕ} {answers more : List LineAnswer} (said : LineOutcome) → ImportedSoFar schema input rest block answers
+    → Imports schema lenient rest behind block now (Some said) → more ≡ answers ++ line_answer schema said ∷ [] → ImportedSoFar schema input behind now more
+imported_more {schema} {block = block} said m t more = record {
+  lines = m.lines ++ t.1.1 ∷ [];
+  first = first-snoc m.first t.1.0 t.1.2;
+  outcomes = m.outcomes ++ said ∷ [];
+  each = subst (λ (b : List ℕ). Outcomes schema lenient (m.lines ++ t.1.1 ∷ []) b (m.outcomes ++ said ∷ [])) (sym t.2)
+      (outcomes-snoc schema lenient m.lines t.1.1 block t.0 m.outcomes said m.each t.1.3);
+  answered = more ∙ ap (λ (l : List LineAnswer). l ++ line_answer schema said ∷ []) m.answered ∙ sym (map-append (line_answer schema) m.outcomes (said ∷ []));
+}
 
-pub not_empty : (l : List ℕ) → false ≡ (length l == 0) → l ≢ []
-not_empty [] test = absurd cc
-not_empty (b ∷ bs) test = λ none. cc
-
-pub is_empty : (l : List ℕ) → true ≡ (length l == 0) → l ≡ []
-is_empty [] test = refl
-is_empty (b ∷ bs) test = let none : length (b ∷ bs) ≡ 0 = eqb-true (length (b ∷ bs)) 0 (sym test) in absurd (omega (arith, none))
+pub imported_all : {schema : List Entry} {input rest behind block now : List ℕ} {answers : List LineAnswer} → ImportedSoFar schema input rest block answers
+    → Imports schema lenient rest behind block now None → ImportsEach schema input now answers
+imported_all {schema} {block = block} m t = record {
+  lines = m.lines;
+  all = all_lines m.first t.1.0;
+  outcomes = m.outcomes;
+  each = rw (t.2, t.1.2, append-nil) m.each;
+  answered = m.answered;
+}

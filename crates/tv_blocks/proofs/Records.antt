@@ -6,7 +6,7 @@ use Rattle.std.specs.Prelude.{OnOk}
 use Rattle.std.specs.Result.{is_ok}
 use Rattle.tv_blocks.specs.Records.{record_of}
 use Rattle.tv_blocks.specs.Terms.{TermsSoFar, document_records, records_from, term_record}
-use Rattle.tv_store.proofs.BlockMigration.{each-snoc, joined_more}
+use Rattle.tv_store.proofs.BlocksSoFar.{each-snoc, joined_more}
 use Rattle.tv_format.specs.Encoding.{EncodesDocument}
 use Rattle.tv_format.specs.Tree.{Tree, Document}
 use Rattle.tv_format.specs.Version.{Version}

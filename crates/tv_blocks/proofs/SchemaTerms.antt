@@ -1,5 +1,5 @@
 -- The records of documents by a schema, term by term and document by document.
-use Rattle.std.proofs.Common.{◌≡◌, ℕ, suc, ◌+◌, ◌-◌, Bool, List, [], ◌∷◌, ◌++◌, length, map, take, Ok, Err, refl, sym, subst, ap, ◌∙◌, arith, append_assoc, append-nil, length-append}
+use Rattle.std.proofs.Common.{◌≡◌, ℕ, suc, ◌+◌, Bool, List, [], ◌∷◌, ◌++◌, length, map, take, Ok, Err, refl, sym, subst, ap, ◌∙◌, arith, append_assoc, append-nil, length-append}
 use Rattle.std.proofs.Math.Seq.{take-append_seam}
 use Rattle.std.proofs.lemmas.List.{length-map, map-append}
 use Rattle.std.proofs.lemmas.List.Elements.{All-nil, All-push}
@@ -18,7 +18,7 @@ use Rattle.tv_format.specs.Version.{Version}
 use Rattle.tv_indexing.specs.DocumentTerms.{Terms, document_terms}
 use Rattle.tv_indexing.specs.Visits.{Takes, TakesAll, TakesSome}
 use Rattle.tv_legacy.specs.Legacy.{Legacy}
-use Rattle.tv_store.proofs.BlockMigration.{each-snoc, joined_more, rest_at}
+use Rattle.tv_store.proofs.BlocksSoFar.{each-snoc, joined_more, start_at}
 use Rattle.tv_store.specs.Documents.{BeginsWithDocument, HasNoRoom}
 
 -- ---- terms of a document
@@ -119,9 +119,9 @@ as_document v bytes (documents.Corrupted cause) h = h
 as_document v bytes documents.KeyIsNoText h = h
 as_document v bytes documents.HeapFull h = h
 
-pub unread_terms : {with_faults : Bool} {schema : List Entry} {v : Version} {block rest content : List ℕ} {number : ℕ} (start : ℕ) (e : BlockError) → SchemaTermsSoFar with_faults schema v block rest content number → start ≡ length block - length rest
+pub unread_terms : {with_faults : Bool} {schema : List Entry} {v : Version} {block rest content : List ℕ} {number : ℕ} (start : ℕ) (e : BlockError) → SchemaTermsSoFar with_faults schema v block rest content number → start + length rest ≡ length block
     → IsUnreadAt (HasNoRoom v) v rest start e → IsTermsBlockRefusal with_faults schema v block e
 unread_terms {with_faults} {schema} {v} {block} {rest} {content} start (blocks.BadDocument place refusal) m at unread =
-    record { before = m.before; behind = rest; joined = m.joined; measured = unread.0 ∙ at ∙ rest_at block m.before rest m.joined; good = (content, m.are); some = unread.1; refused = as_document v rest refusal unread.2 }
+    record { before = m.before; behind = rest; joined = m.joined; measured = unread.0 ∙ start_at block m.before rest start m.joined at; good = (content, m.are); some = unread.1; refused = as_document v rest refusal unread.2 }
 unread_terms {with_faults} {schema} {v} {block} {rest} {content} start blocks.Memory m at unread = tt
 unread_terms {with_faults} {schema} {v} {block} {rest} {content} start e m at unread = absurd unread

@@ -1,20 +1,14 @@
 -- Blocks of documents that stand one after the other, printed as lines of JSON.
-use Rattle.std.specs.Prelude.{◌≡◌, ℕ, List, [], ◌∷◌, ◌++◌}
+use Rattle.std.specs.Prelude.{◌≡◌, ℕ, List, ◌++◌}
 use Rattle.tv_blocks.specs.Refusals.{IsBlockRefusal}
 use Rattle.tv_blocks.specs.declared.block_error.BlockError.{BlockError}
 use Rattle.tv_blocks.specs.declared.block_error.BlockError.TheVariants as errors
-use Rattle.tv_doc.specs.Named.{IsJsonText, field_names}
 use Rattle.tv_field.specs.Entry.{Entry}
 use Rattle.tv_format.specs.Tree.{Document}
 use Rattle.tv_format.specs.Version.{Version}
 use Rattle.tv_lines.specs.Answers.{ReadsSchema}
+use Rattle.tv_lines.specs.Printing.{ArePrintedLines}
 use Rattle.tv_store.specs.BlockMigration.{EncodesBlock}
-
--- the text of JSON of each document, by the names of the fields, and a line feed after each
-pub data ArePrintedLines (schema : List Entry) : List Document → List ℕ → Type 0 where
-  no_lines : ArePrintedLines schema [] []
-  next_line : {document : Document} {documents : List Document} {json rest : List ℕ} → IsJsonText (field_names schema) document json
-      → ArePrintedLines schema documents rest → ArePrintedLines schema (document ∷ documents) (json ++ 10 ∷ rest)
 
 -- The block encodes documents, and these are their lines by the names of the schema's fields.
 pub record IsExported (schema : List ℕ) (v : Version) (block content : List ℕ) : Type 0 where
@@ -29,10 +23,6 @@ pub record IsExported (schema : List ℕ) (v : Version) (block content : List �
 -- the block encodes documents, and these are their lines
 abbrev pub IsPrintedBlock : List Entry → Version → List ℕ → List ℕ → Type 0
 IsPrintedBlock entries v block content = (documents : List Document) × EncodesBlock v block documents × ArePrintedLines entries documents content
-
--- the document's line is appended
-abbrev pub AppendsLine : List Entry → Document → List ℕ → List ℕ → Type 0
-AppendsLine entries document old new = (json : List ℕ) × IsJsonText (field_names entries) document json × (new ≡ old ++ (json ++ 10 ∷ []))
 
 -- a document of the block is refused, or memory was
 abbrev pub IsRefusedBlock : Version → List ℕ → BlockError → Type 0

@@ -1,44 +1,39 @@
 -- Lines of JSON as a block of stored documents.
-use Rattle.std.specs.Prelude.{◌≡◌, ℕ, ◌<◌, ◌≤◌, ◌⊎◌, List, [], ◌∷◌, ◌++◌, length, drop, Result, Ok, Err}
-use Rattle.tv_blocks.specs.LineRefusals.{IsLineDocument, RefusesLine, line_field, line_number}
+use Rattle.std.specs.Prelude.{◌≡◌, ℕ, ◌<◌, ◌≤◌, ◌⊎◌, false, List, ◌++◌, length, drop, map, Result, Ok, Err}
+use Rattle.tv_blocks.specs.LineRefusals.{IsLenient, line_field, line_number, refusal_of}
 use Rattle.tv_blocks.specs.Refusals.{IsSchemaRefusal}
 use Rattle.tv_blocks.specs.declared.block_error.BlockError.{BlockError}
 use Rattle.tv_blocks.specs.declared.block_error.BlockError.TheVariants as errors
 use Rattle.tv_blocks.specs.declared.import.Imported.{Imported}
 use Rattle.tv_blocks.specs.declared.import.LineAnswer.{LineAnswer}
-use Rattle.tv_blocks.specs.declared.import.LineOutcome.{LineOutcome}
-use Rattle.tv_blocks.specs.declared.import.LineOutcome.TheVariants as outcome
-use Rattle.tv_blocks.specs.declared.line_refusal.LineRefusal.{LineRefusal}
 use Rattle.tv_field.specs.Entry.{Entry}
-use Rattle.tv_format.specs.Short.{short_document}
-use Rattle.tv_format.specs.Tree.{Document}
-use Rattle.tv_format.specs.Version.{V2}
 use Rattle.tv_lines.specs.Answers.{ReadsSchema}
+use Rattle.tv_format.specs.declared.version.WriteVersion.TheVariants.{V2}
 use Rattle.tv_lines.specs.Lines.{Lines}
-use Rattle.tv_store.specs.Stored.{stored}
+use Rattle.tv_lines.specs.WholeImports.{Outcomes}
+use Rattle.tv_lines.specs.declared.import.FaultRule.TheVariants.{Ignore}
+use Rattle.tv_lines.specs.declared.import.ImportRules.{ImportRules}
+use Rattle.tv_lines.specs.declared.import.LineOutcome.{LineOutcome}
+use Rattle.tv_lines.specs.declared.import.LineOutcome.TheVariants as outcome
 
 -- ---- what becomes of a line
 
--- What a line puts into the block, and what is said of it: how many bytes its stored pairs take, or why there is no document of it.
-pub data ImportsLine (schema : List Entry) (line bytes : List ℕ) (said : LineOutcome) : Type 0 where
-  written : (pairs : Document) → IsLineDocument schema line pairs → bytes ≡ short_document V2 (stored schema pairs)
-      → said ≡ outcome.Stored (length bytes) → ImportsLine schema line bytes said
-  refused : (why : LineRefusal) → RefusesLine schema line why → bytes ≡ [] → said ≡ outcome.Refused why → ImportsLine schema line bytes said
+-- the rules by which lines are imported: keys may name no field, and nothing is said of documents that can't be searched
+abbrev pub lenient : ImportRules
+lenient = record { version = V2; strict = false; faults = Ignore }
 
--- the numbers that say it
-abbrev pub line_answer : LineOutcome → LineAnswer
-line_answer (outcome.Stored size) = record { status = 0; field = 0; bytes = size }
-line_answer (outcome.Refused why) = record { status = line_number why; field = line_field why; bytes = 0 }
+-- the numbers that say what became of a line: how many bytes its stored pairs take, or why there is no document of it
+abbrev pub line_answer : List Entry → LineOutcome → LineAnswer
+line_answer schema (outcome.Stored size fault) = record { status = 0; field = 0; bytes = size }
+line_answer schema (outcome.Refused why) = record { status = line_number (refusal_of schema why); field = line_field (refusal_of schema why); bytes = 0 }
 
--- what becomes of each line, and what all put into the block
-pub data Outcomes (schema : List Entry) : List (List ℕ) → List ℕ → List LineAnswer → Type 0 where
-  no_outcomes : Outcomes schema [] [] []
-  next_outcome : {line bytes block : List ℕ} {said : LineOutcome} {lines : List (List ℕ)} {answers : List LineAnswer}
-      → ImportsLine schema line bytes said → Outcomes schema lines block answers
-      → Outcomes schema (line ∷ lines) (bytes ++ block) (line_answer said ∷ answers)
-
-abbrev pub ImportsEach : List Entry → List ℕ → List ℕ → List LineAnswer → Type 0
-ImportsEach schema input block answers = (lines : List (List ℕ)) × Lines input lines × Outcomes schema lines block answers
+-- What became of each line of the input: what all put into the block, and the answers that say it.
+pub record ImportsEach (schema : List Entry) (input block : List ℕ) (answers : List LineAnswer) : Type 0 where
+  pub lines : List (List ℕ)
+  pub all : Lines input lines
+  pub outcomes : List LineOutcome
+  pub each : Outcomes schema lenient lines block outcomes
+  pub answered : answers ≡ map (line_answer schema) outcomes
 
 -- the schema's text describes a schema, by which the lines make this block and these answers
 abbrev pub Imports : List ℕ → List ℕ → List ℕ → List LineAnswer → Type 0
@@ -87,16 +82,7 @@ PutsBoth block answers old_bytes new_bytes old_answers new_answers (Ok count) = 
 PutsBoth block answers old_bytes new_bytes old_answers new_answers (Err (errors.TooSmall bytes lines)) = LackBoth block answers old_bytes new_bytes old_answers new_answers bytes lines
 PutsBoth block answers old_bytes new_bytes old_answers new_answers (Err e) = ⊥
 
--- the bytes are appended to the block, and their number is said
-abbrev pub Stores : List ℕ → List ℕ → List ℕ → LineOutcome → Type 0
-Stores bytes old new said = (new ≡ old ++ bytes) × (said ≡ outcome.Stored (length bytes))
-
--- what a line puts into the block is appended to it
-abbrev pub AppendsImported : List Entry → List ℕ → List ℕ → List ℕ → LineOutcome → Type 0
-AppendsImported schema line old new said = (bytes : List ℕ) × ImportsLine schema line bytes said × (new ≡ old ++ bytes)
-
--- So far these lines, before the rest of the input, have been imported.
-pub record ImportedSoFar (schema : List Entry) (input rest block : List ℕ) (answers : List LineAnswer) : Type 0 where
-  pub lines : List (List ℕ)
-  pub cut : (more : List (List ℕ)) → Lines rest more → Lines input (lines ++ more)
-  pub outcomes : Outcomes schema lines block answers
+-- what becomes of a line by these rules
+abbrev pub IsLenientOutcome : LineOutcome → Type 0
+IsLenientOutcome (outcome.Stored size fault) = Unit {0}
+IsLenientOutcome (outcome.Refused e) = IsLenient e

@@ -18,8 +18,10 @@ use Rattle.tv_schema.specs.SchemaJsonReading.{schema_by_key}
 use Rattle.tv_schema.specs.declared.json.error.SchemaJsonError.TheVariants.{BadKey, Refused, Other}
 use Rattle.tv_store.specs.BlockMigration.{EncodesBlock}
 use Rattle.tv_store.specs.Documents.{NoDocument, HasNoRoom}
-use Rattle.tv_store.specs.declared.migration.MigrateError.{MigrateError}
-use Rattle.tv_store.specs.declared.migration.MigrateError.TheVariants.{Read, Write}
+use Rattle.tv_store.specs.declared.block_migration.MigrateBlockError.{MigrateBlockError}
+use Rattle.tv_store.specs.declared.block_migration.MigrateBlockError.TheVariants.{Read, Write, TooMany}
+use Rattle.tv_store.specs.declared.limits.LimitedReadError.{LimitedReadError}
+use Rattle.tv_store.specs.declared.limits.LimitedReadError.TheVariants as limited
 
 -- ---- texts of facets
 
@@ -85,10 +87,16 @@ document_refusal start (reads.TypeMismatch expected actual) = errors.BadDocument
 document_refusal start reads.HeapFull = errors.BadDocument start documents.HeapFull
 document_refusal start e = errors.Memory
 
--- the same of migrating it: that it isn't written is because memory was refused
-abbrev pub migration_refusal : ℕ → MigrateError → BlockError
-migration_refusal start (Read e) = document_refusal start e
-migration_refusal start (Write e) = errors.Memory
+-- the same of reading it where no limits are set
+abbrev pub refusal_within : ℕ → LimitedReadError → BlockError
+refusal_within start (limited.Read e) = document_refusal start e
+refusal_within start (limited.Limit l) = errors.Memory
+
+-- the same of migrating a block: that a document isn't written is because memory was refused
+abbrev pub migration_refusal : MigrateBlockError → BlockError
+migration_refusal (Read e) = refusal_within e.start e.error
+migration_refusal (Write document start e) = errors.Memory
+migration_refusal TooMany = errors.Memory
 
 -- the schema is refused, or else a document of the block
 abbrev pub IsExportRefusal : List ℕ → Version → List ℕ → BlockError → Type 0

@@ -1,43 +1,19 @@
 //! Blocks of documents as lines of JSON.
 
-ghost use Rattle.std.specs.Prelude.{◌≡◌, [], IfErr, OnErr, OnOk, string_bytes};
-ghost use Rattle.tv_blocks.specs.Blocks.{AppendsLine, IsExported, IsPrintedBlock, IsRefusedBlock};
+ghost use Rattle.std.specs.Prelude.{◌≡◌, [], IfErr, OnOk, string_bytes};
+ghost use Rattle.tv_blocks.specs.Blocks.{IsExported, IsPrintedBlock, IsRefusedBlock};
 ghost use Rattle.tv_blocks.specs.Buffer.{FillsBuffer};
 ghost use Rattle.tv_blocks.specs.Refusals.{IsBlockRefusal, IsExportRefusal};
-ghost use Rattle.tv_doc.specs.Document.{document_of};
 ghost use Rattle.tv_reader.specs.Version.{version_of};
 
 use crate::block_error::{BlockError, unread};
 use crate::buffer::put_whole;
 use crate::schema_text::read_schema;
-use std::alloc::{AllocError, Global};
+use std::alloc::Global;
 use tv_base::SliceSource;
-use tv_doc::document::CompactDoc;
-use tv_doc::document_trait::Document;
+use tv_lines::export::append_line;
 use tv_schema::Schema;
 use tv_store::{BlockReader, DocStoreVersion};
-
-/// Appends the document's text of JSON by the names of the schema's fields, see `to_json`, and a line feed. The only error is that memory was
-/// refused, and then the text is as it was.
-pub fn append_line(
-    alloc: Global,
-    schema: &Schema,
-    document: &CompactDoc,
-    text: &mut String,
-) -> Result<(), AllocError>
-    ensures appended { OnOk result
-        (AppendsLine schema.now (document_of document.now) (string_bytes text.old)
-        (string_bytes text.new)) }
-    ensures unchanged { OnErr result (string_bytes text.new ≡ string_bytes text.old) }
-{
-    let len = text.len();
-    document.push_json(alloc, schema, text)?;
-    let fed = text.push('\n');
-    if fed.is_err() {
-        text.truncate(len);
-    }
-    fed
-}
 
 // Appends the lines of the documents of the block.
 fn append_documents(
@@ -55,11 +31,10 @@ fn append_documents(
     let mut source = SliceSource::new(block);
     let mut reader = BlockReader::new(alloc, version);
     loop {
-        let start = (block.len() - source.rest().len()) as u64;
         match reader.advance(&mut source) {
             Ok(true) => append_line(alloc, schema, reader.document(), text)?,
             Ok(false) => return Ok(()),
-            Err(error) => return Err(unread(start, &error)),
+            Err(error) => return Err(unread(reader.start(), &error)),
         }
     }
 }

@@ -17,7 +17,7 @@ use tv_base::SliceSource;
 use tv_doc::document::CompactDoc;
 use tv_json::compact::push_json;
 use tv_schema::Schema;
-use tv_store::{DocStoreVersion, read_fields_into};
+use tv_store::{BlockReader, DocStoreVersion};
 use tv_value::field::Field;
 use tv_value::leaf::ReferenceValueLeaf;
 use tv_value::value::{ReferenceValue, Value};
@@ -177,17 +177,16 @@ fn append_block(
     ensures err { IfErr result (IsValuesBlockRefusal (version_of version) field.id block.now) }
 {
     let mut source = SliceSource::new(block);
-    let mut document = CompactDoc::new(alloc);
+    let mut reader = BlockReader::new(alloc, version);
     let mut number = 0;
-    while !source.rest().is_empty() {
-        let start = (block.len() - source.rest().len()) as u64;
-        match read_fields_into(alloc, &mut document, &mut source, version, &[field]) {
-            Ok(()) => append_document(alloc, field, number, &document, values)?,
-            Err(error) => return Err(unread(start, &error)),
+    loop {
+        match reader.advance_fields(&mut source, &[field]) {
+            Ok(true) => append_document(alloc, field, number, reader.document(), values)?,
+            Ok(false) => return Ok(()),
+            Err(error) => return Err(unread(reader.start(), &error)),
         }
         number += 1;
     }
-    Ok(())
 }
 
 // Writes the values of a field.

@@ -1,34 +1,19 @@
 //! Lines of JSON as a block of stored documents.
 
-ghost use Rattle.std.specs.Prelude.{◌≡◌, [], IfOk, OnOk};
-ghost use Rattle.tv_blocks.specs.Imports.{AppendsImported, ImportsBy, ImportsEach, ImportsInto};
-ghost use Rattle.tv_blocks.specs.Imports.{PutsBoth, Stores, line_answer};
-ghost use Rattle.tv_doc.specs.Belongs.{Belongs};
-ghost use Rattle.tv_doc.specs.Document.{document_of};
-ghost use Rattle.tv_format.specs.Short.{short_document};
-ghost use Rattle.tv_format.specs.Version.{V2};
-ghost use Rattle.tv_store.specs.Stored.{stored};
+ghost use Rattle.std.specs.Prelude.{◌≡◌, [], OnOk};
+ghost use Rattle.tv_blocks.specs.Imports.{ImportsBy, ImportsEach, ImportsInto, IsLenientOutcome};
+ghost use Rattle.tv_blocks.specs.Imports.{PutsBoth, lenient, line_answer};
+ghost use Rattle.tv_lines.specs.Importing.{left_to};
 
 use crate::block_error::BlockError;
-use crate::line_document::parse_line;
 use crate::line_refusal::LineRefusal;
-use crate::lines::first_line;
 use crate::schema_text::read_schema;
 use std::alloc::{AllocError, Global};
-use tv_base::VecSink;
-use tv_doc::document::CompactDoc;
+use tv_base::{SliceSource, VecSink};
 use tv_doc::parse_buffers::ParseBuffers;
+use tv_format::version::WriteVersion;
+use tv_lines::import::{FaultRule, ImportRules, LineImporter, LineOutcome};
 use tv_schema::Schema;
-use tv_store::BinaryDocumentSerializer;
-
-/// What became of a line. (Not in tantivy.)
-#[derive(Clone, Copy, Debug, PartialEq, Eq, Drop)]
-pub enum LineOutcome {
-    /// Its document was stored, in this number of bytes.
-    Stored(u64),
-    /// There is no document of it.
-    Refused(LineRefusal),
-}
 
 /// What is answered for a line: a number that says what became of it, the field whose value was refused, and how many bytes its document takes
 /// in the block. (Not in tantivy.)
@@ -53,85 +38,66 @@ pub struct Imported {
     pub lines: u64,
 }
 
-impl LineOutcome {
-    /// The answer for this outcome.
-    pub fn answer(self) -> LineAnswer
-        ensures { result ≡ line_answer self }
-    {
-        match self {
-            LineOutcome::Stored(bytes) => LineAnswer {
-                status: 0,
-                field: 0,
-                bytes,
-            },
-            LineOutcome::Refused(refusal) => LineAnswer {
+// The rules by which lines are imported: keys may name no field, and nothing is said of documents that can't be searched.
+fn lenient() -> ImportRules
+    ensures { result ≡ lenient }
+{
+    ImportRules {
+        version: WriteVersion::V2,
+        strict: false,
+        faults: FaultRule::Ignore,
+    }
+}
+
+// What is answered for what became of a line.
+fn answer_of(schema: &Schema, outcome: &LineOutcome) -> LineAnswer
+    requires { IsLenientOutcome outcome.now }
+    ensures { result ≡ line_answer schema.now outcome.now }
+{
+    match outcome {
+        LineOutcome::Stored { size, fault: _ } => LineAnswer {
+            status: 0,
+            field: 0,
+            bytes: *size,
+        },
+        LineOutcome::Refused(error) => {
+            let refusal = LineRefusal::of(schema, error);
+            LineAnswer {
                 status: refusal.number(),
                 field: refusal.field(),
                 bytes: 0,
-            },
+            }
         }
-    }
-}
-
-// Appends the line's stored document to the block, and says what became of the line.
-fn import_line(
-    schema: &Schema,
-    line: &[u8],
-    document: &mut CompactDoc,
-    buffers: &mut ParseBuffers,
-    block: &mut VecSink,
-) -> Result<LineOutcome, AllocError>
-    ensures { IfOk result (AppendsImported schema.now line.now block.old.bytes.items block.new.bytes.items) }
-{
-    match parse_line(schema, line, document, buffers) {
-        Ok(()) => store_document(schema, document, block),
-        Err(BlockError::BadLine(refusal)) => Ok(LineOutcome::Refused(refusal)),
-        Err(_) => Err(AllocError),
-    }
-}
-
-// Appends the document's stored bytes, and says how many these are.
-fn store_document(
-    schema: &Schema,
-    document: &CompactDoc,
-    block: &mut VecSink,
-) -> Result<LineOutcome, AllocError>
-    requires { Belongs schema.now (document_of document.now) }
-    ensures { IfOk result (Stores (short_document V2 (stored schema.now (document_of document.now)))
-        block.old.bytes.items block.new.bytes.items) }
-{
-    let before = block.as_slice().len();
-    match BinaryDocumentSerializer::new(block, schema).serialize_doc(document) {
-        Ok(()) => {
-            let after = block.as_slice().len();
-            Ok(LineOutcome::Stored((after - before) as u64))
-        }
-        Err(_) => Err(AllocError),
     }
 }
 
 // Appends the stored documents of the lines to the block, and what became of each line to the answers.
 fn import_each(
-    alloc: Global,
     schema: &Schema,
     buffers: &mut ParseBuffers,
+    importer: &mut LineImporter,
     lines: &[u8],
     block: &mut VecSink,
     answers: &mut Vec<LineAnswer>,
 ) -> Result<(), AllocError>
+    requires rules { importer.old.rules ≡ lenient }
+    requires unread { left_to importer.old lines.now ≡ lines.now }
     requires block { block.old.bytes.items ≡ [] }
     requires answers { answers.old.items ≡ [] }
     ensures { OnOk result (ImportsEach schema.now lines.now block.new.bytes.items answers.new.items) }
 {
-    let mut document = CompactDoc::new(alloc);
-    let mut left = lines;
-    while !left.is_empty() {
-        let (line, behind) = first_line(left);
-        let outcome = import_line(schema, line, &mut document, buffers, block)?;
-        answers.push(outcome.answer())?;
-        left = behind;
+    let mut source = SliceSource::new(lines);
+    loop {
+        match importer.advance(schema, buffers, &mut source, block) {
+            Ok(Some(outcome)) => {
+                let answer = answer_of(schema, &outcome);
+                drop(outcome);
+                answers.push(answer)?;
+            }
+            Ok(None) => return Ok(()),
+            Err(_) => return Err(AllocError),
+        }
     }
-    Ok(())
 }
 
 // Puts the block and the answers at the beginnings of the buffers, or says how much room they need.
@@ -160,7 +126,7 @@ fn put_both(
 
 /// Stores the documents of lines of JSON by a schema, one after the other in version 2, and answers each line. A line ends at a line feed,
 /// and the last may lack it. A line that is refused stores nothing, and the next line follows. The buffers serve each line, and any later
-/// call. See `CompactDoc::parse_json_into` and `BinaryDocumentSerializer`.
+/// call. See `LineImporter::advance`.
 ///
 /// Errors: `TooSmall` with the bytes of the block and the number of lines, where one of the buffers is too small; `Memory`. Both buffers then
 /// stay as they are.
@@ -174,9 +140,17 @@ pub fn import_lines_by(
 ) -> Result<Imported, BlockError>
     ensures { ImportsBy schema.now lines.now block.old block.new answers.old answers.new result }
 {
+    let mut importer = LineImporter::new(alloc, lenient());
     let mut stored = VecSink::new(alloc);
     let mut outcomes = Vec::new(alloc);
-    import_each(alloc, schema, buffers, lines, &mut stored, &mut outcomes)?;
+    import_each(
+        schema,
+        buffers,
+        &mut importer,
+        lines,
+        &mut stored,
+        &mut outcomes,
+    )?;
     put_both(stored.as_slice(), outcomes.as_slice(), block, answers)
 }
 

@@ -1,10 +1,17 @@
 //! Why there is no document of a line.
 
-ghost use Rattle.std.specs.Prelude.{◌≡◌};
-ghost use Rattle.tv_blocks.specs.LineRefusals.{line_field, line_number, value_number};
+ghost use Rattle.std.specs.Prelude.{◌≡◌, unwrap_or};
+ghost use Rattle.tv_blocks.specs.LineRefusals.{IsLenient, line_field, line_number, refusal_of};
+ghost use Rattle.tv_blocks.specs.LineRefusals.{value_number, value_refusal};
+ghost use Rattle.tv_schema.specs.Schema.{field_named};
 
 use std::fmt;
 use thiserror::Error;
+use tv_doc::doc_parsing_error::DocParsingError;
+use tv_doc::strict_parsing_error::StrictParsingError;
+use tv_field::ValueParsingError;
+use tv_lines::line_document::LineError;
+use tv_schema::Schema;
 
 /// Why a field's type refuses a value of a line. (Not in tantivy.)
 #[derive(Clone, Copy, Debug, PartialEq, Eq, Drop)]
@@ -70,7 +77,55 @@ pub enum LineRefusal {
     HeapFull,
 }
 
+// Why the type of a field refuses a value.
+fn value_refusal(error: &ValueParsingError) -> ValueRefusal
+    ensures { result ≡ value_refusal error.now }
+{
+    match error {
+        ValueParsingError::OverflowError { .. } => ValueRefusal::Overflow,
+        ValueParsingError::TypeError { .. } => ValueRefusal::WrongType,
+        ValueParsingError::ParseError { .. } => ValueRefusal::BadText,
+        ValueParsingError::InvalidBase64 { .. } => ValueRefusal::BadBase64,
+        ValueParsingError::FloatNumber => ValueRefusal::FloatNumber,
+        ValueParsingError::Memory => ValueRefusal::WrongType,
+    }
+}
+
+// The number of the field with this name, and 0 where there is none.
+fn field_number(schema: &Schema, name: &str) -> u32
+    ensures { result ≡ unwrap_or (field_named schema.now name.now) 0 }
+{
+    match schema.get_field(name) {
+        Ok(field) => field.field_id(),
+        Err(_) => 0,
+    }
+}
+
 impl LineRefusal {
+    // What is said of a line that makes no document, where keys may name no field.
+    pub(crate) fn of(schema: &Schema, error: &LineError) -> LineRefusal
+        requires { IsLenient error.now }
+        ensures { result ≡ refusal_of schema.now error.now }
+    {
+        match error {
+            LineError::NotUtf8 | LineError::NoObject(_, _) => LineRefusal::InvalidJson,
+            LineError::Float(name, _) => LineRefusal::BadValue {
+                field: field_number(schema, name.as_str()),
+                refusal: ValueRefusal::FloatNumber,
+            },
+            LineError::Refused(
+                StrictParsingError::Parsing(DocParsingError::ValueError(name, error)),
+            ) => LineRefusal::BadValue {
+                field: field_number(schema, name.as_str()),
+                refusal: value_refusal(error),
+            },
+            LineError::Refused(StrictParsingError::Parsing(DocParsingError::Add(_))) => {
+                LineRefusal::HeapFull
+            }
+            _ => unreachable!(),
+        }
+    }
+
     /// Its number: 1 where the line is no JSON object, 2 to 6 for the refusals of a value in the order of `ValueRefusal`, 7 where the values
     /// have no room.
     pub fn number(self) -> u32

@@ -3,7 +3,7 @@
 ghost use Rattle.std.specs.Prelude.{◌≡◌, IfErr, IfOk};
 ghost use Rattle.tv_blocks.specs.Blocks.{IsRefusedBlock};
 ghost use Rattle.tv_blocks.specs.Buffer.{FillsBuffer};
-ghost use Rattle.tv_blocks.specs.Refusals.{IsBlockRefusal, migration_refusal};
+ghost use Rattle.tv_blocks.specs.Refusals.{IsBlockRefusal, migration_refusal, refusal_within};
 ghost use Rattle.tv_format.specs.WriteVersion.{written_version};
 ghost use Rattle.tv_reader.specs.Version.{version_of};
 ghost use Rattle.tv_store.specs.BlockMigration.{IsMigrated};
@@ -11,17 +11,28 @@ ghost use Rattle.tv_store.specs.BlockMigration.{IsMigrated};
 use crate::block_error::{BlockError, unread};
 use crate::buffer::put_whole;
 use std::alloc::Global;
-use tv_base::VecSink;
+use tv_base::{SliceSource, VecSink};
 use tv_format::version::WriteVersion;
-use tv_store::{DocStoreVersion, MigrateBlockError, MigrateError};
+use tv_store::{DocStoreVersion, LimitedReadError, MigrateBlockError, RefusedDocument, Unwatched};
 
-// What is said of a document that wasn't migrated.
-fn unmigrated(failed: &MigrateBlockError) -> BlockError
-    ensures { result ≡ migration_refusal failed.now.start failed.now.error }
+// What is said of a document that can't be read. No limit is set.
+fn refused(document: &RefusedDocument) -> BlockError
+    ensures { result ≡ refusal_within document.now.start document.now.error }
 {
-    match &failed.error {
-        MigrateError::Read(error) => unread(failed.start, error),
-        MigrateError::Write(_) => BlockError::Memory,
+    match &document.error {
+        LimitedReadError::Read(error) => unread(document.start, error),
+        LimitedReadError::Limit(_) => BlockError::Memory,
+    }
+}
+
+// What is said of a document that wasn't migrated. A sink in memory fails where memory is refused, and a slice has fewer documents than are counted.
+fn unmigrated(failed: &MigrateBlockError) -> BlockError
+    ensures { result ≡ migration_refusal failed.now }
+{
+    match failed {
+        MigrateBlockError::Read(document) => refused(document),
+        MigrateBlockError::Write { .. } => BlockError::Memory,
+        MigrateBlockError::TooMany => BlockError::Memory,
     }
 }
 
@@ -36,8 +47,9 @@ fn migrated_bytes(
         IsMigrated (version_of from) (written_version to) block.now bytes.items) }
     ensures err { IfErr result (IsRefusedBlock (version_of from) block.now) }
 {
+    let mut source = SliceSource::new(block);
     let mut sink = VecSink::new(alloc);
-    match tv_store::migrate_block(alloc, block, from, &mut sink, to) {
+    match tv_store::migrate_block(alloc, &mut source, from, &mut sink, to, &mut Unwatched) {
         Ok(_) => Ok(sink.into_vec()),
         Err(failed) => Err(unmigrated(&failed)),
     }

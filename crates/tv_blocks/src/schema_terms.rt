@@ -190,7 +190,7 @@ fn block_records(
     let mut reader = BlockReader::new(alloc, version);
     let mut records = TermRecords::new(alloc);
     loop {
-        let start = (block.len() - source.rest().len()) as u64;
+        let start = reader.start();
         match reader.advance(&mut source) {
             Ok(true) => append_document(
                 alloc,

@@ -80,11 +80,10 @@ fn append_block(
     let mut writer = TermWriter::new(alloc);
     let mut number = 0;
     loop {
-        let start = (block.len() - source.rest().len()) as u64;
         match reader.advance(&mut source) {
             Ok(true) => append_document(&mut writer, field, number, reader.document(), terms)?,
             Ok(false) => return Ok(()),
-            Err(error) => return Err(unread(start, &error)),
+            Err(error) => return Err(unread(reader.start(), &error)),
         }
         number += 1;
     }

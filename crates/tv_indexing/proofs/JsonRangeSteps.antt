@@ -1,17 +1,14 @@
 -- Ranges of terms at paths into JSON objects.
-use Rattle.std.proofs.Common.{◌≡◌, ℕ, ◌<◌, ◌^◌, ◌↔◌, List, [], ◌∷◌, ◌++◌, ◌≢◌, Some, refl, sym, ap, subst, ◌∙◌, append_assoc}
+use Rattle.std.proofs.Common.{◌≡◌, ℕ, ◌<◌, ◌^◌, ◌↔◌, List, [], ◌∷◌, ◌++◌, Option, Some, None, IfSome, refl, sym, ap, subst, ◌∙◌, append_assoc}
 use Rattle.std.proofs.lemmas.List.{append_cancel_left}
 use Rattle.std.specs.Int.{to_be_bytes, w32}
+use Rattle.std.specs.Option.{option_map}
 use Rattle.std.specs.Ordering.{is_le, is_lt}
 use Rattle.std.specs.declared.ops.Bound.{Bound}
 use Rattle.std.specs.declared.ops.Bound.TheVariants.{Included, Excluded, Unbounded}
 use Rattle.tv_base.specs.Sink.{IsPrefix}
-use Rattle.tv_indexing.specs.JsonRanges.{RangesAnswer, OneRange, RangesInField, AreTermsAt, IsBetweenAt, IsTypedAt}
-use Rattle.tv_field.specs.declared.field_type.FieldType.{FieldType}
-use Rattle.tv_field.specs.declared.field_type.FieldType.TheVariants as types
-use Rattle.tv_options.specs.declared.own_part.DotExpansion.{DotExpansion}
-use Rattle.tv_options.specs.declared.textual_options.TextualOptions.{TextualOptions}
-use Rattle.tv_value.specs.declared.field.Field.{Field}
+use Rattle.tv_indexing.specs.JsonRanges.{AreTermsAt, IsBetweenAt, IsTypedAt}
+use Rattle.tv_indexing.specs.Payloads.{value_parts}
 use Rattle.tv_options.specs.Types.{code, type_of_code}
 use Rattle.tv_options.specs.declared.types.TypeTag.{TypeTag}
 use Rattle.tv_options.specs.declared.types.TypeTag.TheVariants as tag
@@ -20,6 +17,15 @@ use Rattle.tv_term.specs.Range.{HasTerms, IsFromBound, IsFromBytes, IsToBound, I
 use Rattle.tv_term.specs.declared.range.TermRange.{TermRange}
 use Rattle.tv_term.proofs.TermRanges.{of_path}
 use Rattle.tv_term.proofs.Terms.{json-values-order}
+
+-- ---- the value of a leaf's term, by the type and the bytes that are written of it
+
+pub value_seen : (value : Option TermValue) (type : TypeTag) (bytes : List ℕ) → ◌≡◌ {A = Option (TypeTag × List ℕ)} (Some (type, bytes)) (option_map value_parts value) → IfSome value Fits
+    → (v : TermValue) × (value ≡ Some v) × (code type ∷ bytes ≡ coded_value v) × Fits v
+value_seen (Some v) type bytes is fits =
+    let parts : ◌≡◌ {A = TypeTag × List ℕ} (type, bytes) (value_parts v) = cc in
+    (v, refl, ap (λ (part : TypeTag × List ℕ). code part.0 ∷ part.1) parts, fits)
+value_seen None type bytes is fits = absurd (cc)
 
 -- ---- the terms at a path whose values are of a type
 
@@ -100,16 +106,3 @@ pub five_appended : {A : Type 0} (a b c d e l1 l2 l3 l4 l5 : List A) → l1 ≡ 
 five_appended a b c d e l1 l2 l3 l4 l5 h1 h2 h3 h4 h5 =
     h5 ∙ ap (λ l. l ++ e) (h4 ∙ ap (λ l. l ++ d) (h3 ∙ ap (λ l. l ++ c) (h2 ∙ ap (λ l. l ++ b) h1)))
     ∙ append_assoc ((a ++ b) ++ c) d e ∙ append_assoc (a ++ b) c (d ++ e) ∙ append_assoc a b (c ++ (d ++ e))
-
--- ---- at what a path names
-
-pub one_typed : (field : Field) (type : FieldType) (path : List ℕ) (start end : Bound (List ℕ)) (answer : RangesAnswer) → ((options : TextualOptions DotExpansion) → type ≢ types.JsonObject options) → OneRange field type start end answer → RangesInField field type path start end answer
-one_typed field (types.Str options) path start end answer not_json h = h
-one_typed field (types.U64 options) path start end answer not_json h = h
-one_typed field (types.I64 options) path start end answer not_json h = h
-one_typed field (types.Bool options) path start end answer not_json h = h
-one_typed field (types.Date options) path start end answer not_json h = h
-one_typed field (types.Facet options) path start end answer not_json h = h
-one_typed field (types.Bytes options) path start end answer not_json h = h
-one_typed field (types.IpAddr options) path start end answer not_json h = h
-one_typed field (types.JsonObject options) path start end answer not_json h = absurd (not_json options refl)

@@ -1,4 +1,6 @@
 pub mod Places
+pub mod Answering
+pub mod BelowSteps
 pub mod Following
 pub mod Visiting
 pub mod Walks

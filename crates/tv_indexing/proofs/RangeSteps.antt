@@ -7,13 +7,8 @@ use Rattle.std.specs.Ordering.{is_lt}
 use Rattle.std.specs.Str.Pattern.{FindsText, LacksTextAt}
 use Rattle.std.specs.declared.ops.Bound.{Bound}
 use Rattle.std.specs.declared.ops.Bound.TheVariants.{Included, Excluded, Unbounded}
-use Rattle.tv_field.specs.declared.field_type.FieldType.{FieldType}
-use Rattle.tv_field.specs.declared.field_type.FieldType.TheVariants as types
 use Rattle.tv_indexing.specs.LeafTerms.{HasTerm}
-use Rattle.tv_indexing.specs.TextRange.{RangeAnswer, RangeOfTexts, RangeInField, ArePartedBounds, IsEndBound, IsStartBound, WritesBounds, are_backwards, bounding, bounds, bytes_run_backwards, no_bounds}
-use Rattle.tv_options.specs.declared.own_part.DotExpansion.{DotExpansion}
-use Rattle.tv_options.specs.declared.textual_options.TextualOptions.{TextualOptions}
-use Rattle.tv_value.specs.declared.field.Field.{Field}
+use Rattle.tv_indexing.specs.TextRange.{ArePartedBounds, IsEndBound, IsStartBound, WritesBounds, are_backwards, bounding, bounds, bytes_run_backwards, no_bounds}
 use Rattle.tv_term.specs.Key.{IsTerm, TermValue}
 use Rattle.tv_term.specs.Range.{AreTermsOf}
 use Rattle.tv_term.proofs.Terms.{values-order}
@@ -56,19 +51,6 @@ backwards_same id lo hi first last s e = same_test id (bounding lo) (bounding hi
 pub held_term : (id : ℕ) (value : Option TermValue) (held : List ℕ) → HasTerm id value held true → (v : TermValue) × (value ≡ Some v) × IsTerm held id v
 held_term id (Some v) held h = (v, refl, h.1)
 held_term id None held h = absurd h
-
--- ---- at what a path names
-
-pub plain_typed : (field : Field) (type : FieldType) (start end : Bound (List ℕ)) (answer : RangeAnswer) → ((options : TextualOptions DotExpansion) → type ≢ types.JsonObject options) → RangeOfTexts field type start end answer → RangeInField field type start end answer
-plain_typed field (types.Str options) start end answer not_json h = h
-plain_typed field (types.U64 options) start end answer not_json h = h
-plain_typed field (types.I64 options) start end answer not_json h = h
-plain_typed field (types.Bool options) start end answer not_json h = h
-plain_typed field (types.Date options) start end answer not_json h = h
-plain_typed field (types.Facet options) start end answer not_json h = h
-plain_typed field (types.Bytes options) start end answer not_json h = h
-plain_typed field (types.IpAddr options) start end answer not_json h = h
-plain_typed field (types.JsonObject options) start end answer not_json h = absurd (not_json options refl)
 
 -- ---- the bounds that a text writes
 

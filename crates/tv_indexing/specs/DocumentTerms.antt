@@ -3,18 +3,16 @@ use Rattle.std.specs.Prelude.{◌≡◌, ◌==◌, ℕ, if◌then◌else◌, Lis
 use Rattle.std.specs.Borrow.{Bor}
 use Rattle.std.specs.List.{filter, list_any}
 use Rattle.tv_base.specs.JsonPath.{joined}
-use Rattle.tv_date.specs.DateTime.{truncated}
-use Rattle.tv_date.specs.declared.date_time.DateTimePrecision.TheVariants.{Seconds}
 use Rattle.tv_field.specs.Entry.{Entry, is_indexed_type, value_type}
 use Rattle.tv_field.specs.declared.field_type.FieldType.{FieldType}
 use Rattle.tv_field.specs.declared.field_type.FieldType.TheVariants as types
-use Rattle.tv_format.specs.Tree.{Tree, leaf, array, object, Elements, no_elements, element, Entries, no_entries, entry, Leaf, null, text, unsigned, signed, boolean, date, facet, bytes, ip_address, tokenized, Document}
-use Rattle.tv_indexing.specs.LeafTerms.{tree_value}
+use Rattle.tv_format.specs.Tree.{Tree, leaf, array, object, Elements, no_elements, element, Entries, no_entries, entry, Leaf, null, Document}
+use Rattle.tv_indexing.specs.LeafTerms.{json_value, tree_value}
 use Rattle.tv_indexing.specs.declared.term_values_error.TermValuesError.{TermValuesError}
 use Rattle.tv_indexing.specs.declared.term_values_error.TermValuesError.TheVariants.{UnknownField, WrongType, NulInPath, NoJsonTerm}
 use Rattle.tv_options.specs.Types.{code}
 use Rattle.tv_options.specs.declared.types.TypeTag.{TypeTag}
-use Rattle.tv_term.specs.Key.{TermValue, Text, Signed, Truth, Date, Json, json_number, term, value_code}
+use Rattle.tv_term.specs.Key.{TermValue, Json, term, value_code}
 use Rattle.tv_value.specs.declared.field.Field.{Field}
 
 -- terms in their order, or why there are none
@@ -33,17 +31,15 @@ followed_by (Ok made) (Ok others) = Ok (made ++ others)
 abbrev pub json_term_of : Field → List ℕ → TermValue → Terms
 json_term_of field path value = Ok (term field.id (Json path value) ∷ [])
 
+-- that of the value that a leaf stands for, or it stands for none
+abbrev pub value_or_refused : Field → List ℕ → Option TermValue → Terms
+value_or_refused field path None = Err (NoJsonTerm field)
+value_or_refused field path (Some value) = json_term_of field path value
+
+-- null has no term
 abbrev pub json_leaf_terms : Field → List ℕ → Leaf → Terms
 json_leaf_terms field path null = Ok []
-json_leaf_terms field path (text t) = json_term_of field path (Text t)
-json_leaf_terms field path (unsigned n) = json_term_of field path (json_number n)
-json_leaf_terms field path (signed z) = json_term_of field path (Signed z)
-json_leaf_terms field path (boolean b) = json_term_of field path (Truth b)
-json_leaf_terms field path (date z) = json_term_of field path (Date (truncated Seconds z))
-json_leaf_terms field path (facet f) = Err (NoJsonTerm field)
-json_leaf_terms field path (bytes bs) = Err (NoJsonTerm field)
-json_leaf_terms field path (ip_address n) = Err (NoJsonTerm field)
-json_leaf_terms field path (tokenized t ts) = Err (NoJsonTerm field)
+json_leaf_terms field path l = value_or_refused field path (json_value l)
 
 -- whether a key has U+0000
 abbrev pub has_zero : List ℕ → Bool
@@ -122,3 +118,8 @@ is_wanted (Some fields) number = is_among fields.now number
 
 abbrev pub wanted_pair_terms : List Entry → Option (Bor (List Field)) → ℕ × Tree → Terms
 wanted_pair_terms schema wanted pair = if is_wanted wanted pair.0 then pair_terms schema pair else Ok []
+
+-- the term of a value, if there is one
+abbrev pub value_terms : Field → List ℕ → Option TermValue → Terms
+value_terms field path None = Ok []
+value_terms field path (Some value) = json_term_of field path value

@@ -5,6 +5,7 @@
 -- of truth values, of texts, which each text writes, and of numbers from 2^63 on. A number that is a bound of the one kind bounds no number of the other: it is above all
 -- of these, or below.
 use Rattle.std.specs.Prelude.{◌≡◌, ◌++◌, ℕ, List, [], ◌∷◌, Bool, true, false, Option, Some, None, Result, Ok, Err}
+use Rattle.std.specs.Global.{Vec}
 use Rattle.std.specs.Option.{option_map}
 use Rattle.std.specs.declared.ops.Bound.{Bound}
 use Rattle.std.specs.declared.ops.Bound.TheVariants.{Included, Excluded, Unbounded}
@@ -13,13 +14,12 @@ use Rattle.tv_date.specs.Rfc3339.{rfc}
 use Rattle.tv_field.specs.Entry.{Entry}
 use Rattle.tv_field.specs.JsonTable.{truth_in}
 use Rattle.tv_field.specs.declared.field_type.FieldType.{FieldType}
-use Rattle.tv_field.specs.declared.field_type.FieldType.TheVariants as types
 use Rattle.tv_format.specs.Tree.{Leaf, text, unsigned, signed}
-use Rattle.tv_indexing.specs.IndexedField.{AtPath, BelowJson}
+use Rattle.tv_indexing.specs.IndexedField.{AtPath, BelowJson, FoundField, JsonOrPlain}
 use Rattle.tv_indexing.specs.JsonBounds.{RunBackwards}
 use Rattle.tv_indexing.specs.LeafTerms.{leaf_value}
-use Rattle.tv_indexing.specs.TextRange.{RangeOfTexts, WritesBounds, bounding}
-use Rattle.tv_indexing.specs.TextTerms.{IsWrongRange, WritesNumber, date_written_in}
+use Rattle.tv_indexing.specs.TextRange.{InWrittenBounds, RangeOfTexts, bounding}
+use Rattle.tv_indexing.specs.TextTerms.{WritesNumber, date_written_in}
 use Rattle.tv_indexing.specs.declared.json_ranges.JsonKind.{JsonKind}
 use Rattle.tv_indexing.specs.declared.json_ranges.JsonKind.TheVariants as kinds
 use Rattle.tv_indexing.specs.declared.text_terms_error.TextTermsError.{TextTermsError}
@@ -141,17 +141,25 @@ abbrev pub OneRange : Field → FieldType → Bound (List ℕ) → Bound (List �
 OneRange field type start end (Ok ranges) = (range : TermRange) × (ranges ≡ range ∷ []) × RangeOfTexts field type start end (Ok range)
 OneRange field type start end (Err e) = RangeOfTexts field type start end (Err e)
 
-abbrev pub RangesInField : Field → FieldType → List ℕ → Bound (List ℕ) → Bound (List ℕ) → RangesAnswer → Type 0
-RangesInField field (types.JsonObject options) path start end answer = RangesBelow field options.part.expand_dots_enabled path start end answer
-RangesInField field type path start end answer = OneRange field type start end answer
+abbrev pub RangesInField : FoundField → Bound (List ℕ) → Bound (List ℕ) → RangesAnswer → Type 0
+RangesInField at start end answer = JsonOrPlain at.type (λ expand_dots. RangesBelow at.field expand_dots at.rest start end answer) (OneRange at.field at.type start end answer)
 
 abbrev pub AnswersBetween : List Entry → List ℕ → Bound (List ℕ) → Bound (List ℕ) → RangesAnswer → Type 0
-AnswersBetween schema path start end answer = AtPath (λ field type rest. RangesInField field type rest start end) schema path answer
+AnswersBetween schema path start end answer = AtPath (λ at. RangesInField at start end) schema path answer
 
 -- what a text has that writes the bounds itself
-pub data AnswersRanges (schema : List Entry) (path text : List ℕ) (answer : RangesAnswer) : Type 0 where
-  no_range : ((start end : Bound (List ℕ)) → ¬ WritesBounds text start end) → (e : TextTermsError) → IsWrongRange text e → answer ≡ Err e → AnswersRanges schema path text answer
-  ranges : (start end : Bound (List ℕ)) → WritesBounds text start end → AnswersBetween schema path start end answer → AnswersRanges schema path text answer
+abbrev pub RangesOfText : FoundField → List ℕ → RangesAnswer → Type 0
+RangesOfText at s answer = InWrittenBounds (RangesInField at) s answer
+
+abbrev pub AnswersRanges : List Entry → List ℕ → List ℕ → RangesAnswer → Type 0
+AnswersRanges schema path s answer = InWrittenBounds (AnswersBetween schema path) s answer
+
+-- ---- for public clauses
+
+-- the ranges of a list
+abbrev pub ranges_in : Result (Vec TermRange) TextTermsError → RangesAnswer
+ranges_in (Ok ranges) = Ok ranges.items
+ranges_in (Err e) = Err e
 
 -- ---- for private clauses
 

@@ -18,14 +18,14 @@ leaf_value (bytes bs) = Some (Bytes bs)
 leaf_value (ip_address n) = Some (Address n)
 leaf_value (tokenized t ts) = Some (Text t)
 
--- The value that the term of a leaf in a JSON value stands for after its path: a number that fits a signed one is one. The others have none.
+-- The value that it stands for in a JSON value, after the path: a number that fits a signed one is one, and some leaves have none there.
 abbrev pub json_value : Leaf → Option TermValue
-json_value (text t) = Some (Text t)
 json_value (unsigned n) = Some (json_number n)
-json_value (signed z) = Some (Signed z)
-json_value (boolean b) = Some (Truth b)
-json_value (date z) = Some (Date (truncated Seconds z))
-json_value other = None
+json_value (facet f) = None
+json_value (bytes bs) = None
+json_value (ip_address n) = None
+json_value (tokenized t ts) = None
+json_value l = leaf_value l
 
 -- arrays and objects have none
 abbrev pub tree_value : Tree → Option TermValue

@@ -5,8 +5,8 @@ pub mod TermFault
 pub mod Visits
 pub mod KeyBytes
 pub mod Payloads
-pub mod JsonLeaves
 pub mod JsonWalk
+pub mod Unless
 pub mod IndexedField
 pub mod TextTerms
 pub mod TextRange

@@ -1,7 +1,7 @@
 -- What stands in a term for a value without children, for private clauses.
 use Rattle.std.specs.Prelude.{ℕ, List}
-use Rattle.tv_indexing.specs.declared.payload.Payload.{Payload}
-use Rattle.tv_indexing.specs.declared.payload.Payload.TheVariants as held
+use Rattle.tv_indexing.specs.declared.leaf.Payload.{Payload}
+use Rattle.tv_indexing.specs.declared.leaf.Payload.TheVariants as held
 use Rattle.tv_options.specs.declared.types.TypeTag.{TypeTag}
 use Rattle.tv_term.specs.Key.{TermValue, payload, tag_of}
 

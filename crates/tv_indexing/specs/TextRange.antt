@@ -4,25 +4,29 @@
 -- `AnswersBounds`: what two bounds have at a path in a schema, which are texts. A path that names no field is refused, and so is a field that isn't
 -- indexed, and one of JSON objects. Each bound is a value of the field as in `AnswersText`; the range has just the field's terms between the two. Of dates
 -- the second of a bound is within, since a term stands for all dates of its second.
+-- `BelowInField`: what a text has in a field whose value it is: the range of that value's terms and of those below it, which a facet alone has.
 -- `WritesBounds`: the two bounds that one text writes, as `[10 TO 20]`.
-use Rattle.std.specs.Prelude.{◌≡◌, ◌≤◌, ◌++◌, ℕ, List, length, codes, bytes_eq, if◌then◌else◌, Bool, true, false, Option, Some, None, Result, Ok, Err}
+use Rattle.std.specs.Prelude.{◌≡◌, ◌≢◌, ◌≤◌, ◌++◌, ◌⊎◌, ℕ, List, [], ◌∷◌, length, codes, bytes_eq, if◌then◌else◌, Bool, true, false, Option, Some, None, Result, Ok, Err}
+use Rattle.std.specs.Borrow.{Bor}
 use Rattle.std.specs.Ordering.{is_lt, nat_cmp}
+use Rattle.std.specs.Range.Bound.{bound_map}
 use Rattle.std.specs.Cmp.Lexicographic.{slice_cmp}
 use Rattle.std.specs.declared.ops.Bound.{Bound}
 use Rattle.std.specs.declared.ops.Bound.TheVariants.{Included, Excluded, Unbounded}
+use Rattle.tv_base.specs.Facet.{Descends}
 use Rattle.tv_field.specs.Entry.{Entry, value_type}
 use Rattle.tv_field.specs.JsonAnswer.{RefusesText, WritesValue}
 use Rattle.tv_field.specs.declared.field_type.FieldType.{FieldType}
 use Rattle.tv_field.specs.declared.field_type.FieldType.TheVariants as types
 use Rattle.tv_field.specs.declared.json_value.JsonRefusal.{JsonRefusal}
 use Rattle.tv_format.specs.Tree.{Leaf}
-use Rattle.tv_indexing.specs.IndexedField.{AtPath}
+use Rattle.tv_indexing.specs.IndexedField.{AtPath, FoundField, JsonOrPlain}
 use Rattle.tv_indexing.specs.LeafTerms.{leaf_value}
 use Rattle.tv_indexing.specs.TextTerms.{IsWrongRange, IsWrongText}
 use Rattle.tv_indexing.specs.declared.text_terms_error.TextTermsError.{TextTermsError}
 use Rattle.tv_indexing.specs.declared.text_terms_error.TextTermsError.TheVariants.{Backwards, NoRange}
-use Rattle.tv_term.specs.Key.{TermValue, value_cmp}
-use Rattle.tv_term.specs.Range.{HasTerms, IsBetween}
+use Rattle.tv_term.specs.Key.{IsTerm, TermValue, Facet, value_cmp}
+use Rattle.tv_term.specs.Range.{AreTermsOf, HasTerms, IsBetween}
 use Rattle.tv_term.specs.declared.range.TermRange.{TermRange}
 use Rattle.tv_value.specs.declared.field.Field.{Field}
 
@@ -86,12 +90,30 @@ RangeOfTexts field type start end (Ok range) =
     (lo : Bound TermValue) × (hi : Bound TermValue) × WriteBoth type start end lo hi × (are_backwards (bounding lo) (bounding hi) ≡ false) × HasTerms (IsBetween field.id (value_type type) lo hi) range
 RangeOfTexts field type start end (Err e) = RefusesBoth field type start end e
 
-abbrev pub RangeInField : Field → FieldType → Bound (List ℕ) → Bound (List ℕ) → RangeAnswer → Type 0
-RangeInField field (types.JsonObject options) start end answer = answer ≡ Err (NoRange field)
-RangeInField field type start end answer = RangeOfTexts field type start end answer
+-- a field of JSON objects has terms of several types
+abbrev pub RangeInField : FoundField → Bound (List ℕ) → Bound (List ℕ) → RangeAnswer → Type 0
+RangeInField at start end answer = JsonOrPlain at.type (λ expand_dots. answer ≡ Err (NoRange at.field)) (RangeOfTexts at.field at.type start end answer)
 
 abbrev pub AnswersBounds : List Entry → List ℕ → Bound (List ℕ) → Bound (List ℕ) → RangeAnswer → Type 0
-AnswersBounds schema path start end answer = AtPath (λ field type rest. RangeInField field type start end) schema path answer
+AnswersBounds schema path start end answer = AtPath (λ at. RangeInField at start end) schema path answer
+
+-- ---- a value and those below it
+
+-- a facet with the steps of another one, and at least one more; no other value is below another
+abbrev pub IsBelowValue : TermValue → TermValue → Type 0
+IsBelowValue (Facet upper) (Facet lower) = Descends upper lower
+IsBelowValue upper value = ⊥
+
+-- of this field, the value itself or one below it
+abbrev pub IsOrIsBelow : ℕ → TermValue → ℕ → TermValue → Type 0
+IsOrIsBelow id upper field value = (field ≡ id) × ((value ≡ upper) ⊎ IsBelowValue upper value)
+
+abbrev pub RangeWithBelow : Field → FieldType → List ℕ → RangeAnswer → Type 0
+RangeWithBelow field type s (Ok range) = (l : Leaf) × (value : TermValue) × WritesTerm type s l value × HasTerms (IsOrIsBelow field.id value) range
+RangeWithBelow field type s (Err e) = RefusesBound field type (Included s) e
+
+abbrev pub BelowInField : FoundField → List ℕ → RangeAnswer → Type 0
+BelowInField at s answer = JsonOrPlain at.type (λ expand_dots. answer ≡ Err (NoRange at.field)) (RangeWithBelow at.field at.type s answer)
 
 -- ---- the bounds that a text writes
 
@@ -127,7 +149,33 @@ pub data WritesBounds (text : List ℕ) (start end : Bound (List ℕ)) : Type 0 
   no_bounds : text ≡ codes "*" → start ≡ Unbounded → end ≡ Unbounded → WritesBounds text start end
   bounds : ArePartedBounds text start end → WritesBounds text start end
 
--- what a text has that writes the bounds itself
-pub data AnswersRange (schema : List Entry) (path text : List ℕ) (answer : RangeAnswer) : Type 0 where
-  no_range : ((start end : Bound (List ℕ)) → ¬ WritesBounds text start end) → (e : TextTermsError) → IsWrongRange text e → answer ≡ Err e → AnswersRange schema path text answer
-  range : (start end : Bound (List ℕ)) → WritesBounds text start end → AnswersBounds schema path start end answer → AnswersRange schema path text answer
+-- what a text has that writes the bounds itself, where this is what two bounds have
+pub data InWrittenBounds {T : Type 0} (Answers : Bound (List ℕ) → Bound (List ℕ) → Result T TextTermsError → Type 0) (text : List ℕ) (answer : Result T TextTermsError) : Type 0 where
+  no_bounds_written : ((start end : Bound (List ℕ)) → ¬ WritesBounds text start end) → (e : TextTermsError) → IsWrongRange text e → answer ≡ Err e → InWrittenBounds Answers text answer
+  bounds_written : (start end : Bound (List ℕ)) → WritesBounds text start end → Answers start end answer → InWrittenBounds Answers text answer
+
+abbrev pub AnswersRange : List Entry → List ℕ → List ℕ → RangeAnswer → Type 0
+AnswersRange schema path text answer = InWrittenBounds (AnswersBounds schema path) text answer
+
+-- ---- for public clauses
+
+-- the text of a bound
+abbrev pub bound_text : Bound (Bor (List ℕ)) → Bound (List ℕ)
+bound_text bound = bound_map (λ text. text.now) bound
+
+-- ---- for private clauses
+
+-- the term of the value that a text is, or why it is none
+abbrev pub IsTermOfText : Field → FieldType → List ℕ → Result (List ℕ) TextTermsError → Type 0
+IsTermOfText field type s (Ok made) = (l : Leaf) × (value : TermValue) × WritesTerm type s l value × IsTerm made field.id value
+IsTermOfText field type s (Err e) = RefusesBound field type (Included s) e
+
+-- the same of a bound
+abbrev pub AreTermsOfBound : Field → FieldType → Bound (List ℕ) → Result (Bound (List ℕ)) TextTermsError → Type 0
+AreTermsOfBound field type bound (Ok made) = (value : Bound TermValue) × WritesBound type bound value × AreTermsOf field.id value made
+AreTermsOfBound field type bound (Err e) = RefusesBound field type bound e
+
+-- where the terms of a value and of those below it end, among those that begin with its term
+abbrev pub EndsBelow : FieldType → List ℕ → Bound (List ℕ) → Type 0
+EndsBelow (types.Facet options) start end = ((length start ≡ 5) × (end ≡ Unbounded)) ⊎ ((length start ≢ 5) × (end ≡ Excluded (start ++ 1 ∷ [])))
+EndsBelow type start end = end ≡ Included start

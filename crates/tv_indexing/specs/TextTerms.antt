@@ -18,10 +18,9 @@ use Rattle.tv_field.specs.declared.field_type.FieldType.{FieldType}
 use Rattle.tv_field.specs.declared.json_value.JsonRefusal.{JsonRefusal}
 use Rattle.tv_field.specs.declared.json_value.JsonRefusal.TheVariants.{Memory as NoMemory}
 use Rattle.tv_options.specs.declared.types.TypeTag.{TypeTag}
-use Rattle.tv_field.specs.declared.field_type.FieldType.TheVariants as types
 use Rattle.tv_format.specs.Tree.{Leaf, text, unsigned, signed, date}
 use Rattle.tv_indexing.specs.DocumentTerms.{Terms, followed_by, json_leaf_terms, plain_terms}
-use Rattle.tv_indexing.specs.IndexedField.{AtPath, BelowJson, IsStartOf}
+use Rattle.tv_indexing.specs.IndexedField.{AtPath, BelowJson, FoundField, IsStartOf, JsonOrPlain}
 use Rattle.tv_indexing.specs.LeafTerms.{json_value, leaf_value}
 use Rattle.tv_indexing.specs.declared.text_terms_error.TextTermsError.{TextTermsError}
 use Rattle.tv_indexing.specs.declared.text_terms_error.TextTermsError.TheVariants.{WrongText, WrongRange}
@@ -80,13 +79,13 @@ abbrev pub TermOfText : Field → FieldType → List ℕ → TermsAnswer → Typ
 TermOfText field type s (Ok made) = (l : Leaf) × WritesValue type s l × IfSome (leaf_value l) Fits × (plain_terms field (value_type type) (leaf_value l) ≡ Ok made)
 TermOfText field type s (Err e) = (why : JsonRefusal) × RefusesText type s why × IsWrongText field (value_type type) why s e
 
-abbrev pub TermsInField : Field → FieldType → List ℕ → List ℕ → TermsAnswer → Type 0
-TermsInField field (types.JsonObject options) path s answer = TermsBelow field options.part.expand_dots_enabled path s answer
-TermsInField field type path s answer = TermOfText field type s answer
+abbrev pub TermsInField : FoundField → List ℕ → TermsAnswer → Type 0
+TermsInField at s answer = JsonOrPlain at.type (λ expand_dots. TermsBelow at.field expand_dots at.rest s answer) (TermOfText at.field at.type s answer)
 
 abbrev pub AnswersText : List Entry → List ℕ → List ℕ → TermsAnswer → Type 0
-AnswersText schema path s answer = AtPath (λ field type rest. TermsInField field type rest s) schema path answer
+AnswersText schema path s answer = AtPath (λ at. TermsInField at s) schema path answer
 
--- terms that are such an answer are appended
-abbrev pub AppendsAnswer : (TermsAnswer → Type 0) → List (List ℕ) → List (List ℕ) → Type 0
-AppendsAnswer Answers old new = (made : List (List ℕ)) × Answers (Ok made) × (new ≡ old ++ made)
+-- terms that are such an answer are appended, or such an error is the answer
+abbrev pub AppendsAnswer : (TermsAnswer → Type 0) → List (List ℕ) → List (List ℕ) → Result (Unit {0}) TextTermsError → Type 0
+AppendsAnswer Answers old new (Ok done) = (made : List (List ℕ)) × Answers (Ok made) × (new ≡ old ++ made)
+AppendsAnswer Answers old new (Err e) = Answers (Err e)

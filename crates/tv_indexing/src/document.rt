@@ -1,27 +1,41 @@
 //! Terms of documents.
 
-ghost use Rattle.std.specs.Prelude.{◌≡◌, ◌≢◌, Err, IfErr, OnErr, OnOk};
+ghost use Rattle.std.specs.Prelude.{◌≡◌, ◌≢◌, ◌∷◌, ◌≤◌, [], ℕ, List, length, Err, IfErr, IfOk, OnErr, OnOk};
 ghost use Rattle.tv_doc.specs.Document.{document_of};
 ghost use Rattle.tv_heap.specs.Value.{tree_of};
 ghost use Rattle.tv_indexing.specs.DocumentTerms.{AreAppended, document_terms, fields_terms};
 ghost use Rattle.tv_indexing.specs.DocumentTerms.{is_among, is_wanted, pair_terms};
 ghost use Rattle.tv_indexing.specs.DocumentTerms.{wanted_pair_terms, wanted_terms};
-ghost use Rattle.tv_indexing.specs.Visits.{TakesAll, TakesSome};
+ghost use Rattle.tv_indexing.specs.TermFault.{document_fault};
+ghost use Rattle.tv_indexing.specs.Visits.{Takes, TakesAll, TakesSome};
 ghost use Rattle.tv_indexing.specs.declared.term_values_error.TermValuesError.TheVariants.{Memory};
 
-use crate::json::{OpenList, visit_json};
-use crate::key_path::JsonField;
+use crate::json::{JsonField, OpenList, visit_json};
 use crate::plain::visit_value;
 use crate::term_buffer::TermBuffer;
 use crate::term_list::TermList;
 use crate::term_values_error::TermValuesError;
-use crate::visit::TermVisitor;
-use std::alloc::Global;
+use std::alloc::{AllocError, Global};
 use tv_doc::document::CompactDoc;
 use tv_field::field_type::FieldType;
 use tv_heap::value::CompactDocValue;
 use tv_schema::Schema;
 use tv_value::field::Field;
+
+/// Takes the terms of a document, one after the other, as `visit_terms` makes them: a list of them, say, or a test whether one is wanted. (Not in
+/// tantivy.)
+pub trait TermVisitor {
+    /// That since it was `start`, the first argument, it has taken these terms, in this order, and is now the second.
+    ghost has_taken: { Self → Self → List (List ℕ) → Type 0 };
+
+    /// Takes a term, which has at least five bytes: the number of a field and the code of a type.
+    ///
+    /// The only error is that memory was refused. After it the term isn't taken.
+    fn visit(&mut self, term: &[u8]) -> Result<(), AllocError>
+        requires { 5 ≤ length term.now }
+        ensures made { OnOk result (Takes has_taken self.old self.new (term.now ∷ [])) }
+        ensures untaken { OnErr result (Takes has_taken self.old self.new []) };
+}
 
 // Gives the visitor the terms of a value of a field. After an error a beginning of them may be taken.
 fn visit_field<'a, V: TermVisitor>(
@@ -236,4 +250,36 @@ pub fn term_values_of_fields(
     ensures unchanged { OnErr result (terms.new ≡ terms.old) }
 {
     append_terms(alloc, schema, Some(fields), document, terms)
+}
+
+// Keeps nothing of the terms that it takes.
+#[derive(Drop)]
+struct Passing;
+
+impl TermVisitor for Passing {
+    ghost has_taken = { λ _ _ _. Unit {0} };
+
+    fn visit(&mut self, _term: &[u8]) -> Result<(), AllocError> {
+        Ok(())
+    }
+}
+
+/// Why a value of a document has no term, so that the document can't be searched: the error that `term_values` returns for the first such value, and
+/// `None` where each value of an indexed field has its terms. Values of a field that isn't indexed have no fault. (Not in tantivy.)
+///
+/// The only error is that memory was refused: it takes memory for one term, and not for all. However deep a value nests, it takes no more of the
+/// machine's stack.
+pub fn term_fault(
+    alloc: Global,
+    schema: &Schema,
+    document: &CompactDoc,
+) -> Result<Option<TermValuesError>, AllocError>
+    ensures { IfOk result
+        (λ fault. fault ≡ document_fault schema.now (document_of document.now)) }
+{
+    match visit_terms(alloc, schema, None, document, &mut Passing) {
+        Ok(()) => Ok(None),
+        Err(TermValuesError::Memory) => Err(AllocError),
+        Err(fault) => Ok(Some(fault)),
+    }
 }

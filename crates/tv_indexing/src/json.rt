@@ -1,24 +1,31 @@
 //! Terms of values of fields of JSON objects, however deep these nest.
 
 ghost use Rattle.std.specs.Prelude.{◌≡◌, ◌≢◌, ◌++◌, ◌∷◌, Err, IfErr, IfOk, length, option_map, OnErr, OnOk};
-ghost use Rattle.std.specs.Prelude.{[], take};
+ghost use Rattle.std.specs.Prelude.{[], false, take, true};
 ghost use Rattle.tv_heap.specs.Value.{held_children, tree_of};
-ghost use Rattle.tv_indexing.specs.DocumentTerms.{json_terms};
+ghost use Rattle.tv_indexing.specs.DocumentTerms.{has_zero, json_terms};
 ghost use Rattle.tv_format.specs.Tree.{Tree};
 ghost use Rattle.tv_indexing.specs.JsonWalk.{IsBegun, child_terms};
-ghost use Rattle.tv_indexing.specs.JsonWalk.{children_terms, terms_at};
+ghost use Rattle.tv_indexing.specs.JsonWalk.{children_terms, separated, terms_at};
 ghost use Rattle.tv_indexing.specs.Visits.{Takes, TakesAll, TakesSome};
-ghost use Rattle.tv_indexing.specs.declared.term_values_error.TermValuesError.TheVariants.{Memory};
+ghost use Rattle.tv_indexing.specs.declared.term_values_error.TermValuesError.TheVariants.{Memory, NulInPath};
 
+use crate::document::TermVisitor;
 use crate::json_leaf::visit_json_leaf;
-use crate::key_path::{JsonField, push_key};
 use crate::term_buffer::TermBuffer;
 use crate::term_values_error::TermValuesError;
-use crate::visit::TermVisitor;
 use std::alloc::AllocError;
 use tv_heap::value::CompactDocValue;
 use tv_value::children::Children;
+use tv_value::field::Field;
 use tv_value::nested::Nested;
+
+// A field of JSON objects, and whether dots part the keys of these.
+#[derive(Clone, Copy)]
+pub(crate) struct JsonField {
+    pub(crate) field: Field,
+    pub(crate) expand_dots: bool,
+}
 
 // A list that is gone through.
 #[derive(Drop)]
@@ -26,6 +33,21 @@ pub(crate) struct OpenList<'a> {
     children: Children<CompactDocValue<'a>>,
     // How many bytes the keys have above the one in which it stands.
     path_len: usize,
+}
+
+// Appends a key to the keys above its object. Each key stands after U+0001, the outermost too. Errors: `NulInPath` where the key has U+0000,
+// and `Memory`.
+fn push_key(buffer: &mut TermBuffer, at: JsonField, key: &str) -> Result<(), TermValuesError>
+    ensures made { OnOk result (buffer.new ≡ buffer.old ++ separated at.expand_dots key.now) }
+    ensures plain { OnOk result (has_zero key.now ≡ false) }
+    ensures refused { IfErr result
+        (λ e. e ≢ Memory → (has_zero key.now ≡ true) × (e ≡ NulInPath at.field)) }
+{
+    if key.as_bytes().contains(&0) {
+        return Err(TermValuesError::NulInPath(at.field));
+    }
+    buffer.push_key(key, at.expand_dots)?;
+    Ok(())
 }
 
 // Goes below the key of a value, if it has one.

@@ -2,9 +2,8 @@
 
 ghost use Rattle.std.specs.Prelude.{◌≡◌, option_map};
 ghost use Rattle.std.specs.Option.{option_copied};
-ghost use Rattle.std.specs.Range.Bound.{bound_map};
 ghost use Rattle.tv_indexing.specs.JsonBounds.{RunBackwards, TextsRunBackwards, above};
-ghost use Rattle.tv_indexing.specs.TextRange.{bounding};
+ghost use Rattle.tv_indexing.specs.TextRange.{bound_text, bounding};
 ghost use Rattle.tv_value.specs.Lent.{leaf_of};
 
 use crate::text_terms::{date_written, number_written, truth_written};
@@ -48,7 +47,7 @@ fn texts_run_backwards(start: &str, end: &str) -> bool
 
 // The text of a bound.
 fn text_of<'t>(bound: Bound<&'t str>) -> Option<&'t str>
-    ensures { option_copied result ≡ bounding (bound_map (λ text. text.now) bound.entry) }
+    ensures { option_copied result ≡ bounding (bound_text bound.entry) }
 {
     match bound {
         Bound::Included(text) | Bound::Excluded(text) => Some(text),
@@ -58,8 +57,8 @@ fn text_of<'t>(bound: Bound<&'t str>) -> Option<&'t str>
 
 // Whether the bounds of a range run backwards.
 pub(crate) fn run_backwards(start: Bound<&str>, end: Bound<&str>) -> bool
-    ensures { RunBackwards (bounding (bound_map (λ text. text.now) start.entry))
-        (bounding (bound_map (λ text. text.now) end.entry)) result }
+    ensures { RunBackwards (bounding (bound_text start.entry))
+        (bounding (bound_text end.entry)) result }
 {
     let Some(start) = text_of(start) else {
         return false;

@@ -2,18 +2,17 @@
 
 ghost use Rattle.std.specs.Prelude.{◌≡◌, ◌≢◌, ◌^◌, ℕ, List, drop, Err, IfErr, IfOk, IfSome, None, OnErr, OnOk};
 ghost use Rattle.std.specs.Prelude.{[]};
-ghost use Rattle.tv_indexing.specs.DocumentTerms.{json_leaf_terms};
-ghost use Rattle.tv_indexing.specs.JsonLeaves.{value_terms};
+ghost use Rattle.tv_indexing.specs.DocumentTerms.{json_leaf_terms, value_terms};
 ghost use Rattle.tv_indexing.specs.LeafTerms.{json_value, leaf_value};
 ghost use Rattle.tv_indexing.specs.Visits.{Takes, TakesAll};
 ghost use Rattle.tv_indexing.specs.declared.term_values_error.TermValuesError.TheVariants.{Memory};
 ghost use Rattle.tv_term.specs.Key.{Fits};
 ghost use Rattle.tv_value.specs.Lent.{leaf_of};
 
-use crate::payload::payload_of;
+use crate::document::TermVisitor;
+use crate::leaf::payload_of;
 use crate::term_buffer::TermBuffer;
 use crate::term_values_error::TermValuesError;
-use crate::visit::TermVisitor;
 use tv_value::field::Field;
 use tv_value::leaf::ReferenceValueLeaf;
 

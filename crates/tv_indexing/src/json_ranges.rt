@@ -1,39 +1,41 @@
 //! Ranges of terms between texts of queries, also at paths into JSON objects.
 
-ghost use Rattle.std.specs.Prelude.{◌≡◌, ◌≢◌, ◌++◌, List, [], Some, Ok, Err, IfErr, IfOk, OnOk};
-ghost use Rattle.std.specs.Prelude.{option_map};
+ghost use Rattle.std.specs.Prelude.{◌≡◌, ◌++◌, List, [], Some, IfErr, IfOk, OnOk, option_map};
 ghost use Rattle.std.specs.Range.Bound.{bound_map};
 ghost use Rattle.std.specs.declared.ops.Bound.{Bound};
 ghost use Rattle.std.specs.declared.ops.Bound.TheVariants.{Included};
+ghost use Rattle.tv_base.specs.JsonPath.{joined_path};
 ghost use Rattle.tv_date.specs.Rfc3339.{rfc};
 ghost use Rattle.tv_field.specs.JsonTable.{truth_in};
-ghost use Rattle.tv_indexing.specs.TextTerms.{date_written_in, listed};
-ghost use Rattle.tv_base.specs.JsonPath.{joined_path};
-ghost use Rattle.tv_indexing.specs.JsonRanges.{RangesBelow, AnswersBetween, OneRange};
-ghost use Rattle.tv_indexing.specs.JsonRanges.{AnswersRanges, RangesInField};
-ghost use Rattle.tv_indexing.specs.JsonRanges.{AreOfKind, AreRangesOf, AreTermsAt, AreBoundValues, EndsIn};
-ghost use Rattle.tv_indexing.specs.JsonRanges.{IsBetweenAt, IsTypedAt, StartsIn, WritesEnd};
-ghost use Rattle.tv_indexing.specs.JsonRanges.{placed_bound, signed_end, signed_start, type_of_kind};
-ghost use Rattle.tv_indexing.specs.JsonRanges.{unsigned_end, unsigned_start};
+ghost use Rattle.tv_indexing.specs.JsonRanges.{AnswersBetween, AnswersRanges, AreBoundValues};
+ghost use Rattle.tv_indexing.specs.JsonRanges.{AreOfKind, AreRangesOf, AreTermsAt, EndsIn};
+ghost use Rattle.tv_indexing.specs.JsonRanges.{IsBetweenAt, IsTypedAt, OneRange, RangesBelow};
+ghost use Rattle.tv_indexing.specs.JsonRanges.{RangesInField, RangesOfText, StartsIn, WritesEnd};
+ghost use Rattle.tv_indexing.specs.JsonRanges.{placed_bound, ranges_in, signed_end, signed_start};
+ghost use Rattle.tv_indexing.specs.JsonRanges.{type_of_kind, unsigned_end, unsigned_start};
 ghost use Rattle.tv_indexing.specs.LeafTerms.{leaf_value};
+ghost use Rattle.tv_indexing.specs.TextRange.{bound_text};
+ghost use Rattle.tv_indexing.specs.TextTerms.{date_written_in, listed};
+ghost use Rattle.tv_indexing.specs.Unless.{Unless};
 ghost use Rattle.tv_indexing.specs.declared.text_terms_error.TextTermsError.TheVariants.{Memory};
-ghost use Rattle.tv_term.specs.Key.{AppendsCoded, IsTerm, Json, TermValue};
+ghost use Rattle.tv_term.specs.Key.{IsJsonTerm, IsTerm, Json, TermValue};
 ghost use Rattle.tv_term.specs.Range.{HasTerms};
 ghost use Rattle.tv_term.specs.declared.range.TermRange.{TermRange};
 ghost use Rattle.tv_value.specs.Lent.{leaf_of};
 
-use crate::indexed_field::indexed_field;
+use crate::indexed_field::IndexedField;
+use crate::json::JsonField;
 use crate::json_bounds::run_backwards;
-use crate::key_path::JsonField;
+use crate::leaf::payload_of;
 use crate::text_range::{bounds_of_text, plain_range};
 use crate::text_terms::{date_written, number_written, truth_written};
 use crate::text_terms_error::{TextTermsError, wrong_range};
 use std::alloc::Global;
 use std::ops::Bound;
 use tv_field::field_type::FieldType;
-use tv_options::{DATE_TIME_PRECISION_INDEXED, Type};
+use tv_options::Type;
 use tv_schema::Schema;
-use tv_term::{Term, TermRange, TermWriter};
+use tv_term::{Term, TermRange};
 use tv_value::field::Field;
 use tv_value::leaf::ReferenceValueLeaf;
 
@@ -151,7 +153,7 @@ fn truth_end(is_within: bool, text: &str) -> Option<Bound<ReferenceValueLeaf<'st
 
 // The start of a range of a kind.
 fn start_in<'t>(kind: JsonKind, start: Bound<&'t str>) -> Option<Bound<ReferenceValueLeaf<'t>>>
-    ensures { StartsIn kind (bound_map (λ text. text.now) start.entry)
+    ensures { StartsIn kind (bound_text start.entry)
         (option_map (bound_map leaf_of) result) }
 {
     match start {
@@ -163,7 +165,7 @@ fn start_in<'t>(kind: JsonKind, start: Bound<&'t str>) -> Option<Bound<Reference
 
 // The end of a range of a kind.
 fn end_in<'t>(kind: JsonKind, end: Bound<&'t str>) -> Option<Bound<ReferenceValueLeaf<'t>>>
-    ensures { EndsIn kind (bound_map (λ text. text.now) end.entry)
+    ensures { EndsIn kind (bound_text end.entry)
         (option_map (bound_map leaf_of) result) }
 {
     match end {
@@ -173,41 +175,19 @@ fn end_in<'t>(kind: JsonKind, end: Bound<&'t str>) -> Option<Bound<ReferenceValu
     }
 }
 
-// Appends a value to the term of a path. There is one, and a value of the kinds above is of these types.
-fn append_leaf(writer: &mut TermWriter, leaf: ReferenceValueLeaf<'_>) -> Result<(), TextTermsError>
-    requires { writer.old ≢ [] }
-    ensures made { OnOk result ((value : TermValue) × (leaf_value (leaf_of leaf.entry) ≡ Some value)
-        × AppendsCoded writer.old writer.new value × (writer.new ≢ [])) }
+// The term of a path, which has no U+0000, before a value is appended.
+fn term_of_path(alloc: Global, at: JsonField, path: &str) -> Result<Term, TextTermsError>
+    ensures made { IfOk result
+        (λ term. IsJsonTerm term at.field.id (joined_path at.expand_dots path.now)) }
     ensures memory { IfErr result (λ e. e ≡ Memory) }
 {
-    match leaf {
-        ReferenceValueLeaf::Str(text) => Ok(writer.append_text(text)?),
-        ReferenceValueLeaf::U64(number) => Ok(writer.append_fast_value(number)?),
-        ReferenceValueLeaf::I64(number) => Ok(writer.append_fast_value(number)?),
-        ReferenceValueLeaf::Bool(truth) => Ok(writer.append_fast_value(truth)?),
-        ReferenceValueLeaf::Date(date) => {
-            Ok(writer.append_fast_value(date.truncate(DATE_TIME_PRECISION_INDEXED))?)
-        }
-        _ => Err(TextTermsError::Memory),
+    match Term::from_field_json_path(alloc, at.field, path, at.expand_dots) {
+        Ok(term) => Ok(term),
+        Err(_) => Err(TextTermsError::Memory),
     }
 }
 
-// The term that the writer has, with a value after it.
-fn completed(writer: TermWriter, leaf: ReferenceValueLeaf<'_>) -> Result<Term, TextTermsError>
-    requires { writer ≢ [] }
-    ensures made { IfOk result (λ term. (value : TermValue)
-        × (leaf_value (leaf_of leaf.entry) ≡ Some value) × AppendsCoded writer term value) }
-    ensures memory { IfErr result (λ e. e ≡ Memory) }
-{
-    let mut whole = writer;
-    append_leaf(&mut whole, leaf)?;
-    match whole.into_term() {
-        Some(term) => Ok(term),
-        None => Err(TextTermsError::Memory),
-    }
-}
-
-// The term of a value at a path, which has no U+0000.
+// The term of a value at a path, which has no U+0000. A value of the kinds above has one.
 fn term_at(
     alloc: Global,
     at: JsonField,
@@ -219,11 +199,12 @@ fn term_at(
         × IsTerm term at.field.id (Json (joined_path at.expand_dots path.now) value)) }
     ensures memory { IfErr result (λ e. e ≡ Memory) }
 {
-    let mut writer = TermWriter::new(alloc);
-    match writer.write_json_path(at.field, path, at.expand_dots) {
-        Ok(()) => completed(writer, leaf),
-        Err(_) => Err(TextTermsError::Memory),
-    }
+    let Some((value_type, payload)) = payload_of(leaf) else {
+        return Err(TextTermsError::Memory);
+    };
+    let mut term = term_of_path(alloc, at, path)?;
+    term.append_type_and_bytes(value_type, payload.as_slice())?;
+    Ok(term)
 }
 
 // The terms of a bound at a path.
@@ -256,13 +237,9 @@ fn all_of_type(
         (HasTerms (IsTypedAt at.field.id (joined_path at.expand_dots path.now) value_type)) }
     ensures memory { IfErr result (λ e. e ≡ Memory) }
 {
-    match Term::from_field_json_path(alloc, at.field, path, at.expand_dots) {
-        Ok(mut least) => {
-            least.append_bytes(&[value_type.to_code()])?;
-            Ok(TermRange::of_prefix(alloc, least.serialized_term())?)
-        }
-        Err(_) => Err(TextTermsError::Memory),
-    }
+    let mut least = term_of_path(alloc, at, path)?;
+    least.append_type_and_bytes(value_type, &[])?;
+    Ok(TermRange::of_prefix(alloc, least.serialized_term())?)
 }
 
 // The terms at a path of a kind between two bounds.
@@ -336,7 +313,7 @@ fn push_kind(
 ) -> Result<(), TextTermsError>
     ensures made { OnOk result ((made : List TermRange)
         × AreOfKind at.field (joined_path at.expand_dots path.now)
-        (bound_map (λ text. text.now) start.entry) (bound_map (λ text. text.now) end.entry) kind made
+        (bound_text start.entry) (bound_text end.entry) kind made
         × (ranges.new.items ≡ ranges.old.items ++ made)) }
     ensures memory { IfErr result (λ e. e ≡ Memory) }
 {
@@ -354,12 +331,8 @@ fn ranges_below(
     start: Bound<&str>,
     end: Bound<&str>,
 ) -> Result<Vec<TermRange>, TextTermsError>
-    ensures made { IfOk result (λ ranges. RangesBelow at.field at.expand_dots path.now
-        (bound_map (λ text. text.now) start.entry) (bound_map (λ text. text.now) end.entry)
-        (Ok ranges.items)) }
-    ensures refused { IfErr result (λ e. e ≢ Memory → RangesBelow at.field at.expand_dots path.now
-        (bound_map (λ text. text.now) start.entry) (bound_map (λ text. text.now) end.entry)
-        (Err e)) }
+    ensures { Unless Memory (RangesBelow at.field at.expand_dots path.now
+        (bound_text start.entry) (bound_text end.entry)) (ranges_in result) }
 {
     if path.is_empty() {
         return Err(TextTermsError::PathEnds(at.field));
@@ -387,12 +360,8 @@ fn one_range(
     start: Bound<&str>,
     end: Bound<&str>,
 ) -> Result<Vec<TermRange>, TextTermsError>
-    ensures made { IfOk result (λ ranges. OneRange field field_type.now
-        (bound_map (λ text. text.now) start.entry) (bound_map (λ text. text.now) end.entry)
-        (Ok ranges.items)) }
-    ensures refused { IfErr result (λ e. e ≢ Memory → OneRange field field_type.now
-        (bound_map (λ text. text.now) start.entry) (bound_map (λ text. text.now) end.entry)
-        (Err e)) }
+    ensures { Unless Memory (OneRange field field_type.now
+        (bound_text start.entry) (bound_text end.entry)) (ranges_in result) }
 {
     let mut ranges = Vec::new(alloc);
     match plain_range(alloc, field, field_type, start, end) {
@@ -404,28 +373,50 @@ fn one_range(
     }
 }
 
-// The ranges of a field that is indexed.
-fn typed_ranges(
-    alloc: Global,
-    field: Field,
-    field_type: &FieldType,
-    path: &str,
-    start: Bound<&str>,
-    end: Bound<&str>,
-) -> Result<Vec<TermRange>, TextTermsError>
-    ensures made { IfOk result (λ ranges. RangesInField field field_type.now path.now
-        (bound_map (λ text. text.now) start.entry) (bound_map (λ text. text.now) end.entry)
-        (Ok ranges.items)) }
-    ensures refused { IfErr result (λ e. e ≢ Memory → RangesInField field field_type.now path.now
-        (bound_map (λ text. text.now) start.entry) (bound_map (λ text. text.now) end.entry)
-        (Err e)) }
-{
-    match field_type {
-        FieldType::JsonObject(options) => {
-            let expand_dots = options.is_expand_dots_enabled();
-            ranges_below(alloc, JsonField { field, expand_dots }, path, start, end)
+impl IndexedField<'_, '_> {
+    /// The ranges of terms between two texts of a query: those of `ranges_between_texts`.
+    ///
+    /// Errors: of a path into JSON objects `PathEnds`, `NulInPath`; of other fields `WrongText`; `Backwards`, where the start is above the end;
+    /// or `Memory`.
+    pub fn ranges(
+        &self,
+        alloc: Global,
+        start: Bound<&str>,
+        end: Bound<&str>,
+    ) -> Result<Vec<TermRange>, TextTermsError>
+        ensures { Unless Memory (RangesInField self.now
+            (bound_text start.entry) (bound_text end.entry)) (ranges_in result) }
+    {
+        let field = self.field;
+        match self.field_type {
+            FieldType::JsonObject(options) => {
+                let expand_dots = options.is_expand_dots_enabled();
+                ranges_below(
+                    alloc,
+                    JsonField { field, expand_dots },
+                    self.rest,
+                    start,
+                    end,
+                )
+            }
+            other => one_range(alloc, field, other, start, end),
         }
-        other => one_range(alloc, field, other, start, end),
+    }
+
+    /// The ranges of terms that a text of a query writes, as `[10 TO 20]`: those of `ranges` for its `bounds_of_text`.
+    ///
+    /// Errors: `WrongRange`, exactly where the text writes no bounds; else those of `ranges`.
+    pub fn ranges_of_text(
+        &self,
+        alloc: Global,
+        text: &str,
+    ) -> Result<Vec<TermRange>, TextTermsError>
+        ensures { Unless Memory (RangesOfText self.now text.now) (ranges_in result) }
+    {
+        match bounds_of_text(text) {
+            Some((start, end)) => self.ranges(alloc, start, end),
+            None => Err(wrong_range(alloc, text)),
+        }
     }
 }
 
@@ -445,15 +436,11 @@ pub fn ranges_between_texts(
     start: Bound<&str>,
     end: Bound<&str>,
 ) -> Result<Vec<TermRange>, TextTermsError>
-    ensures made { IfOk result (λ ranges. AnswersBetween schema.now path.now
-        (bound_map (λ text. text.now) start.entry) (bound_map (λ text. text.now) end.entry)
-        (Ok ranges.items)) }
-    ensures refused { IfErr result (λ e. e ≢ Memory → AnswersBetween schema.now path.now
-        (bound_map (λ text. text.now) start.entry) (bound_map (λ text. text.now) end.entry)
-        (Err e)) }
+    ensures { Unless Memory (AnswersBetween schema.now path.now
+        (bound_text start.entry) (bound_text end.entry)) (ranges_in result) }
 {
-    match indexed_field(alloc, schema, path) {
-        Ok(at) => typed_ranges(alloc, at.field, at.field_type, at.rest, start, end),
+    match IndexedField::of(alloc, schema, path) {
+        Ok(at) => at.ranges(alloc, start, end),
         Err(error) => Err(error),
     }
 }
@@ -474,10 +461,7 @@ pub fn ranges_of_text(
     path: &str,
     text: &str,
 ) -> Result<Vec<TermRange>, TextTermsError>
-    ensures made { IfOk result
-        (λ ranges. AnswersRanges schema.now path.now text.now (Ok ranges.items)) }
-    ensures refused { IfErr result
-        (λ e. e ≢ Memory → AnswersRanges schema.now path.now text.now (Err e)) }
+    ensures { Unless Memory (AnswersRanges schema.now path.now text.now) (ranges_in result) }
 {
     match bounds_of_text(text) {
         Some((start, end)) => ranges_between_texts(alloc, schema, path, start, end),

@@ -1,13 +1,77 @@
-//! Terms of values without children.
+//! The values that the terms of values without children stand for, and what stands there for each.
 
-ghost use Rattle.std.specs.Prelude.{◌≡◌, false, IfErr, IfOk, Ok, OnErr};
+ghost use Rattle.std.specs.Prelude.{◌≡◌, false, IfErr, IfOk, IfSome, Ok, OnErr, option_map};
+ghost use Rattle.std.specs.Int.{to_be_bytes, w64};
 ghost use Rattle.tv_indexing.specs.LeafTerms.{HasTerm, leaf_value};
+ghost use Rattle.tv_indexing.specs.Payloads.{part_seen, payload_bytes, value_parts};
+ghost use Rattle.tv_term.specs.Key.{Fits};
 ghost use Rattle.tv_term.specs.declared.term_error.TermError.TheVariants.{Memory};
 ghost use Rattle.tv_value.specs.Lent.{leaf_of};
 
-use tv_term::{TermError, TermWriter};
+use tv_options::{DATE_TIME_PRECISION_INDEXED, Type};
+use tv_term::{FastValue, TermError, TermWriter};
 use tv_value::field::Field;
 use tv_value::leaf::ReferenceValueLeaf;
+
+// The bytes of a value after the code of its type.
+#[derive(Clone, Copy)]
+pub(crate) enum Payload<'a> {
+    Bytes(&'a [u8]),
+    Eight([u8; 8]),
+    Sixteen([u8; 16]),
+}
+
+impl<'a> Payload<'a> {
+    pub(crate) fn as_slice(&self) -> &[u8]
+        ensures { result.now ≡ payload_bytes self.now }
+    {
+        match self {
+            Payload::Bytes(bytes) => bytes,
+            Payload::Eight(bytes) => bytes,
+            Payload::Sixteen(bytes) => bytes,
+        }
+    }
+}
+
+// The eight bytes of a number that stands for a value.
+fn eight<'a, T: FastValue>(value: T) -> Payload<'a>
+    ensures bytes { payload_bytes result ≡ to_be_bytes w64 (T.as_number value) }
+    ensures fits { Fits (T.as_value value) }
+{
+    Payload::Eight(value.to_u64().to_be_bytes())
+}
+
+// The type of the value that the term of a leaf stands for, and what stands after its code, or `None` where the leaf has no term.
+#[inline(always)]
+pub(crate) fn payload_of(leaf: ReferenceValueLeaf<'_>) -> Option<(Type, Payload<'_>)>
+    ensures parts { option_map part_seen result
+        ≡ option_map value_parts (leaf_value (leaf_of leaf.entry)) }
+    ensures fits { IfSome (leaf_value (leaf_of leaf.entry)) Fits }
+{
+    match leaf {
+        ReferenceValueLeaf::Null => None,
+        ReferenceValueLeaf::Str(text) => Some((Type::Str, Payload::Bytes(text.as_bytes()))),
+        ReferenceValueLeaf::U64(number) => Some((Type::U64, eight(number))),
+        ReferenceValueLeaf::I64(number) => Some((Type::I64, eight(number))),
+        ReferenceValueLeaf::Date(date) => {
+            let cut = date.truncate(DATE_TIME_PRECISION_INDEXED);
+            Some((Type::Date, eight(cut)))
+        }
+        ReferenceValueLeaf::Facet(encoded) => Some((
+            Type::Facet,
+            Payload::Bytes(encoded.as_bytes()),
+        )),
+        ReferenceValueLeaf::Bytes(bytes) => Some((Type::Bytes, Payload::Bytes(bytes))),
+        ReferenceValueLeaf::IpAddr(address) => {
+            let number = address.to_bits();
+            Some((Type::IpAddr, Payload::Sixteen(number.to_be_bytes())))
+        }
+        ReferenceValueLeaf::Bool(truth) => Some((Type::Bool, eight(truth))),
+        ReferenceValueLeaf::PreTokStr(text) => {
+            Some((Type::Str, Payload::Bytes(text.text().as_bytes())))
+        }
+    }
+}
 
 /// Makes the term of a value without children, as it is indexed, and says whether there is one: null has none. A text is whole, a text
 /// with tokens has the term of its text, and a date is cut to the second. (Not in tantivy.)
@@ -23,17 +87,9 @@ pub fn write_leaf(
     ensures unchanged { OnErr result (writer.new ≡ writer.old) }
     ensures memory { IfErr result (λ error. error ≡ Memory) }
 {
-    match leaf {
-        ReferenceValueLeaf::Null => return Ok(false),
-        ReferenceValueLeaf::Str(text) => writer.write_text(field, text)?,
-        ReferenceValueLeaf::U64(number) => writer.write_u64(field, number)?,
-        ReferenceValueLeaf::I64(number) => writer.write_i64(field, number)?,
-        ReferenceValueLeaf::Date(date) => writer.write_date_for_search(field, date)?,
-        ReferenceValueLeaf::Facet(encoded) => writer.write_encoded_facet(field, encoded)?,
-        ReferenceValueLeaf::Bytes(bytes) => writer.write_bytes(field, bytes)?,
-        ReferenceValueLeaf::IpAddr(address) => writer.write_ip_addr(field, address)?,
-        ReferenceValueLeaf::Bool(truth) => writer.write_bool(field, truth)?,
-        ReferenceValueLeaf::PreTokStr(text) => writer.write_text(field, text.text())?,
-    }
+    let Some((value_type, payload)) = payload_of(leaf) else {
+        return Ok(false);
+    };
+    writer.write_value_bytes(field, value_type, payload.as_slice())?;
     Ok(true)
 }

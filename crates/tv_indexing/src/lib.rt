@@ -2,16 +2,13 @@
 #![tactic(auto)]
 
 pub mod document;
-pub mod fault;
-mod indexed_field;
+pub mod indexed_field;
 mod json;
 mod json_bounds;
 mod json_leaf;
 pub mod json_ranges;
-mod key_path;
 pub mod laws;
 pub mod leaf;
-mod payload;
 mod plain;
 mod term_buffer;
 pub mod term_list;
@@ -20,10 +17,11 @@ pub mod term_values_error;
 pub mod text_range;
 pub mod text_terms;
 pub mod text_terms_error;
-pub mod visit;
 
-pub use document::{is_among, term_values, term_values_of_fields, visit_terms};
-pub use fault::term_fault;
+pub use document::{
+    TermVisitor, is_among, term_fault, term_values, term_values_of_fields, visit_terms,
+};
+pub use indexed_field::IndexedField;
 pub use json_ranges::{ranges_between_texts, ranges_of_text};
 pub use leaf::write_leaf;
 pub use term_list::{TermIter, TermList};
@@ -32,4 +30,3 @@ pub use term_values_error::TermValuesError;
 pub use text_range::{bounds_of_text, range_between_texts, range_of_text};
 pub use text_terms::terms_of_text;
 pub use text_terms_error::TextTermsError;
-pub use visit::TermVisitor;

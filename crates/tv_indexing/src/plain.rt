@@ -10,10 +10,10 @@ ghost use Rattle.tv_indexing.specs.declared.term_values_error.TermValuesError.Th
 ghost use Rattle.tv_term.specs.Key.{Fits};
 ghost use Rattle.tv_value.specs.Lent.{leaf_of};
 
-use crate::payload::{Payload, payload_of};
+use crate::document::TermVisitor;
+use crate::leaf::{Payload, payload_of};
 use crate::term_buffer::TermBuffer;
 use crate::term_values_error::TermValuesError;
-use crate::visit::TermVisitor;
 use tv_heap::value::CompactDocValue;
 use tv_options::Type;
 use tv_value::field::Field;

@@ -1,15 +1,16 @@
 //! The bytes of the term that is made.
 
-ghost use Rattle.std.specs.Prelude.{◌≡◌, ◌≤◌, ◌++◌, ◌∷◌, [], drop, length, OnErr, OnOk, take};
+ghost use Rattle.std.specs.Prelude.{◌≡◌, ◌≤◌, ◌++◌, ◌∷◌, [], drop, length, map, OnErr, OnOk, take};
+ghost use Rattle.std.specs.Prelude.{true};
 ghost use Rattle.std.specs.Int.{to_be_bytes, w32};
+ghost use Rattle.tv_base.specs.JsonPath.{expanded};
 ghost use Rattle.tv_indexing.specs.JsonWalk.{separated};
 ghost use Rattle.tv_indexing.specs.KeyBytes.{keys_held};
 ghost use Rattle.tv_indexing.specs.Visits.{Takes};
 ghost use Rattle.tv_options.specs.Types.{code};
 ghost use Rattle.tv_options.specs.declared.types.TypeTag.TheVariants.{Json};
 
-use crate::key_path::push_bytes;
-use crate::visit::TermVisitor;
+use crate::document::TermVisitor;
 use std::alloc::{AllocError, Global};
 use std::marker::Model;
 use tv_options::Type;
@@ -163,4 +164,33 @@ fn put_value(bytes: &mut Vec<u8>, value_type: Type, payload: &[u8]) -> Result<()
     bytes.push(0)?;
     bytes.push(value_type.to_code())?;
     bytes.extend_from_slice(payload)
+}
+
+// U+0001 for a dot, and any other byte as it is.
+fn part_dot(byte: u8) -> u8
+    ensures { result ≡ expanded true byte }
+{
+    if byte == b'.' { 1 } else { byte }
+}
+
+// Makes U+0001 of each dot.
+fn part_dots(bytes: &mut [u8])
+    ensures { bytes.new ≡ map (expanded true) bytes.old }
+{
+    for byte in bytes.iter_mut() {
+        *byte = part_dot(*byte);
+    }
+}
+
+// Appends U+0001 and the bytes of a key. Errors: memory was refused, and then a beginning of them may be appended.
+fn push_bytes(path: &mut Vec<u8>, key: &str, expand_dots: bool) -> Result<(), AllocError>
+    ensures { OnOk result (path.new.items ≡ path.old.items ++ separated expand_dots key.now) }
+{
+    path.push(1)?;
+    let start = path.len();
+    path.extend_from_slice(key.as_bytes())?;
+    if expand_dots {
+        part_dots(&mut path.as_mut_slice()[start..]);
+    }
+    Ok(())
 }

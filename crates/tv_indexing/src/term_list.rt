@@ -11,7 +11,7 @@ ghost use Rattle.std.specs.Ordering.{nat_cmp};
 ghost use Rattle.tv_indexing.specs.TermPlaces.{bytes_at, end_of, place};
 ghost use Rattle.tv_term.specs.Making.{OnlyMemory};
 
-use crate::visit::TermVisitor;
+use crate::document::TermVisitor;
 use std::alloc::{AllocError, Global};
 use std::cmp::Ordering;
 use std::fmt;

@@ -1,24 +1,24 @@
 //! Ranges of terms between texts of queries, by the types of their fields.
 
-ghost use Rattle.std.specs.Prelude.{◌≡◌, ◌≢◌, List, ℕ, Ok, Err, IfErr, IfOk, MatchOption};
+ghost use Rattle.std.specs.Prelude.{◌≡◌, List, ℕ, IfOk, MatchOption};
 ghost use Rattle.std.specs.Option.{option_copied};
-ghost use Rattle.std.specs.Range.Bound.{bound_map};
 ghost use Rattle.std.specs.declared.ops.Bound.{Bound};
-ghost use Rattle.std.specs.declared.ops.Bound.TheVariants.{Included};
-ghost use Rattle.tv_format.specs.Tree.{Leaf};
-ghost use Rattle.tv_indexing.specs.TextRange.{AnswersBounds, RangeOfTexts, AnswersRange, RangeInField};
-ghost use Rattle.tv_indexing.specs.TextRange.{IsEndBound, IsStartBound, RefusesBound, WritesBound};
-ghost use Rattle.tv_indexing.specs.TextRange.{WritesBounds, WritesTerm, bound_of, bounding};
-ghost use Rattle.tv_indexing.specs.TextRange.{bytes_run_backwards, outer_bound};
+ghost use Rattle.tv_indexing.specs.TextRange.{AnswersBounds, AnswersRange, AreTermsOfBound};
+ghost use Rattle.tv_indexing.specs.TextRange.{BelowInField, EndsBelow, IsEndBound, IsStartBound};
+ghost use Rattle.tv_indexing.specs.TextRange.{IsTermOfText, RangeInField, RangeOfTexts};
+ghost use Rattle.tv_indexing.specs.TextRange.{RangeWithBelow, WritesBounds, bound_of, bound_text};
+ghost use Rattle.tv_indexing.specs.TextRange.{bounding, bytes_run_backwards, outer_bound};
+ghost use Rattle.tv_indexing.specs.Unless.{Unless};
 ghost use Rattle.tv_indexing.specs.declared.text_terms_error.TextTermsError.TheVariants.{Memory};
 ghost use Rattle.tv_term.specs.Key.{IsTerm, TermValue};
 ghost use Rattle.tv_term.specs.Range.{AreTermsOf};
 
-use crate::indexed_field::indexed_field;
+use crate::indexed_field::IndexedField;
 use crate::leaf::write_leaf;
 use crate::text_terms_error::{TextTermsError, wrong_range, wrong_text};
-use std::alloc::Global;
+use std::alloc::{AllocError, Global};
 use std::ops::Bound;
+use tv_base::FACET_SEP_BYTE;
 use tv_field::field_type::FieldType;
 use tv_field::json_value::{JsonRefusal, JsonScratch, lend_text};
 use tv_schema::Schema;
@@ -32,10 +32,7 @@ fn term_of_text(
     field_type: &FieldType,
     text: &str,
 ) -> Result<Term, TextTermsError>
-    ensures made { IfOk result (λ term. (l : Leaf) × (value : TermValue)
-        × WritesTerm field_type.now text.now l value × IsTerm term field.id value) }
-    ensures refused { IfErr result
-        (λ e. e ≢ Memory → RefusesBound field field_type.now (Included text.now) e) }
+    ensures { Unless Memory (IsTermOfText field field_type.now text.now) result }
 {
     let mut scratch = JsonScratch::new(alloc);
     let leaf = match lend_text(field_type, text, &mut scratch) {
@@ -74,11 +71,7 @@ fn term_of_bound(
     field_type: &FieldType,
     bound: Bound<&str>,
 ) -> Result<Bound<Term>, TextTermsError>
-    ensures made { IfOk result (λ term. (value : Bound TermValue)
-        × WritesBound field_type.now (bound_map (λ text. text.now) bound.entry) value
-        × AreTermsOf field.id value term) }
-    ensures refused { IfErr result (λ e. e ≢ Memory
-        → RefusesBound field field_type.now (bound_map (λ text. text.now) bound.entry) e) }
+    ensures { Unless Memory (AreTermsOfBound field field_type.now (bound_text bound.entry)) result }
 {
     match bound {
         Bound::Included(text) => {
@@ -123,12 +116,8 @@ pub(crate) fn plain_range(
     start: Bound<&str>,
     end: Bound<&str>,
 ) -> Result<TermRange, TextTermsError>
-    ensures made { IfOk result (λ range. RangeOfTexts field field_type.now
-        (bound_map (λ text. text.now) start.entry) (bound_map (λ text. text.now) end.entry)
-        (Ok range)) }
-    ensures refused { IfErr result (λ e. e ≢ Memory → RangeOfTexts field field_type.now
-        (bound_map (λ text. text.now) start.entry) (bound_map (λ text. text.now) end.entry)
-        (Err e)) }
+    ensures { Unless Memory (RangeOfTexts field field_type.now
+        (bound_text start.entry) (bound_text end.entry)) result }
 {
     let first = term_of_bound(alloc, field, field_type, start)?;
     let last = match term_of_bound(alloc, field, field_type, end) {
@@ -144,24 +133,68 @@ pub(crate) fn plain_range(
     }
 }
 
-// The terms of a field that is indexed between two texts.
-fn typed_range(
+// Where the terms end that begin with the term of a value and are of that value or of one below it. The term of a facet that is below another
+// one, which isn't the root, has a separator after the bytes of that.
+fn end_of_below(field_type: &FieldType, term: Term) -> Result<Bound<Term>, AllocError>
+    ensures { IfOk result (EndsBelow field_type.now term) }
+{
+    if !matches!(field_type, FieldType::Facet(_)) {
+        return Ok(Bound::Included(term));
+    }
+    if term.is_empty() {
+        return Ok(Bound::Unbounded);
+    }
+    let mut end = term;
+    end.append_bytes(&[FACET_SEP_BYTE + 1])?;
+    Ok(Bound::Excluded(end))
+}
+
+// The terms of the value that a text is to a field that isn't of JSON objects, and of those below it.
+fn range_with_below(
     alloc: Global,
     field: Field,
     field_type: &FieldType,
-    start: Bound<&str>,
-    end: Bound<&str>,
+    text: &str,
 ) -> Result<TermRange, TextTermsError>
-    ensures made { IfOk result (λ range. RangeInField field field_type.now
-        (bound_map (λ text. text.now) start.entry) (bound_map (λ text. text.now) end.entry)
-        (Ok range)) }
-    ensures refused { IfErr result (λ e. e ≢ Memory → RangeInField field field_type.now
-        (bound_map (λ text. text.now) start.entry) (bound_map (λ text. text.now) end.entry)
-        (Err e)) }
+    ensures { Unless Memory (RangeWithBelow field field_type.now text.now) result }
 {
-    match field_type {
-        FieldType::JsonObject(_) => Err(TextTermsError::NoRange(field)),
-        other => plain_range(alloc, field, other, start, end),
+    let term = term_of_text(alloc, field, field_type, text)?;
+    let all = TermRange::of_prefix(alloc, term.serialized_term())?;
+    let end = end_of_below(field_type, term)?;
+    Ok(all.between(Bound::Unbounded, end)?)
+}
+
+impl IndexedField<'_, '_> {
+    /// The range of the field's terms between two texts of a query: that of `range_between_texts`.
+    ///
+    /// Errors: `NoRange`; `WrongText`, for the start before the end; `Backwards`, where the start is above the end; or `Memory`.
+    pub fn range(
+        &self,
+        alloc: Global,
+        start: Bound<&str>,
+        end: Bound<&str>,
+    ) -> Result<TermRange, TextTermsError>
+        ensures { Unless Memory
+            (RangeInField self.now (bound_text start.entry) (bound_text end.entry)) result }
+    {
+        match self.field_type {
+            FieldType::JsonObject(_) => Err(TextTermsError::NoRange(self.field)),
+            other => plain_range(alloc, self.field, other, start, end),
+        }
+    }
+
+    /// The range of the term of a text of a query and of the terms below it: in a field of facets those of the facets that have the steps of this one
+    /// and more, as tantivy finds documents by a facet above theirs. In a field of another type no value is below another one, and the range has
+    /// the text's own term.
+    ///
+    /// Errors: `NoRange`, exactly where the field is of JSON objects; `WrongText`; or `Memory`.
+    pub fn below(&self, alloc: Global, text: &str) -> Result<TermRange, TextTermsError>
+        ensures { Unless Memory (BelowInField self.now text.now) result }
+    {
+        match self.field_type {
+            FieldType::JsonObject(_) => Err(TextTermsError::NoRange(self.field)),
+            other => range_with_below(alloc, self.field, other, text),
+        }
     }
 }
 
@@ -179,22 +212,18 @@ pub fn range_between_texts(
     start: Bound<&str>,
     end: Bound<&str>,
 ) -> Result<TermRange, TextTermsError>
-    ensures made { IfOk result (λ range. AnswersBounds schema.now path.now
-        (bound_map (λ text. text.now) start.entry) (bound_map (λ text. text.now) end.entry)
-        (Ok range)) }
-    ensures refused { IfErr result (λ e. e ≢ Memory → AnswersBounds schema.now path.now
-        (bound_map (λ text. text.now) start.entry) (bound_map (λ text. text.now) end.entry)
-        (Err e)) }
+    ensures { Unless Memory (AnswersBounds schema.now path.now
+        (bound_text start.entry) (bound_text end.entry)) result }
 {
-    match indexed_field(alloc, schema, path) {
-        Ok(at) => typed_range(alloc, at.field, at.field_type, start, end),
+    match IndexedField::of(alloc, schema, path) {
+        Ok(at) => at.range(alloc, start, end),
         Err(error) => Err(error),
     }
 }
 
 // A bound, unless the text is `*`.
 fn bound_of(is_within: bool, text: &str) -> Bound<&str>
-    ensures { bound_map (λ text. text.now) result ≡ bound_of is_within text.now }
+    ensures { bound_text result ≡ bound_of is_within text.now }
 {
     if text == "*" {
         return Bound::Unbounded;
@@ -209,7 +238,7 @@ fn bound_of(is_within: bool, text: &str) -> Bound<&str>
 // The bound after its bracket.
 fn start_of_range(text: &str) -> Option<Bound<&str>>
     ensures { MatchOption result ((start : Bound (List ℕ)) → ¬ IsStartBound text.now start)
-        (λ start. IsStartBound text.now (bound_map (λ text. text.now) start)) }
+        (λ start. IsStartBound text.now (bound_text start)) }
 {
     if let Some(inner) = text.strip_prefix("[") {
         return Some(bound_of(true, inner));
@@ -223,7 +252,7 @@ fn start_of_range(text: &str) -> Option<Bound<&str>>
 // The bound before its bracket.
 fn end_of_range(text: &str) -> Option<Bound<&str>>
     ensures { MatchOption result ((end : Bound (List ℕ)) → ¬ IsEndBound text.now end)
-        (λ end. IsEndBound text.now (bound_map (λ text. text.now) end)) }
+        (λ end. IsEndBound text.now (bound_text end)) }
 {
     if let Some(inner) = text.strip_suffix("]") {
         return Some(bound_of(true, inner));
@@ -239,8 +268,8 @@ fn end_of_range(text: &str) -> Option<Bound<&str>>
 /// and are as they stand there. `None` where the text is none of these.
 pub fn bounds_of_text(text: &str) -> Option<(Bound<&str>, Bound<&str>)>
     ensures { MatchOption result ((start end : Bound (List ℕ)) → ¬ WritesBounds text.now start end)
-        (λ bounds. WritesBounds text.now (bound_map (λ text. text.now) bounds.0)
-        (bound_map (λ text. text.now) bounds.1)) }
+        (λ bounds. WritesBounds text.now (bound_text bounds.0)
+        (bound_text bounds.1)) }
 {
     if text == "*" {
         return Some((Bound::Unbounded, Bound::Unbounded));
@@ -273,9 +302,7 @@ pub fn range_of_text(
     path: &str,
     text: &str,
 ) -> Result<TermRange, TextTermsError>
-    ensures made { IfOk result (λ range. AnswersRange schema.now path.now text.now (Ok range)) }
-    ensures refused { IfErr result
-        (λ e. e ≢ Memory → AnswersRange schema.now path.now text.now (Err e)) }
+    ensures { Unless Memory (AnswersRange schema.now path.now text.now) result }
 {
     match bounds_of_text(text) {
         Some((start, end)) => range_between_texts(alloc, schema, path, start, end),

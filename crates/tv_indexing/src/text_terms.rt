@@ -12,14 +12,15 @@ ghost use Rattle.tv_indexing.specs.LeafTerms.{json_value, leaf_value};
 ghost use Rattle.tv_indexing.specs.TextTerms.{TermsBelow, TermOfText, AnswersText, TermsInField};
 ghost use Rattle.tv_indexing.specs.TextTerms.{AppendsAnswer, WritesLeaves, WritesNumber};
 ghost use Rattle.tv_indexing.specs.TextTerms.{date_written_in, leaves_terms, listed};
+ghost use Rattle.tv_indexing.specs.Unless.{Unless};
 ghost use Rattle.tv_indexing.specs.declared.term_values_error.TermValuesError.TheVariants as values;
 ghost use Rattle.tv_indexing.specs.declared.text_terms_error.TextTermsError.TheVariants.{Memory};
 ghost use Rattle.tv_term.specs.Key.{Fits};
 ghost use Rattle.tv_value.specs.Lent.{leaf_of};
 
-use crate::indexed_field::indexed_field;
+use crate::indexed_field::IndexedField;
+use crate::json::JsonField;
 use crate::json_leaf::visit_json_leaf;
-use crate::key_path::JsonField;
 use crate::plain::visit_leaf;
 use crate::term_buffer::TermBuffer;
 use crate::term_list::TermList;
@@ -116,10 +117,8 @@ fn push_text_below(
     path: &str,
     text: &str,
 ) -> Result<(), TextTermsError>
-    ensures made { OnOk result (AppendsAnswer (TermsBelow at.field at.expand_dots path.now text.now)
-        terms.old terms.new) }
-    ensures refused { IfErr result
-        (λ e. e ≢ Memory → TermsBelow at.field at.expand_dots path.now text.now (Err e)) }
+    ensures answers { Unless Memory (AppendsAnswer
+        (TermsBelow at.field at.expand_dots path.now text.now) terms.old terms.new) result }
     ensures kept { OnErr result (Extends terms.old terms.new) }
 {
     if path.is_empty() {
@@ -167,10 +166,8 @@ fn push_plain_text(
     field_type: &FieldType,
     text: &str,
 ) -> Result<(), TextTermsError>
-    ensures made { OnOk result (AppendsAnswer (TermOfText field field_type.now text.now)
-        terms.old terms.new) }
-    ensures refused { IfErr result
-        (λ e. e ≢ Memory → TermOfText field field_type.now text.now (Err e)) }
+    ensures answers { Unless Memory (AppendsAnswer
+        (TermOfText field field_type.now text.now) terms.old terms.new) result }
     ensures unchanged { OnErr result (terms.new ≡ terms.old) }
 {
     let mut scratch = JsonScratch::new(alloc);
@@ -185,47 +182,55 @@ fn push_plain_text(
     }
 }
 
-// Appends the terms of a text in a field that is indexed. After an error a beginning of them may be appended.
-fn push_typed(
-    alloc: Global,
-    terms: &mut TermList,
-    field: Field,
-    field_type: &FieldType,
-    path: &str,
-    text: &str,
-) -> Result<(), TextTermsError>
-    ensures made { OnOk result (AppendsAnswer (TermsInField field field_type.now path.now text.now)
-        terms.old terms.new) }
-    ensures refused { IfErr result
-        (λ e. e ≢ Memory → TermsInField field field_type.now path.now text.now (Err e)) }
-    ensures kept { OnErr result (Extends terms.old terms.new) }
-{
-    match field_type {
-        FieldType::JsonObject(options) => {
-            let expand_dots = options.is_expand_dots_enabled();
-            push_text_below(alloc, terms, JsonField { field, expand_dots }, path, text)
+impl IndexedField<'_, '_> {
+    // Appends the terms of a text. After an error a beginning of them may be appended.
+    fn push_text(
+        &self,
+        alloc: Global,
+        text: &str,
+        terms: &mut TermList,
+    ) -> Result<(), TextTermsError>
+        ensures answers { Unless Memory
+            (AppendsAnswer (TermsInField self.now text.now) terms.old terms.new) result }
+        ensures kept { OnErr result (Extends terms.old terms.new) }
+    {
+        let field = self.field;
+        match self.field_type {
+            FieldType::JsonObject(options) => {
+                let expand_dots = options.is_expand_dots_enabled();
+                push_text_below(
+                    alloc,
+                    terms,
+                    JsonField { field, expand_dots },
+                    self.rest,
+                    text,
+                )
+            }
+            other => push_plain_text(alloc, terms, field, other, text),
         }
-        other => push_plain_text(alloc, terms, field, other, text),
     }
-}
 
-// Appends the terms of a text at what a path names. After an error a beginning of them may be appended.
-fn push_text(
-    alloc: Global,
-    schema: &Schema,
-    path: &str,
-    text: &str,
-    terms: &mut TermList,
-) -> Result<(), TextTermsError>
-    ensures made { OnOk result (AppendsAnswer (AnswersText schema.now path.now text.now)
-        terms.old terms.new) }
-    ensures refused { IfErr result
-        (λ e. e ≢ Memory → AnswersText schema.now path.now text.now (Err e)) }
-    ensures kept { OnErr result (Extends terms.old terms.new) }
-{
-    match indexed_field(alloc, schema, path) {
-        Ok(at) => push_typed(alloc, terms, at.field, at.field_type, at.rest, text),
-        Err(error) => Err(error),
+    /// Appends the terms of a text of a query: those of `terms_of_text`.
+    ///
+    /// Errors: `PathEnds`, `NulInPath`, `WrongText`; or `Memory`. After each the list is as it was.
+    pub fn terms(
+        &self,
+        alloc: Global,
+        text: &str,
+        terms: &mut TermList,
+    ) -> Result<(), TextTermsError>
+        ensures answers { Unless Memory
+            (AppendsAnswer (TermsInField self.now text.now) terms.old terms.new) result }
+        ensures unchanged { OnErr result (terms.new ≡ terms.old) }
+    {
+        let len = terms.len();
+        match self.push_text(alloc, text, terms) {
+            Ok(()) => Ok(()),
+            Err(error) => {
+                terms.truncate(len);
+                Err(error)
+            }
+        }
     }
 }
 
@@ -253,18 +258,12 @@ pub fn terms_of_text(
     text: &str,
     terms: &mut TermList,
 ) -> Result<(), TextTermsError>
-    ensures made { OnOk result (AppendsAnswer (AnswersText schema.now path.now text.now)
-        terms.old terms.new) }
-    ensures refused { IfErr result
-        (λ e. e ≢ Memory → AnswersText schema.now path.now text.now (Err e)) }
+    ensures answers { Unless Memory
+        (AppendsAnswer (AnswersText schema.now path.now text.now) terms.old terms.new) result }
     ensures unchanged { OnErr result (terms.new ≡ terms.old) }
 {
-    let len = terms.len();
-    match push_text(alloc, schema, path, text, terms) {
-        Ok(()) => Ok(()),
-        Err(error) => {
-            terms.truncate(len);
-            Err(error)
-        }
+    match IndexedField::of(alloc, schema, path) {
+        Ok(at) => at.terms(alloc, text, terms),
+        Err(error) => Err(error),
     }
 }

@@ -1,7 +1,17 @@
-pub mod Cutting
-pub mod LineSteps
-pub mod Progress
-pub mod Refusing
-pub mod ReadingBack
-pub mod Refused
-pub mod Halting
+mod Checks
+mod Cutting
+mod Finds
+mod Halting
+mod LineSteps
+mod Lines
+mod Merging
+pub mod Prints
+mod Progress
+mod ReadingBack
+mod Refused
+mod RefusedValues
+mod Refusing
+mod RunPairs
+mod Taking
+mod Told
+pub mod WholeImports

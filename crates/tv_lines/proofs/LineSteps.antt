@@ -1,11 +1,15 @@
 -- How a line is taken in pieces, and that any input has lines and answers.
-use Rattle.std.proofs.Common.{◌≡◌, ◌≢◌, ℕ, Bool, true, false, List, [], ◌∷◌, ◌++◌, refl, sym, ap, ◌∙◌, subst, append_assoc}
+use Rattle.std.proofs.Common.{◌≡◌, ◌≢◌, ◌==◌, ℕ, Bool, true, false, List, [], ◌∷◌, ◌++◌, Option, Some, None, ◌+◌, length, refl, sym, ap, ◌∙◌, subst, append_assoc, append-nil, arith, length-append}
 use borrow.Author.Tests.{eqb-true, eqb-false}
 use Rattle.std.proofs.Math.Dec.{eqb}
 use Rattle.tv_lines.specs.Lines.{IsUnbroken, FirstLine, Lines}
 use Rattle.tv_lines.specs.Lines.FirstLine.{ended, unended}
 use Rattle.tv_lines.specs.Lines.Lines.{no_lines, next_line}
-use Rattle.tv_lines.specs.Reader.{TakesLine}
+use Rattle.tv_lines.specs.Reader.{MovesLine, TakesLine}
+
+feed_there : (line rest : List ℕ) {input : List ℕ} → input ≡ line ++ 10 ∷ rest → input ≢ []
+feed_there [] rest is = λ e. cc
+feed_there (b ∷ bs) rest is = λ e. cc
 
 pub unbroken-append : (xs ys : List ℕ) → IsUnbroken xs → IsUnbroken ys → IsUnbroken (xs ++ ys)
 unbroken-append [] ys g h = h
@@ -13,13 +17,46 @@ unbroken-append (x ∷ xs) ys g h = (g.0, unbroken-append xs ys g.1 h)
 
 -- ---- taking a line
 
-pub cut-more : (input line line' unread left unread' left' : List ℕ) → input ≡ line ++ (unread ++ left) → line' ≡ line ++ unread → left ≡ unread' ++ left' → input ≡ line' ++ (unread' ++ left')
-cut-more input line line' unread left unread' left' cut moved filled = cut ∙ ap (λ (l : List ℕ). line ++ (unread ++ l)) filled ∙ sym (append_assoc line unread (unread' ++ left')) ∙ ap (λ (l : List ℕ). l ++ (unread' ++ left')) (sym moved)
+-- nothing of the line was moved, or more of it: what is left of the input
+pub cut-more : (input line line' ready ready' left : List ℕ) → input ≡ line ++ ready → MovesLine ready ready' line line' false → ready' ≡ left → input ≡ line' ++ left
+cut-more input line line' ready ready' left cut moves is =
+    cut ∙ ap (λ (l : List ℕ). line ++ l) moves.2 ∙ sym (append_assoc line moves.0 ready') ∙ ap (λ (l : List ℕ). l ++ ready') (sym moves.3) ∙ ap (λ (l : List ℕ). line' ++ l) is
 
--- the first line, whether there is one or not
-pub first_of : (input line rest : List ℕ) (more : Bool) → TakesLine input line rest more → FirstLine input line rest
-first_of input line rest true takes = takes.1
-first_of input line rest false takes = unended (subst IsUnbroken (sym takes.1) tt) (takes.0 ∙ sym takes.1) takes.2
+-- the line ends at a line feed
+pub line-ended : (input line line' ready rest : List ℕ) (count : ℕ) → IsUnbroken line → input ≡ line ++ ready → MovesLine ready rest line line' true → count ≡ length line' + 1 → TakesLine input line' rest (Some count)
+line-ended input line line' ready rest count unbroken cut moves long =
+    let is : input ≡ line' ++ 10 ∷ rest = cut ∙ ap (λ (l : List ℕ). line ++ l) moves.2 ∙ sym (append_assoc line moves.0 (10 ∷ rest)) ∙ ap (λ (l : List ℕ). l ++ 10 ∷ rest) (sym moves.3) in (
+      feed_there line' rest is,
+      ended (subst IsUnbroken (sym moves.3) (unbroken-append line moves.0 unbroken moves.1)) is,
+      omega (arith, long, ap length is, length-append line' (10 ∷ rest)),
+    )
+
+-- what was read is what was left, also where nothing was
+pub more-read : (mid left read left' : List ℕ) → mid ≡ [] → left ≡ read ++ left' → mid ++ left ≡ read ++ left'
+more-read mid left read left' none is = ap (λ (l : List ℕ). l ++ left) none ∙ is
+
+pub all-read : (mid left read left' : List ℕ) → mid ≡ [] → left ≡ [] → read ≡ [] → left' ≡ [] → mid ++ left ≡ read ++ left'
+all-read mid left read left' none gone unread nothing_left = ap (λ (l : List ℕ). l ++ left) none ∙ gone ∙ sym nothing_left ∙ ap (λ (l : List ℕ). l ++ left') (sym unread)
+
+pub nothing : (read left : List ℕ) → read ≡ [] → left ≡ [] → read ++ left ≡ []
+nothing read left unread gone = ap (λ (l : List ℕ). l ++ left) unread ∙ gone
+
+pub is_empty : (l : List ℕ) (n : ℕ) → length l ≡ n → true ≡ (n == 0) → l ≡ []
+is_empty [] n long test = refl
+is_empty (b ∷ bs) n long test = let none : n ≡ 0 = eqb-true n 0 (sym test) in absurd (omega (arith, none, long))
+
+pub not_empty : (l : List ℕ) (n : ℕ) → length l ≡ n → false ≡ (n == 0) → l ≢ []
+not_empty [] n long test = absurd (eqb-false n 0 (sym test) (sym long))
+not_empty (b ∷ bs) n long test = λ none. cc
+
+-- the line ends with the input, if there is one
+pub line-unended : (input line rest : List ℕ) (count : ℕ) → IsUnbroken line → input ≡ line ++ rest → rest ≡ [] → line ≢ [] → count ≡ length line → TakesLine input line rest (Some count)
+line-unended input line rest count unbroken cut none some long =
+    let is : input ≡ line = cut ∙ ap (λ (l : List ℕ). line ++ l) none ∙ append-nil line in
+    ((λ e. some (sym is ∙ e)), unended unbroken is none, omega (arith, long, ap length is, ap length none))
+
+pub no-line : (input line rest : List ℕ) → input ≡ line ++ rest → rest ≡ [] → line ≡ [] → TakesLine input line rest None
+no-line input line rest cut none is = (cut ∙ ap (λ (l : List ℕ). line ++ l) none ∙ append-nil line ∙ is, is, none)
 
 -- ---- any input has lines
 

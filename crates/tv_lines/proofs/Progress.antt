@@ -1,5 +1,5 @@
 -- What was answered so far, and what a run that breaks off leaves.
-use Rattle.std.proofs.Common.{◌≡◌, ℕ, true, false, Result, Ok, Err, List, [], ◌∷◌, ◌++◌, refl, sym, ap, ◌∙◌, subst, append_assoc, inl, inr}
+use Rattle.std.proofs.Common.{◌≡◌, ℕ, Option, Some, None, Result, Ok, Err, List, [], ◌∷◌, ◌++◌, refl, sym, ap, ◌∙◌, subst, append_assoc, inl, inr}
 use lib.Chars.{codes}
 use Rattle.std.specs.Prelude.{OnErr}
 use Rattle.std.proofs.lemmas.List.{append-nil}
@@ -8,7 +8,8 @@ use Rattle.tv_lines.specs.Answers.{Answer, AreAnswers, ReadsSchema, SchemaRefusa
 use Rattle.tv_lines.specs.Answers.Answer.{no_memory}
 use Rattle.tv_lines.specs.Answers.AreAnswers.{no_answers, next_answer}
 use Rattle.tv_lines.specs.Answers.SchemaRefusal.{no_memory as no_schema_memory}
-use Rattle.tv_lines.specs.Lines.{FirstLine}
+use Rattle.tv_lines.specs.Lines.{FirstLine, IsUnbroken}
+use Rattle.tv_lines.specs.Lines.FirstLine.{unended}
 use Rattle.tv_lines.specs.Lines.Lines.{no_lines, next_line}
 use Rattle.tv_lines.specs.Reader.{TakesLine}
 use Rattle.tv_lines.specs.Run.{AnswersOf, BrokenText, PrefixOf, IsEnded, WritesText}
@@ -38,28 +39,28 @@ pub record Answered (schema : List Entry) (input pending before held : List ℕ)
   pub follows : (text : List ℕ) → AnswersOf schema pending text → AnswersOf schema input (done ++ text)
 
 -- the answers after this one
-behind_answer : {schema : List Entry} {pending line rest answer : List ℕ} → TakesLine pending line rest true → Answer schema line answer
+behind_answer : {schema : List Entry} {pending line rest answer : List ℕ} (count : ℕ) → TakesLine pending line rest (Some count) → Answer schema line answer
     → (text : List ℕ) → AnswersOf schema rest text → AnswersOf schema pending (answer ++ 10 ∷ text)
-behind_answer takes answer text more = (_ ∷ more.0, next_line takes.0 takes.1 more.1, next_answer answer more.2)
+behind_answer count takes answer text more = (_ ∷ more.0, next_line takes.0 takes.1 more.1, next_answer answer more.2)
 
 with_feed : (done answer text : List ℕ) → (done ++ (answer ++ 10 ∷ [])) ++ text ≡ done ++ (answer ++ 10 ∷ text)
 with_feed done answer text = append_assoc done (answer ++ 10 ∷ []) text ∙ ap (λ (l : List ℕ). done ++ l) (append_assoc answer (10 ∷ []) text)
 
-pub Answered-step : {schema : List Entry} {input pending before held line rest text held' : List ℕ} → Answered schema input pending before held → TakesLine pending line rest true
+pub Answered-step : {schema : List Entry} {input pending before held line rest text held' : List ℕ} (count : ℕ) → Answered schema input pending before held → TakesLine pending line rest (Some count)
     → IsEnded (Answer schema line) text → held' ≡ held ++ text → Answered schema input rest before held'
-Answered-step {schema = schema} {input = input} {before = before} {text = text} h takes ends e = record {
+Answered-step {schema = schema} {input = input} {before = before} {text = text} count h takes ends e = record {
   done = h.done ++ text;
   holds = e ∙ ap (λ (l : List ℕ). l ++ text) h.holds ∙ append_assoc before h.done text;
   follows = λ more answers.
       subst (λ (l : List ℕ). AnswersOf schema input l)
       (sym (ap (λ (l : List ℕ). (h.done ++ l) ++ more) ends.2 ∙ with_feed h.done ends.0 more))
-      (h.follows (ends.0 ++ 10 ∷ more) (behind_answer takes ends.1 more answers));
+      (h.follows (ends.0 ++ 10 ∷ more) (behind_answer count takes ends.1 more answers));
 }
 
 no_more : {schema : List Entry} {pending : List ℕ} → pending ≡ [] → AnswersOf schema pending []
 no_more {schema = schema} e = subst (λ (l : List ℕ). AnswersOf schema l []) (sym e) ([], no_lines, no_answers)
 
-pub Answered-ends : {schema : List Entry} {input pending before held line rest : List ℕ} → Answered schema input pending before held → TakesLine pending line rest false
+pub Answered-ends : {schema : List Entry} {input pending before held line rest : List ℕ} → Answered schema input pending before held → TakesLine pending line rest None
     → WritesText (AnswersOf schema input) before held
 Answered-ends {schema = schema} {input = input} h takes =
     (h.done, subst (λ (l : List ℕ). AnswersOf schema input l) (append-nil h.done) (h.follows [] (no_more takes.0)), h.holds)
@@ -70,9 +71,9 @@ Answered-breaks {schema = schema} {pending = pending} h =
     let others = any_answers schema pending in
     (h.done, (h.done ++ others.0, h.follows others.0 others.1, (others.0, refl)), h.holds)
 
-pub Answered-cut : {schema : List Entry} {input pending before held line rest text held' : List ℕ} → Answered schema input pending before held → TakesLine pending line rest true
+pub Answered-cut : {schema : List Entry} {input pending before held line rest text held' : List ℕ} (count : ℕ) → Answered schema input pending before held → TakesLine pending line rest (Some count)
     → IsEnded (Answer schema line) text → WritesText (λ prefix. IsPrefix prefix text) held held' → WritesText (PrefixOf (AnswersOf schema input)) before held'
-Answered-cut {schema = schema} {input = input} {before = before} {rest = rest} {text = text} h takes ends part =
+Answered-cut {schema = schema} {input = input} {before = before} {rest = rest} {text = text} count h takes ends part =
     let others = any_answers schema rest in
     let prefix = part.0 in
     let cut : text ≡ prefix ++ part.1.0 = part.1.1 in
@@ -81,11 +82,16 @@ Answered-cut {schema = schema} {input = input} {before = before} {rest = rest} {
     ∙ append_assoc h.done (prefix ++ part.1.0) others.0 ∙ ap (λ (l : List ℕ). h.done ++ l) (append_assoc prefix part.1.0 others.0)
     ∙ sym (append_assoc h.done prefix (part.1.0 ++ others.0)) in (
       h.done ++ prefix,
-      (h.done ++ (ends.0 ++ 10 ∷ others.0), h.follows (ends.0 ++ 10 ∷ others.0) (behind_answer takes ends.1 others.0 others.1), (part.1.0 ++ others.0, whole)),
+      (h.done ++ (ends.0 ++ 10 ∷ others.0), h.follows (ends.0 ++ 10 ∷ others.0) (behind_answer count takes ends.1 others.0 others.1), (part.1.0 ++ others.0, whole)),
       part.2 ∙ ap (λ (l : List ℕ). l ++ prefix) h.holds ∙ append_assoc before h.done prefix,
     )
 
 -- ---- a whole run
+
+-- the first line, whether there is one or not
+pub first_of : (input line rest : List ℕ) (count : Option ℕ) → TakesLine input line rest count → FirstLine input line rest
+first_of input line rest (Some count) takes = takes.1
+first_of input line rest None takes = unended (subst IsUnbroken (sym takes.1) tt) (takes.0 ∙ sym takes.1) takes.2
 
 pub broken_lines : {input line rest : List ℕ} {schema : List Entry} (before held : List ℕ) → FirstLine input line rest → ReadsSchema line schema
     → WritesText (PrefixOf (AnswersOf schema rest)) before held → WritesText (BrokenText input) before held

@@ -2,20 +2,25 @@
 use Rattle.std.specs.Prelude.{◌≡◌, ℕ, ◌<◌, List, [], ◌∷◌, ◌++◌, Ok, Err, Some, IsUtf8}
 use lib.Chars.{codes}
 use Rattle.hex.specs.Hex.{encode_lower}
-use Rattle.serde_json.specs.Data.{Data, object, Members}
+use Rattle.serde_json.specs.Data.{Data}
 use Rattle.serde_json.specs.Read.{read}
-use Rattle.tv_doc.specs.JsonObject.{FieldJson, object_values, Pairs}
+use Rattle.tv_doc.specs.Document.{document_of}
+use Rattle.tv_doc.specs.JsonObject.{Parses}
 use Rattle.tv_doc.specs.Named.{IsJsonText, field_names}
-use Rattle.tv_heap.specs.Room.{document_room}
+use Rattle.tv_doc.specs.declared.doc_parsing_error.DocParsingError.{DocParsingError}
+use Rattle.tv_doc.specs.declared.doc_parsing_error.DocParsingError.TheVariants as errors
+use Rattle.tv_doc.specs.declared.document.CompactDoc.{CompactDoc}
 use Rattle.tv_field.specs.Entry.{Entry}
-use Rattle.tv_field.specs.JsonTable.{TableRefusal, overflow, mismatch, bad_text, bad_base64, float_number, Table}
-use Rattle.tv_schema.specs.SchemaJsonReading.{schema_of}
 use Rattle.tv_field.specs.declared.schema_error.SchemaError.{SchemaError}
 use Rattle.tv_field.specs.declared.schema_error.SchemaError.TheVariants as schema_error
-use Rattle.tv_store.specs.Stored.{stored}
+use Rattle.tv_field.specs.declared.value_parsing_error.ValueParsingError.{ValueParsingError}
+use Rattle.tv_field.specs.declared.value_parsing_error.ValueParsingError.TheVariants as values
 use Rattle.tv_format.specs.Short.{short_document}
 use Rattle.tv_format.specs.Tree.{Document}
 use Rattle.tv_format.specs.Version.{V2}
+use Rattle.tv_heap.specs.Room.{document_room}
+use Rattle.tv_schema.specs.SchemaJsonReading.{schema_of}
+use Rattle.tv_store.specs.Stored.{stored}
 
 -- the line is UTF-8, and encodes this JSON value
 abbrev pub IsJson : List ℕ → Data → Type 0
@@ -45,37 +50,34 @@ pub data SchemaRefusal (line text : List ℕ) : Type 0 where
 
 -- ---- a document's line
 
-abbrev pub refusal_name : TableRefusal → List ℕ
-refusal_name (overflow expected d) = codes "OverflowError"
-refusal_name (mismatch expected d) = codes "TypeError"
-refusal_name (bad_text cause d) = codes "ParseError"
-refusal_name (bad_base64 text) = codes "InvalidBase64"
-refusal_name float_number = codes "FloatNumber"
+abbrev pub value_error_text : ValueParsingError → List ℕ
+value_error_text (values.OverflowError expected json) = codes "error ValueError OverflowError"
+value_error_text (values.TypeError expected json) = codes "error ValueError TypeError"
+value_error_text (values.ParseError cause json) = codes "error ValueError ParseError"
+value_error_text (values.InvalidBase64 text) = codes "error ValueError InvalidBase64"
+value_error_text values.FloatNumber = codes "error ValueError FloatNumber"
+value_error_text values.Memory = codes "error Memory"
 
--- the text for a value that the table of its field's type refuses
-abbrev pub RefusalText : FieldJson → List ℕ → Type 0
-RefusalText v text = (refusal : TableRefusal) × Table v.field_type v.value (Err refusal) × (text ≡ codes "error ValueError " ++ refusal_name refusal)
+-- what is answered where there is no document of a text, for this reason
+abbrev pub error_text : DocParsingError → List ℕ
+error_text (errors.InvalidJson start) = codes "error InvalidJson"
+error_text (errors.ValueError name error) = value_error_text error
+error_text (errors.Add refused) = codes "error HeapFull"
+error_text errors.Memory = codes "error Memory"
 
 -- the bytes of a document in lower-case hexadecimal, a space, and its text of JSON by the names of the fields
 abbrev pub IsDocumentText : List Entry → Document → List ℕ → Type 0
 IsDocumentText schema d text =
     (json : List ℕ) × IsJsonText (field_names schema) d json × (text ≡ encode_lower (short_document V2 d) ++ 32 ∷ json)
 
--- What is answered for a document's line, as long as there is memory and room: that it is no JSON object, why the first value that is
--- refused is so, or the stored pairs.
-pub data LineAnswer (schema : List Entry) (line text : List ℕ) : Type 0 where
-  no_object : ((members : Members) → ¬ (IsJson line (object members))) → text ≡ codes "error InvalidJson" → LineAnswer schema line text
-  refused : (members : Members) (before behind : List FieldJson) (at : FieldJson) (pairs : Document) → IsJson line (object members)
-      → object_values schema members ≡ before ++ at ∷ behind → Pairs before pairs → RefusalText at text → LineAnswer schema line text
-  written : (members : Members) (pairs : Document) → IsJson line (object members)
-      → Pairs (object_values schema members) pairs → IsDocumentText schema (stored schema pairs) text → LineAnswer schema line text
-
--- The same, or that memory was refused, or that the pairs before the first refusal have no room.
+-- What is answered for a document's line: that it is no text, why there is no document of it, or the stored pairs; or that memory was refused, or that there is
+-- no room to read them back.
 pub data Answer (schema : List Entry) (line text : List ℕ) : Type 0 where
-  answered : LineAnswer schema line text → Answer schema line text
+  no_text : ¬ IsUtf8 line → text ≡ codes "error InvalidJson" → Answer schema line text
+  refused : (error : DocParsingError) → IsUtf8 line → Parses schema line (Err error) → text ≡ error_text error → Answer schema line text
+  written : (made : CompactDoc) → IsUtf8 line → Parses schema line (Ok made) → IsDocumentText schema (stored schema (document_of made)) text → Answer schema line text
   no_memory : text ≡ codes "error Memory" → Answer schema line text
-  no_room : (members : Members) (prefix behind : List FieldJson) (pairs : Document) → IsJson line (object members)
-      → object_values schema members ≡ prefix ++ behind → Pairs prefix pairs → 4294967295 < document_room pairs → text ≡ codes "error HeapFull" → Answer schema line text
+  no_room : (made : CompactDoc) → IsUtf8 line → Parses schema line (Ok made) → 4294967295 < document_room (document_of made) → text ≡ codes "error HeapFull" → Answer schema line text
 
 -- an answer for each line, with its line feed
 pub data AreAnswers (schema : List Entry) : List (List ℕ) → List ℕ → Type 0 where

@@ -3,14 +3,14 @@ use Rattle.std.specs.Prelude.{◌≡◌, ◌⊎◌, ℕ, List, [], ◌∷◌, �
 use Rattle.tv_base.specs.ReadsAs.{TakesMost}
 use Rattle.tv_base.specs.Sink.{IsPrefix}
 use Rattle.tv_base.specs.Source.{Failures}
-use Rattle.tv_base.specs.Stop.{Stop, CountsStop}
-use Rattle.tv_base.specs.Stop.Stop.{Failed, Short}
+use Rattle.tv_base.specs.Stop.{CountsStop}
 use Rattle.tv_lines.specs.Answers.{ReadsSchema, SchemaRefusal, AreAnswers}
+use Rattle.tv_lines.specs.Halts.{sink_stop, source_stop}
 use Rattle.tv_lines.specs.Lines.{FirstLine, Lines}
 use Rattle.tv_lines.specs.declared.halt.Halt.{Halt}
-use Rattle.tv_lines.specs.declared.halt.Halt.TheVariants.{Read, Write, Memory, TooLong}
-use Rattle.tv_lines.specs.declared.run_end.RunEnd.{RunEnd}
-use Rattle.tv_lines.specs.declared.run_end.RunEnd.TheVariants.{Done, BadSchema, Broken}
+use Rattle.tv_lines.specs.declared.halt.Halt.TheVariants.{TooLong}
+use Rattle.tv_lines.specs.declared.runs.RunEnd.{RunEnd}
+use Rattle.tv_lines.specs.declared.runs.RunEnd.TheVariants.{Done, BadSchema, Broken}
 use Rattle.tv_field.specs.Entry.{Entry}
 
 -- such an answer, and a line feed
@@ -59,19 +59,6 @@ abbrev pub IsWhole : RunEnd → Type 0
 IsWhole Done = Unit {0}
 IsWhole BadSchema = Unit {0}
 IsWhole Broken = ⊥
-
--- Why a run broke off, seen from the source and from the sink: a read or a write failed with this kind, or none did.
-abbrev pub source_stop : Halt → Stop ⊥
-source_stop (Read kind) = Failed kind
-source_stop (Write kind) = Short
-source_stop Memory = Short
-source_stop TooLong = Short
-
-abbrev pub sink_stop : Halt → Stop ⊥
-sink_stop (Read kind) = Short
-sink_stop (Write kind) = Failed kind
-sink_stop Memory = Short
-sink_stop TooLong = Short
 
 -- A run broke off for some reason: a read or a write failed exactly where the reason says so, with its kind, and `TooLong` comes after the
 -- most bytes that are counted.

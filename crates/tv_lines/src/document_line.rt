@@ -1,28 +1,34 @@
 //! The line of a document.
 
-ghost use Rattle.std.specs.Prelude.{◌≡◌, ◌∷◌, ◌++◌, [], codes, IfErr, OnOk};
+ghost use Rattle.std.specs.Prelude.{◌≡◌, ◌∷◌, ◌++◌, [], codes, IfErr, OnOk, ◌⊎◌};
 ghost use Rattle.tv_doc.specs.Belongs.{Belongs};
 ghost use Rattle.tv_doc.specs.Document.{document_of};
-ghost use Rattle.tv_format.specs.Short.{short_document};
-ghost use Rattle.tv_format.specs.Version.{V2};
-ghost use Rattle.tv_lines.specs.Answers.{Answer, IsDocumentText};
+ghost use Rattle.tv_lines.specs.Answers.{Answer, IsDocumentText, error_text, value_error_text};
 ghost use Rattle.tv_lines.specs.Run.{IsEnded, WritesText};
-ghost use Rattle.tv_lines.specs.Unwritten.{IsTexts, IsRefusalText, error_text, value_error_text};
+ghost use Rattle.tv_lines.specs.Unwritten.{IsTexts, IsRefusalText};
 ghost use Rattle.tv_store.specs.Stored.{stored};
+ghost use Rattle.tv_format.specs.Short.{short_document, IsDocument};
+ghost use Rattle.tv_format.specs.Tree.{Document};
+ghost use Rattle.tv_format.specs.Version.{V2};
+ghost use Rattle.tv_reader.specs.declared.error.DeserializeError.TheVariants.{Memory, HeapFull};
+ghost use Rattle.hex.specs.Hex.{encode_lower};
 
-use crate::hex_text::append_hex;
-use crate::read_back::read_back;
+use crate::import::put_stored;
 use std::alloc::{AllocError, Global};
-use tv_base::VecSink;
+use tv_base::{SliceSource, VecSink};
 use tv_doc::doc_parsing_error::DocParsingError;
 use tv_doc::document::CompactDoc;
 use tv_doc::document_trait::Document;
 use tv_doc::laws::documents_are_valid;
 use tv_doc::parse_buffers::ParseBuffers;
 use tv_field::ValueParsingError;
+use tv_format::version::WriteVersion;
+use tv_legacy::laws::{
+    documents_have_one_reading, malformed_documents_derive_none, short_documents_encode,
+};
 use tv_schema::Schema;
-use tv_store::BinaryDocumentSerializer;
 use tv_store::laws::{stored_pairs_are_valid, stored_pairs_need_no_more_room};
+use tv_store::{DeserializeError, DocStoreVersion, read_document_into};
 
 // The memory that answering a line takes, which serves the next line.
 #[derive(Drop)]
@@ -90,23 +96,6 @@ fn refusal(error: &DocParsingError) -> &'static str
     }
 }
 
-// Puts the stored bytes of a document in the place of what `bytes` holds. The only error is that memory was refused.
-fn write_stored(
-    schema: &Schema,
-    document: &CompactDoc,
-    bytes: &mut VecSink,
-) -> Result<(), AllocError>
-    requires { Belongs schema.now (document_of document.now) }
-    ensures { OnOk result
-        (bytes.new.bytes.items ≡ short_document V2 (stored schema.now (document_of document.now))) }
-{
-    bytes.clear();
-    match BinaryDocumentSerializer::new(bytes, schema).serialize_doc(document) {
-        Ok(()) => Ok(()),
-        Err(_) => Err(AllocError),
-    }
-}
-
 // Appends the stored bytes in hexadecimal, a space, and the text of JSON of what is read back from them. Else it gives what is
 // answered.
 fn append_document(
@@ -125,7 +114,7 @@ fn append_document(
     documents_are_valid();
     stored_pairs_are_valid();
     stored_pairs_need_no_more_room();
-    if write_stored(schema, document, &mut parts.stored).is_err() {
+    if put_stored(schema, WriteVersion::V2, document, &mut parts.stored).is_err() {
         return Err(NO_MEMORY);
     }
     read_back(alloc, parts.stored.as_slice(), &mut parts.found)?;
@@ -205,5 +194,53 @@ pub(crate) fn answer_line(
             Ok(())
         }
         Err(answer) => put_line(text, answer),
+    }
+}
+
+// What is answered where there is no memory or no room for a document.
+fn unwritten(error: &DeserializeError) -> &'static str
+    requires { (error.now ≡ Memory) ⊎ (error.now ≡ HeapFull) }
+    ensures memory { error.now ≡ Memory → result.now ≡ codes "error Memory" }
+    ensures no_room { error.now ≡ HeapFull → result.now ≡ codes "error HeapFull" }
+{
+    match error {
+        DeserializeError::Memory => "error Memory",
+        DeserializeError::HeapFull => "error HeapFull",
+        _ => unreachable!(),
+    }
+}
+
+// Reads back a document from its shortest encoding, in place of `found` and in its memory, or gives the text that is answered where that takes
+// more memory or room than there is.
+pub(crate) fn read_back(
+    alloc: Global,
+    bytes: &[u8],
+    found: &mut CompactDoc,
+) -> Result<(), &'static str>
+    requires { (d : Document) × (IsDocument d × (bytes.now ≡ short_document V2 d)) }
+    ensures ok { (d : Document) → IsDocument d → bytes.now ≡ short_document V2 d
+        → OnOk result (document_of found.new ≡ d) }
+    ensures err { (d : Document) → IsDocument d → bytes.now ≡ short_document V2 d
+        → IfErr result (λ text. IsRefusalText d text.now) }
+{
+    documents_have_one_reading();
+    malformed_documents_derive_none();
+    short_documents_encode();
+    let mut source = SliceSource::new(bytes);
+    match read_document_into(alloc, found, &mut source, DocStoreVersion::V2) {
+        Ok(()) => Ok(()),
+        Err(error) => Err(unwritten(&error)),
+    }
+}
+
+// Appends the bytes as digits: two of each, in lower case. The only error is that memory was refused.
+pub(crate) fn append_hex(text: &mut Vec<u8>, bytes: &[u8]) -> Result<(), AllocError>
+    ensures { OnOk result (text.new.items ≡ text.old.items ++ encode_lower bytes.now) }
+{
+    let start = text.len();
+    text.resize(start.saturating_add(2 * bytes.len()), 0)?;
+    match hex::encode_to_slice(bytes, &mut text[start..]) {
+        Ok(()) => Ok(()),
+        Err(_) => unreachable!(),
     }
 }

@@ -1,21 +1,31 @@
-//! Why a run breaks off.
+//! Why work on lines breaks off, and bytes that are appended to a sink.
 
-ghost use Rattle.std.specs.Prelude.{◌≡◌};
+ghost use Rattle.std.specs.Prelude.{◌≡◌, ◌++◌, OnErr, OnOk, IfErr};
 ghost use Rattle.tv_lines.specs.declared.halt.Halt.TheVariants.{Memory};
+ghost use Rattle.tv_base.specs.Sink.{AppendsPrefix};
+ghost use Rattle.tv_base.specs.Stop.{Counts};
+ghost use Rattle.tv_lines.specs.Halts.{IsOfWriting, sink_stop};
 
 use std::alloc::AllocError;
 use std::io;
+use thiserror::Error;
+use tv_base::ByteSink;
+use tv_base::write::write_all;
 
-/// Why a run breaks off.
-#[derive(Clone, Copy, Debug, PartialEq, Eq, Drop)]
+/// Why work on the lines of a source breaks off.
+#[derive(Clone, Copy, Debug, PartialEq, Eq, Drop, Error)]
 pub enum Halt {
     /// A read failed, with this kind.
+    #[error("reading failed: {0}")]
     Read(io::ErrorKind),
     /// A write failed, with this kind.
+    #[error("writing failed: {0}")]
     Write(io::ErrorKind),
-    /// Memory was refused: for the pieces that are read, for a line, or for its answer.
+    /// Memory was refused: for the pieces that are read, for a line, its document or its answer.
+    #[error("memory was refused")]
     Memory,
     /// 2^64 - 1 bytes of the source were read, and no more are counted.
+    #[error("there are more bytes than are counted")]
     TooLong,
 }
 
@@ -24,5 +34,20 @@ impl From<AllocError> for Halt {
 
     fn from(_error: AllocError) -> Halt {
         Halt::Memory
+    }
+}
+
+// Appends bytes to a sink. Errors: `Write` where a write failed, with its kind. The sink then holds what it held before, and a beginning of the bytes.
+pub(crate) fn append<K: ByteSink>(sink: &mut K, bytes: &[u8]) -> Result<(), Halt>
+    ensures ok { K.is_known sink.old → OnOk result (K.held sink.new ≡ K.held sink.old ++ bytes.now) }
+    ensures err { K.is_known sink.old
+        → OnErr result (AppendsPrefix (K.held sink.old) (K.held sink.new) bytes.now) }
+    ensures writes { IfErr result IsOfWriting }
+    ensures failures { Counts sink_stop result (K.failures sink.old) (K.failures sink.new) }
+    ensures is_known { K.is_known sink.old → K.is_known sink.new }
+{
+    match write_all(sink, bytes) {
+        Ok(()) => Ok(()),
+        Err(failed) => Err(Halt::Write(failed.0)),
     }
 }

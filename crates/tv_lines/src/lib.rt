@@ -1,17 +1,25 @@
-//! Documents line by line: a source of JSON lines is answered, line by line, by stored documents.
+//! Lines of JSON and blocks of stored documents: lines are imported into a block, or answered by what is stored of them; a block is printed as lines,
+//! tested and searched; and terms that are too many for memory are sorted in parts. All of it goes over sources and sinks. A
+//! block is documents one after the other, and nothing else.
 #![tactic(auto)]
 
+pub mod check;
 mod document_line;
+pub mod export;
+pub mod find;
 pub mod halt;
-mod hex_text;
-mod line_reader;
+pub mod import;
+pub mod imports;
+pub mod line_document;
+pub mod line_reader;
 pub mod program;
-mod read_back;
-pub mod run_end;
+mod refused_value;
+pub mod report;
 pub mod runs;
-mod schema_line;
+pub mod term_runs;
+pub mod terms;
+pub mod work_error;
 
 pub use halt::Halt;
 pub use program::answer_lines;
-pub use run_end::RunEnd;
-pub use runs::{run, try_run};
+pub use runs::{RunEnd, run, try_run};

@@ -1,7 +1,6 @@
 //! The program `schemadoc` over any reader and any writer.
 
-use crate::run_end::RunEnd;
-use crate::runs::run;
+use crate::runs::{RunEnd, run};
 use std::alloc::Global;
 use std::io;
 use std::io::{BufWriter, Read, Write};

@@ -1,42 +1,24 @@
 //! A run over the lines of a source.
 
-ghost use Rattle.std.specs.Prelude.{◌≡◌, ◌-◌, ◌^◌, ◌++◌, [], IfOk, IsErrOf, OnErr, OnOk};
+ghost use Rattle.std.specs.Prelude.{◌≡◌, ◌-◌, ◌^◌, ◌++◌, [], IfOk, IsErrOf, OnErr, OnOk, ◌∷◌, codes, IfErr};
 ghost use Rattle.tv_base.specs.ReadsAs.{TakesMost};
-ghost use Rattle.tv_base.specs.Source.{CountsFailure};
 ghost use Rattle.tv_base.specs.Stop.{Counts, Taken};
-ghost use Rattle.tv_base.specs.Sink.{IsPrefix};
-ghost use Rattle.tv_lines.specs.Run.{AnswersOf, BadSchemaText, BrokenText, DoneText, EndsWith};
-ghost use Rattle.tv_lines.specs.Run.{Halted, PrefixOf, WritesText, IsWhole};
-ghost use Rattle.tv_lines.specs.Run.{source_stop, sink_stop};
+ghost use Rattle.tv_lines.specs.Run.{AnswersOf, BadSchemaText, BrokenText, DoneText, EndsWith, Halted, PrefixOf, WritesText, IsWhole, IsEnded};
+ghost use Rattle.tv_lines.specs.Halts.{source_stop, sink_stop};
 ghost use Rattle.tv_lines.specs.declared.halt.Halt.TheVariants.{TooLong};
 ghost use Rattle.tv_lines.specs.Reader.{unread};
-ghost use Rattle.tv_lines.specs.declared.run_end.RunEnd.TheVariants.{Done, BadSchema, Broken};
+ghost use Rattle.tv_lines.specs.declared.runs.RunEnd.TheVariants.{Done, BadSchema, Broken};
+ghost use Rattle.tv_lines.specs.Status.{status_of};
+ghost use Rattle.tv_lines.specs.Answers.{ReadsSchema, SchemaRefusal, schema_error_name};
 
 use crate::document_line::{LineMemory, answer_line};
-use crate::halt::Halt;
+use crate::halt::{Halt, append};
 use crate::line_reader::LineReader;
-use crate::run_end::RunEnd;
-use crate::schema_line::schema_of_line;
+use serde_json::Value;
 use std::alloc::Global;
-use std::io;
-use tv_base::write::write_all;
 use tv_base::{ByteSink, ByteSource};
+use tv_field::SchemaError;
 use tv_schema::Schema;
-
-// Writes a line.
-fn write_line<K: ByteSink>(sink: &mut K, line: &[u8]) -> Result<(), io::ErrorKind>
-    ensures ok { K.is_known sink.old → OnOk result (K.held sink.new ≡ K.held sink.old ++ line.now) }
-    ensures err { K.is_known sink.old
-        → OnErr result
-        (WritesText (λ text. IsPrefix text line.now) (K.held sink.old) (K.held sink.new)) }
-    ensures is_known { K.is_known sink.old → K.is_known sink.new }
-    ensures failures { CountsFailure result (K.failures sink.old) (K.failures sink.new) }
-{
-    match write_all(sink, line) {
-        Ok(()) => Ok(()),
-        Err(failed) => Err(failed.0),
-    }
-}
 
 // Answers each line that the reader has left.
 fn answer_lines<S: ByteSource, K: ByteSink>(
@@ -68,14 +50,11 @@ fn answer_lines<S: ByteSource, K: ByteSink>(
     let mut memory = LineMemory::new(alloc);
     let mut text = Vec::new(alloc);
     'lines: loop {
-        if !reader.take_line(source, &mut line)? {
+        let Some(_) = reader.take_line(source, &mut line)? else {
             return Ok(());
-        }
+        };
         answer_line(alloc, schema, line.as_slice(), &mut memory, &mut text)?;
-        match write_line(sink, text.as_slice()) {
-            Ok(()) => {}
-            Err(kind) => return Err(Halt::Write(kind)),
-        }
+        append(sink, text.as_slice())?;
     }
 }
 
@@ -105,7 +84,7 @@ pub fn try_run<S: ByteSource, K: ByteSink>(
     ensures too_long { S.is_known source.old → IsErrOf result TooLong
         → TakesMost (S.left source.old) (S.left source.new) }
 {
-    let mut reader = LineReader::new(alloc)?;
+    let mut reader = LineReader::new(alloc);
     let mut line = Vec::new(alloc);
     let _ = reader.take_line(source, &mut line)?;
     match schema_of_line(alloc, line.as_slice()) {
@@ -114,10 +93,8 @@ pub fn try_run<S: ByteSource, K: ByteSink>(
             Ok(RunEnd::Done)
         }
         Err(text) => {
-            match write_line(sink, text.as_bytes()) {
-                Ok(()) => Ok(RunEnd::BadSchema),
-                Err(kind) => Err(Halt::Write(kind)),
-            }
+            append(sink, text.as_bytes())?;
+            Ok(RunEnd::BadSchema)
         }
     }
 }
@@ -129,7 +106,7 @@ pub fn try_run<S: ByteSource, K: ByteSink>(
 /// that is read back from them. A line that is refused is answered by `error`, a space and the names of the refusal, as
 /// `error ValueError TypeError`, and the next line follows. A schema that is refused is answered alike, and ends the run.
 ///
-/// Bytes are read in pieces of 64 KiB, and each answer is written at once. The memory of a line, of its document and of its answer serves the next.
+/// Bytes are read in pieces of up to 64 KiB, and each answer is written at once. The memory of a line, of its document and of its answer serves the next.
 ///
 /// `Broken` where the run broke off; `try_run` does the same, and tells why.
 pub fn run<S: ByteSource, K: ByteSink>(alloc: Global, source: &mut S, sink: &mut K) -> RunEnd
@@ -156,5 +133,66 @@ pub fn run<S: ByteSource, K: ByteSink>(alloc: Global, source: &mut S, sink: &mut
     match try_run(alloc, source, sink) {
         Ok(end) => end,
         Err(_) => RunEnd::Broken,
+    }
+}
+
+/// How a run over lines ended.
+#[derive(Clone, Copy, Debug, PartialEq, Eq, Drop)]
+pub enum RunEnd {
+    /// Each line was answered.
+    Done,
+    /// The first line describes no schema, or memory was refused as it was read. This was answered for it.
+    BadSchema,
+    /// The run broke off: a read or a write failed, memory was refused, or the source was too long. `try_run` tells which.
+    Broken,
+}
+
+impl RunEnd {
+    /// The exit status of a program that ends so: 0 for `Done`, 1 for `BadSchema` and 2 for `Broken`. (Not in tantivy.)
+    pub fn status(self) -> u8
+        ensures { result ≡ status_of self }
+    {
+        match self {
+            RunEnd::Done => 0,
+            RunEnd::BadSchema => 1,
+            RunEnd::Broken => 2,
+        }
+    }
+}
+
+// The line that is answered for this error.
+fn error_line(error: SchemaError) -> &'static str
+    ensures { result.now ≡ codes "error " ++ schema_error_name error ++ 10 ∷ [] }
+{
+    match error {
+        SchemaError::InvalidName => "error InvalidName\n",
+        SchemaError::DuplicateName => "error DuplicateName\n",
+        SchemaError::TooManyFields => "error TooManyFields\n",
+        SchemaError::Memory => "error Memory\n",
+        SchemaError::FieldNotFound => "error FieldNotFound\n",
+        SchemaError::BadJson { .. } => "error BadJson\n",
+        SchemaError::FloatField { .. } => "error FloatField\n",
+    }
+}
+
+// The schema that the line describes, or the line that is answered.
+pub(crate) fn schema_of_line(alloc: Global, line: &[u8]) -> Result<Schema, &'static str>
+    ensures ok { IfOk result (λ schema. ReadsSchema line.now schema) }
+    ensures err { IfErr result (λ text. IsEnded (SchemaRefusal line.now) text.now) }
+{
+    let Ok(text) = str::from_utf8(line) else {
+        return Err("error InvalidJson\n");
+    };
+    match Value::from_str(alloc, text) {
+        Ok(value) => match Schema::from_json_value(alloc, &value) {
+            Ok(schema) => Ok(schema),
+            Err(error) => Err(error_line(error)),
+        },
+        Err(error) => {
+            if error.is_memory() {
+                return Err("error Memory\n");
+            }
+            Err("error InvalidJson\n")
+        }
     }
 }

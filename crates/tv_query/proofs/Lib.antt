@@ -2,6 +2,7 @@ mod Words
 mod Parsing
 mod Naming
 mod Wanting
+mod Selecting
 mod Running
 pub mod Telling
 mod Reading

@@ -1,5 +1,5 @@
 -- Terms that a matcher takes, one after the other.
-use Rattle.std.proofs.Common.{◌≡◌, ◌≢◌, ◌⊎◌, ◌↔◌, ℕ, zero, suc, ◌+◌, ◌<◌, ◌≤◌, List, [], ◌∷◌, ◌++◌, length, get_or, Bool, false, IsTrue, Some, Ok, Err, append-nil, slice_get, set, refl, sym, ap, ◌∙◌, subst, inl, inr, arith}
+use Rattle.std.proofs.Common.{◌≡◌, ◌⊎◌, ℕ, zero, suc, ◌+◌, ◌<◌, ◌≤◌, List, [], ◌∷◌, ◌++◌, length, get_or, Bool, false, Some, Ok, Err, append-nil, slice_get, set, refl, sym, ap, ◌∙◌, subst, inl, inr, arith}
 use Rattle.std.proofs.lemmas.Bool.{cases_lt}
 use Rattle.std.proofs.lemmas.Grind.{get_or-set_at}
 use Rattle.std.proofs.lemmas.List.{get_or-set_other, length-set}
@@ -8,7 +8,7 @@ use Rattle.std.specs.List.{Any}
 use Rattle.tv_indexing.specs.DocumentTerms.{Terms}
 use Rattle.tv_indexing.specs.Visits.{TakesAll, TakesSome}
 use Rattle.tv_query.specs.Matching.{AreTold, HasTaken, IsTested, IsTold}
-use Rattle.tv_query.specs.Selections.{HasWanted, IsWanted}
+use Rattle.tv_query.specs.Selections.{IsWanted}
 use Rattle.tv_query.specs.declared.matching.QueryMatcher.{QueryMatcher}
 use Rattle.tv_query.specs.declared.query.Step.{Step}
 use Rattle.tv_query.specs.declared.query.Step.TheVariants as steps

@@ -1,10 +1,8 @@
 -- Lists gone over, and what a clause wants.
-use Rattle.std.proofs.Common.{◌≡◌, ◌⊎◌, ◌↔◌, ℕ, zero, suc, ◌<◌, List, [], ◌∷◌, length, get_or, true, false, Option, Some, sym, subst, arith, inl, inr, slice_get}
+use Rattle.std.proofs.Common.{◌≡◌, ◌⊎◌, ◌↔◌, ℕ, zero, suc, ◌<◌, List, [], ◌∷◌, length, get_or, true, false, Some, sym, subst, arith, inl, inr, slice_get}
 use Rattle.std.specs.List.{Any}
-use Rattle.tv_base.specs.Facet.{parse}
-use Rattle.tv_field.specs.declared.field_type.FieldType.{FieldType}
-use Rattle.tv_query.specs.Selections.{AreBelow, AreOfFirst, is_of_facets}
-use Rattle.tv_term.specs.Range.{HasPrefixed, HasTerms, IsBelowFacet}
+use Rattle.tv_query.specs.Selections.{AreOfFirst}
+use Rattle.tv_term.specs.Range.{HasPrefixed}
 use Rattle.tv_term.specs.declared.range.TermRange.{TermRange}
 
 -- ---- some element
@@ -37,7 +35,3 @@ not_true e = absurd (cc)
 pub of_first : (terms : List (List ℕ)) (first : List ℕ) (range : TermRange) (ranges : List TermRange) → Some first ≡ slice_get terms 0 → HasPrefixed first range → ranges ≡ range ∷ [] → AreOfFirst terms ranges
 of_first [] first range ranges is has one = absurd (cc)
 of_first (t ∷ ts) first range ranges is has one = let same : first ≡ t = cc in (range, one, subst (λ (l : List ℕ). HasPrefixed l range) same has)
-
-pub below : (found : Option (ℕ × FieldType)) (id : ℕ) (type : FieldType) (s facet : List ℕ) (range : TermRange) (ranges : List TermRange) → Some (id, type) ≡ found → true ≡ is_of_facets type
-    → parse s ≡ Some facet → HasTerms (IsBelowFacet id facet) range → ranges ≡ range ∷ [] → AreBelow found s ranges
-below found id type s facet range ranges is of_facets parsed has one = subst (λ (f : Option (ℕ × FieldType)). AreBelow f s ranges) is (rw (sym of_facets) (facet, range, parsed, one, has))

@@ -1,238 +1,146 @@
 -- Documents of a block that are carried over to another version, one after the other.
-use Rattle.std.proofs.Common.{◌≡◌, ℕ, ◌+◌, ◌-◌, ◌^◌, ◌<◌, ◌≤◌, List, [], ◌∷◌, ◌++◌, length, Some, None, Result, Ok, Err, refl, sym, ap, subst, ◌∙◌, arith, append_assoc, append-nil, length-append}
-use Rattle.std.specs.Prelude.{◌≢◌}
+use Rattle.std.proofs.Common.{◌≡◌, ℕ, ◌+◌, ◌-◌, ◌^◌, ◌<◌, true, false, List, [], ◌∷◌, ◌++◌, length, Ok, Err, refl, sym, ap, subst, ◌∙◌, arith, append_assoc, append-nil, length-append}
 use Rattle.std.specs.List.{flat_map}
-use Rattle.std.specs.declared.io.ErrorKind.{ErrorKind}
 use Rattle.tv_base.specs.declared.sink.ByteSink.{Ghosts as Sink}
 use Rattle.tv_base.specs.declared.source.ByteSource.{Ghosts as Source}
 use Rattle.tv_base.specs.Parts.{Each}
-use Rattle.tv_base.specs.ReadsAs.{Known}
-use Rattle.tv_base.specs.Sink.{AppendsPrefix}
-use Rattle.tv_base.specs.Source.{Failures, HasFailed}
+use Rattle.tv_base.specs.Sink.{AppendsPrefix, Halts}
+use Rattle.tv_base.specs.Source.{Failures}
 use Rattle.tv_base.specs.Stop.{CountsStop}
 use Rattle.tv_doc.specs.Document.{document_of}
 use Rattle.tv_doc.specs.declared.document.CompactDoc.{CompactDoc}
-use Rattle.tv_format.specs.Encoding.{EncodesDocument}
-use Rattle.tv_format.specs.InputError.{Refusal, corrupted, no_text_key}
-use Rattle.tv_format.specs.Short.{short_document}
+use Rattle.tv_format.specs.Short.{short_document, IsDocument}
 use Rattle.tv_format.specs.Tree.{Document}
 use Rattle.tv_format.specs.Version.{Version}
-use Rattle.tv_legacy.specs.Legacy.{Legacy}
-use Rattle.tv_reader.specs.Error.{store_stop, IsRefusal}
-use Rattle.tv_reader.specs.Error.IsRefusal.{is_corrupted, is_no_text}
-use Rattle.tv_reader.specs.ValueType.{value_type_code}
+use Rattle.tv_reader.specs.Error.{store_stop}
+use Rattle.tv_reader.specs.Version.{version_of}
 use Rattle.tv_reader.specs.declared.error.DeserializeError.{DeserializeError}
 use Rattle.tv_reader.specs.declared.error.DeserializeError.TheVariants as errors
-use Rattle.tv_reader.specs.declared.value_type.ValueType.{ValueType}
-use Rattle.tv_store.specs.BlockMigration.{CountsUnmigrated, EncodesBlock, IsMigrated, IsUnmigrated, IsUnread, MigratesAll, MigratesBefore, Transcribes}
-use Rattle.tv_store.specs.Documents.{HasNoRoom, IsReadingError, NoDocument}
-use Rattle.tv_store.specs.Migrate.{Migrates, Rewrites}
-use Rattle.tv_store.specs.Reading.{ReadsDocument}
+use Rattle.tv_store.specs.BlockMigration.{EncodesBlock, IsUnmigrated, MigratesAll, MigratesBefore}
+use Rattle.tv_store.specs.BlockSteps.{StepsBlock, refusal_of}
+use Rattle.tv_store.specs.Documents.{BeginsWithDocument, SaysNothing}
+use Rattle.tv_store.specs.Limits.{limited_stop}
+use Rattle.tv_store.specs.Projections.{EncodesWithin, IsReason, no_limits, refused_stop}
+use Rattle.tv_store.specs.Reading.{ReadsNext, reading}
+use Rattle.tv_store.specs.declared.block.BlockReader.{BlockReader}
+use Rattle.tv_store.specs.declared.block.RefusedDocument.{RefusedDocument}
 use Rattle.tv_store.specs.declared.block_migration.MigrateBlockError.{MigrateBlockError}
-use Rattle.tv_store.specs.declared.migration.MigrateError.{MigrateError}
-use Rattle.tv_store.specs.declared.migration.MigrateError.TheVariants.{Read, Write}
-use Rattle.tv_store.proofs.Blocks.{no_document}
-use Rattle.tv_store.proofs.Promises.{refusal_is_true}
+use Rattle.tv_store.specs.declared.block_migration.MigrateBlockError.TheVariants.{Read, Write}
+use Rattle.tv_store.specs.declared.limits.LimitedReadError.{LimitedReadError}
+use Rattle.tv_store.specs.declared.limits.LimitedReadError.TheVariants as limited
+use Rattle.tv_store.specs.declared.projection.Projection.TheVariants.{All}
+use Rattle.tv_store.proofs.BlocksSoFar.{ReadSoFar, begins_at, read_more, read_none, refused_at, whole_before}
+use Rattle.tv_store.proofs.Projections.{one_whole, start_after, within_none}
+use Rattle.tv_store.proofs.Resuming.{reads_live}
+use Rattle.tv_writer.specs.Error.{IsIoOrMemory, Unwritten, write_stop}
+use Rattle.tv_writer.specs.declared.error.SerializeError.{SerializeError}
 use Rattle.tv_writer.specs.declared.error.SerializeError.TheVariants as writes
-
--- ---- one more
-
-pub each-snoc : {A : Type 0} (R : List ℕ → A → Type 0) (before bytes : List ℕ) (xs : List A) (x : A) → Each R before xs → R bytes x → Each R (before ++ bytes) (xs ++ x ∷ [])
-each-snoc R before bytes [] x none r =
-    record { prefix = bytes; rest = []; joined = ap (λ (l : List ℕ). l ++ bytes) none ∙ sym (append-nil bytes); first = r; second = refl }
-each-snoc R before bytes (y ∷ ys) x t r = record {
-  prefix = t.prefix;
-  rest = t.rest ++ bytes;
-  joined = ap (λ (l : List ℕ). l ++ bytes) t.joined ∙ append_assoc t.prefix t.rest bytes;
-  first = t.first;
-  second = each-snoc R t.rest bytes ys x t.second r;
-}
 
 flat-snoc : {A : Type 0} (f : A → List ℕ) (xs : List A) (x : A) → flat_map f (xs ++ x ∷ []) ≡ flat_map f xs ++ f x
 flat-snoc f [] x = append-nil (f x)
 flat-snoc f (y ∷ ys) x = ap (λ (l : List ℕ). f y ++ l) (flat-snoc f ys x) ∙ sym (append_assoc (f y) (flat_map f ys) (f x))
 
-pub joined_more : (block before rest bytes now : List ℕ) → block ≡ before ++ rest → rest ≡ bytes ++ now → block ≡ (before ++ bytes) ++ now
-joined_more block before rest bytes now e f = e ∙ ap (λ (l : List ℕ). before ++ l) f ∙ sym (append_assoc before bytes now)
-
--- ---- lengths
-
--- where the rest begins
-pub rest_at : (block before rest : List ℕ) → block ≡ before ++ rest → length block - length rest ≡ length before
-rest_at block before rest joined = let sum = ap length joined ∙ length-append before rest in omega (arith, sum)
-
 -- what is left of a slice is no longer than it
 pub no_more_left : (block before rest : List ℕ) → block ≡ before ++ rest → length block < 2 ^ 63 → length rest < 2 ^ 64 - 1
 no_more_left block before rest joined few = let sum = ap length joined ∙ length-append before rest in omega (arith, sum, few)
 
--- a document takes some bytes
-some_bytes : (v : Version) (bytes : List ℕ) (d : Document) → EncodesDocument Legacy v bytes d → 0 < length bytes
-some_bytes v [] d encoded = absurd (no_document v [] d refl encoded)
-some_bytes v (b ∷ bytes) d encoded = omega arith
+without_limits : (v : Version) (block : List ℕ) (documents : List Document) → Each (EncodesWithin v no_limits) block documents → EncodesBlock v block documents
+without_limits v block [] none = none
+without_limits v block (d ∷ ds) each = record { prefix = each.prefix; rest = each.rest; joined = each.joined; first = each.first.encoded; second = without_limits v each.rest ds each.second }
 
-few_documents : (v : Version) (block : List ℕ) (documents : List Document) → EncodesBlock v block documents → length documents ≤ length block
-few_documents v block [] encoded = omega arith
-few_documents v block (d ∷ ds) encoded =
-    omega (arith, ap length encoded.joined, length-append encoded.prefix encoded.rest, some_bytes v encoded.prefix d encoded.first, few_documents v encoded.rest ds encoded.second)
-
--- ---- one document
-
--- it is carried over
-pub record Carried {K : Type 0} (from to : Version) (bytes rest : List ℕ) (sink : Sink K) (begun ended : K) : Type 0 where
-  pub text : List ℕ
-  pub transcribed : Transcribes from to bytes rest text
-  pub held : sink.is_known begun → sink.held ended ≡ sink.held begun ++ text
-  pub stays_known : sink.is_known begun → sink.is_known ended
-  pub failures : sink.failures ended ≡ sink.failures begun
-
--- it isn't
-pub record Uncarried {K : Type 0} (from to : Version) (bytes : List ℕ) (sink : Sink K) (begun ended : K) (error : MigrateError) : Type 0 where
-  pub next : List ℕ
-  pub unmigrated : IsUnmigrated from to bytes next error
-  pub held : sink.is_known begun → AppendsPrefix (sink.held begun) (sink.held ended) next
-  pub stays_known : sink.is_known begun → sink.is_known ended
-  pub counts : CountsUnmigrated error (sink.failures begun) (sink.failures ended)
-
-none_is : {A : Type 0} {x : A} → None ≡ Some x → ⊥
-none_is e = cc
-
--- no read failed
-never_io : (e : DeserializeError) (k : ErrorKind) (f g : Failures) → CountsStop (store_stop e) f g → g.last ≡ None → e ≡ errors.Io k → ⊥
-never_io e k f g counts last is =
-    let failed : HasFailed k f g = subst (λ (z : DeserializeError). CountsStop (store_stop z) f g) is counts in
-    none_is (sym last ∙ failed.kept)
-
-unread_by : (v : Version) (bytes : List ℕ) (e : DeserializeError) → IsReadingError e → ((r : Refusal) → IsRefusal e r → NoDocument v bytes r) → (e ≡ errors.HeapFull → HasNoRoom v bytes) → ((k : ErrorKind) → e ≡ errors.Io k → ⊥) → IsUnread v bytes e
-unread_by v bytes (errors.CorruptedValue c) may refused full never = refused (corrupted c) is_corrupted
-unread_by v bytes (errors.TypeMismatch other actual) may refused full never =
-    let is : IsRefusal (errors.TypeMismatch other actual) (no_text_key (value_type_code actual)) = subst (λ (t : ValueType). IsRefusal (errors.TypeMismatch t actual) (no_text_key (value_type_code actual))) (sym may) is_no_text in
-    subst (λ (t : ValueType). IsUnread v bytes (errors.TypeMismatch t actual)) (sym may) (refused (no_text_key (value_type_code actual)) is)
-unread_by v bytes errors.HeapFull may refused full never = full refl
-unread_by v bytes (errors.Io k) may refused full never = absurd (never k refl)
-unread_by v bytes errors.Memory may refused full never = tt
-unread_by v bytes _ may refused full never = absurd may
-
-module _ {S K : Type 0} (from to : Version) (source : Source S) (old new : S) (sink : Sink K) (begun ended : K) where
-  carried_at : (read : Result CompactDoc DeserializeError) (x : Unit {0}) → ReadsDocument from source old new document_of read → Rewrites to sink begun ended read (Ok x) → source.is_known old → Carried from to (source.left old) (source.left new) sink begun ended
-  carried_at (Ok d) x reads w known = record {
-    text = short_document to (document_of d);
-    transcribed = record { document = document_of d; read = reads.found known; valid = w.0; written = refl };
-    held = w.1.appends;
-    stays_known = w.1.stays_known;
-    failures = w.1.counts;
-  }
-  carried_at (Err e) x reads w known = absurd (cc)
-
-  unread_at : (e : DeserializeError) → ReadsDocument from source old new document_of (Err e) → Known source old → (source.failures new).last ≡ None → IsUnread from (source.left old) e
-  unread_at e reads known last =
-      unread_by from (source.left old) e reads.errors (λ r is. refusal_is_true known reads e r refl is) (λ full. reads.no_room known.0 e refl full)
-      (λ k is. never_io e k (source.failures old) (source.failures new) reads.failures last is)
-
-  uncarried_at : (read : Result CompactDoc DeserializeError) (e : MigrateError) → ReadsDocument from source old new document_of read → Rewrites to sink begun ended read (Err e) → Known source old → (source.failures new).last ≡ None → Uncarried from to (source.left old) sink begun ended e
-  uncarried_at (Err f) e reads w known last =
-      let is : e ≡ Read f = cc in
-      subst (λ (z : MigrateError). Uncarried from to (source.left old) sink begun ended z) (sym is) (record {
-        next = [];
-        unmigrated = (unread_at f reads known last, refl);
-        held = λ told. ([], ([], refl), ap sink.held w.1 ∙ sym (append-nil (sink.held begun)));
-        stays_known = λ told. subst sink.is_known (sym w.1) told;
-        counts = ap sink.failures w.1;
-      })
-  uncarried_at (Ok d) (Read f) reads w known last = absurd w.2
-  uncarried_at (Ok d) (Write (writes.Io kind)) reads w known last = record {
-    next = short_document to (document_of d);
-    unmigrated = ((source.left new, record { document = document_of d; read = reads.found known.0; valid = w.0; written = refl }), tt);
-    held = w.1.appends;
-    stays_known = w.1.stays_known;
-    counts = w.1.counts;
-  }
-  uncarried_at (Ok d) (Write writes.Memory) reads w known last = record {
-    next = short_document to (document_of d);
-    unmigrated = ((source.left new, record { document = document_of d; read = reads.found known.0; valid = w.0; written = refl }), tt);
-    held = w.1.appends;
-    stays_known = w.1.stays_known;
-    counts = w.1.counts;
-  }
-  uncarried_at (Ok d) (Write _) reads w known last = absurd w.2
-
-module _ {S K : Type 0} {from to : Version} {source : Source S} {old new : S} {sink : Sink K} {begun ended : K} {result : Result (Unit {0}) MigrateError} (m : Migrates from to source old new sink begun ended result) where
-  pub carried : {x : Unit {0}} → result ≡ Ok x → source.is_known old → Carried from to (source.left old) (source.left new) sink begun ended
-  carried {x = x} is known = carried_at from to source old new sink begun ended m.read x m.reads (subst (λ z. Rewrites to sink begun ended m.read z) is m.rewrites) known
-
-  -- where no read failed
-  pub uncarried : {e : MigrateError} → result ≡ Err e → Known source old → (source.failures new).last ≡ None → Uncarried from to (source.left old) sink begun ended e
-  uncarried {e = e} is known last = uncarried_at from to source old new sink begun ended m.read e m.reads (subst (λ z. Rewrites to sink begun ended m.read z) is m.rewrites) known last
+-- nothing is written
+pub writes_nothing : (held : List ℕ) → AppendsPrefix held held []
+writes_nothing held = ([], ([], refl), sym (append-nil held))
 
 -- ---- the documents so far
 
 -- so far the documents before the rest of the block, of this number, were carried over
-pub record MigratedSoFar {K : Type 0} (from to : Version) (block rest : List ℕ) (number : ℕ) (sink : Sink K) (begun now : K) : Type 0 where
-  pub before : List ℕ
-  pub joined : block ≡ before ++ rest
+pub record MigratedSoFar {K : Type 0} (from to : Version) (block rest : List ℕ) (number start : ℕ) (sink : Sink K) (begun now : K) : Type 0 where
+  pub read : ReadSoFar from no_limits block rest number start
   pub text : List ℕ
-  pub migrated : IsMigrated from to before text
-  pub counted : number ≡ length migrated.documents
+  pub written : text ≡ flat_map (short_document to) read.documents
   pub held : sink.is_known begun → sink.held now ≡ sink.held begun ++ text
-  pub stays_known : sink.is_known begun → sink.is_known now
-  pub failures : sink.failures now ≡ sink.failures begun
 
-pub none_so_far : {K : Type 0} (from to : Version) (block rest : List ℕ) (sink : Sink K) (begun : K) → rest ≡ block → MigratedSoFar from to block rest 0 sink begun begun
-none_so_far from to block rest sink begun is = record {
-  before = [];
-  joined = sym is;
-  text = [];
-  migrated = record { documents = []; encoded = refl; written = refl };
-  counted = refl;
-  held = λ told. sym (append-nil (sink.held begun));
-  stays_known = λ told. told;
-  failures = refl;
-}
+pub none_so_far : {K : Type 0} (from to : Version) (block : List ℕ) (start : ℕ) (sink : Sink K) (begun : K) → start ≡ 0 → MigratedSoFar from to block block 0 start sink begun begun
+none_so_far from to block start sink begun is = record { read = read_none from no_limits block start is; text = []; written = refl; held = λ told. sym (append-nil (sink.held begun)) }
 
-module _ {K : Type 0} {from to : Version} {block rest : List ℕ} {number : ℕ} {sink : Sink K} {begun now : K} (m : MigratedSoFar from to block rest number sink begun now) where
-  pub migrated_more : {left : List ℕ} {after : K} → Carried from to rest left sink now after → MigratedSoFar from to block left (number + 1) sink begun after
-  migrated_more {left} {after} c =
-      let t = c.transcribed in
-      let documents = m.migrated.documents in
-      record {
-        before = m.before ++ t.read.prefix;
-        joined = joined_more block m.before rest t.read.prefix left m.joined t.read.joined;
-        text = m.text ++ c.text;
-        migrated = record {
-          documents = documents ++ t.document ∷ [];
-          encoded = each-snoc (EncodesDocument Legacy from) m.before t.read.prefix documents t.document m.migrated.encoded t.read.encoded;
-          written = ap (λ (l : List ℕ). l ++ c.text) m.migrated.written ∙ ap (λ (l : List ℕ). flat_map (short_document to) documents ++ l) t.written ∙ sym (flat-snoc (short_document to) documents t.document);
-        };
-        counted = omega (arith, m.counted, length-append documents (t.document ∷ []));
-        held = λ told. c.held (m.stays_known told) ∙ ap (λ (l : List ℕ). l ++ c.text) (m.held told) ∙ append_assoc (sink.held begun) m.text c.text;
-        stays_known = λ told. c.stays_known (m.stays_known told);
-        failures = c.failures ∙ m.failures;
-      }
-
-  pub few_so_far : number ≤ length block
-  few_so_far = omega (arith, m.counted, few_documents from m.before m.migrated.documents m.migrated.encoded, ap length m.joined, length-append m.before rest)
+module _ {K : Type 0} {from to : Version} {block rest : List ℕ} {number start : ℕ} {sink : Sink K} {begun now : K} (m : MigratedSoFar from to block rest number start sink begun now) where
+  pub migrated_more : {left : List ℕ} {after : K} {next : ℕ} (d : Document) → BeginsWithDocument from rest left d → length left < length rest → (start + length rest < 2 ^ 64 → next + length left ≡ start + length rest) → (sink.is_known begun → sink.is_known now)
+      → (sink.is_known now → sink.held after ≡ sink.held now ++ short_document to d) → MigratedSoFar from to block left (number + 1) next sink begun after
+  migrated_more d begins fewer placed known appended = record {
+    read = read_more m.read d (record { prefix = begins.prefix; joined = begins.joined; encoded = within_none begins.encoded }) fewer placed;
+    text = m.text ++ short_document to d;
+    written = ap (λ (l : List ℕ). l ++ short_document to d) m.written ∙ sym (flat-snoc (short_document to) m.read.documents d);
+    held = λ told. appended (known told) ∙ ap (λ (l : List ℕ). l ++ short_document to d) (m.held told) ∙ append_assoc (sink.held begun) m.text (short_document to d);
+  }
 
   pub all_so_far : rest ≡ [] → MigratesAll from to block sink begun now number
   all_so_far none = record {
     text = m.text;
-    migrated = record {
-      documents = m.migrated.documents;
-      encoded = subst (λ (l : List ℕ). EncodesBlock from l m.migrated.documents) (sym (m.joined ∙ ap (λ (l : List ℕ). m.before ++ l) none ∙ append-nil m.before)) m.migrated.encoded;
-      written = m.migrated.written;
-    };
-    counted = m.counted;
+    migrated = record { documents = m.read.documents; encoded = subst (λ (l : List ℕ). EncodesBlock from l m.read.documents) (sym (whole_before m.read none)) (without_limits from m.read.before m.read.documents m.read.encoded); written = m.written };
+    counted = m.read.counted;
     held = m.held;
   }
 
-  pub stopped : {after : K} (error : MigrateBlockError) → error.start ≡ length block - length rest → rest ≢ [] → Uncarried from to rest sink now after error.error → MigratesBefore from to block sink begun after error
-  stopped {after} error at some u = record {
-    before = m.before;
+  -- it stops before the next document, of which this text was to be written
+  pub stopped : {left : List ℕ} {after : K} (error : MigrateBlockError) (next : List ℕ) → (sink.is_known begun → sink.is_known now) → IsUnmigrated from to rest left (length m.read.documents) (length m.read.before) next error
+      → (sink.is_known now → AppendsPrefix (sink.held now) (sink.held after) next) → MigratesBefore from to block left sink begun after error
+  stopped {after = after} error next known unmigrated begins = record {
+    before = m.read.before;
     behind = rest;
-    joined = m.joined;
-    measured = at ∙ rest_at block m.before rest m.joined;
+    joined = m.read.joined;
     text = m.text;
-    migrated = m.migrated;
-    some = some;
-    next = u.next;
-    unmigrated = u.unmigrated;
-    held = λ told. subst (λ (l : List ℕ). AppendsPrefix l (sink.held after) u.next) (m.held told) (u.held (m.stays_known told));
+    migrated = record { documents = m.read.documents; encoded = without_limits from m.read.before m.read.documents m.read.encoded; written = m.written };
+    next = next;
+    unmigrated = unmigrated;
+    held = λ told. subst (λ (l : List ℕ). AppendsPrefix l (sink.held after) next) (m.held told) (begins (known told));
   }
+
+-- a beginning of the text was written
+pub begun_of : (held now text : List ℕ) (e : SerializeError) → IsIoOrMemory e → Halts {R = Unwritten} (write_stop e) held now (Ok text) → AppendsPrefix held now text
+begun_of held now text (writes.Io kind) may h = h
+begun_of held now text writes.Memory may h = h
+begun_of held now text _ may h = absurd may
+
+-- ---- the next document
+
+module _ {S K : Type 0} {source : Source S} {source_old source_new : S} {old new : BlockReader} {from to : Version} {block : List ℕ} {number : ℕ} {sink : Sink K} {begun now : K} (m : MigratedSoFar from to block (source.left source_old) number old.start sink begun now) (live : old.failed ≡ false) (same : version_of old.version ≡ from) (known : source.is_known source_old) where
+  -- it was read
+  next_begins : StepsBlock SaysNothing errors.AlreadyFailed source source_old source_new old new (Ok true) → ReadsNext source source_old source_new old new (Ok true) → BeginsWithDocument from (source.left source_old) (source.left source_new) (document_of new.document)
+  next_begins steps reads = subst (λ (v : Version). BeginsWithDocument v (source.left source_old) (source.left source_new) (document_of new.document)) same ((reads_live reading errors.AlreadyFailed live reads).found known)
+
+  -- it was carried over
+  pub next_migrated : {after : K} {shown : CompactDoc} → StepsBlock SaysNothing errors.AlreadyFailed source source_old source_new old new (Ok true) → ReadsNext source source_old source_new old new (Ok true) → shown ≡ new.document → (sink.is_known begun → sink.is_known now)
+      → (sink.is_known now → sink.held after ≡ sink.held now ++ short_document to (document_of shown)) → MigratedSoFar from to block (source.left source_new) (number + 1) new.start sink begun after
+  next_migrated steps reads is told appended =
+      migrated_more m (document_of new.document) (next_begins steps reads) (steps.fewer known refl) (start_after steps live known) told (λ k. appended k ∙ ap (λ (d : CompactDoc). sink.held now ++ short_document to (document_of d)) is)
+
+  -- it can't be read, and nothing was written
+  pub next_unread : {error : DeserializeError} {e : RefusedDocument} → e ≡ refusal_of new (limited.Read error) → old.documents ≡ number → StepsBlock SaysNothing errors.AlreadyFailed source source_old source_new old new (Err error) → ReadsNext source source_old source_new old new (Err error)
+      → (sink.is_known begun → sink.is_known now) → MigratesBefore from to block (source.left source_new) sink begun now (Read e)
+  next_unread {error} {e} is counted steps reads told =
+      let reason = one_whole source (version_of old.version) (Err error) new.document (reads_live reading errors.AlreadyFailed live reads) (steps.end live) (steps.ended live) known in
+      stopped m (Read e) [] told (
+        refl,
+        ap (λ (z : RefusedDocument). z.document) is ∙ steps.counted.documents ∙ counted ∙ m.read.counted,
+        refused_at m.read live known (limited.Read error) e is steps (subst (λ (v : Version). IsReason v (All no_limits) (source.left source_old) (source.left source_new) (limited.Read error)) same reason),
+      )
+      (λ k. writes_nothing (sink.held now))
+
+  -- it was read, and can't be written
+  pub next_unwritten : {after : K} {shown : CompactDoc} {start : ℕ} {error : SerializeError} → StepsBlock SaysNothing errors.AlreadyFailed source source_old source_new old new (Ok true) → ReadsNext source source_old source_new old new (Ok true) → shown ≡ new.document → start ≡ old.start → IsDocument (document_of shown) → IsIoOrMemory error → (sink.is_known begun → sink.is_known now)
+      → (sink.is_known now → AppendsPrefix (sink.held now) (sink.held after) (short_document to (document_of shown))) → MigratesBefore from to block (source.left source_new) sink begun after (Write number start error)
+  next_unwritten {after} {shown} {start} {error} steps reads is at valid reason told written =
+      let begins = subst (λ (d : CompactDoc). BeginsWithDocument from (source.left source_old) (source.left source_new) (document_of d)) (sym is) (next_begins steps reads) in
+      stopped m (Write number start error) (short_document to (document_of shown)) told
+      (record { transcribed = record { document = document_of shown; read = begins; valid = valid; written = refl }; counted = m.read.counted; begins = λ few. at ∙ begins_at m.read few; reason = reason }) written
+
+-- ---- failures
+
+-- what was before the step is what was at the beginning
+pub counts_unread : (e : DeserializeError) (refused : RefusedDocument) {begun old : Failures} (new : Failures) → refused.error ≡ limited.Read e → old ≡ begun → CountsStop (store_stop e) old new → CountsStop (refused_stop refused) begun new
+counts_unread e refused {begun = begun} new is same counts =
+    subst (λ (z : LimitedReadError). CountsStop (limited_stop z) begun new) (sym is) (subst (λ (f : Failures). CountsStop (store_stop e) f new) same counts)
+
+pub counts_unwritten : (e : SerializeError) {begun old : Failures} (new : Failures) → old ≡ begun → CountsStop (write_stop e) old new → CountsStop (write_stop e) begun new
+counts_unwritten e new same counts = subst (λ (f : Failures). CountsStop (write_stop e) f new) same counts

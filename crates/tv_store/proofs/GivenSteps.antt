@@ -1,5 +1,5 @@
 -- Pairs that are given, one after the other.
-use Rattle.std.proofs.Common.{◌≡◌, ℕ, Bool, true, false, List, [], ◌∷◌, ◌++◌, refl, sym, subst}
+use Rattle.std.proofs.Common.{◌≡◌, ℕ, Bool, true, false, [], ◌∷◌, ◌++◌, refl, sym, subst}
 use Rattle.tv_format.specs.Tree.{Tree, Document}
 use Rattle.tv_typed.specs.Documents.{NextPair, GivesAll}
 

@@ -9,9 +9,10 @@ pub mod Migrations
 pub mod BlockMigration
 mod InPlace
 mod Blocks
+mod BlockSteps
 mod BlocksWithin
-mod ChosenBlocks
-mod Skips
+pub mod Projections
+pub mod BlocksSoFar
 pub mod Nesting
 pub mod NestedSteps
 pub mod WithinDepth

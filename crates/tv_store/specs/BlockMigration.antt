@@ -1,31 +1,29 @@
 -- What comes of a block, whose documents stand one after the other, when these are carried over to another version of the store.
 --
--- A call that makes this promise carries over the documents from the first on, each as `migrate` does. Where it succeeds, these are all that
--- the block encodes, and it tells their number. After an error it tells at which byte the first document begins that wasn't carried over, and
--- why. After what the sink held stand the shortest encodings of those that were, and then a beginning of the encoding of that document, but
--- nothing of it where it couldn't be read.
-use Rattle.std.specs.Prelude.{◌≡◌, ◌≢◌, ℕ, List, [], ◌++◌, length}
+-- A call that makes this promise carries over the documents that a source has left from the first on, each as `migrate` does. Where it succeeds,
+-- these are all that the source has left, and it tells their number. After an error it tells the number of the first document that wasn't carried
+-- over, the byte at which it begins, and why. After what the sink held stand the shortest encodings of those that were, and then a beginning of
+-- the encoding of that document, but nothing of it where it couldn't be read.
+use Rattle.std.specs.Prelude.{◌≡◌, ◌+◌, ◌-◌, ◌^◌, ◌<◌, ℕ, List, [], ◌++◌, length}
 use Rattle.std.specs.List.{flat_map}
 use Rattle.tv_base.specs.declared.sink.ByteSink.{Ghosts as Sink}
 use Rattle.tv_base.specs.Parts.{Each}
 use Rattle.tv_base.specs.Sink.{AppendsPrefix}
-use Rattle.tv_base.specs.Source.{Failures}
-use Rattle.tv_base.specs.Stop.{CountsStop}
+use Rattle.tv_base.specs.Stop.{Stop}
+use Rattle.tv_base.specs.Stop.Stop.{Short}
 use Rattle.tv_format.specs.Encoding.{EncodesDocument}
-use Rattle.tv_format.specs.InputError.{corrupted, no_text_key}
+use Rattle.tv_format.specs.InputError.{Refusal}
 use Rattle.tv_format.specs.Short.{short_document, IsDocument}
 use Rattle.tv_format.specs.Tree.{Document}
 use Rattle.tv_format.specs.Version.{Version}
 use Rattle.tv_legacy.specs.Legacy.{Legacy}
-use Rattle.tv_reader.specs.ValueType.{value_type_code}
-use Rattle.tv_reader.specs.declared.error.DeserializeError.{DeserializeError}
-use Rattle.tv_reader.specs.declared.error.DeserializeError.TheVariants as errors
-use Rattle.tv_reader.specs.declared.value_type.ValueType.TheVariants.{String}
-use Rattle.tv_store.specs.Documents.{BeginsWithDocument, HasNoRoom, NoDocument}
+use Rattle.tv_store.specs.Documents.{BeginsWithDocument}
+use Rattle.tv_store.specs.Projections.{IsRefusedAt, no_limits, refused_stop}
 use Rattle.tv_store.specs.declared.block_migration.MigrateBlockError.{MigrateBlockError}
-use Rattle.tv_store.specs.declared.migration.MigrateError.{MigrateError}
-use Rattle.tv_store.specs.declared.migration.MigrateError.TheVariants.{Read, Write}
-use Rattle.tv_writer.specs.Error.{write_stop, IsIoOrMemory}
+use Rattle.tv_store.specs.declared.block_migration.MigrateBlockError.TheVariants.{Read, Write, TooMany}
+use Rattle.tv_store.specs.declared.projection.Projection.TheVariants.{All}
+use Rattle.tv_writer.specs.Error.{Unwritten, write_stop, IsIoOrMemory}
+use Rattle.tv_writer.specs.declared.error.SerializeError.{SerializeError}
 
 -- these documents are encoded, one after the other
 abbrev pub EncodesBlock : Version → List ℕ → List Document → Type 0
@@ -45,24 +43,20 @@ pub record Transcribes (from to : Version) (bytes rest text : List ℕ) : Type 0
   pub valid : IsDocument document
   pub written : text ≡ short_document to document
 
--- the error is true of these bytes: they begin with no document, or with one that has no room, unless memory was refused
-abbrev pub IsUnread : Version → List ℕ → DeserializeError → Type 0
-IsUnread v bytes (errors.CorruptedValue cause) = NoDocument v bytes (corrupted cause)
-IsUnread v bytes (errors.TypeMismatch String actual) = NoDocument v bytes (no_text_key (value_type_code actual))
-IsUnread v bytes errors.HeapFull = HasNoRoom v bytes
-IsUnread v bytes errors.Memory = Unit {0}
-IsUnread v bytes _ = ⊥
+-- Of the document with which the bytes begin this text was to be written, which couldn't be. `left` follows it. Before it come this many documents, in
+-- this number of bytes.
+pub record IsUnwritten (from to : Version) (bytes left : List ℕ) (number before : ℕ) (text : List ℕ) (document start : ℕ) (e : SerializeError) : Type 0 where
+  pub transcribed : Transcribes from to bytes left text
+  pub counted : document ≡ number
+  pub begins : before + length bytes < 2 ^ 64 - 1 → start ≡ before
+  pub reason : IsIoOrMemory e
 
--- Why the document with which these bytes begin isn't carried over, and the text that was to be written of it: none where it couldn't be
--- read, else its shortest encoding.
-abbrev pub IsUnmigrated : Version → Version → List ℕ → List ℕ → MigrateError → Type 0
-IsUnmigrated from to bytes text (Read e) = IsUnread from bytes e × (text ≡ [])
-IsUnmigrated from to bytes text (Write e) = ((rest : List ℕ) × Transcribes from to bytes rest text) × IsIoOrMemory e
-
--- no write failed where the document couldn't be read, else there is the failure that is reported
-abbrev pub CountsUnmigrated : MigrateError → Failures → Failures → Type 0
-CountsUnmigrated (Read e) old new = new ≡ old
-CountsUnmigrated (Write e) old new = CountsStop (write_stop e) old new
+-- Why the document with which these bytes begin isn't carried over, and the text that was to be written of it: none where it couldn't be read, else its
+-- shortest encoding. Before it come this many documents, in this number of bytes. `left` is what is left of the bytes.
+abbrev pub IsUnmigrated : Version → Version → List ℕ → List ℕ → ℕ → ℕ → List ℕ → MigrateBlockError → Type 0
+IsUnmigrated from to bytes left number before text (Read e) = (text ≡ []) × (e.document ≡ number) × IsRefusedAt from (All no_limits) bytes left before e
+IsUnmigrated from to bytes left number before text (Write document start e) = IsUnwritten from to bytes left number before text document start e
+IsUnmigrated from to bytes left number before text TooMany = (text ≡ []) × (left ≡ bytes) × (number ≡ 2 ^ 64 - 1)
 
 -- All documents of the block, of this number, were carried over, and `text` is what they are in the other version.
 pub record MigratesAll {K : Type 0} (from to : Version) (block : List ℕ) (sink : Sink K) (old new : K) (number : ℕ) : Type 0 where
@@ -71,16 +65,28 @@ pub record MigratesAll {K : Type 0} (from to : Version) (block : List ℕ) (sink
   pub counted : number ≡ length migrated.documents
   pub held : sink.is_known old → sink.held new ≡ sink.held old ++ text
 
--- The documents before the byte that is reported were carried over, and `text` is what they are in the other version. Some bytes stand after
--- them, and the document with which these begin wasn't carried over, for the reason that is reported: `next` was to be written of it.
-pub record MigratesBefore {K : Type 0} (from to : Version) (block : List ℕ) (sink : Sink K) (old new : K) (error : MigrateBlockError) : Type 0 where
+-- The documents before the one that is reported were carried over, and `text` is what they are in the other version. The document with which the rest
+-- of the block begins wasn't, for the reason that is reported: `next` was to be written of it. `left` is what is left of the block.
+pub record MigratesBefore {K : Type 0} (from to : Version) (block left : List ℕ) (sink : Sink K) (old new : K) (error : MigrateBlockError) : Type 0 where
   pub before : List ℕ
   pub behind : List ℕ
   pub joined : block ≡ before ++ behind
-  pub measured : error.start ≡ length before
   pub text : List ℕ
   pub migrated : IsMigrated from to before text
-  pub some : behind ≢ []
   pub next : List ℕ
-  pub unmigrated : IsUnmigrated from to behind next error.error
+  pub unmigrated : IsUnmigrated from to behind left (length migrated.documents) (length before) next error
   pub held : sink.is_known old → AppendsPrefix (sink.held old ++ text) (sink.held new) next
+
+-- ---- why it stopped
+
+-- as its source sees it
+abbrev pub migration_source_stop : MigrateBlockError → Stop Refusal
+migration_source_stop (Read e) = refused_stop e
+migration_source_stop (Write document start e) = Short
+migration_source_stop TooMany = Short
+
+-- and as its sink does
+abbrev pub migration_sink_stop : MigrateBlockError → Stop Unwritten
+migration_sink_stop (Read e) = Short
+migration_sink_stop (Write document start e) = write_stop e
+migration_sink_stop TooMany = Short

@@ -1,5 +1,5 @@
 -- What is read of documents that stand one after the other.
-use Rattle.std.specs.Prelude.{◌≡◌, ℕ, Bool, true, false, List, [], ◌∷◌, Result, Ok, Err}
+use Rattle.std.specs.Prelude.{◌≡◌, ◌<◌, ℕ, Bool, true, false, List, [], ◌∷◌, Option, Some, None, Result, Ok, Err}
 use Rattle.tv_base.specs.declared.cause.Cause.TheVariants.{UnexpectedEnd}
 use Rattle.tv_reader.specs.declared.error.DeserializeError.{DeserializeError}
 use Rattle.tv_reader.specs.declared.error.DeserializeError.TheVariants as errors
@@ -26,24 +26,39 @@ as_read_within result document = read_or (limited.Read (errors.CorruptedValue Un
 abbrev pub as_passed : Result Bool DeserializeError → Result (Unit {0}) DeserializeError
 as_passed result = as_read result (tt {0})
 
--- there was no further document, unless the source failed or memory was refused
-abbrev pub SaysEnd : Result Bool DeserializeError → Type 0
-SaysEnd (Ok true) = ⊥
-SaysEnd (Ok false) = Unit {0}
-SaysEnd (Err e) = SaysNothing e
+-- ---- the end
 
--- the same within limits, whatever they are: only a document that is there passes one
-abbrev pub SaysEndWithin : Result Bool LimitedReadError → Type 0
-SaysEndWithin (Ok next) = SaysEnd (Ok next)
-SaysEndWithin (Err (limited.Read e)) = SaysEnd (Err e)
-SaysEndWithin (Err (limited.Limit l)) = ⊥
+-- there was no further document, unless an error came that may come all the same
+abbrev pub SaysEndBut : {E : Type 0} → (E → Type 0) → Result Bool E → Type 0
+SaysEndBut MayCome (Ok true) = ⊥
+SaysEndBut MayCome (Ok false) = Unit {0}
+SaysEndBut MayCome (Err e) = MayCome e
+
+-- the same where the source failed or memory was refused, whatever the limits are: only a document that is there passes one
+abbrev pub SaysNothingWithin : LimitedReadError → Type 0
+SaysNothingWithin (limited.Read e) = SaysNothing e
+SaysNothingWithin (limited.Limit l) = ⊥
+
+-- What was read, or nothing, by what reading it returned, which error says that the bytes end early, and how many were taken: there was nothing where
+-- they end early and none was taken. Any other error is returned.
+abbrev pub NextOf : {T E : Type 0} → E → Result T E → ℕ → Result (Option T) E → Type 0
+NextOf end (Ok x) taken result = result ≡ Ok (Some x)
+NextOf end (Err e) taken (Ok (Some x)) = ⊥
+NextOf end (Err e) taken (Ok None) = (e ≡ end) × (taken ≡ 0)
+NextOf end (Err e) taken (Err error) = (error ≡ e) × (e ≡ end → 0 < taken)
 
 -- ---- for private clauses
 
+-- the same, where only whether there was something is said
+abbrev pub next_if : {E : Type 0} → Result Bool E → Result (Option (Unit {0})) E
+next_if (Ok true) = Ok (Some (tt {0}))
+next_if (Ok false) = Ok None
+next_if (Err e) = Err e
+
 -- What is seen where no byte of a document may be taken: there is none, or one, whose first byte was taken; or the source failed.
-abbrev pub SeesNext : Type 0 → List ℕ → List ℕ → Result Bool LimitedReadError → Type 0
-SeesNext IsKnown old new (Ok true) = ⊥
-SeesNext IsKnown old new (Ok false) = IsKnown → (old ≡ []) × (new ≡ [])
+abbrev pub SeesNext : Type 0 → List ℕ → List ℕ → Result (Unit {0}) LimitedReadError → Type 0
+SeesNext IsKnown old new (Ok x) = ⊥
 SeesNext IsKnown old new (Err (limited.Limit limit.Bytes)) = IsKnown → (byte : ℕ) × (old ≡ byte ∷ new)
+SeesNext IsKnown old new (Err (limited.Read (errors.CorruptedValue UnexpectedEnd))) = IsKnown → (old ≡ []) × (new ≡ [])
 SeesNext IsKnown old new (Err (limited.Read (errors.Io kind))) = IsKnown → new ≡ old
 SeesNext IsKnown old new (Err e) = ⊥

@@ -3,10 +3,12 @@ pub mod Documents
 pub mod Reading
 pub mod Decoder
 pub mod Blocks
+pub mod BlockSteps
 pub mod PairsGiven
 pub mod RoundTrip
 pub mod Migrate
 pub mod BlockMigration
 pub mod Nested
 pub mod Limits
+pub mod Projections
 pub use Rattle.tv_writer.specs.Serialized

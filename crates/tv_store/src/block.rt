@@ -1,58 +1,45 @@
-//! Documents that stand one after the other, read in the memory of one.
+//! Documents that stand one after the other, read in the memory of one, and counted.
 
-ghost use Rattle.std.specs.Prelude.{◌≡◌, ◌≢◌, ◌<◌, ◌↔◌, [], length, true, false, Some, Ok, Err};
-ghost use Rattle.std.specs.Prelude.{IsErrOf, IsTrue, OnOk, OnErr};
-ghost use Rattle.tv_base.specs.declared.cause.Cause.TheVariants.{UnexpectedEnd};
+ghost use Rattle.std.specs.Prelude.{◌≡◌, ◌↔◌, [], length, true, false, Some, Ok, Err};
+ghost use Rattle.std.specs.Prelude.{IsErrOf, IsTrue};
 ghost use Rattle.tv_base.specs.Stop.{Counts, Taken};
 ghost use Rattle.tv_doc.specs.Document.{document_of, heap_of};
-ghost use Rattle.tv_doc.specs.declared.document.CompactDoc.{CompactDoc};
 ghost use Rattle.tv_reader.specs.Version.{version_of};
 ghost use Rattle.tv_reader.specs.declared.error.DeserializeError.TheVariants.{AlreadyFailed};
-ghost use Rattle.tv_reader.specs.declared.error.DeserializeError.TheVariants.{CorruptedValue, HeapFull};
-ghost use Rattle.tv_store.specs.Blocks.{as_read, as_read_within, as_passed, SaysEnd, SaysEndWithin};
-ghost use Rattle.tv_store.specs.Blocks.{SeesNext};
-ghost use Rattle.tv_store.specs.Documents.{in_place};
+ghost use Rattle.tv_reader.specs.declared.error.DeserializeError.TheVariants.{HeapFull};
+ghost use Rattle.tv_store.specs.BlockSteps.{Finishes, LeavesNone, StartsAt, StepsBlock};
+ghost use Rattle.tv_store.specs.BlockSteps.{place_of, refusal_of};
+ghost use Rattle.tv_store.specs.Blocks.{SaysNothingWithin, SeesNext};
+ghost use Rattle.tv_store.specs.Documents.{SaysNothing};
 ghost use Rattle.tv_store.specs.Limits.{AllNestWithinLimit, IsPast, ReadsNextWithin};
 ghost use Rattle.tv_store.specs.Limits.{StopsNextWithin, limited_stop};
 ghost use Rattle.tv_store.specs.Reading.{PassesNext, ReadsNext, ReadsNextFields};
 ghost use Rattle.tv_store.specs.declared.limits.LimitedReadError.TheVariants.{Read};
 
 use crate::de::take_in_place;
+use crate::early_end::{EarlyEnd, next_of};
 use crate::fields::take_fields_in_place;
 use crate::limits::{LimitedReadError, ReadLimit, ReadLimits, read_parts_in_place};
 use std::alloc::Global;
+use thiserror::Error;
 use tv_base::{ByteSource, Cause};
 use tv_doc::document::CompactDoc;
 use tv_reader::{DeserializeError, DocStoreVersion};
 use tv_reading::items::pass_document;
 use tv_value::field::Field;
 
-// Whether there was a document, by what reading one returned and how many bytes it took: where none was left, a missing end is no error.
-fn next_of(read: Result<(), DeserializeError>, count: u64) -> Result<bool, DeserializeError>
-    ensures placed { (document : CompactDoc) → as_read result document ≡ in_place read document }
-    ensures passed { as_passed result ≡ read }
-    ensures end { result ≡ Ok false → count ≡ 0 }
-    ensures cut { IsErrOf result (CorruptedValue UnexpectedEnd) → 0 < count }
-{
-    match read {
-        Ok(()) => Ok(true),
-        Err(DeserializeError::CorruptedValue(Cause::UnexpectedEnd)) if count == 0 => Ok(false),
-        Err(error) => Err(error),
-    }
-}
-
-// The same within limits.
-fn next_within(read: Result<(), LimitedReadError>, count: u64) -> Result<bool, LimitedReadError>
-    ensures placed { (document : CompactDoc)
-        → as_read_within result document ≡ in_place read document }
-    ensures end { result ≡ Ok false → count ≡ 0 }
-    ensures cut { IsErrOf result (Read (CorruptedValue UnexpectedEnd)) → 0 < count }
-{
-    match read {
-        Ok(()) => Ok(true),
-        Err(LimitedReadError::Read(error)) => Ok(next_of(Err(error), count)?),
-        Err(passed) => Err(passed),
-    }
+/// Why the next document of a block can't be read. (Not in tantivy.)
+#[derive(Debug, PartialEq, Drop, Error)]
+#[error("document {document}, which begins at byte {start}, is refused at byte {place}: {error}")]
+pub struct RefusedDocument {
+    /// The number of the document, counted from 0: how many come before it.
+    pub document: u64,
+    /// The byte of the block at which it begins: how many bytes those before it take.
+    pub start: u64,
+    /// How many bytes of the block were taken when it was refused.
+    pub place: u64,
+    /// Why it is refused.
+    pub error: LimitedReadError,
 }
 
 // Whether no byte may be taken of a document.
@@ -65,8 +52,8 @@ fn takes_none(limits: ReadLimits) -> bool
     }
 }
 
-// Whether there is a document, of which no byte may be taken: it passes that limit. Its first byte is taken to see it, and counted.
-fn see_next<S: ByteSource>(source: &mut S, count: &mut u64) -> Result<bool, LimitedReadError>
+// Reads a document of which no byte may be taken: it passes that limit. Its first byte is taken to see it, and counted.
+fn see_next<S: ByteSource>(source: &mut S, count: &mut u64) -> Result<(), LimitedReadError>
     ensures sees { SeesNext (S.is_known source.old) (S.left source.old) (S.left source.new) result }
     ensures counted { S.is_known source.old
         → Taken (S.left source.old) (S.left source.new) 0 count.new }
@@ -75,7 +62,9 @@ fn see_next<S: ByteSource>(source: &mut S, count: &mut u64) -> Result<bool, Limi
 {
     *count = 0;
     match source.next_byte() {
-        Ok(None) => Ok(false),
+        Ok(None) => Err(LimitedReadError::Read(DeserializeError::CorruptedValue(
+            Cause::UnexpectedEnd,
+        ))),
         Ok(Some(_)) => {
             *count = 1;
             Err(LimitedReadError::Limit(ReadLimit::Bytes))
@@ -85,7 +74,7 @@ fn see_next<S: ByteSource>(source: &mut S, count: &mut u64) -> Result<bool, Limi
 }
 
 /// Reads documents that stand one after the other, as a block of a store has them, each in place of the one before and in its memory. So a
-/// block takes memory once. (Not in tantivy.)
+/// block takes memory once. It counts the documents and their bytes. (Not in tantivy.)
 ///
 /// It is lent the source for each call, so it holds none. After a refusal each call returns `AlreadyFailed` and reads nothing.
 ///
@@ -105,26 +94,59 @@ pub struct BlockReader {
     alloc: Global,
     version: DocStoreVersion,
     document: CompactDoc,
+    // How many documents were read or passed over, and how many bytes these take.
+    documents: u64,
+    start: u64,
+    // How many bytes the last call took.
     taken: u64,
     failed: bool,
 }
 
 impl BlockReader {
-    ghost use Rattle.tv_store.specs.Decoder.{Rests};
-
     /// A reader of documents of this version. It reads nothing and takes no memory.
     pub fn new(alloc: Global, version: DocStoreVersion) -> BlockReader
-        ensures document { document_of result.document ≡ [] }
-        ensures version { result.version ≡ version }
-        ensures unread { result.taken ≡ 0 }
-        ensures not_failed { result.failed ≡ false }
+        ensures { StartsAt version 0 0 result }
+    {
+        BlockReader::starting_at(alloc, version, 0, 0)
+    }
+
+    /// A reader that begins in a block after `documents` documents, which take `bytes` bytes. Its counts go on from these. It reads nothing and takes
+    /// no memory.
+    pub fn starting_at(
+        alloc: Global,
+        version: DocStoreVersion,
+        documents: u64,
+        bytes: u64,
+    ) -> BlockReader
+        ensures { StartsAt version documents bytes result }
     {
         BlockReader {
             alloc,
             version,
             document: CompactDoc::new(alloc),
+            documents,
+            start: bytes,
             taken: 0,
             failed: false,
+        }
+    }
+
+    // Counts what was read, by what reading a document returned and how many bytes that took, and says whether there was one.
+    fn finish<E: EarlyEnd + Drop>(&mut self, read: Result<(), E>, taken: u64) -> Result<bool, E>
+        ensures { Finishes E.early_end self.old self.new read taken result }
+    {
+        self.taken = taken;
+        match next_of(read, taken) {
+            Ok(Some(())) => {
+                self.documents = self.documents.saturating_add(1);
+                self.start = self.start.saturating_add(taken);
+                Ok(true)
+            }
+            Ok(None) => Ok(false),
+            Err(error) => {
+                self.failed = true;
+                Err(error)
+            }
         }
     }
 
@@ -133,27 +155,10 @@ impl BlockReader {
     /// Errors: those of `read_document`, and `AlreadyFailed` after one of these. A document that is cut off is `CorruptedValue`, also where it is
     /// the last. At the end and after an error there is no document, and its memory was given back.
     pub fn advance<S: ByteSource>(&mut self, source: &mut S) -> Result<bool, DeserializeError>
-        // after a refusal nothing happens
-        ensures refused { self.old.failed ≡ true
-            → Rests self.old self.new source.old source.new result (Err AlreadyFailed) }
-        ensures not_failed { OnOk result (self.new.failed ≡ false) }
-        ensures failed { OnErr result (self.new.failed ≡ true) }
-
-        // a document is read, where the end is read as one that is cut off
+        ensures steps { StepsBlock SaysNothing AlreadyFailed S.ByteSource source.old source.new
+            self.old self.new result }
         ensures reads { ReadsNext S.ByteSource source.old source.new self.old self.new result }
-        ensures fewer { S.is_known source.old → result ≡ Ok true
-            → length (S.left source.new) < length (S.left source.old) }
-        ensures none { self.old.failed ≡ false → result ≢ Ok true
-            → document_of self.new.document ≡ [] }
-
-        // the end is reported where nothing is left, and only there
-        ensures end { self.old.failed ≡ false → S.is_known source.old → result ≡ Ok false
-            → S.left source.old ≡ [] }
-        ensures ended { self.old.failed ≡ false → S.is_known source.old → S.left source.old ≡ []
-            → SaysEnd result }
-        ensures counted { self.old.failed ≡ false → S.is_known source.old
-            → Taken (S.left source.old) (S.left source.new) 0 self.new.taken }
-        ensures version { self.new.version ≡ self.old.version }
+        ensures none { LeavesNone self.old self.new result }
     {
         if self.failed {
             return Err(DeserializeError::AlreadyFailed);
@@ -166,30 +171,7 @@ impl BlockReader {
             &mut count,
             self.version,
         );
-        self.taken = count;
-        let next = next_of(read, count);
-        self.failed = next.is_err();
-        next
-    }
-
-    // Says whether there is a next document, of which no byte may be taken. There is no document then.
-    fn look_for_next<S: ByteSource>(&mut self, source: &mut S) -> Result<bool, LimitedReadError>
-        ensures sees { SeesNext (S.is_known source.old) (S.left source.old) (S.left source.new)
-            result }
-        ensures counted { S.is_known source.old
-            → Taken (S.left source.old) (S.left source.new) 0 self.new.taken }
-        ensures failures { Counts limited_stop result (S.failures source.old)
-            (S.failures source.new) }
-        ensures stays_known { S.is_known source.old → S.is_known source.new }
-        ensures none { document_of self.new.document ≡ [] }
-        ensures not_failed { OnOk result (self.new.failed ≡ false) }
-        ensures failed { OnErr result (self.new.failed ≡ true) }
-        ensures version { self.new.version ≡ self.old.version }
-    {
-        self.document = CompactDoc::new(self.alloc);
-        let next = see_next(source, &mut self.taken);
-        self.failed = next.is_err();
-        next
+        self.finish(read, count)
     }
 
     /// Reads the next document as `read_document_within` does, which stops where it passes a limit, and says whether there was one: `false`
@@ -220,44 +202,29 @@ impl BlockReader {
         source: &mut S,
         limits: ReadLimits,
     ) -> Result<bool, LimitedReadError>
-        // after a refusal nothing happens
-        ensures refused { self.old.failed ≡ true
-            → Rests self.old self.new source.old source.new result (Err (Read AlreadyFailed)) }
-        ensures not_failed { OnOk result (self.new.failed ≡ false) }
-        ensures failed { OnErr result (self.new.failed ≡ true) }
-
-        // a document is read, where the end is read as one that is cut off; each tree and the heap are within their limits
+        ensures steps { StepsBlock SaysNothingWithin (Read AlreadyFailed) S.ByteSource source.old
+            source.new self.old self.new result }
         ensures reads { ReadsNextWithin limits S.ByteSource source.old source.new self.old self.new
             result }
-        ensures fewer { S.is_known source.old → result ≡ Ok true
-            → length (S.left source.new) < length (S.left source.old) }
+        ensures none { LeavesNone self.old self.new result }
+
+        // each tree and the heap are within their limits, and what was taken passes the limit that is reported
         ensures shallow { result ≡ Ok true
             → AllNestWithinLimit limits.depth (document_of self.new.document) }
         ensures small { result ≡ Ok true
             → ¬ IsPast limits.heap_bytes (length (heap_of self.new.document)) }
-        ensures none { self.old.failed ≡ false → result ≢ Ok true
-            → document_of self.new.document ≡ [] }
-
-        // what was taken passes the limit that is reported
         ensures stops { StopsNextWithin (version_of self.old.version) limits S.ByteSource source.old
             source.new result }
-
-        // the end is reported where nothing is left, and only there
-        ensures end { self.old.failed ≡ false → S.is_known source.old → result ≡ Ok false
-            → S.left source.old ≡ [] }
-        ensures ended { self.old.failed ≡ false → S.is_known source.old → S.left source.old ≡ []
-            → SaysEndWithin result }
-        ensures counted { self.old.failed ≡ false → S.is_known source.old
-            → Taken (S.left source.old) (S.left source.new) 0 self.new.taken }
-        ensures version { self.new.version ≡ self.old.version }
     {
         if self.failed {
             return Err(LimitedReadError::Read(DeserializeError::AlreadyFailed));
         }
-        if takes_none(limits) {
-            return self.look_for_next(source);
-        }
         let mut count = 0;
+        if takes_none(limits) {
+            self.document = CompactDoc::new(self.alloc);
+            let seen = see_next(source, &mut count);
+            return self.finish(seen, count);
+        }
         let read = read_parts_in_place(
             self.alloc,
             &mut self.document,
@@ -266,10 +233,7 @@ impl BlockReader {
             self.version,
             limits,
         );
-        self.taken = count;
-        let next = next_within(read, count);
-        self.failed = next.is_err();
-        next
+        self.finish(read, count)
     }
 
     /// Reads the next document as `read_fields` does, which keeps the values of these fields alone, and says whether there was one: `false` where
@@ -282,28 +246,11 @@ impl BlockReader {
         source: &mut S,
         fields: &[Field],
     ) -> Result<bool, DeserializeError>
-        // after a refusal nothing happens
-        ensures refused { self.old.failed ≡ true
-            → Rests self.old self.new source.old source.new result (Err AlreadyFailed) }
-        ensures not_failed { OnOk result (self.new.failed ≡ false) }
-        ensures failed { OnErr result (self.new.failed ≡ true) }
-
-        // the chosen pairs of a document are read, where the end is read as one that is cut off
+        ensures steps { StepsBlock SaysNothing AlreadyFailed S.ByteSource source.old source.new
+            self.old self.new result }
         ensures reads { ReadsNextFields fields.now S.ByteSource source.old source.new self.old
             self.new result }
-        ensures fewer { S.is_known source.old → result ≡ Ok true
-            → length (S.left source.new) < length (S.left source.old) }
-        ensures none { self.old.failed ≡ false → result ≢ Ok true
-            → document_of self.new.document ≡ [] }
-
-        // the end is reported where nothing is left, and only there
-        ensures end { self.old.failed ≡ false → S.is_known source.old → result ≡ Ok false
-            → S.left source.old ≡ [] }
-        ensures ended { self.old.failed ≡ false → S.is_known source.old → S.left source.old ≡ []
-            → SaysEnd result }
-        ensures counted { self.old.failed ≡ false → S.is_known source.old
-            → Taken (S.left source.old) (S.left source.new) 0 self.new.taken }
-        ensures version { self.new.version ≡ self.old.version }
+        ensures none { LeavesNone self.old self.new result }
     {
         if self.failed {
             return Err(DeserializeError::AlreadyFailed);
@@ -317,10 +264,7 @@ impl BlockReader {
             self.version,
             fields,
         );
-        self.taken = count;
-        let next = next_of(read, count);
-        self.failed = next.is_err();
-        next
+        self.finish(read, count)
     }
 
     /// Passes over the next document as `skip_document` does, and says whether there was one: `false` where the source had nothing left. The document
@@ -329,37 +273,57 @@ impl BlockReader {
     /// Errors: those of `skip_document`, and `AlreadyFailed` after an error of this call or of `advance`. A document that is cut off is
     /// `CorruptedValue`, also where it is the last.
     pub fn skip<S: ByteSource>(&mut self, source: &mut S) -> Result<bool, DeserializeError>
-        // after a refusal nothing happens
-        ensures refused { self.old.failed ≡ true
-            → Rests self.old self.new source.old source.new result (Err AlreadyFailed) }
-        ensures not_failed { OnOk result (self.new.failed ≡ false) }
-        ensures failed { OnErr result (self.new.failed ≡ true) }
-
-        // a document is passed over, where the end is read as one that is cut off
+        ensures steps { StepsBlock SaysNothing AlreadyFailed S.ByteSource source.old source.new
+            self.old self.new result }
         ensures reads { PassesNext S.ByteSource source.old source.new self.old result }
-        ensures fewer { S.is_known source.old → result ≡ Ok true
-            → length (S.left source.new) < length (S.left source.old) }
         ensures no_heap { ¬ IsErrOf result HeapFull }
-
-        // the end is reported where nothing is left, and only there
-        ensures end { self.old.failed ≡ false → S.is_known source.old → result ≡ Ok false
-            → S.left source.old ≡ [] }
-        ensures ended { self.old.failed ≡ false → S.is_known source.old → S.left source.old ≡ []
-            → SaysEnd result }
         ensures document { self.new.document ≡ self.old.document }
-        ensures counted { self.old.failed ≡ false → S.is_known source.old
-            → Taken (S.left source.old) (S.left source.new) 0 self.new.taken }
-        ensures version { self.new.version ≡ self.old.version }
     {
         if self.failed {
             return Err(DeserializeError::AlreadyFailed);
         }
         let mut count = 0;
         let passed = pass_document(self.alloc, source, &mut count, self.version);
-        self.taken = count;
-        let next = next_of(passed, count);
-        self.failed = next.is_err();
-        next
+        self.finish(passed, count)
+    }
+
+    /// How many documents were read or passed over so far, with those that `starting_at` was given: 2^64 - 1 where there were more. So it is the number of
+    /// the next document, counted from 0, also of one that was refused.
+    pub fn documents(&self) -> u64
+        ensures { result ≡ self.now.documents }
+    {
+        self.documents
+    }
+
+    /// How many bytes these documents take: 2^64 - 1 where they take more. The next document begins there, also one that was refused.
+    pub fn start(&self) -> u64
+        ensures { result ≡ self.now.start }
+    {
+        self.start
+    }
+
+    /// How many bytes of the block were taken so far: those of `start`, and after an error those that the refused call took. It is 2^64 - 1 where they are
+    /// more.
+    pub fn place(&self) -> u64
+        ensures { result ≡ place_of self.now }
+    {
+        if self.failed {
+            self.start.saturating_add(self.taken)
+        } else {
+            self.start
+        }
+    }
+
+    /// The next document, refused for `error`, which a call returned, with its number and its places.
+    pub fn refusal(&self, error: LimitedReadError) -> RefusedDocument
+        ensures { result ≡ refusal_of self.now error }
+    {
+        RefusedDocument {
+            document: self.documents,
+            start: self.start,
+            place: self.place(),
+            error,
+        }
     }
 
     /// How many bytes the last call took of its source: those of the document that it read or passed over, or those that were taken before an

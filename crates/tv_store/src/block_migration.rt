@@ -1,70 +1,109 @@
 //! Blocks of documents that are read in one version of the store and written in another.
 
-ghost use Rattle.std.specs.Prelude.{IfErr, IfOk};
-ghost use Rattle.tv_base.specs.Stop.{CountsBy};
+ghost use Rattle.std.specs.Prelude.{◌≡◌, [], IfErr, IfOk, OnOk};
+ghost use Rattle.tv_base.specs.Stop.{Counts};
 ghost use Rattle.tv_format.specs.WriteVersion.{written_version};
 ghost use Rattle.tv_reader.specs.Version.{version_of};
-ghost use Rattle.tv_store.specs.BlockMigration.{CountsUnmigrated, MigratesAll, MigratesBefore};
+ghost use Rattle.tv_store.specs.BlockMigration.{MigratesAll, MigratesBefore};
+ghost use Rattle.tv_store.specs.BlockMigration.{migration_sink_stop, migration_source_stop};
 
+use crate::block::{BlockReader, RefusedDocument};
 use crate::de::DocStoreVersion;
-use crate::migration::{MigrateError, migrate};
+use crate::error::SerializeError;
+use crate::limits::LimitedReadError;
+use crate::pair_writer::write_document;
+use crate::watch::Watch;
 use std::alloc::Global;
 use thiserror::Error;
-use tv_base::{ByteSink, SliceSource};
+use tv_base::{ByteSink, ByteSource};
+use tv_doc::laws::documents_are_valid;
 use tv_format::version::WriteVersion;
 
 /// Which document of a block wasn't migrated, and why. (Not in tantivy.)
 #[derive(Debug, PartialEq, Drop, Error)]
-#[error("the document at byte {start}: {error}")]
-pub struct MigrateBlockError {
-    /// The byte of the block at which the document begins.
-    pub start: u64,
-    /// Why it wasn't migrated.
-    pub error: MigrateError,
+pub enum MigrateBlockError {
+    /// The document can't be read.
+    #[error("{0}")]
+    Read(RefusedDocument),
+    /// The document can't be written.
+    #[error("document {document}, which begins at byte {start}, can't be written: {error}")]
+    Write {
+        /// The number of the document, counted from 0.
+        document: u64,
+        /// The byte of the block at which it begins: 2^64 - 1 where it is more.
+        start: u64,
+        /// Why it can't be written: `Io` or `Memory`.
+        error: SerializeError,
+    },
+    /// 2^64 - 1 documents were migrated, and no more are counted.
+    #[error("there are more documents than are counted")]
+    TooMany,
 }
 
-/// Reads the documents of a block, which stand one after the other in one version of the store, and appends each to the sink in the shortest
-/// encoding of the other, as `migrate` does. Returns how many there were; an empty block has none. (Not in tantivy.)
+/// Reads the documents that a source has left, which stand one after the other in one version of the store, and appends each to the sink in the
+/// shortest encoding of the other, as `migrate` does. Returns how many there were; an empty block has none. The memory of a document serves the next. After
+/// each document `watch` is advanced to the bytes that were taken. (Not in tantivy.)
 ///
-/// Errors: those of `migrate` for the first document that isn't carried over, with the byte of the block at which it begins. `Read` with an error
-/// of `read_document` other than `Io` where it can't be read; `Write` with `Io` where the sink failed, and with `Memory` where memory was refused
-/// for a value that nests deeper than `MAX_DEPTH` levels. The sink then holds what it held before, all documents before that one, and of that
-/// one nothing after `Read`, and after `Write` a beginning of what was to be written.
+/// Errors: `Read` for the first document that can't be read, with its number, its places and the error of `read_document`; `Write` for the first that
+/// can't be written, with `Io` where the sink failed, and with `Memory` where memory was refused for a value that nests deeper than `MAX_DEPTH`
+/// levels; `TooMany` after 2^64 - 1 documents. The sink then holds what it held before, all documents before that one, and of that one nothing
+/// after `Read`, and after `Write` a beginning of what was to be written. The source stands after the document then.
 ///
 /// ```
 /// pub fn to_version_3(alloc: Global, block: &[u8]) -> Result<Vec<u8>, MigrateBlockError> {
+///     let mut source = SliceSource::new(block);
 ///     let mut sink = VecSink::new(alloc);
 ///     let (from, to) = (DocStoreVersion::V2, WriteVersion::V3);
-///     migrate_block(alloc, block, from, &mut sink, to)?;
+///     migrate_block(alloc, &mut source, from, &mut sink, to, &mut Unwatched)?;
 ///     Ok(sink.into_vec())
 /// }
 /// ```
-pub fn migrate_block<K: ByteSink>(
+pub fn migrate_block<S: ByteSource, K: ByteSink, W: Watch>(
     alloc: Global,
-    block: &[u8],
+    source: &mut S,
     from: DocStoreVersion,
     sink: &mut K,
     to: WriteVersion,
+    watch: &mut W,
 ) -> Result<u64, MigrateBlockError>
-    // the block encodes this many documents, and their shortest encodings are appended
-    ensures all { IfOk result (λ number. MigratesAll (version_of from) (written_version to) block.now
-        K.ByteSink sink.old sink.new number) }
+    // what is left encodes this many documents, and their shortest encodings are appended
+    ensures all { S.is_known source.old → IfOk result
+        (MigratesAll (version_of from) (written_version to) (S.left source.old) K.ByteSink sink.old
+        sink.new) }
+    ensures ended { S.is_known source.old → OnOk result (S.left source.new ≡ []) }
 
-    // the documents before the byte that is reported are carried over, and the next isn't, for the reason that is reported
-    ensures before { IfErr result (λ error. MigratesBefore (version_of from) (written_version to)
-        block.now K.ByteSink sink.old sink.new error) }
-    ensures stays_known { K.is_known sink.old → K.is_known sink.new }
-    ensures failures { CountsBy (λ error. CountsUnmigrated error.error) result
-        (K.failures sink.old) (K.failures sink.new) }
+    // the documents before the one that is reported are carried over, and that one isn't, for the reason that is reported
+    ensures before { S.is_known source.old → IfErr result
+        (MigratesBefore (version_of from) (written_version to) (S.left source.old)
+        (S.left source.new) K.ByteSink sink.old sink.new) }
+    ensures source_failures { Counts migration_source_stop result (S.failures source.old)
+        (S.failures source.new) }
+    ensures sink_failures { Counts migration_sink_stop result (K.failures sink.old)
+        (K.failures sink.new) }
+    ensures source_is_known { S.is_known source.old → S.is_known source.new }
+    ensures sink_is_known { K.is_known sink.old → K.is_known sink.new }
 {
-    let mut source = SliceSource::new(block);
-    let mut number = 0;
-    while !source.rest().is_empty() {
-        let start = (block.len() - source.rest().len()) as u64;
-        if let Err(error) = migrate(alloc, &mut source, from, sink, to) {
-            return Err(MigrateBlockError { start, error });
+    documents_are_valid();
+    let mut reader = BlockReader::new(alloc, from);
+    for document in 0..u64::MAX {
+        let start = reader.start();
+        match reader.advance(source) {
+            Ok(true) => {
+                if let Err(error) = write_document(sink, to, reader.document()) {
+                    return Err(MigrateBlockError::Write {
+                        document,
+                        start,
+                        error,
+                    });
+                }
+                watch.advance(reader.start());
+            }
+            Ok(false) => return Ok(document),
+            Err(error) => {
+                let refused = reader.refusal(LimitedReadError::Read(error));
+                return Err(MigrateBlockError::Read(refused));
+            }
         }
-        number += 1;
     }
-    Ok(number)
+    Err(MigrateBlockError::TooMany)
 }

@@ -6,6 +6,7 @@ pub mod block_migration;
 pub mod de;
 mod depth;
 pub mod direct_decoder;
+pub mod early_end;
 mod encoded_writer;
 pub mod error;
 pub mod fields;
@@ -15,20 +16,24 @@ pub mod migration;
 pub mod migration_trip;
 mod pair_writer;
 pub mod pairs_given;
+pub mod projection;
 pub mod round_trip;
 pub mod se;
 pub mod skip;
 pub mod stepped;
+pub mod watch;
 
-pub use block::BlockReader;
+pub use block::{BlockReader, RefusedDocument};
 pub use block_migration::{MigrateBlockError, migrate_block};
 pub use de::{DocStoreVersion, read_document, read_document_into};
 pub use direct_decoder::{DirectDecoder, Step};
+pub use early_end::{EarlyEnd, next_of};
 pub use error::{DeserializeError, SerializeError, ValueType};
 pub use fields::{read_fields, read_fields_into};
 pub use limits::{LimitedReadError, ReadLimit, ReadLimits, read_document_within};
 pub use migration::{MigrateError, migrate};
 pub use pairs_given::DocumentDeserialize;
+pub use projection::Projection;
 pub use se::{
     BinaryArraySerializer, BinaryDocumentSerializer, BinaryObjectSerializer, BinaryValueSerializer,
 };
@@ -38,3 +43,4 @@ pub use tv_typed::{
     BinaryArrayDeserializer, BinaryDocumentDeserializer, BinaryObjectDeserializer,
     BinaryValueDeserializer, DocumentDeserializer, StoreReader, ValueDeserialize, ValueVisitor,
 };
+pub use watch::{Unwatched, Watch};

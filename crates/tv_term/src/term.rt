@@ -380,7 +380,7 @@ impl Term {
     pub fn append_type_and_fast_value<T: FastValue>(&mut self, value: T) -> Result<(), AllocError>
         ensures { AppendsValue self.old self.new (T.as_value value) result }
     {
-        self.append_typed(T::to_type(), &value.to_u64().to_be_bytes())
+        self.append_type_and_bytes(T::to_type(), &value.to_u64().to_be_bytes())
     }
 
     /// Appends a number as the term of a JSON value has it: one up to `i64::MAX` as one with a sign, and only one above that as one without.
@@ -404,16 +404,23 @@ impl Term {
     pub fn append_type_and_str(&mut self, text: &str) -> Result<(), AllocError>
         ensures { AppendsValue self.old self.new (Text text.now) result }
     {
-        self.append_typed(Type::Str, text.as_bytes())
+        self.append_type_and_bytes(Type::Str, text.as_bytes())
     }
 
-    fn append_typed(&mut self, value_type: Type, payload: &[u8]) -> Result<(), AllocError>
-        ensures appended { OnOk result (self.new ≡ self.old ++ code value_type ∷ payload.now) }
+    /// Appends the type's code and `value_bytes`, whatever these are. In a term of a JSON field they stand after the path. (Not in tantivy.)
+    ///
+    /// Errors: memory was refused. Then the term is as it was.
+    pub fn append_type_and_bytes(
+        &mut self,
+        value_type: Type,
+        value_bytes: &[u8],
+    ) -> Result<(), AllocError>
+        ensures appended { OnOk result (self.new ≡ self.old ++ code value_type ∷ value_bytes.now) }
         ensures unchanged { OnErr result (self.new ≡ self.old) }
     {
-        self.bytes.reserve(payload.len() + 1)?;
+        self.bytes.reserve(value_bytes.len() + 1)?;
         self.bytes.extend_from_slice(&[value_type.to_code()])?;
-        self.bytes.extend_from_slice(payload)
+        self.bytes.extend_from_slice(value_bytes)
     }
 
     /// The field.

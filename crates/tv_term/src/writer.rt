@@ -153,7 +153,7 @@ impl TermWriter {
         ensures { MakesTerm self.old self.new field.id (Address (ipv6_bits address)) result }
     {
         let number = address.to_bits();
-        self.write_payload(field, Type::IpAddr, &number.to_be_bytes())
+        self.write_value_bytes(field, Type::IpAddr, &number.to_be_bytes())
     }
 
     /// Makes the term of a facet: its encoded text.
@@ -167,21 +167,36 @@ impl TermWriter {
     pub fn write_encoded_facet(&mut self, field: Field, encoded: &str) -> Result<(), TermError>
         ensures { MakesTerm self.old self.new field.id (FacetValue encoded.now) result }
     {
-        self.write_payload(field, Type::Facet, encoded.as_bytes())
+        self.write_value_bytes(field, Type::Facet, encoded.as_bytes())
     }
 
     /// Makes the term of a text.
     pub fn write_text(&mut self, field: Field, text: &str) -> Result<(), TermError>
         ensures { MakesTerm self.old self.new field.id (Text text.now) result }
     {
-        self.write_payload(field, Type::Str, text.as_bytes())
+        self.write_value_bytes(field, Type::Str, text.as_bytes())
     }
 
     /// Makes the term of bytes.
     pub fn write_bytes(&mut self, field: Field, bytes: &[u8]) -> Result<(), TermError>
         ensures { MakesTerm self.old self.new field.id (Bytes bytes.now) result }
     {
-        self.write_payload(field, Type::Bytes, bytes)
+        self.write_value_bytes(field, Type::Bytes, bytes)
+    }
+
+    /// Makes the term of the field, of the type's code and of `value_bytes`, whatever these are. The other calls make the terms of values.
+    pub fn write_value_bytes(
+        &mut self,
+        field: Field,
+        value_type: Type,
+        value_bytes: &[u8],
+    ) -> Result<(), TermError>
+        ensures term { Makes
+            (λ bytes. bytes ≡ to_be_bytes w32 field.id ++ code value_type ∷ value_bytes.now)
+            OnlyMemory self.old self.new result }
+        ensures field { field.id < 2 ^ 32 }
+    {
+        put(&mut self.term, self.alloc, field, value_type, value_bytes)
     }
 
     /// Makes the term of a path into a field of JSON objects, as `Term::from_field_json_path` does. A value there is appended by
@@ -261,22 +276,7 @@ impl TermWriter {
     fn write_fast_value<T: FastValue>(&mut self, field: Field, value: T) -> Result<(), TermError>
         ensures { MakesTerm self.old self.new field.id (T.as_value value) result }
     {
-        self.write_payload(field, T::to_type(), &value.to_u64().to_be_bytes())
-    }
-
-    // Makes the term of the field, of the type's code and of the payload.
-    fn write_payload(
-        &mut self,
-        field: Field,
-        value_type: Type,
-        payload: &[u8],
-    ) -> Result<(), TermError>
-        ensures term { Makes
-            (λ bytes. bytes ≡ to_be_bytes w32 field.id ++ code value_type ∷ payload.now)
-            OnlyMemory self.old self.new result }
-        ensures field { field.id < 2 ^ 32 }
-    {
-        put(&mut self.term, self.alloc, field, value_type, payload)
+        self.write_value_bytes(field, T::to_type(), &value.to_u64().to_be_bytes())
     }
 }
 

@@ -10,9 +10,9 @@ use tantivy_schema::common::{
 use tantivy_schema::schema::document::{BinaryDocumentSerializer, StoreReader};
 use tantivy_schema::schema::{Field, Schema, TantivyDocument};
 use tantivy_schema::store::{
-    BlockReader, DirectDecoder, DocStoreVersion, LimitedReadError, MigrateBlockError, ReadLimits,
-    Step, WriteVersion, migrate_block, read_document, read_document_into, read_document_within,
-    read_fields, skip_document,
+    BlockReader, DirectDecoder, DocStoreVersion, LimitedReadError, MigrateBlockError, Projection,
+    ReadLimits, RefusedDocument, Step, Unwatched, WriteVersion, migrate_block, read_document,
+    read_document_into, read_document_within, read_fields, skip_document,
 };
 
 /// The bytes of documents, one after the other.
@@ -68,9 +68,10 @@ pub fn values_of_block(alloc: Global, block: &[u8]) -> Result<usize> {
 
 /// The documents of a block in version 3.
 pub fn to_version_3(alloc: Global, block: &[u8]) -> Result<Vec<u8>, MigrateBlockError> {
+    let mut source = SliceSource::new(block);
     let mut sink = VecSink::new(alloc);
     let (from, to) = (DocStoreVersion::V2, WriteVersion::V3);
-    migrate_block(alloc, block, from, &mut sink, to)?;
+    migrate_block(alloc, &mut source, from, &mut sink, to, &mut Unwatched)?;
     Ok(sink.into_vec())
 }
 
@@ -100,6 +101,22 @@ pub fn name_and_age(
     let mut source = SliceSource::new(bytes);
     let fields = [name, age];
     Ok(read_fields(alloc, &mut source, DocStoreVersion::V2, &fields)?)
+}
+
+/// How many values of chosen fields a block has, or which of its documents is refused.
+pub fn values_of_fields(
+    alloc: Global,
+    block: &[u8],
+    fields: Vec<Field>,
+) -> Result<usize, RefusedDocument> {
+    let projection = Projection::Fields(fields);
+    let mut source = SliceSource::new(block);
+    let mut reader = BlockReader::new(alloc, DocStoreVersion::V2);
+    let mut values: usize = 0;
+    while reader.advance_by(&mut source, &projection)? {
+        values = values.saturating_add(reader.document().len());
+    }
+    Ok(values)
 }
 
 /// The second of two documents.

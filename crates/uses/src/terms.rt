@@ -5,9 +5,9 @@ use std::alloc::Global;
 use std::fmt::Write;
 use tantivy_schema::DateTime;
 use tantivy_schema::schema::{
-    DocumentFacet, Facet, FacetCount, Field, INDEXED, Schema, TEXT, TantivyDocument, Term,
-    TermList, TermRange, TermWriter, count_child_documents, count_child_facets, greatest_counts,
-    range_of_text, ranges_of_text, term_values, terms_of_text, text_of_term,
+    DocumentFacet, Facet, FacetCount, Field, INDEXED, IndexedField, Schema, TEXT, TantivyDocument,
+    Term, TermList, TermRange, TermWriter, count_child_documents, count_child_facets,
+    greatest_counts, range_of_text, ranges_of_text, term_values, terms_of_text, text_of_term,
 };
 
 /// The term of a text at a path into the objects of a JSON field.
@@ -128,6 +128,22 @@ pub fn terms_of_price(alloc: Global, schema: &Schema) -> Result<TermList> {
     let mut terms = TermList::new(alloc);
     terms_of_text(alloc, schema, "price", "12", &mut terms)?;
     Ok(terms)
+}
+
+/// The terms that texts of a query have in the field `price`, whose path is looked up once.
+pub fn terms_of_prices(alloc: Global, schema: &Schema, prices: &[&str]) -> Result<TermList> {
+    let field = IndexedField::of(alloc, schema, "price")?;
+    let mut terms = TermList::new(alloc);
+    for price in prices {
+        field.terms(alloc, price, &mut terms)?;
+    }
+    Ok(terms)
+}
+
+/// The range of the terms of a facet of the field `category`, as `/lang/fr`, and of the facets below it.
+pub fn category_and_below(alloc: Global, schema: &Schema, facet: &str) -> Result<TermRange> {
+    let field = IndexedField::of(alloc, schema, "category")?;
+    Ok(field.below(alloc, facet)?)
 }
 
 /// The texts of the values of terms.

@@ -10,6 +10,7 @@ use tv_facets::{
     DocumentFacet, FacetCount, FacetCountsError, count_child_documents, count_child_facets,
     greatest_counts,
 };
+use tv_options::Type;
 use tv_term::{Term, TermError, TermRange, TermWriter};
 use tv_value::date_time::DateTime;
 use tv_value::field::Field;
@@ -64,6 +65,31 @@ fn other_terms_follow_one_another(rt: HostRuntime) {
             Term::from_field_ip_addr(alloc, field, address)
         )
     );
+}
+
+#[test]
+fn value_bytes_are_written_as_they_are(rt: HostRuntime) {
+    let (alloc, field) = (rt.alloc(), Field::from_field_id(7));
+    let mut writer = TermWriter::new(alloc);
+    let is_written = writer.write_value_bytes(field, Type::Str, b"ab").is_ok();
+    assert!(rt; is_written && has_serialized(&writer, &[0, 0, 0, 7, b's', b'a', b'b']));
+    let is_written = writer.write_value_bytes(field, Type::U64, &[]).is_ok();
+    assert!(rt; is_written && has_serialized(&writer, &[0, 0, 0, 7, b'u']));
+}
+
+// Whether a type's code and its value bytes stand after the path of a term, which is dropped.
+fn appends_bytes(path: Result<Term, TermError>) -> bool {
+    let Ok(mut term) = path else {
+        return false;
+    };
+    term.append_type_and_bytes(Type::Bytes, &[0, 255]).is_ok()
+        && term.serialized_value_bytes() == [b'a', 0, b'b', 0, 255].as_slice()
+}
+
+#[test]
+fn value_bytes_follow_a_path(rt: HostRuntime) {
+    let field = Field::from_field_id(1);
+    assert!(rt; appends_bytes(Term::from_field_json_path(rt.alloc(), field, "a", false)));
 }
 
 // Whether the writer makes the term of a facet, which is dropped.

@@ -4,7 +4,10 @@ use std::alloc::Global;
 use std::test::Fail;
 use tantivy_schema::common::{BufferedSource, ByteSource, Cause, SliceSource};
 use tantivy_schema::schema::TantivyDocument;
-use tantivy_schema::store::{BlockReader, DocStoreVersion, read_document};
+use tantivy_schema::store::{
+    BlockReader, DocStoreVersion, LimitedReadError, Projection, ReadLimit, ReadLimits,
+    RefusedDocument, read_document,
+};
 use tv_store::DeserializeError;
 
 // Three documents: the number 20 in field 1 and the text `ChillFish8` in field 0; no pair; null in field 0.
@@ -91,5 +94,31 @@ fn a_block_that_is_cut_off_is_refused(rt: HostRuntime) -> Result<(), Fail> {
     assert!(rt; reader.advance(&mut source) == refused);
     assert!(rt; reader.advance(&mut source) == Err(DeserializeError::AlreadyFailed));
     assert!(rt; source.rest().len() == 6);
+    Ok(())
+}
+
+#[test]
+fn a_refused_document_has_its_number_and_places(rt: HostRuntime) -> Result<(), Fail> {
+    let alloc = rt.alloc();
+    let projection = Projection::All(ReadLimits::default());
+    let mut source = SliceSource::new(&BLOCK[..35]);
+    let mut reader = BlockReader::starting_at(alloc, DocStoreVersion::V2, 7, 100);
+    assert!(rt; reader.pass_by(&mut source, &projection) == Ok(true));
+    assert!(rt; (reader.documents(), reader.start(), reader.place()) == (8, 130, 130));
+    assert!(rt; reader.advance_by(&mut source, &projection) == Ok(true));
+    assert!(rt; (reader.documents(), reader.start(), reader.place()) == (9, 131, 131));
+    let cut = RefusedDocument {
+        document: 9,
+        start: 131,
+        place: 135,
+        error: LimitedReadError::Read(DeserializeError::CorruptedValue(Cause::UnexpectedEnd)),
+    };
+    assert!(rt; reader.advance_by(&mut source, &projection) == Err(cut));
+    assert!(rt; (reader.documents(), reader.start(), reader.place()) == (9, 131, 135));
+    let again = reader.refusal(LimitedReadError::Limit(ReadLimit::Depth));
+    assert!(rt;
+        format!(in alloc; "{again}")?.as_str()
+            == "document 9, which begins at byte 131, is refused at byte 135: the document passes the limit of its open lists"
+    );
     Ok(())
 }

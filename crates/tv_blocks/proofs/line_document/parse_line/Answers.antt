@@ -1,10 +1,7 @@
-use Rattle.std.proofs.Common.{ℕ, List, Err, subst}
-use Rattle.tv_doc.specs.JsonObject.{Parses}
-use Rattle.tv_blocks.proofs.LineDocuments.{unparsed}
+use Rattle.std.proofs.Common.{refl}
 use Rattle.tv_blocks.proofs.line_document.parse_line.Goals as goal
 
-pub returns-in-Err-clause-err : goal.returns-in-Err-clause-err
-returns-in-Err-clause-err c =
-    let text = c.in-Ok.ensures.cases in
-    unparsed c.args.schema.now c.args.line.now c.in-Err.error c.unparsed.result text.1
-    (subst (λ (l : List ℕ). Parses c.args.schema.now l (Err c.in-Err.error)) text.0 c.in-Err.ensures.parses) c.unparsed.ensures
+pub returns-in-None-clause-ok : goal.returns-in-None-clause-ok
+returns-in-None-clause-ok c =
+    let parsed = rw c.in-None.is at c.in_ok-parse_line.ensures.parsed in
+    (c.parse_line.new.document, parsed.0, refl)

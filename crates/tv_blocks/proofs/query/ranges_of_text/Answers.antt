@@ -17,7 +17,7 @@ returns c =
       path.1,
       text.1,
       found,
-      of_bytes (λ p t. AnswersRanges schema p t (Ok found)) c.in-Ok.path.now c.args.path.now c.in-Ok-from_utf8.text.now c.args.text.now path.0 text.0 c.in-Ok-ranges_of_text.ensures.made,
+      of_bytes (λ p t. AnswersRanges schema p t (Ok found)) c.in-Ok.path.now c.args.path.now c.in-Ok-from_utf8.text.now c.args.text.now path.0 text.0 c.in-Ok-ranges_of_text.ensures,
       all_records range_record c.as_slice-2.result.now c.append_ranges.new.content.items c.new-content.result.items c.as_slice.result.now [] found c.as_slice-2.ensures.value c.in_ok-append_ranges.ensures c.new-content.ensures.items c.as_slice.ensures.value refl,
     )
     c.put_whole.ensures
@@ -31,4 +31,4 @@ returns-in-Err c =
     let refuses = λ (e : TextTermsError). AnswersRanges schema c.args.path.now c.args.text.now (Err e) in
     subst (λ e. FillsBuffer (AreTextRanges schema c.args.path.now c.args.text.now) (IsRangesRefusal schema c.args.path.now c.args.text.now) c.args.ranges.now c.args.ranges.now (Err e)) (sym c.query_error.ensures)
     (query_refused (AreTextRanges schema c.args.path.now c.args.text.now) refuses c.args.path.now c.args.text.now c.args.ranges.now why path.1 text.1
-    (λ some. of_bytes (λ p t. AnswersRanges schema p t (Err why)) c.in-Ok.path.now c.args.path.now c.in-Ok-from_utf8.text.now c.args.text.now path.0 text.0 (c.in-Err.ensures.refused some)))
+    (λ some. of_bytes (λ p t. AnswersRanges schema p t (Err why)) c.in-Ok.path.now c.args.path.now c.in-Ok-from_utf8.text.now c.args.text.now path.0 text.0 (c.in-Err.ensures some)))

@@ -12,7 +12,7 @@ returns c =
     let schema = c.args.schema.now in
     let path = c.in-Ok.ensures.cases in
     let text = c.in-Ok-from_utf8.ensures.cases in
-    let made = c.in_default-terms_of_text.ensures.made in
+    let made = c.in_default-terms_of_text.ensures.answers in
     fills_with (AreTextTerms schema c.args.path.now c.args.text.now) (IsTermsRefusal schema c.args.path.now c.args.text.now) c.as_slice.result.now c.args.terms.now c.put_whole.new.buffer c.put_whole.result (
       path.1,
       text.1,
@@ -31,4 +31,4 @@ returns-in-Err c =
     let refuses = λ (e : TextTermsError). AnswersText schema c.args.path.now c.args.text.now (Err e) in
     subst (λ e. FillsBuffer (AreTextTerms schema c.args.path.now c.args.text.now) (IsTermsRefusal schema c.args.path.now c.args.text.now) c.args.terms.now c.args.terms.now (Err e)) (sym c.query_error.ensures)
     (query_refused (AreTextTerms schema c.args.path.now c.args.text.now) refuses c.args.path.now c.args.text.now c.args.terms.now why path.1 text.1
-    (λ some. of_bytes (λ p t. AnswersText schema p t (Err why)) c.in-Ok.path.now c.args.path.now c.in-Ok-from_utf8.text.now c.args.text.now path.0 text.0 (c.in-Err.ensures.refused some)))
+    (λ some. of_bytes (λ p t. AnswersText schema p t (Err why)) c.in-Ok.path.now c.args.path.now c.in-Ok-from_utf8.text.now c.args.text.now path.0 text.0 (c.in-Err.ensures.answers some)))

@@ -8,6 +8,7 @@ invariant-loop-reader l = record {
   not_failed : l.reader.failed ≡ false;
   version : l.reader.version ≡ l.fn.version;
   few : l.records.document + length l.source.rest.now ≤ length l.block;
+  placed : l.reader.start + length l.source.rest.now ≡ length l.block;
   so_far : SchemaTermsSoFar l.with_faults l.schema (version_of l.fn.version) l.block l.source.rest.now l.records.content.items l.records.document;
 }
 

@@ -8,6 +8,7 @@ invariant-loop-writer l = record {
   not_failed : l.reader.failed ≡ false;
   version : l.reader.version ≡ l.fn.version;
   few : l.number + length l.source.rest.now ≤ length l.block;
+  placed : l.reader.start + length l.source.rest.now ≡ length l.block;
   so_far : TermsSoFar (version_of l.fn.version) l.field.id l.block l.source.rest.now l.terms.items l.number;
 }
 

@@ -1,4 +1,4 @@
-use Rattle.std.proofs.Common.{length, take, ap, arith, length-append, ◌∙◌}
+use Rattle.std.proofs.Common.{length, ap, arith, length-append, ◌∙◌}
 use Rattle.std.proofs.Math.Seq.{take-append_seam}
 use Rattle.tv_doc.specs.Document.{document_of}
 use Rattle.tv_indexing.proofs.Visiting.{all_appended, some_appended}

@@ -1,14 +1,13 @@
-use Rattle.std.proofs.Common.{◌≡◌, ap, sym, ◌∙◌, rules}
+use Rattle.std.proofs.Common.{ap, sym, ◌∙◌, rules}
 use Rattle.tv_field.specs.JsonAnswer.{WritesValue}
-use Rattle.tv_field.specs.Entry.{value_type}
 use Rattle.tv_indexing.specs.DocumentTerms.{plain_terms}
 use Rattle.tv_indexing.specs.LeafTerms.{leaf_value}
 use Rattle.tv_value.specs.Lent.{leaf_of}
 use Rattle.tv_indexing.proofs.TextSteps.{appended}
 use Rattle.tv_indexing.proofs.text_terms.push_plain_text.Goals as goal
 
-pub returns-in-Ok-push_leaf-clause-made : goal.returns-in-Ok-push_leaf-clause-made
-returns-in-Ok-push_leaf-clause-made c =
+pub returns-in-Ok-push_leaf-clause-answers : goal.returns-in-Ok-push_leaf-clause-answers
+returns-in-Ok-push_leaf-clause-answers c =
     let l = leaf_of c.in-Ok.leaf in
     let e = c.in-Ok-push_leaf.ensures in
     let type = c.args.field_type.now in

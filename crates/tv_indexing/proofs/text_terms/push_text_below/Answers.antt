@@ -7,8 +7,8 @@ use Rattle.tv_indexing.proofs.TextSteps.{appended}
 use Rattle.tv_indexing.proofs.Walks.{kept_whole}
 use Rattle.tv_indexing.proofs.text_terms.push_text_below.Goals as goal
 
-pub returns-in-Ok-clause-made : goal.returns-in-Ok-clause-made
-returns-in-Ok-clause-made c =
+pub returns-in-Ok-clause-answers : goal.returns-in-Ok-clause-answers
+returns-in-Ok-clause-answers c =
     let at = c.args.at in
     let path = c.args.path.now in
     let text : c.as_str.result.now ≡ joined_path at.expand_dots path = search (rules, c.as_str.ensures, c.in_ok-push_joined_json_path.ensures.added, c.new-keys.ensures.bytes) in

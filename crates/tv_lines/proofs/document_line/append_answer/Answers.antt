@@ -1,6 +1,7 @@
-use Rattle.std.proofs.Common.{subst, List, ℕ, Err}
+use Rattle.std.proofs.Common.{refl, subst, List, ℕ, Err}
 use Rattle.tv_doc.specs.JsonObject.{Parses}
-use Rattle.tv_lines.proofs.Refusing.{refusal_answers, document_answers, unwritten_answers, ok_maps, err_maps}
+use Rattle.tv_lines.specs.Answers.Answer.{refused}
+use Rattle.tv_lines.proofs.Refusing.{document_answers, unwritten_answers, ok_maps, err_maps}
 use Rattle.tv_lines.proofs.document_line.append_answer.Goals as goal
 
 pub append_document-requires : goal.append_document-requires
@@ -20,4 +21,4 @@ returns-in-Ok-parse_json_into-clause-err c =
 pub returns-in-Err-clause-err : goal.returns-in-Err-clause-err
 returns-in-Err-clause-err c =
     let text = c.in-Ok.ensures.cases in
-    rw c.refusal.ensures (refusal_answers c.args.schema.now c.args.line.now c.in-Err.error text.1 (subst (λ (l : List ℕ). Parses c.args.schema.now l (Err c.in-Err.error)) text.0 c.in-Err.ensures.parses))
+    refused c.in-Err.error text.1 (subst (λ (l : List ℕ). Parses c.args.schema.now l (Err c.in-Err.error)) text.0 c.in-Err.ensures.parses) c.refusal.ensures

@@ -8,7 +8,7 @@ abbrev pub invariant-pieces : goal.invariant-pieces
 invariant-pieces g l =
     let source = g.S.ByteSource in
     record {
-      whole : IsUnbroken l.line.items;
+      unbroken : source.is_known l.initial.source → IsUnbroken l.line.items;
       cut : source.is_known l.initial.source → unread l.initial.self ++ source.left l.initial.source ≡ l.line.items ++ (unread l.self ++ source.left l.source);
       stays_known : source.is_known l.initial.source → source.is_known l.source;
       same_failures : source.failures l.source ≡ source.failures l.initial.source;

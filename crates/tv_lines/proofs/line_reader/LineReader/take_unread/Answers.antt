@@ -1,22 +1,18 @@
-use Rattle.std.proofs.Common.{◌+◌, ◌-◌, ◌++◌, drop, arith, ap, ◌∙◌}
+use Rattle.std.proofs.Common.{◌-◌, drop, arith}
 use Rattle.std.proofs.lemmas.List.{length-take}
-use Rattle.std.specs.List.{slice_range}
-use Rattle.tv_lines.proofs.Cutting.{moves_to_feed, moves_all}
+use Rattle.tv_lines.proofs.Cutting.{moves_to_feed, moves_all, nothing_left}
 use Rattle.tv_lines.proofs.line_reader.LineReader.take_unread.Goals as goal
 
-pub returns-in_ok-extend_from_slice-in-Some-clause-moves : goal.returns-in_ok-extend_from_slice-in-Some-clause-moves
-returns-in_ok-extend_from_slice-in-Some-clause-moves c =
+pub returns-in-Some-clause-moves : goal.returns-in-Some-clause-moves
+returns-in-Some-clause-moves c =
     let r = c.args.self.now in
-    let len = c.in-Some.len in
-    let before = c.args.line.now.items in
-    let first = rw c.unread.ensures at c.in-Some.ensures in
-    moves_to_feed r.chunk.items before _ r.from r.to len (omega (arith, length-take (r.to - r.from) (drop r.from r.chunk.items))) first.0 first.1
-    (c.in_ok-extend_from_slice-in-Some.ensures.items ∙ ap (λ l. before ++ slice_range l r.from (r.from + len)) c.deref.ensures.value)
+    moves_to_feed r.piece.items c.args.line.now.items _ r.from r.to c.in-Some.len (omega (arith, length-take (r.to - r.from) (drop r.from r.piece.items)))
+    (rw (c.in-Some.is, c.unread.ensures) at c.in_ok-len.ensures)
 
-pub returns-in_ok-extend_from_slice-in-None-clause-moves : goal.returns-in_ok-extend_from_slice-in-None-clause-moves
-returns-in_ok-extend_from_slice-in-None-clause-moves c =
+pub returns-in-None-clause-moves : goal.returns-in-None-clause-moves
+returns-in-None-clause-moves c =
     let r = c.args.self.now in
-    let before = c.args.line.now.items in
-    let none = rw c.unread.ensures at c.in-None.ensures in
-    moves_all r.chunk.items before _ r.from r.to none
-    (c.in_ok-extend_from_slice-in-None.ensures.items ∙ ap (λ l. before ++ slice_range l r.from r.to) c.deref-in-None.ensures.value)
+    moves_all r.piece.items c.args.line.now.items _ r.from r.to (rw (c.in-None.is, c.unread.ensures) at c.in_ok-len.ensures)
+
+pub returns-in-None-clause-none : goal.returns-in-None-clause-none
+returns-in-None-clause-none c = λ e. nothing_left c.args.self.now.piece.items c.args.self.now.to

@@ -14,7 +14,7 @@ returns-in_ok-wait-in-Not-clause-made c = λ tokens depth awaits.
 
 pub returns-in_ok-add_clause-in-Ok-clause-made : goal.returns-in_ok-add_clause-in-Ok-clause-made
 returns-in_ok-add_clause-in-Ok-clause-made c = λ tokens depth awaits.
-    (depth, rw c.in-Clause.is ((c.in_ok-add_clause-in-Ok.ensures c.args.schema.now tokens depth c.in-Clause.path.now (wanted_text c.in-Clause.wanted) c.in-Ok.ensures.made awaits).1))
+    (depth, rw c.in-Clause.is ((c.in_ok-add_clause-in-Ok.ensures c.args.schema.now tokens depth c.in-Clause.path.now (wanted_text c.in-Clause.wanted) c.in-Ok.ensures awaits).1))
 
 pub returns-in-Err-clause-refused : goal.returns-in-Err-clause-refused
-returns-in-Err-clause-refused c = λ depth some. rw c.in-Clause.is (refused refl (λ e. cc) (c.in-Err.ensures.refused some))
+returns-in-Err-clause-refused c = λ depth some. rw c.in-Clause.is (refused refl (λ e. cc) (c.in-Err.ensures some))

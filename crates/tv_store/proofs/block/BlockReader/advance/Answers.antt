@@ -1,32 +1,27 @@
+use Rattle.std.proofs.Common.{ℕ, List}
 use Rattle.tv_doc.specs.Document.{document_of}
+use Rattle.tv_format.specs.Encoding.{EncodesDocument}
+use Rattle.tv_legacy.specs.Legacy.{Legacy}
 use Rattle.tv_reader.specs.Version.{version_of}
-use Rattle.tv_reader.specs.declared.error.DeserializeError.TheVariants.{HeapFull, AlreadyFailed}
-use Rattle.tv_store.specs.Blocks.{as_read}
-use Rattle.tv_store.specs.Reading.{reading, documents}
-use Rattle.tv_store.proofs.Blocks.{of_place, place_error, error_as_read, at_end, no_more}
-use Rattle.tv_store.proofs.Promises.{reads_of, single_documents}
-use Rattle.tv_store.proofs.Resuming.{reads_on}
+use Rattle.tv_store.specs.Reading.{documents}
+use Rattle.tv_store.proofs.Blocks.{never_full, reads_placed}
+use Rattle.tv_store.proofs.BlockSteps.{leaves_none, steps_found}
+use Rattle.tv_store.proofs.Promises.{single_documents}
 use Rattle.tv_store.proofs.block.BlockReader.advance.Goals as goal
 
-pub returns-clause-ended : goal.returns-clause-ended
-returns-clause-ended g c = λ not_failed told none.
-    let s = g.S.ByteSource in
-    let read = c.take_in_place-read in
-    let next = c.next_of-next in
+pub returns-clause-steps : goal.returns-clause-steps
+returns-clause-steps g c =
     let v = version_of c.args.self.now.version in
+    let read = c.take_in_place-read in
     let document = read.new.document in
-    let h = of_place s.is_known s.left s.failures c.args.source.now read.new.source read.new.count v read.result next.result document next.ensures.placed read.ensures.finds in
-    at_end v next.result document _ _ read.new.count (h.found told) (λ is. read.ensures.no_room told (place_error read.result next.result document HeapFull (next.ensures.placed document) is))
-    next.ensures.cut (no_more _ _ _ (h.taken told) none) none
+    steps_found g.S.ByteSource v (λ (b : List ℕ). EncodesDocument Legacy v b (document_of document)) c.if-self.false c.finish.ensures (λ b encoded. (document_of document, encoded)) read.ensures.finds
+    (λ known none is. never_full v _ none (read.ensures.no_room known is))
 
 pub returns-clause-reads : goal.returns-clause-reads
 returns-clause-reads g c =
-    let s = g.S.ByteSource in
-    let read = c.take_in_place-read in
-    let next = c.next_of-next in
     let v = version_of c.args.self.now.version in
-    let document = read.new.document in
-    reads_on reading AlreadyFailed c.args.self.now.failed
-    (reads_of (documents v) document_of s (as_read next.result document) (single_documents v _)
-    (of_place s.is_known s.left s.failures c.args.source.now read.new.source read.new.count v read.result next.result document next.ensures.placed read.ensures.finds)
-    (λ told is. read.ensures.no_room told (error_as_read read.result next.result document HeapFull (next.ensures.placed document) is)))
+    let read = c.take_in_place-read in
+    reads_placed c.finish.ensures c.args.self.now.failed (documents v) (single_documents v _) read.ensures.finds read.ensures.no_room
+
+pub returns-clause-none : goal.returns-clause-none
+returns-clause-none g c = leaves_none c.finish.ensures c.args.self.now c.take_in_place-read.ensures.none

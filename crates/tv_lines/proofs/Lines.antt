@@ -1,0 +1,76 @@
+-- What becomes of a line that was taken.
+use Rattle.std.proofs.Common.{◌≡◌, ◌∙◌, ℕ, List, [], ◌++◌, length, Option, Some, None, Result, Ok, Err, append-nil, refl, sym, ap, inr}
+use Rattle.std.specs.Prelude.{IsErrOf, OnErr}
+use Rattle.std.specs.declared.io.ErrorKind.{ErrorKind}
+use Rattle.tv_base.specs.Sink.{AppendsPrefix}
+use Rattle.tv_base.specs.Source.{Failures}
+use Rattle.tv_base.specs.Stop.{Counts, CountsStop}
+use Rattle.tv_doc.specs.Document.{document_of}
+use Rattle.tv_doc.specs.declared.document.CompactDoc.{CompactDoc}
+use Rattle.tv_field.specs.Entry.{Entry}
+use Rattle.tv_format.specs.Short.{short_document}
+use Rattle.tv_format.specs.WriteVersion.{written_version}
+use Rattle.tv_indexing.specs.TermFault.{document_fault}
+use Rattle.tv_indexing.specs.declared.term_values_error.TermValuesError.{TermValuesError}
+use Rattle.tv_lines.specs.Halts.{IsOfWriting, sink_stop, source_stop}
+use Rattle.tv_lines.specs.Importing.{Imports, IsJudged, IsLineError, LeavesBegun, RefusesFault, TellsUnsearchable}
+use Rattle.tv_lines.specs.LineDocuments.{MakesDocument}
+use Rattle.tv_lines.specs.Reader.{TakesLine}
+use Rattle.tv_lines.specs.Terms.{faulty_name}
+use Rattle.tv_lines.specs.declared.halt.Halt.{Halt}
+use Rattle.tv_lines.specs.declared.halt.Halt.TheVariants as halts
+use Rattle.tv_lines.specs.declared.import.ImportRules.{ImportRules}
+use Rattle.tv_lines.specs.declared.import.LineOutcome.TheVariants as outcome
+use Rattle.tv_lines.specs.declared.line_document.LineError.{LineError}
+use Rattle.tv_lines.specs.declared.line_document.LineError.TheVariants.{Unsearchable}
+use Rattle.tv_store.specs.Stored.{stored}
+
+-- ---- what becomes of it
+
+pub imports_none : (schema : List Entry) (rules : ImportRules) (input rest line held : List ℕ) → TakesLine input line rest None → Imports schema rules input rest held held None
+imports_none schema rules input rest line held took = ([], (took.0, took.2, refl), sym (append-nil held))
+
+pub refuses : (schema : List Entry) (rules : ImportRules) (input rest line held : List ℕ) (count : ℕ) (e : LineError) → TakesLine input line rest (Some count)
+    → IsLineError schema rules line e → Imports schema rules input rest held held (Some (outcome.Refused e))
+refuses schema rules input rest line held count e took is = ([], (took.0, line, took.1, (is, refl)), sym (append-nil held))
+
+-- the document can't be searched, and that is told
+pub refuses_fault : (schema : List Entry) (rules : ImportRules) (line : List ℕ) (made : CompactDoc) (why : TermValuesError) (said : LineError) → MakesDocument schema rules.strict line made
+    → RefusesFault rules.faults (document_fault schema (document_of made)) why → TellsUnsearchable schema why said → IsLineError schema rules line said
+refuses_fault schema rules line made why (Unsearchable name other) makes refuses tells =
+    (made, makes, rw tells.0 refuses, tells.1 ∙ ap (faulty_name schema) (sym tells.0))
+refuses_fault schema rules line made why _ makes refuses tells = absurd tells
+
+abbrev encoded : List Entry → ImportRules → CompactDoc → List ℕ
+encoded schema rules made = short_document (written_version rules.version) (stored schema (document_of made))
+
+pub stores : (schema : List Entry) (rules : ImportRules) (input rest line text held new : List ℕ) (made : CompactDoc) (fault : Option TermValuesError) (size count : ℕ) → TakesLine input line rest (Some count)
+    → IsJudged schema rules line made (Ok fault) → text ≡ encoded schema rules made → size ≡ length text → new ≡ held ++ text
+    → Imports schema rules input rest held new (Some (outcome.Stored size fault))
+stores schema rules input rest line text held new made fault size count took is written sized appends =
+    (text, (took.0, line, took.1, ((made, is.0, written, is.2), sized)), appends)
+
+pub on_err : {A E P : Type 0} (result : Result A E) → P → OnErr result P
+on_err (Ok x) p = tt
+on_err (Err e) p = p
+
+pub leaves : {A E : Type 0} (result : Result A E) (schema : List Entry) (rules : ImportRules) (input rest line text held new : List ℕ) (made : CompactDoc) (fault : Option TermValuesError) (count : ℕ) → TakesLine input line rest (Some count)
+    → IsJudged schema rules line made (Ok fault) → text ≡ encoded schema rules made → AppendsPrefix held new text → OnErr result (LeavesBegun schema rules input held new)
+leaves result schema rules input rest line text held new made fault count took is written appends =
+    on_err result (inr (rest, text, fault, (took.0, line, took.1, ((made, is.0, written, is.2), refl)), appends))
+
+-- ---- failures
+
+-- a read that failed says nothing of the sink
+pub reading_counts : (e : Halt) (f : Failures) → ((kind : ErrorKind) → ¬ (e ≡ halts.Write kind)) → CountsStop (sink_stop e) f f
+reading_counts (halts.Read kind) f never = refl
+reading_counts (halts.Write kind) f never = absurd (never kind refl)
+reading_counts halts.Memory f never = refl
+reading_counts halts.TooLong f never = refl
+
+-- nor does a write of the source
+pub writing_counts : (e : Halt) (f : Failures) → IsOfWriting e → CountsStop (source_stop e) f f
+writing_counts (halts.Read kind) f is = absurd is
+writing_counts (halts.Write kind) f is = refl
+writing_counts halts.Memory f is = absurd is
+writing_counts halts.TooLong f is = absurd is

@@ -1,0 +1,51 @@
+use Rattle.std.proofs.Common.{◌≡◌, refl, sym, ap, ◌∙◌, subst}
+use Rattle.tv_doc.specs.Document.{document_of}
+use Rattle.tv_reader.specs.Version.{version_of}
+use Rattle.tv_reader.specs.declared.error.DeserializeError.TheVariants.{AlreadyFailed}
+use Rattle.tv_store.specs.Limits.{within}
+use Rattle.tv_store.specs.Projections.{ReadsNextOf, limits_of}
+use Rattle.tv_store.specs.Reading.{reading}
+use Rattle.tv_store.specs.declared.limits.LimitedReadError.TheVariants.{Read}
+use Rattle.tv_store.specs.declared.projection.Projection.{Projection}
+use Rattle.tv_store.specs.declared.projection.Projection.TheVariants.{All}
+use Rattle.tv_store.proofs.Projections.{any_document, next_read, next_within, one_passed, one_within, steps_told}
+use Rattle.tv_store.proofs.Resuming.{reads_live}
+use Rattle.tv_store.proofs.block.BlockReader.pass_next.Goals as goal
+
+pub returns-in-Fields-clause-steps : goal.returns-in-Fields-clause-steps
+returns-in-Fields-clause-steps g c = steps_told Read c.skip.result c.tell.result c.tell.ensures (λ e says. says) (λ _ _. refl) c.skip.ensures.steps
+
+pub returns-in-Fields-clause-reads : goal.returns-in-Fields-clause-reads
+returns-in-Fields-clause-reads g c = λ live.
+    let read = c.skip in
+    let steps = read.ensures.steps in
+    let reads = reads_live reading AlreadyFailed live read.ensures.reads in
+    next_read read.result c.tell.result tt c.tell.ensures
+    (λ known. one_passed g.S.ByteSource (version_of c.args.self.now.version) c.args.projection.now (ap limits_of c.in-Fields.is) read.result reads (steps.end live) (steps.ended live) known) reads.failures reads.stays_known
+
+pub returns-then-is_unlimited-clause-steps : goal.returns-then-is_unlimited-clause-steps
+returns-then-is_unlimited-clause-steps g c = steps_told Read c.skip-then-is_unlimited.result c.tell-then-is_unlimited.result c.tell-then-is_unlimited.ensures (λ e says. says) (λ _ _. refl) c.skip-then-is_unlimited.ensures.steps
+
+pub returns-then-is_unlimited-clause-reads : goal.returns-then-is_unlimited-clause-reads
+returns-then-is_unlimited-clause-reads g c = λ live.
+    let read = c.skip-then-is_unlimited in
+    let steps = read.ensures.steps in
+    let said = c.tell-then-is_unlimited in
+    let reads = reads_live reading AlreadyFailed live read.ensures.reads in
+    next_read read.result said.result tt said.ensures
+    (λ known. one_passed g.S.ByteSource (version_of c.args.self.now.version) c.args.projection.now (ap limits_of (c.in-All.is ∙ ap All (c.is_unlimited.ensures.0 c.if-is_unlimited.true))) read.result reads (steps.end live) (steps.ended live) known)
+    reads.failures reads.stays_known
+
+pub returns-else-is_unlimited-clause-reads : goal.returns-else-is_unlimited-clause-reads
+returns-else-is_unlimited-clause-reads g c = λ live.
+    let source = g.S.ByteSource in
+    let read = c.advance_within in
+    let steps = read.ensures.steps in
+    let document = read.new.self.document in
+    let reads = reads_live (within c.in-All.limits) (Read AlreadyFailed) live read.ensures.reads in
+    subst (λ (p : Projection). ReadsNextOf p (λ d. Unit {0}) source c.args.source.now read.new.source c.args.self.now read.result) (sym c.in-All.is)
+    (next_within read.result document
+    (λ known.
+    any_document _ (All c.in-All.limits) (λ d. document_of document ≡ d) _ _ read.result
+    (one_within source (version_of c.args.self.now.version) c.in-All.limits read.result document reads read.ensures.stops read.ensures.shallow read.ensures.small (steps.end live) (steps.ended live) known))
+    reads.failures reads.stays_known)
