@@ -4,7 +4,6 @@ use crate::ending::{Ending, Failure, failed, write_failed, wrong_use};
 use crate::escaped::escaped;
 use crate::files::{Output, OutputSink, create, finish, print_lines};
 use crate::inputs::{BlockSource, limits, schema_given, source, text, version};
-use crate::pretty::export_pretty;
 use crate::progress::Progress;
 use clap::ArgMatches;
 use std::alloc::Global;
@@ -12,7 +11,7 @@ use tantivy_schema::schema::document::DeserializeError;
 use tantivy_schema::schema::{Field, Schema};
 use tantivy_schema::store::{LimitedReadError, Projection, RefusedDocument};
 use tv_lines::check::check_block;
-use tv_lines::export::export_block;
+use tv_lines::export::{JsonLayout, export_block};
 use tv_lines::work_error::WorkError;
 
 /// What broke the work on a block off, of which the results go to the output of this name.
@@ -62,7 +61,16 @@ fn projection(
     Ok(Projection::Fields(fields_of(alloc, schema, names)?))
 }
 
-// Appends what `projection` keeps of the documents of a block to a sink, as lines of JSON.
+/// How documents are to be printed.
+pub(crate) fn layout(given: &ArgMatches<'_>) -> JsonLayout {
+    if given.get_flag("pretty") {
+        JsonLayout::Pretty
+    } else {
+        JsonLayout::Compact
+    }
+}
+
+// Appends what `projection` keeps of the documents of a block to a sink, as JSON.
 fn export_into(
     rt: &HostRuntime,
     given: &ArgMatches<'_>,
@@ -73,27 +81,17 @@ fn export_into(
 ) -> Result<u64, WorkError> {
     let (alloc, version) = (rt.alloc(), version(given, "version"));
     let mut progress = Progress::of(rt, given, &[text(given, "BLOCK")]);
-    let exported = if given.get_flag("pretty") {
-        export_pretty(
-            alloc,
-            schema,
-            version,
-            projection,
-            source,
-            sink,
-            &mut progress,
-        )
-    } else {
-        export_block(
-            alloc,
-            schema,
-            version,
-            projection,
-            source,
-            sink,
-            &mut progress,
-        )
-    };
+    let layout = layout(given);
+    let exported = export_block(
+        alloc,
+        schema,
+        version,
+        projection,
+        layout,
+        source,
+        sink,
+        &mut progress,
+    );
     progress.end();
     exported
 }

@@ -2,8 +2,8 @@
 
 use crate::ending::{Ending, Failure, failed, of_file, say};
 use crate::files::{Output, create, finish};
+use crate::blocks::layout;
 use crate::inputs::{BlockSource, limits, schema_given, source, source_at, text, version};
-use crate::pretty::pretty_text;
 use crate::starts::Offsets;
 use clap::ArgMatches;
 use std::alloc::Global;
@@ -11,6 +11,7 @@ use std::collections::BTreeMap;
 use std::fs::{self, File};
 use tantivy_schema::schema::{Document, Schema};
 use tantivy_schema::store::{BlockReader, Projection, RefusedDocument};
+use tv_lines::export::{JsonLayout, push_pretty};
 
 // A document that is asked for: how often it is still to be printed, and its JSON once it was read.
 #[derive(Drop)]
@@ -22,7 +23,7 @@ struct Asked {
 // The answers to numbers, in the order in which they are asked for.
 struct Answers {
     rt: HostRuntime,
-    is_pretty: bool,
+    layout: JsonLayout,
     output: Output,
     numbers: Vec<u64>,
     // How many of the numbers are answered.
@@ -36,7 +37,7 @@ impl Drop for Answers {
     fn drop(self) {
         let Answers {
             rt: _,
-            is_pretty: _,
+            layout: _,
             output: _,
             numbers: _,
             answered: _,
@@ -77,7 +78,7 @@ impl Answers {
         let asked = asked_by(alloc, numbers.as_slice())?;
         Ok(Answers {
             rt: *rt,
-            is_pretty: given.get_flag("pretty"),
+            layout: layout(given),
             output: create(rt, "-")?,
             numbers,
             answered: 0,
@@ -93,11 +94,13 @@ impl Answers {
 
     // Prints a document, as its JSON stands or over several lines.
     fn print(&mut self, json: &str) -> Result<(), Failure> {
-        if self.is_pretty {
-            let text = pretty_text(self.rt.alloc(), json)?;
-            return self.output.print_line(text.as_str());
+        if self.layout == JsonLayout::Compact {
+            return self.output.print_line(json);
         }
-        self.output.print_line(json)
+        let alloc = self.rt.alloc();
+        let mut text = String::new(alloc);
+        push_pretty(alloc, json, &mut text)?;
+        self.output.print_line(text.as_str())
     }
 
     // Whether the document of this number was read.
@@ -162,7 +165,7 @@ impl Answers {
     fn end(self, block: &str) -> Result<Ending, Failure> {
         let Answers {
             rt,
-            is_pretty: _,
+            layout: _,
             output,
             numbers: _,
             answered: _,

@@ -17,7 +17,6 @@ mod inputs;
 mod migrations;
 mod names;
 mod parts;
-mod pretty;
 mod progress;
 mod runs;
 mod schema_words;

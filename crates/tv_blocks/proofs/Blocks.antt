@@ -1,9 +1,12 @@
 -- Documents of a block, one after the other.
-use Rattle.std.proofs.Common.{◌≡◌, ℕ, ◌-◌, ◌^◌, ◌<◌, List, [], ◌∷◌, ◌++◌, length, refl, sym, subst, ap, ◌∙◌, arith, append_assoc, length-append}
-use Rattle.tv_blocks.specs.Blocks.{IsRefusedBlock, PrintedSoFar}
-use Rattle.tv_lines.specs.Printing.{AppendsLine, ArePrintedLines}
-use Rattle.tv_lines.specs.Printing.ArePrintedLines.{no_lines, next_line}
-use Rattle.tv_blocks.specs.Refusals.{document_refusal, migration_refusal, refusal_within}
+use Rattle.std.proofs.Common.{◌≡◌, ℕ, ◌-◌, ◌^◌, ◌<◌, List, [], ◌∷◌, ◌++◌, length, map, refl, sym, subst, ap, ◌∙◌, arith, append_assoc, length-append}
+use Rattle.tv_blocks.specs.Blocks.{IsPrintedBlock, IsRefusedBlock}
+use Rattle.tv_lines.specs.Exporting.{BreaksOff, ExportsAll}
+use Rattle.tv_lines.specs.Printing.{ArePrinted}
+use Rattle.tv_lines.specs.declared.export.JsonLayout.TheVariants.{Compact}
+use Rattle.tv_lines.specs.declared.work_error.WorkError.{WorkError}
+use Rattle.tv_lines.specs.declared.work_error.WorkError.TheVariants as work
+use Rattle.tv_blocks.specs.Refusals.{document_refusal, export_refusal, migration_refusal, refusal_within}
 use Rattle.tv_field.specs.Entry.{Entry}
 use Rattle.tv_format.specs.Encoding.{EncodesDocument}
 use Rattle.tv_format.specs.InputError.{Refusal, corrupted, no_text_key}
@@ -19,35 +22,14 @@ use Rattle.tv_reader.specs.declared.value_type.ValueType.{ValueType}
 use Rattle.tv_reader.specs.declared.value_type.ValueType.TheVariants as types
 use Rattle.tv_store.specs.BlockMigration.{EncodesBlock, IsUnmigrated}
 use Rattle.tv_store.specs.Documents.{BeginsWithDocument, NoDocument, HasNoRoom, IsReadingError, SaysNothing}
-use Rattle.tv_store.proofs.BlocksSoFar.{each-snoc, joined_more}
-use Rattle.tv_store.specs.Projections.{IsReason, no_limits}
+use Rattle.tv_store.proofs.BlockMigration.{without_limits}
+use Rattle.tv_store.specs.Projections.{IsReason, IsRefusedAt, kept, no_limits}
+use Rattle.tv_store.specs.declared.block.RefusedDocument.{RefusedDocument}
 use Rattle.tv_store.specs.declared.block_migration.MigrateBlockError.{MigrateBlockError}
 use Rattle.tv_store.specs.declared.block_migration.MigrateBlockError.TheVariants.{Read, Write, TooMany}
 use Rattle.tv_store.specs.declared.limits.LimitedReadError.{LimitedReadError}
 use Rattle.tv_store.specs.declared.limits.LimitedReadError.TheVariants as limited
 use Rattle.tv_store.specs.declared.projection.Projection.TheVariants.{All}
-
--- ---- printing
-
-printed-snoc : (entries : List Entry) (documents : List Document) (content json : List ℕ) (d : Document) → ArePrintedLines entries documents content → ArePrintedLines entries (d ∷ []) json
-    → ArePrintedLines entries (documents ++ d ∷ []) (content ++ json)
-printed-snoc entries [] [] json d no_lines one = one
-printed-snoc entries [] (_ ∷ _) json d p one = elim p [ ]
-printed-snoc entries (e ∷ es) content json d (next_line {json = text} {rest = rest} is more) one =
-    subst (ArePrintedLines entries ((e ∷ es) ++ d ∷ [])) (sym (append_assoc text (10 ∷ rest) json)) (next_line is (printed-snoc entries es rest json d more one))
-
-pub printed_none : (entries : List Entry) (v : Version) (block content : List ℕ) → content ≡ [] → PrintedSoFar entries v block block content
-printed_none entries v block content none = record { before = []; joined = refl; documents = []; encoded = refl; printed = subst (ArePrintedLines entries []) (sym none) no_lines }
-
-pub printed_more : {entries : List Entry} {v : Version} {block rest now content more : List ℕ} {d : Document} → PrintedSoFar entries v block rest content
-    → BeginsWithDocument v rest now d → AppendsLine entries d content more → PrintedSoFar entries v block now more
-printed_more {entries} {v} {block} {rest} {now} {content} {more} {d} m b line = record {
-  before = m.before ++ b.prefix;
-  joined = joined_more block m.before rest b.prefix now m.joined b.joined;
-  documents = m.documents ++ d ∷ [];
-  encoded = each-snoc (EncodesDocument Legacy v) m.before b.prefix m.documents d m.encoded b.encoded;
-  printed = subst (ArePrintedLines entries (m.documents ++ d ∷ [])) (sym line.2) (printed-snoc entries m.documents content (line.0 ++ 10 ∷ []) d m.printed (next_line line.1 no_lines));
-}
 
 -- ---- refusals
 
@@ -75,14 +57,39 @@ unread_breaks v block before behind left documents start errors.HeapFull joined 
     record { before = before; behind = behind; joined = joined; measured = at; some = reason.at_end; documents = documents; encoded = encoded; refused = reason.true_of few }
 unread_breaks v block before behind left documents start e joined at encoded few reason = tt
 
+-- a document that is refused without limits
+refused_breaks : (v : Version) (block before behind left : List ℕ) (documents : List Document) (e : RefusedDocument) → block ≡ before ++ behind → length block < 2 ^ 63 → EncodesBlock v before documents
+    → IsRefusedAt v (All no_limits) behind left (length before) e → IsRefusedBlock v block (refusal_within e.start e.error)
+refused_breaks v block before behind left documents e joined small encoded refused =
+    let sum = ap length joined ∙ length-append before behind in
+    by_error e.error refused.reason (refused.begins (omega (arith, small, sum)))
+  where
+    by_error : (why : LimitedReadError) → IsReason v (All no_limits) behind left why → e.start ≡ length before → IsRefusedBlock v block (refusal_within e.start why)
+    by_error (limited.Read why) reason at = unread_breaks v block before behind left documents e.start why joined at encoded (omega (arith, small, ap length joined, length-append before behind)) reason
+    by_error (limited.Limit l) reason at = tt
+
 pub migration_breaks : (from to : Version) (block before behind left next : List ℕ) (documents : List Document) (error : MigrateBlockError) → block ≡ before ++ behind → length block < 2 ^ 63 → EncodesBlock from before documents
     → IsUnmigrated from to behind left (length documents) (length before) next error → IsRefusedBlock from block (migration_refusal error)
-migration_breaks from to block before behind left next documents (Read e) joined small encoded unmigrated =
-    let sum = ap length joined ∙ length-append before behind in
-    by_error e.error unmigrated.2.reason (unmigrated.2.begins (omega (arith, small, sum)))
-  where
-    by_error : (why : LimitedReadError) → IsReason from (All no_limits) behind left why → e.start ≡ length before → IsRefusedBlock from block (refusal_within e.start why)
-    by_error (limited.Read why) reason at = unread_breaks from block before behind left documents e.start why joined at encoded (omega (arith, small, ap length joined, length-append before behind)) reason
-    by_error (limited.Limit l) reason at = tt
+migration_breaks from to block before behind left next documents (Read e) joined small encoded unmigrated = refused_breaks from block before behind left documents e joined small encoded unmigrated.2
 migration_breaks from to block before behind left next documents (Write document start e) joined small encoded unmigrated = tt
 migration_breaks from to block before behind left next documents TooMany joined small encoded unmigrated = tt
+
+-- ---- printing
+
+-- all of each document is kept
+all_kept : (documents : List Document) → map (kept (All no_limits)) documents ≡ documents
+all_kept [] = refl
+all_kept (d ∷ ds) = ap (λ (l : List Document). d ∷ l) (all_kept ds)
+
+pub prints_all : {entries : List Entry} {v : Version} {block lines : List ℕ} {number : ℕ} → ExportsAll entries Compact v (All no_limits) block [] lines number → IsPrintedBlock entries v block lines
+prints_all {entries} {v} {block} {lines} (documents, exported, number) = (
+  documents,
+  without_limits v block documents exported.encoded,
+  subst (λ (ds : List Document). ArePrinted entries Compact ds lines) (all_kept documents) (subst (ArePrinted entries Compact (map (kept (All no_limits)) documents)) (sym exported.held) exported.printed),
+)
+
+pub export_breaks : {entries : List Entry} {v : Version} {block left lines : List ℕ} (error : WorkError) → length block < 2 ^ 63 → BreaksOff entries Compact v (All no_limits) block left [] lines error → IsRefusedBlock v block (export_refusal error)
+export_breaks {v = v} {block} {left} (work.Read e) small m = refused_breaks v block m.before m.behind left m.documents e m.joined small (without_limits v m.before m.documents m.exported.encoded) m.next.2.1
+export_breaks (work.Write e) small m = tt
+export_breaks work.Memory small m = tt
+export_breaks work.TooMany small m = tt

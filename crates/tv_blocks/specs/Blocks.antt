@@ -1,5 +1,5 @@
 -- Blocks of documents that stand one after the other, printed as lines of JSON.
-use Rattle.std.specs.Prelude.{◌≡◌, ℕ, List, ◌++◌}
+use Rattle.std.specs.Prelude.{List, ℕ}
 use Rattle.tv_blocks.specs.Refusals.{IsBlockRefusal}
 use Rattle.tv_blocks.specs.declared.block_error.BlockError.{BlockError}
 use Rattle.tv_blocks.specs.declared.block_error.BlockError.TheVariants as errors
@@ -7,7 +7,8 @@ use Rattle.tv_field.specs.Entry.{Entry}
 use Rattle.tv_format.specs.Tree.{Document}
 use Rattle.tv_format.specs.Version.{Version}
 use Rattle.tv_lines.specs.Answers.{ReadsSchema}
-use Rattle.tv_lines.specs.Printing.{ArePrintedLines}
+use Rattle.tv_lines.specs.Printing.{ArePrinted}
+use Rattle.tv_lines.specs.declared.export.JsonLayout.TheVariants.{Compact}
 use Rattle.tv_store.specs.BlockMigration.{EncodesBlock}
 
 -- The block encodes documents, and these are their lines by the names of the schema's fields.
@@ -16,23 +17,15 @@ pub record IsExported (schema : List ℕ) (v : Version) (block content : List �
   pub reads : ReadsSchema schema entries
   pub documents : List Document
   pub encoded : EncodesBlock v block documents
-  pub printed : ArePrintedLines entries documents content
+  pub printed : ArePrinted entries Compact documents content
 
 -- ---- for private clauses
 
 -- the block encodes documents, and these are their lines
 abbrev pub IsPrintedBlock : List Entry → Version → List ℕ → List ℕ → Type 0
-IsPrintedBlock entries v block content = (documents : List Document) × EncodesBlock v block documents × ArePrintedLines entries documents content
+IsPrintedBlock entries v block content = (documents : List Document) × EncodesBlock v block documents × ArePrinted entries Compact documents content
 
 -- a document of the block is refused, or memory was
 abbrev pub IsRefusedBlock : Version → List ℕ → BlockError → Type 0
 IsRefusedBlock v block errors.Memory = Unit {0}
 IsRefusedBlock v block e = IsBlockRefusal v block e
-
--- so far the documents before the rest of the block have been printed
-pub record PrintedSoFar (entries : List Entry) (v : Version) (block rest content : List ℕ) : Type 0 where
-  pub before : List ℕ
-  pub joined : block ≡ before ++ rest
-  pub documents : List Document
-  pub encoded : EncodesBlock v before documents
-  pub printed : ArePrintedLines entries documents content

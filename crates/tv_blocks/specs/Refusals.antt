@@ -11,6 +11,8 @@ use Rattle.tv_format.specs.InputError.{corrupted, no_text_key}
 use Rattle.tv_format.specs.Tree.{Document}
 use Rattle.tv_format.specs.Version.{Version}
 use Rattle.tv_lines.specs.Answers.{IsJson, ReadsSchema}
+use Rattle.tv_lines.specs.declared.work_error.WorkError.{WorkError}
+use Rattle.tv_lines.specs.declared.work_error.WorkError.TheVariants as work
 use Rattle.tv_reader.specs.declared.error.DeserializeError.{DeserializeError}
 use Rattle.tv_reader.specs.declared.error.DeserializeError.TheVariants as reads
 use Rattle.tv_schema.specs.Path.{find}
@@ -97,6 +99,13 @@ abbrev pub migration_refusal : MigrateBlockError → BlockError
 migration_refusal (Read e) = refusal_within e.start e.error
 migration_refusal (Write document start e) = errors.Memory
 migration_refusal TooMany = errors.Memory
+
+-- the same of printing a block
+abbrev pub export_refusal : WorkError → BlockError
+export_refusal (work.Read e) = refusal_within e.start e.error
+export_refusal (work.Write e) = errors.Memory
+export_refusal work.Memory = errors.Memory
+export_refusal work.TooMany = errors.Memory
 
 -- the schema is refused, or else a document of the block
 abbrev pub IsExportRefusal : List ℕ → Version → List ℕ → BlockError → Type 0

@@ -2,7 +2,7 @@
 
 ghost use Rattle.std.specs.Prelude.{◌≡◌};
 ghost use Rattle.tv_blocks.specs.declared.block_error.BlockError.TheVariants.{Memory};
-ghost use Rattle.tv_blocks.specs.Refusals.{document_refusal};
+ghost use Rattle.tv_blocks.specs.Refusals.{document_refusal, refusal_within};
 
 use crate::line_refusal::LineRefusal;
 use crate::query_refusal::QueryRefusal;
@@ -13,7 +13,7 @@ use std::fmt;
 use tv_base::Cause;
 use tv_field::SchemaError;
 use tv_schema::SchemaKey;
-use tv_store::DeserializeError;
+use tv_store::{DeserializeError, LimitedReadError, RefusedDocument};
 use tv_term::TermError;
 
 /// Why a document of a block can't be read. (Not in tantivy.)
@@ -195,4 +195,14 @@ pub(crate) fn unread(start: u64, error: &DeserializeError) -> BlockError
         _ => return BlockError::Memory,
     };
     BlockError::BadDocument { start, refusal }
+}
+
+// What is said of a document that is refused where no limit is set.
+pub(crate) fn refused(document: &RefusedDocument) -> BlockError
+    ensures { result ≡ refusal_within document.now.start document.now.error }
+{
+    match &document.error {
+        LimitedReadError::Read(error) => unread(document.start, error),
+        LimitedReadError::Limit(_) => BlockError::Memory,
+    }
 }

@@ -1,41 +1,56 @@
 //! Blocks of documents as lines of JSON.
 
-ghost use Rattle.std.specs.Prelude.{◌≡◌, [], IfErr, OnOk, string_bytes};
+ghost use Rattle.std.specs.Prelude.{◌≡◌, IfErr, IfOk};
 ghost use Rattle.tv_blocks.specs.Blocks.{IsExported, IsPrintedBlock, IsRefusedBlock};
 ghost use Rattle.tv_blocks.specs.Buffer.{FillsBuffer};
-ghost use Rattle.tv_blocks.specs.Refusals.{IsBlockRefusal, IsExportRefusal};
+ghost use Rattle.tv_blocks.specs.Refusals.{IsBlockRefusal, IsExportRefusal, export_refusal};
 ghost use Rattle.tv_reader.specs.Version.{version_of};
 
-use crate::block_error::{BlockError, unread};
+use crate::block_error::{BlockError, refused};
 use crate::buffer::put_whole;
 use crate::schema_text::read_schema;
 use std::alloc::Global;
-use tv_base::SliceSource;
-use tv_lines::export::append_line;
+use tv_base::{SliceSource, VecSink};
+use tv_lines::export::JsonLayout;
+use tv_lines::work_error::WorkError;
 use tv_schema::Schema;
-use tv_store::{BlockReader, DocStoreVersion};
+use tv_store::{DocStoreVersion, Projection, ReadLimits, Unwatched};
 
-// Appends the lines of the documents of the block.
-fn append_documents(
+// What is said of a document that isn't printed. A sink in memory fails where memory is refused, and a slice has fewer documents than are counted.
+fn unprinted(error: &WorkError) -> BlockError
+    ensures { result ≡ export_refusal error.now }
+{
+    match error {
+        WorkError::Read(document) => refused(document),
+        WorkError::Write(_) | WorkError::Memory | WorkError::TooMany => BlockError::Memory,
+    }
+}
+
+// The lines of the documents of the block.
+fn printed_lines(
     alloc: Global,
     schema: &Schema,
     version: DocStoreVersion,
     block: &[u8],
-    text: &mut String,
-) -> Result<(), BlockError>
-    requires { string_bytes text.old ≡ [] }
-    ensures ok { OnOk result
-        (IsPrintedBlock schema.now (version_of version) block.now (string_bytes text.new)) }
+) -> Result<Vec<u8>, BlockError>
+    ensures ok { IfOk result (λ lines.
+        IsPrintedBlock schema.now (version_of version) block.now lines.items) }
     ensures err { IfErr result (IsRefusedBlock (version_of version) block.now) }
 {
     let mut source = SliceSource::new(block);
-    let mut reader = BlockReader::new(alloc, version);
-    loop {
-        match reader.advance(&mut source) {
-            Ok(true) => append_line(alloc, schema, reader.document(), text)?,
-            Ok(false) => return Ok(()),
-            Err(error) => return Err(unread(reader.start(), &error)),
-        }
+    let mut sink = VecSink::new(alloc);
+    match tv_lines::export::export_block(
+        alloc,
+        schema,
+        version,
+        &Projection::All(ReadLimits::default()),
+        JsonLayout::Compact,
+        &mut source,
+        &mut sink,
+        &mut Unwatched,
+    ) {
+        Ok(_) => Ok(sink.into_vec()),
+        Err(error) => Err(unprinted(&error)),
     }
 }
 
@@ -53,9 +68,8 @@ pub fn export_block_by(
     ensures { FillsBuffer (IsPrintedBlock schema.now (version_of version) block.now)
         (IsBlockRefusal (version_of version) block.now) lines.old lines.new result }
 {
-    let mut text = String::new(alloc);
-    append_documents(alloc, schema, version, block, &mut text)?;
-    put_whole(text.as_bytes(), lines)
+    let printed = printed_lines(alloc, schema, version, block)?;
+    put_whole(printed.as_slice(), lines)
 }
 
 /// Writes the documents of a block as lines of JSON, see `export_block_by`, and returns how many bytes these take.

@@ -3,27 +3,17 @@
 ghost use Rattle.std.specs.Prelude.{◌≡◌, IfErr, IfOk};
 ghost use Rattle.tv_blocks.specs.Blocks.{IsRefusedBlock};
 ghost use Rattle.tv_blocks.specs.Buffer.{FillsBuffer};
-ghost use Rattle.tv_blocks.specs.Refusals.{IsBlockRefusal, migration_refusal, refusal_within};
+ghost use Rattle.tv_blocks.specs.Refusals.{IsBlockRefusal, migration_refusal};
 ghost use Rattle.tv_format.specs.WriteVersion.{written_version};
 ghost use Rattle.tv_reader.specs.Version.{version_of};
 ghost use Rattle.tv_store.specs.BlockMigration.{IsMigrated};
 
-use crate::block_error::{BlockError, unread};
+use crate::block_error::{BlockError, refused};
 use crate::buffer::put_whole;
 use std::alloc::Global;
 use tv_base::{SliceSource, VecSink};
 use tv_format::version::WriteVersion;
-use tv_store::{DocStoreVersion, LimitedReadError, MigrateBlockError, RefusedDocument, Unwatched};
-
-// What is said of a document that can't be read. No limit is set.
-fn refused(document: &RefusedDocument) -> BlockError
-    ensures { result ≡ refusal_within document.now.start document.now.error }
-{
-    match &document.error {
-        LimitedReadError::Read(error) => unread(document.start, error),
-        LimitedReadError::Limit(_) => BlockError::Memory,
-    }
-}
+use tv_store::{DocStoreVersion, MigrateBlockError, Unwatched};
 
 // What is said of a document that wasn't migrated. A sink in memory fails where memory is refused, and a slice has fewer documents than are counted.
 fn unmigrated(failed: &MigrateBlockError) -> BlockError

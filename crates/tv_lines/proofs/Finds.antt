@@ -6,6 +6,7 @@ use Rattle.std.proofs.lemmas.List.Sums.{sum_by_push}
 use Rattle.tv_lines.specs.Finding.{CountsFound, Finds, FindsAll, FindsEach, LeavesDocument, LeavesNext, StopsFinding, is_faulty, is_found, named_terms, none, one_more}
 use Rattle.tv_lines.specs.Exporting.{AppendsBegun}
 use Rattle.tv_lines.specs.WorkErrors.{IsOfWriting}
+use Rattle.tv_lines.specs.declared.export.JsonLayout.TheVariants.{Compact}
 use Rattle.tv_lines.specs.declared.find.DocumentOutcome.{DocumentOutcome}
 use Rattle.tv_lines.specs.declared.find.DocumentOutcome.TheVariants as outcome
 use Rattle.tv_lines.specs.declared.find.FindError.TheVariants as finding
@@ -40,7 +41,7 @@ terms_named schema tree steps fields d is named =
 
 -- ---- a document whose line wasn't written to the end
 
-pub leaves_written : (schema : List Entry) (tree : Tree) (d : Document) (old new : List ℕ) (e : WorkError) (terms : List (List ℕ)) → IsOfWriting e → named_terms schema tree d ≡ Ok terms → Matches terms tree → AppendsBegun schema d old new → LeavesDocument schema tree d old new e
+pub leaves_written : (schema : List Entry) (tree : Tree) (d : Document) (old new : List ℕ) (e : WorkError) (terms : List (List ℕ)) → IsOfWriting e → named_terms schema tree d ≡ Ok terms → Matches terms tree → AppendsBegun schema Compact d old new → LeavesDocument schema tree d old new e
 leaves_written schema tree d old new (errors.Write kind) terms is made matches begun = (terms, made, matches, begun)
 leaves_written schema tree d old new errors.Memory terms is made matches begun = begun
 leaves_written schema tree d old new (errors.Read e) terms is made matches begun = absurd is

@@ -3,10 +3,11 @@ use Rattle.std.proofs.Common.{true, Ok, ◌≡◌, ℕ, ◌+◌, ◌^◌, ◌<�
 use Rattle.tv_base.specs.Parts.{Begins}
 use Rattle.tv_base.specs.Source.{Failures}
 use Rattle.tv_base.specs.Stop.{CountsStop}
-use Rattle.tv_lines.specs.Printing.{AppendsLine, ArePrintedLines}
-use Rattle.tv_lines.specs.Printing.ArePrintedLines.{no_lines, next_line}
+use Rattle.tv_lines.specs.Printing.{AppendsJson, ArePrinted, is_bad, laid_out}
+use Rattle.tv_lines.specs.Printing.ArePrinted.{none_printed, next_printed}
 use Rattle.tv_lines.specs.Exporting.{AppendsBegun, BreaksOff, ExportsAll, LeavesNext}
 use Rattle.tv_lines.specs.WorkErrors.{IsOfWriting, sink_stop, source_stop}
+use Rattle.tv_lines.specs.declared.export.JsonLayout.{JsonLayout}
 use Rattle.tv_lines.specs.declared.work_error.WorkError.{WorkError}
 use Rattle.tv_lines.specs.declared.work_error.WorkError.TheVariants as errors
 use Rattle.tv_field.specs.Entry.{Entry}
@@ -17,60 +18,60 @@ use Rattle.tv_store.specs.Projections.{EncodesBlockWithin, EncodesWithin, ReadsO
 use Rattle.tv_store.specs.declared.projection.Projection.{Projection}
 use Rattle.tv_store.proofs.BlocksSoFar.{ReadSoFar, read_more, read_none, whole_before}
 
-printed-snoc : (entries : List Entry) (documents : List Document) (content json : List ℕ) (d : Document) → ArePrintedLines entries documents content → ArePrintedLines entries (d ∷ []) json
-    → ArePrintedLines entries (documents ++ d ∷ []) (content ++ json)
-printed-snoc entries [] [] json d no_lines one = one
-printed-snoc entries [] (_ ∷ _) json d p one = elim p [ ]
-printed-snoc entries (e ∷ es) content json d (next_line {json = text} {rest = rest} is more) one =
-    subst (ArePrintedLines entries ((e ∷ es) ++ d ∷ [])) (sym (append_assoc text (10 ∷ rest) json)) (next_line is (printed-snoc entries es rest json d more one))
+printed-snoc : (entries : List Entry) (layout : JsonLayout) (documents : List Document) (content json : List ℕ) (d : Document) → ArePrinted entries layout documents content → ArePrinted entries layout (d ∷ []) json
+    → ArePrinted entries layout (documents ++ d ∷ []) (content ++ json)
+printed-snoc entries layout [] [] json d none_printed one = one
+printed-snoc entries layout [] (_ ∷ _) json d p one = elim p [ ]
+printed-snoc entries layout (e ∷ es) content json d (next_printed {json = text} {rest = rest} is more) one =
+    subst (ArePrinted entries layout ((e ∷ es) ++ d ∷ [])) (sym (append_assoc (laid_out layout text) (10 ∷ rest) json)) (next_printed is (printed-snoc entries layout es rest json d more one))
 
 map-snoc : {A B : Type 0} (f : A → B) (xs : List A) (x : A) → map f (xs ++ x ∷ []) ≡ map f xs ++ f x ∷ []
 map-snoc f [] x = refl
 map-snoc {B = B} f (y ∷ ys) x = ap (λ (l : List B). f y ∷ l) (map-snoc f ys x)
 
 -- what a write leaves of the next document
-pub leaves_line : (entries : List Entry) (v : Version) (projection : Projection) (bytes left rest : List ℕ) (number start : ℕ) (old new : List ℕ) (d : Document) (e : WorkError) → IsOfWriting e → BeginsWithDocument v bytes rest d
-    → AppendsBegun entries (kept projection d) old new → LeavesNext entries v projection bytes left number start old new e
-leaves_line entries v projection bytes left rest number start old new d (errors.Write kind) is begins leaves = (d, rest, begins, leaves)
-leaves_line entries v projection bytes left rest number start old new d errors.Memory is begins leaves = (d, rest, begins, leaves)
-leaves_line entries v projection bytes left rest number start old new d (errors.Read e) is begins leaves = absurd is
-leaves_line entries v projection bytes left rest number start old new d errors.TooMany is begins leaves = absurd is
+pub leaves_line : (entries : List Entry) (layout : JsonLayout) (v : Version) (projection : Projection) (bytes left rest : List ℕ) (number start : ℕ) (old new : List ℕ) (d : Document) (e : WorkError) → IsOfWriting e → BeginsWithDocument v bytes rest d
+    → AppendsBegun entries layout (kept projection d) old new → LeavesNext entries layout v projection bytes left number start old new e
+leaves_line entries layout v projection bytes left rest number start old new d (errors.Write kind) is begins leaves = (d, rest, begins, leaves)
+leaves_line entries layout v projection bytes left rest number start old new d errors.Memory is begins leaves = (d, rest, begins, leaves)
+leaves_line entries layout v projection bytes left rest number start old new d (errors.Read e) is begins leaves = absurd is
+leaves_line entries layout v projection bytes left rest number start old new d errors.TooMany is begins leaves = absurd is
 
 -- the documents before the rest, of this number, and their lines
-pub record PrintedSoFar (entries : List Entry) (v : Version) (projection : Projection) (block rest old now : List ℕ) (number start : ℕ) : Type 0 where
+pub record PrintedSoFar (entries : List Entry) (layout : JsonLayout) (v : Version) (projection : Projection) (block rest old now : List ℕ) (number start : ℕ) : Type 0 where
   pub read : ReadSoFar v (limits_of projection) block rest number start
   pub lines : List ℕ
-  pub printed : ArePrintedLines entries (map (kept projection) read.documents) lines
+  pub printed : ArePrinted entries layout (map (kept projection) read.documents) lines
   pub held : now ≡ old ++ lines
 
-pub printed_none : (entries : List Entry) (v : Version) (projection : Projection) (block old : List ℕ) (start : ℕ) → start ≡ 0 → PrintedSoFar entries v projection block block old old 0 start
-printed_none entries v projection block old start is = record { read = read_none v (limits_of projection) block start is; lines = []; printed = no_lines; held = sym (append-nil old) }
+pub printed_none : (entries : List Entry) (layout : JsonLayout) (v : Version) (projection : Projection) (block old : List ℕ) (start : ℕ) → start ≡ 0 → PrintedSoFar entries layout v projection block block old old 0 start
+printed_none entries layout v projection block old start is = record { read = read_none v (limits_of projection) block start is; lines = []; printed = none_printed; held = sym (append-nil old) }
 
-module _ {entries : List Entry} {v : Version} {projection : Projection} {block rest old now : List ℕ} {number start : ℕ} (m : PrintedSoFar entries v projection block rest old now number start) where
+module _ {entries : List Entry} {layout : JsonLayout} {v : Version} {projection : Projection} {block rest old now : List ℕ} {number start : ℕ} (m : PrintedSoFar entries layout v projection block rest old now number start) where
   pub printed_more : {left after : List ℕ} {next : ℕ} (d : Document) (h : Begins (λ b. EncodesWithin v (limits_of projection) b d) rest left) → length left < length rest → (start + length rest < 2 ^ 64 → next + length left ≡ start + length rest)
-      → AppendsLine entries (kept projection d) now after → PrintedSoFar entries v projection block left old after (number + 1) next
+      → AppendsJson entries layout (kept projection d) now after → PrintedSoFar entries layout v projection block left old after (number + 1) next
   printed_more {left} {after} {next} d h fewer placed line = record {
     read = read_more m.read d h fewer placed;
-    lines = m.lines ++ (line.0 ++ 10 ∷ []);
+    lines = m.lines ++ (laid_out layout line.0 ++ 10 ∷ []);
     printed =
-        subst (λ (ds : List Document). ArePrintedLines entries ds (m.lines ++ (line.0 ++ 10 ∷ []))) (sym (map-snoc (kept projection) m.read.documents d))
-        (printed-snoc entries (map (kept projection) m.read.documents) m.lines (line.0 ++ 10 ∷ []) (kept projection d) m.printed (next_line line.1 no_lines));
-    held = line.2 ∙ ap (λ (l : List ℕ). l ++ (line.0 ++ 10 ∷ [])) m.held ∙ append_assoc old m.lines (line.0 ++ 10 ∷ []);
+        subst (λ (ds : List Document). ArePrinted entries layout ds (m.lines ++ (laid_out layout line.0 ++ 10 ∷ []))) (sym (map-snoc (kept projection) m.read.documents d))
+        (printed-snoc entries layout (map (kept projection) m.read.documents) m.lines (laid_out layout line.0 ++ 10 ∷ []) (kept projection d) m.printed (next_printed line.1 none_printed));
+    held = line.2 ∙ ap (λ (l : List ℕ). l ++ (laid_out layout line.0 ++ 10 ∷ [])) m.held ∙ append_assoc old m.lines (laid_out layout line.0 ++ 10 ∷ []);
   }
 
   -- the next document was read, and its line appended
   pub printed_next : {left after : List ℕ} {next : ℕ} {shown : Document} → ReadsOne v projection (λ d. shown ≡ kept projection d) rest left (Ok true) → length left < length rest → (start + length rest < 2 ^ 64 → next + length left ≡ start + length rest)
-      → AppendsLine entries shown now after → PrintedSoFar entries v projection block left old after (number + 1) next
-  printed_next {after = after} one fewer placed line = printed_more one.0 one.1 fewer placed (subst (λ (d : Document). AppendsLine entries d now after) one.2 line)
+      → AppendsJson entries layout shown now after → PrintedSoFar entries layout v projection block left old after (number + 1) next
+  printed_next {after = after} one fewer placed line = printed_more one.0 one.1 fewer placed (subst (λ (d : Document). AppendsJson entries layout d now after) one.2 line)
 
   -- it was read, and its line wasn't appended, or not whole
-  pub printed_begun : {left after : List ℕ} {shown : Document} (e : WorkError) → ReadsOne v projection (λ d. shown ≡ kept projection d) rest left (Ok true) → IsOfWriting e → AppendsBegun entries shown now after
-      → LeavesNext entries v projection rest left (length m.read.documents) (length m.read.before) now after e
+  pub printed_begun : {left after : List ℕ} {shown : Document} (e : WorkError) → ReadsOne v projection (λ d. shown ≡ kept projection d) rest left (Ok true) → IsOfWriting e → AppendsBegun entries layout shown now after
+      → LeavesNext entries layout v projection rest left (length m.read.documents) (length m.read.before) now after e
   printed_begun {left} {after} e one is line =
-      leaves_line entries v projection rest left left (length m.read.documents) (length m.read.before) now after one.0 e is (record { prefix = one.1.prefix; joined = one.1.joined; encoded = one.1.encoded.encoded })
-      (subst (λ (d : Document). AppendsBegun entries d now after) one.2 line)
+      leaves_line entries layout v projection rest left left (length m.read.documents) (length m.read.before) now after one.0 e is (record { prefix = one.1.prefix; joined = one.1.joined; encoded = one.1.encoded.encoded })
+      (subst (λ (d : Document). AppendsBegun entries layout d now after) one.2 line)
 
-  pub printed_all : rest ≡ [] → ExportsAll entries v projection block old now number
+  pub printed_all : rest ≡ [] → ExportsAll entries layout v projection block old now number
   printed_all none = (
     m.read.documents,
     record {
@@ -82,7 +83,7 @@ module _ {entries : List Entry} {v : Version} {projection : Projection} {block r
     m.read.counted,
   )
 
-  pub printed_stops : {left after : List ℕ} (e : WorkError) → LeavesNext entries v projection rest left (length m.read.documents) (length m.read.before) now after e → BreaksOff entries v projection block left old after e
+  pub printed_stops : {left after : List ℕ} (e : WorkError) → LeavesNext entries layout v projection rest left (length m.read.documents) (length m.read.before) now after e → BreaksOff entries layout v projection block left old after e
   printed_stops e next = record {
     before = m.read.before;
     behind = rest;

@@ -1,7 +1,8 @@
--- A block of documents, printed as lines of JSON.
+-- A block of documents, printed as JSON.
 use Rattle.std.specs.Prelude.{◌≡◌, ◌⊎◌, ◌-◌, ◌^◌, ℕ, List, [], ◌++◌, length, map}
 use Rattle.tv_base.specs.Sink.{AppendsPrefix}
-use Rattle.tv_lines.specs.Printing.{AppendsLine, ArePrintedLines}
+use Rattle.tv_lines.specs.Printing.{AppendsJson, ArePrinted}
+use Rattle.tv_lines.specs.declared.export.JsonLayout.{JsonLayout}
 use Rattle.tv_lines.specs.declared.work_error.WorkError.{WorkError}
 use Rattle.tv_lines.specs.declared.work_error.WorkError.TheVariants as errors
 use Rattle.tv_field.specs.Entry.{Entry}
@@ -11,34 +12,34 @@ use Rattle.tv_store.specs.Documents.{BeginsWithDocument}
 use Rattle.tv_store.specs.Projections.{EncodesBlockWithin, IsRefusedAt, kept, limits_of}
 use Rattle.tv_store.specs.declared.projection.Projection.{Projection}
 
--- The block encodes these documents, and a line was appended for each, of what is kept of it.
-pub record Exported (schema : List Entry) (v : Version) (projection : Projection) (block old new : List ℕ) (documents : List Document) : Type 0 where
+-- The block encodes these documents, and what is kept of each was printed.
+pub record Exported (schema : List Entry) (layout : JsonLayout) (v : Version) (projection : Projection) (block old new : List ℕ) (documents : List Document) : Type 0 where
   pub encoded : EncodesBlockWithin v (limits_of projection) block documents
   pub lines : List ℕ
-  pub printed : ArePrintedLines schema (map (kept projection) documents) lines
+  pub printed : ArePrinted schema layout (map (kept projection) documents) lines
   pub held : new ≡ old ++ lines
 
 -- The whole block was printed, of this many documents.
-abbrev pub ExportsAll : List Entry → Version → Projection → List ℕ → List ℕ → List ℕ → ℕ → Type 0
-ExportsAll schema v projection block old new number = (documents : List Document) × Exported schema v projection block old new documents × (number ≡ length documents)
+abbrev pub ExportsAll : List Entry → JsonLayout → Version → Projection → List ℕ → List ℕ → List ℕ → ℕ → Type 0
+ExportsAll schema layout v projection block old new number = (documents : List Document) × Exported schema layout v projection block old new documents × (number ≡ length documents)
 
--- nothing is appended, or a beginning of the document's line
-abbrev pub AppendsBegun : List Entry → Document → List ℕ → List ℕ → Type 0
-AppendsBegun schema d old new = (new ≡ old) ⊎ ((line : List ℕ) × AppendsLine schema d [] line × AppendsPrefix old new line)
+-- nothing is appended, or a beginning of what is printed of the document
+abbrev pub AppendsBegun : List Entry → JsonLayout → Document → List ℕ → List ℕ → Type 0
+AppendsBegun schema layout d old new = (new ≡ old) ⊎ ((text : List ℕ) × AppendsJson schema layout d [] text × AppendsPrefix old new text)
 
 -- What was appended of the document with which these bytes begin, and why no more: nothing where it can't be read, or isn't. Before it come this many
 -- documents, in this number of bytes.
-abbrev pub LeavesNext : List Entry → Version → Projection → List ℕ → List ℕ → ℕ → ℕ → List ℕ → List ℕ → WorkError → Type 0
-LeavesNext schema v projection bytes left number start old new (errors.Read e) = (new ≡ old) × (e.document ≡ number) × IsRefusedAt v projection bytes left start e
-LeavesNext schema v projection bytes left number start old new errors.TooMany = (new ≡ old) × (number ≡ 2 ^ 64 - 1)
-LeavesNext schema v projection bytes left number start old new e = (d : Document) × (rest : List ℕ) × BeginsWithDocument v bytes rest d × AppendsBegun schema (kept projection d) old new
+abbrev pub LeavesNext : List Entry → JsonLayout → Version → Projection → List ℕ → List ℕ → ℕ → ℕ → List ℕ → List ℕ → WorkError → Type 0
+LeavesNext schema layout v projection bytes left number start old new (errors.Read e) = (new ≡ old) × (e.document ≡ number) × IsRefusedAt v projection bytes left start e
+LeavesNext schema layout v projection bytes left number start old new errors.TooMany = (new ≡ old) × (number ≡ 2 ^ 64 - 1)
+LeavesNext schema layout v projection bytes left number start old new e = (d : Document) × (rest : List ℕ) × BeginsWithDocument v bytes rest d × AppendsBegun schema layout (kept projection d) old new
 
 -- The documents before were printed, and the one with which the rest of the block begins was not, or not whole. `left` is what was left of the block.
-pub record BreaksOff (schema : List Entry) (v : Version) (projection : Projection) (block left old new : List ℕ) (error : WorkError) : Type 0 where
+pub record BreaksOff (schema : List Entry) (layout : JsonLayout) (v : Version) (projection : Projection) (block left old new : List ℕ) (error : WorkError) : Type 0 where
   pub before : List ℕ
   pub behind : List ℕ
   pub joined : block ≡ before ++ behind
   pub documents : List Document
   pub middle : List ℕ
-  pub exported : Exported schema v projection before old middle documents
-  pub next : LeavesNext schema v projection behind left (length documents) (length before) middle new error
+  pub exported : Exported schema layout v projection before old middle documents
+  pub next : LeavesNext schema layout v projection behind left (length documents) (length before) middle new error

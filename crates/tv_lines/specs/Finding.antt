@@ -3,9 +3,10 @@ use Rattle.std.specs.Prelude.{◌≡◌, ◌↔◌, ◌-◌, ◌^◌, ◌<◌, �
 use Rattle.std.specs.List.{filter}
 use Rattle.tv_base.specs.Stop.{Stop}
 use Rattle.tv_base.specs.Stop.Stop.{Short}
-use Rattle.tv_lines.specs.Printing.{AppendsLine}
+use Rattle.tv_lines.specs.Printing.{AppendsJson}
 use Rattle.tv_lines.specs.Exporting.{AppendsBegun}
 use Rattle.tv_lines.specs.WorkErrors.{sink_stop, source_stop}
+use Rattle.tv_lines.specs.declared.export.JsonLayout.TheVariants.{Compact}
 use Rattle.tv_lines.specs.declared.find.DocumentOutcome.{DocumentOutcome}
 use Rattle.tv_lines.specs.declared.find.DocumentOutcome.TheVariants as outcome
 use Rattle.tv_lines.specs.declared.find.FindError.{FindError}
@@ -35,14 +36,14 @@ named_terms schema tree d = document_terms schema (filter (λ pair. names_field 
 
 -- What becomes of a document: these terms match the query, and its line is appended; or they don't, or there are none, and nothing is.
 abbrev pub Finds : List Entry → Tree → Document → List ℕ → List ℕ → DocumentOutcome → Type 0
-Finds schema tree d old new outcome.Found = (terms : List (List ℕ)) × (named_terms schema tree d ≡ Ok terms) × Matches terms tree × AppendsLine schema d old new
+Finds schema tree d old new outcome.Found = (terms : List (List ℕ)) × (named_terms schema tree d ≡ Ok terms) × Matches terms tree × AppendsJson schema Compact d old new
 Finds schema tree d old new outcome.NotFound = (terms : List (List ℕ)) × (named_terms schema tree d ≡ Ok terms) × (¬ Matches terms tree) × (new ≡ old)
 Finds schema tree d old new (outcome.Faulty why) = (named_terms schema tree d ≡ Err why) × (new ≡ old)
 
 -- what was appended of a document, and why no more
 abbrev pub LeavesDocument : List Entry → Tree → Document → List ℕ → List ℕ → WorkError → Type 0
-LeavesDocument schema tree d old new (errors.Write kind) = (terms : List (List ℕ)) × (named_terms schema tree d ≡ Ok terms) × Matches terms tree × AppendsBegun schema d old new
-LeavesDocument schema tree d old new errors.Memory = AppendsBegun schema d old new
+LeavesDocument schema tree d old new (errors.Write kind) = (terms : List (List ℕ)) × (named_terms schema tree d ≡ Ok terms) × Matches terms tree × AppendsBegun schema Compact d old new
+LeavesDocument schema tree d old new errors.Memory = AppendsBegun schema Compact d old new
 LeavesDocument schema tree d old new e = ⊥
 
 -- ---- documents

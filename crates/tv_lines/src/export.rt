@@ -1,15 +1,16 @@
-//! Blocks of stored documents to lines of JSON.
+//! Blocks of stored documents to JSON.
 
 ghost use Rattle.std.specs.Prelude.{◌≡◌, ◌++◌, [], IfErr, IfOk, OnErr, OnOk, string_bytes};
-ghost use Rattle.tv_base.specs.Sink.{AppendsPrefix};
 ghost use Rattle.tv_base.specs.Stop.{Counts};
-ghost use Rattle.tv_lines.specs.Printing.{AppendsLine};
-ghost use Rattle.tv_lines.specs.Exporting.{AppendsBegun, BreaksOff, ExportsAll};
-ghost use Rattle.tv_lines.specs.WorkErrors.{IsOfWriting, sink_stop, source_stop};
 ghost use Rattle.tv_doc.specs.Document.{document_of};
+ghost use Rattle.tv_lines.specs.Exporting.{AppendsBegun, BreaksOff, ExportsAll};
+ghost use Rattle.tv_lines.specs.Printing.{AppendsJson, laid_out};
+ghost use Rattle.tv_lines.specs.WorkErrors.{IsOfWriting, sink_stop, source_stop};
+ghost use Rattle.tv_lines.specs.declared.export.JsonLayout.TheVariants as layouts;
 ghost use Rattle.tv_reader.specs.Version.{version_of};
 
 use crate::work_error::WorkError;
+use json::{Pretty, Reader, Scratch, Token};
 use std::alloc::{AllocError, Global};
 use tv_base::write::write_all;
 use tv_base::{ByteSink, ByteSource};
@@ -18,21 +19,60 @@ use tv_doc::document_trait::Document;
 use tv_schema::Schema;
 use tv_store::{BlockReader, DocStoreVersion, Projection, Watch};
 
-/// Appends the document's text of JSON by the names of the schema's fields, see `to_json`, and a line feed. The only error is that memory was
-/// refused, and then the text is as it was.
-pub fn append_line(
+/// How a document is laid out as JSON. (Not in tantivy.)
+#[derive(Clone, Copy, PartialEq, Eq)]
+pub enum JsonLayout {
+    /// On one line without spaces, as `Document::to_json` prints it.
+    Compact,
+    /// With a line for each item and member, indented by two spaces for each array and object that it stands in.
+    Pretty,
+}
+
+/// Appends `json` to `text` in the layout `Pretty`: its tokens, in their order, with line feeds and spaces between them. What is no JSON is appended as it is.
+/// (Not in tantivy.)
+///
+/// The only error is that memory was refused, and then `text` is as it was.
+pub fn push_pretty(alloc: Global, json: &str, text: &mut String) -> Result<(), AllocError>
+    ensures appended { OnOk result
+        (string_bytes text.new ≡ string_bytes text.old ++ laid_out layouts.Pretty json.now) }
+    ensures unchanged { OnErr result (string_bytes text.new ≡ string_bytes text.old) }
+{
+    let mut scratch = Scratch::new(alloc);
+    let mut reader = Reader::new(json, &mut scratch)?;
+    let mut pretty = Pretty::new(alloc);
+    while let Some(token) = reader.next() {
+        if let Token::Bad = token {
+            return text.push_str(json);
+        }
+        pretty.token(token)?;
+    }
+    let lines = unsafe { String::from_utf8_unchecked(pretty.into_inner()) };
+    text.push_str(lines.as_str())
+}
+
+/// Appends the document's JSON by the names of the schema's fields to `text`, in this layout, and a line feed, see `Document::to_json`. (Not in tantivy.)
+///
+/// The only error is that memory was refused, and then `text` is as it was.
+pub fn append_json(
     alloc: Global,
     schema: &Schema,
+    layout: JsonLayout,
     document: &TantivyDocument,
     text: &mut String,
 ) -> Result<(), AllocError>
     ensures appended { OnOk result
-        (AppendsLine schema.now (document_of document.now) (string_bytes text.old)
+        (AppendsJson schema.now layout (document_of document.now) (string_bytes text.old)
         (string_bytes text.new)) }
     ensures unchanged { OnErr result (string_bytes text.new ≡ string_bytes text.old) }
 {
     let len = text.len();
-    document.push_json(alloc, schema, text)?;
+    match layout {
+        JsonLayout::Compact => document.push_json(alloc, schema, text)?,
+        JsonLayout::Pretty => {
+            let json = document.to_json(alloc, schema)?;
+            push_pretty(alloc, json.as_str(), text)?;
+        }
+    }
     let fed = text.push('\n');
     if fed.is_err() {
         text.truncate(len);
@@ -40,56 +80,58 @@ pub fn append_line(
     fed
 }
 
-// Appends the document's line to the sink. `text` is for the line.
-pub(crate) fn write_line<K: ByteSink>(
+// Appends the document's JSON and a line feed to the sink. `text` is for them.
+pub(crate) fn write_json<K: ByteSink>(
     alloc: Global,
     schema: &Schema,
+    layout: JsonLayout,
     document: &TantivyDocument,
     text: &mut String,
     sink: &mut K,
 ) -> Result<(), WorkError>
     ensures ok { K.is_known sink.old
-        → OnOk result
-        (AppendsLine schema.now (document_of document.now) (K.held sink.old) (K.held sink.new)) }
+        → OnOk result (AppendsJson schema.now layout (document_of document.now)
+        (K.held sink.old) (K.held sink.new)) }
     ensures err { K.is_known sink.old
-        → OnErr result
-        (AppendsBegun schema.now (document_of document.now) (K.held sink.old) (K.held sink.new)) }
+        → OnErr result (AppendsBegun schema.now layout (document_of document.now)
+        (K.held sink.old) (K.held sink.new)) }
     ensures errors { IfErr result IsOfWriting }
     ensures failures { Counts sink_stop result (K.failures sink.old) (K.failures sink.new) }
     ensures is_known { K.is_known sink.old → K.is_known sink.new }
 {
     text.clear();
-    append_line(alloc, schema, document, text)?;
+    append_json(alloc, schema, layout, document, text)?;
     match write_all(sink, text.as_bytes()) {
         Ok(()) => Ok(()),
         Err(failed) => Err(WorkError::Write(failed.0)),
     }
 }
 
-/// Appends what `projection` keeps of the documents of a block that a source has left, one after the other in this version, to a sink: a line of JSON for each,
-/// by the names of the schema's fields, as `Document::to_json` prints it. Returns how many documents there are. `watch` is advanced after each document
-/// whose line is appended, with the bytes from the first on. (Not in tantivy.)
+/// Appends what `projection` keeps of the documents of a block to `sink`. The block is what `source` has left: documents in the version `version`, one after the
+/// other. Each is printed as JSON by the names of the schema's fields, in the layout `layout`, and a line feed follows it. Returns how many documents there
+/// are. `watch` is advanced after each document that is appended, with the bytes from the first on. (Not in tantivy.)
 ///
 /// Errors: `Read` for the first document that can't be read or passes a limit, with its number and place; `Write` where a write failed; `Memory`;
-/// `TooMany` after 2^64 - 1 documents. The sink then holds the lines of the documents before that one, and after `Write` and `Memory` also a
-/// beginning of the line of that one.
+/// `TooMany` after 2^64 - 1 documents. The sink then holds what is printed of the documents before that one, and after `Write` and `Memory` also a
+/// beginning of what is printed of that one.
 pub fn export_block<S: ByteSource, K: ByteSink, W: Watch>(
     alloc: Global,
     schema: &Schema,
     version: DocStoreVersion,
     projection: &Projection,
+    layout: JsonLayout,
     source: &mut S,
     sink: &mut K,
     watch: &mut W,
 ) -> Result<u64, WorkError>
     ensures ok { S.is_known source.old → K.is_known sink.old
         → IfOk result
-        (ExportsAll schema.now (version_of version) projection.now (S.left source.old) (K.held sink.old)
-        (K.held sink.new)) }
+        (ExportsAll schema.now layout (version_of version) projection.now (S.left source.old)
+        (K.held sink.old) (K.held sink.new)) }
     ensures err { S.is_known source.old → K.is_known sink.old
         → IfErr result
-        (BreaksOff schema.now (version_of version) projection.now (S.left source.old) (S.left source.new)
-        (K.held sink.old) (K.held sink.new)) }
+        (BreaksOff schema.now layout (version_of version) projection.now (S.left source.old)
+        (S.left source.new) (K.held sink.old) (K.held sink.new)) }
     ensures all { S.is_known source.old → OnOk result (S.left source.new ≡ []) }
     ensures source_failures { Counts source_stop result (S.failures source.old)
         (S.failures source.new) }
@@ -102,7 +144,8 @@ pub fn export_block<S: ByteSource, K: ByteSink, W: Watch>(
     for documents in 0..u64::MAX {
         match reader.advance_by(source, projection) {
             Ok(true) => {
-                if let Err(error) = write_line(alloc, schema, reader.document(), &mut text, sink) {
+                let document = reader.document();
+                if let Err(error) = write_json(alloc, schema, layout, document, &mut text, sink) {
                     return Err(error);
                 }
                 watch.advance(reader.start());

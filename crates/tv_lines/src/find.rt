@@ -9,7 +9,7 @@ ghost use Rattle.tv_doc.specs.Document.{document_of};
 ghost use Rattle.tv_query.specs.Grammar.{Tree, steps_of};
 ghost use Rattle.tv_reader.specs.Version.{version_of};
 
-use crate::export::write_line;
+use crate::export::{JsonLayout, write_json};
 use crate::report::{DocumentReport, Report};
 use crate::work_error::WorkError;
 use std::alloc::{AllocError, Global};
@@ -116,7 +116,14 @@ fn find_in_document<K: ByteSink>(
 {
     match match_document(alloc, schema, document, &mut buffers.matcher)? {
         Ok(true) => {
-            write_line(alloc, schema, document, &mut buffers.text, sink)?;
+            write_json(
+                alloc,
+                schema,
+                JsonLayout::Compact,
+                document,
+                &mut buffers.text,
+                sink,
+            )?;
             Ok(DocumentOutcome::Found)
         }
         Ok(false) => Ok(DocumentOutcome::NotFound),

@@ -1,5 +1,5 @@
 use Rattle.std.proofs.Common.{refl, ap, ◌∙◌, subst, arith}
-use Rattle.tv_lines.specs.Printing.{AppendsLine}
+use Rattle.tv_lines.specs.Printing.{AppendsJson}
 use Rattle.tv_lines.specs.Exporting.{AppendsBegun}
 use Rattle.tv_lines.proofs.Checks.{counts_source}
 use Rattle.tv_lines.proofs.Prints.{counts_sink, not_source, printed_all, printed_begun, printed_next, printed_none, printed_stops}
@@ -19,7 +19,7 @@ loop-documents-init g c = record {
   sink_is_known = λ k. k;
   source_failures = refl;
   sink_failures = refl;
-  so_far = λ s k. printed_none _ _ _ _ _ _ c.new-reader.ensures.start;
+  so_far = λ s k. printed_none _ _ _ _ _ _ _ c.new-reader.ensures.start;
 }
 
 pub loop-documents-preserved : goal.loop-documents-preserved
@@ -37,7 +37,7 @@ loop-documents-preserved g c =
       source_failures = reads.failures ∙ i.source_failures;
       sink_failures = write.failures ∙ i.sink_failures;
       so_far = λ s k. printed_next (i.so_far s k) (one_read (ap version_of i.version) (i.source_is_known s) reads) (steps.fewer (i.source_is_known s) refl) (start_after steps i.not_failed (i.source_is_known s))
-          (subst (λ d. AppendsLine c.args.schema.now (document_of d) (g.K.ByteSink.held c.loop-documents.sink) (g.K.ByteSink.held c.write_line.new.sink)) c.document.ensures (write.ok (i.sink_is_known k)));
+          (subst (λ d. AppendsJson c.args.schema.now c.args.layout (document_of d) (g.K.ByteSink.held c.loop-documents.sink) (g.K.ByteSink.held c.write_json.new.sink)) c.document.ensures (write.ok (i.sink_is_known k)));
     }
 
 pub returns-in-Ok-false-clause-ok : goal.returns-in-Ok-false-clause-ok
@@ -84,29 +84,29 @@ returns-clause-err g c = λ s k.
     let m = c.loop-documents.invariant.so_far s k in
     printed_stops m errors.TooMany (refl, omega (arith, m.read.counted, c.loop-documents.auto.documents-end, c.loop-documents-test.false))
 
-pub returns-in-Err-write_line-clause-err : goal.returns-in-Err-write_line-clause-err
-returns-in-Err-write_line-clause-err g c =
+pub returns-in-Err-write_json-clause-err : goal.returns-in-Err-write_json-clause-err
+returns-in-Err-write_json-clause-err g c =
     let i = c.loop-documents.invariant in
     let reads = rw c.in-Ok-true.field-0-test at (c.in-Ok-true.ensures.reads i.not_failed) in
-    let error = c.in-Err-write_line.error in
+    let error = c.in-Err-write_json.error in
     λ s k.
     let m = i.so_far s k in
     printed_stops m error
-    (printed_begun m error (one_read (ap version_of i.version) (i.source_is_known s) reads) c.in-Err-write_line.ensures.errors
-    (subst (λ x. AppendsBegun c.args.schema.now (document_of x) (g.K.ByteSink.held c.loop-documents.sink) (g.K.ByteSink.held c.write_line.new.sink)) c.document.ensures (c.in-Err-write_line.ensures.err (i.sink_is_known k))))
+    (printed_begun m error (one_read (ap version_of i.version) (i.source_is_known s) reads) c.in-Err-write_json.ensures.errors
+    (subst (λ x. AppendsBegun c.args.schema.now c.args.layout (document_of x) (g.K.ByteSink.held c.loop-documents.sink) (g.K.ByteSink.held c.write_json.new.sink)) c.document.ensures (c.in-Err-write_json.ensures.err (i.sink_is_known k))))
 
-pub returns-in-Err-write_line-clause-sink_failures : goal.returns-in-Err-write_line-clause-sink_failures
-returns-in-Err-write_line-clause-sink_failures g c =
-    counts_sink c.in-Err-write_line.error _ c.loop-documents.invariant.sink_failures c.in-Err-write_line.ensures.failures
+pub returns-in-Err-write_json-clause-sink_failures : goal.returns-in-Err-write_json-clause-sink_failures
+returns-in-Err-write_json-clause-sink_failures g c =
+    counts_sink c.in-Err-write_json.error _ c.loop-documents.invariant.sink_failures c.in-Err-write_json.ensures.failures
 
-pub returns-in-Err-write_line-clause-source_failures : goal.returns-in-Err-write_line-clause-source_failures
-returns-in-Err-write_line-clause-source_failures g c =
+pub returns-in-Err-write_json-clause-source_failures : goal.returns-in-Err-write_json-clause-source_failures
+returns-in-Err-write_json-clause-source_failures g c =
     let i = c.loop-documents.invariant in
     let reads = rw c.in-Ok-true.field-0-test at (c.in-Ok-true.ensures.reads i.not_failed) in
-    not_source c.in-Err-write_line.error c.in-Err-write_line.ensures.errors (reads.failures ∙ i.source_failures)
+    not_source c.in-Err-write_json.error c.in-Err-write_json.ensures.errors (reads.failures ∙ i.source_failures)
 
-pub returns-in-Err-write_line-clause-source_is_known : goal.returns-in-Err-write_line-clause-source_is_known
-returns-in-Err-write_line-clause-source_is_known g c =
+pub returns-in-Err-write_json-clause-source_is_known : goal.returns-in-Err-write_json-clause-source_is_known
+returns-in-Err-write_json-clause-source_is_known g c =
     let i = c.loop-documents.invariant in
     let reads = rw c.in-Ok-true.field-0-test at (c.in-Ok-true.ensures.reads i.not_failed) in
     λ s. reads.stays_known (i.source_is_known s)

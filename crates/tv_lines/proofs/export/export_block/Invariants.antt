@@ -16,5 +16,5 @@ invariant-loop-documents g l =
       source_failures : source.failures l.source ≡ source.failures l.initial.source;
       sink_failures : sink.failures l.sink ≡ sink.failures l.initial.sink;
       so_far : source.is_known l.initial.source → sink.is_known l.initial.sink
-          → PrintedSoFar l.schema (version_of l.fn.version) l.projection (source.left l.initial.source) (source.left l.source) (sink.held l.initial.sink) (sink.held l.sink) l.documents l.reader.start;
+          → PrintedSoFar l.schema l.layout (version_of l.fn.version) l.projection (source.left l.initial.source) (source.left l.source) (sink.held l.initial.sink) (sink.held l.sink) l.documents l.reader.start;
     }
