@@ -22,12 +22,12 @@ ghost use Rattle.tv_value.specs.Owned.{owned_tree, owned_entries};
 
 use crate::error::{DeserializeError, ValueType};
 use crate::kinds::take_kind;
+use crate::legacy::take_legacy;
 use crate::value_type::take_leaf;
 use crate::version::DocStoreVersion;
 use std::alloc::Global;
 use tv_base::take::{take_string, take_vint};
 use tv_base::{ByteSource, Cause, ReadError};
-use tv_legacy::take::take_legacy;
 use tv_value::owned_value::OwnedValue;
 
 // Half of a number.

@@ -17,8 +17,8 @@ use Rattle.tv_builder.specs.State.{State, complete, in_lists, in_bytes, next_at,
 use Rattle.tv_builder.specs.declared.heap_pairs.HeapPairs.{HeapPairs}
 use Rattle.tv_builder.specs.HeldPairs.{document_of}
 use Rattle.tv_builder.specs.Builder.{built, state_of}
-use Rattle.tv_legacy.specs.Legacy.{Legacy, ErrorInLegacy}
-use Rattle.tv_legacy.proofs.Unique.{one_legacy, legacy_excludes, single_legacy}
+use Rattle.tv_reader.specs.Legacy.{Legacy, ErrorInLegacy}
+use Rattle.tv_reader.proofs.UniqueLegacy.{one_legacy, legacy_excludes, single_legacy}
 use Rattle.tv_reader.specs.Finds.{FindsIf, Nothing}
 use Rattle.tv_reader.specs.declared.error.DeserializeError.{DeserializeError}
 use Rattle.tv_reader.specs.declared.error.DeserializeError.TheVariants as errors

@@ -11,7 +11,7 @@ use Rattle.tv_builder.specs.State.{OpenList, State, complete, in_lists, in_bytes
 use Rattle.tv_builder.proofs.WithErrors.{field_errors, value_errors, key_errors, end_errors, text_errors}
 use Rattle.tv_builder.proofs.Sound.{all_await, next_key}
 use Rattle.tv_builder.specs.Builder.{built, state_of}
-use Rattle.tv_legacy.specs.Legacy.{Legacy, ErrorInLegacy}
+use Rattle.tv_reader.specs.Legacy.{Legacy, ErrorInLegacy}
 use Rattle.tv_format.specs.InputError.{Refusal, corrupted, Corrupt, corrupt, ErrorInKey, ErrorInValue, ErrorInDocument}
 use Rattle.tv_format.specs.Tree.{Document}
 use Rattle.tv_format.specs.Version.{Version}

@@ -2,7 +2,7 @@
 
 ghost use Rattle.std.specs.Prelude.{◌≡◌, ◌<◌, ◌∷◌, ◌++◌, [], Ok, OnOk};
 ghost use Rattle.tv_format.specs.InputError.{ErrorInDocument};
-ghost use Rattle.tv_legacy.specs.Legacy.{Legacy, ErrorInLegacy};
+ghost use Rattle.tv_reader.specs.Legacy.{Legacy, ErrorInLegacy};
 ghost use Rattle.tv_reader.specs.Finds.{FindsRoomy, Nothing};
 ghost use Rattle.tv_reader.specs.Trees.{NoValue};
 ghost use Rattle.tv_reader.specs.ValueType.{type_prefix};

@@ -21,7 +21,7 @@ ghost use Rattle.tv_builder.specs.HeldPairs.{document_of, heap_of};
 ghost use Rattle.tv_reader.specs.Finds.{Finds, FindsLean, Nothing};
 ghost use Rattle.tv_reader.specs.HeadReading.{head_part};
 ghost use Rattle.tv_reader.specs.declared.error.DeserializeError.TheVariants.{HeapFull};
-ghost use Rattle.tv_legacy.specs.Legacy.{Legacy};
+ghost use Rattle.tv_reader.specs.Legacy.{Legacy};
 ghost use Rattle.tv_reader.specs.Version.{version_of};
 ghost use Rattle.tv_value.specs.Lent.{leaf_of};
 ghost use Rattle.tv_format.specs.Tree.{leaf as leaf_tree};

@@ -17,7 +17,7 @@ use Rattle.tv_format.specs.WriteVersion.{written_version}
 use Rattle.tv_format.specs.declared.version.WriteVersion.{WriteVersion}
 use Rattle.tv_format.specs.declared.version.WriteVersion.TheVariants as versions
 use Rattle.tv_heap.specs.Room.{document_room}
-use Rattle.tv_legacy.specs.Legacy.{Legacy}
+use Rattle.tv_reader.specs.Legacy.{Legacy}
 use Rattle.tv_reader.specs.Error.{store_stop}
 use Rattle.tv_reader.specs.declared.error.DeserializeError.{DeserializeError}
 use Rattle.tv_reader.specs.declared.error.DeserializeError.TheVariants as errors

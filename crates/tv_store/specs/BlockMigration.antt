@@ -16,7 +16,7 @@ use Rattle.tv_format.specs.InputError.{Refusal}
 use Rattle.tv_format.specs.Short.{short_document, IsDocument}
 use Rattle.tv_format.specs.Tree.{Document}
 use Rattle.tv_format.specs.Version.{Version}
-use Rattle.tv_legacy.specs.Legacy.{Legacy}
+use Rattle.tv_reader.specs.Legacy.{Legacy}
 use Rattle.tv_store.specs.Documents.{BeginsWithDocument}
 use Rattle.tv_store.specs.Projections.{IsRefusedAt, no_limits, refused_stop}
 use Rattle.tv_store.specs.declared.block_migration.MigrateBlockError.{MigrateBlockError}

@@ -22,7 +22,7 @@ use thiserror::Error;
 use tv_base::{SliceSource, VecSink};
 use tv_doc::document::CompactDoc;
 use tv_doc::laws::documents_are_valid;
-use tv_legacy::laws::{
+use tv_reader::laws::{
     documents_have_one_reading, malformed_documents_derive_none, short_documents_encode,
 };
 use tv_schema::Schema;

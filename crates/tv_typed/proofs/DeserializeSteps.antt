@@ -7,8 +7,8 @@ use Rattle.tv_base.specs.Source.{Failures}
 use Rattle.tv_base.specs.Stop.{Stop, Counts, Taken}
 use Rattle.tv_base.specs.Stop.Stop.{InputError, Uncounted, Failed, Short, Never}
 use Rattle.tv_base.proofs.TakeSteps.{Taken_then}
-use Rattle.tv_legacy.specs.Legacy.{Legacy}
-use Rattle.tv_legacy.proofs.Unique.{one_legacy}
+use Rattle.tv_reader.specs.Legacy.{Legacy}
+use Rattle.tv_reader.proofs.UniqueLegacy.{one_legacy}
 use Rattle.tv_format.specs.Encoding.{Encodes, NoLegacy}
 use Rattle.tv_value.specs.Owned.{owned_tree}
 use Rattle.tv_format.specs.Tree.{Leaf, Tree, leaf}
