@@ -10,7 +10,7 @@ ghost use Rattle.tv_heap.specs.Room.{document_room};
 ghost use Rattle.tv_reader.specs.Error.{store_stop};
 ghost use Rattle.tv_store.specs.Documents.{ReturnsDocument};
 ghost use Rattle.tv_store.specs.Stored.{stored};
-ghost use Rattle.tv_writer.specs.declared.error.SerializeError.TheVariants.{Io, Memory};
+ghost use Rattle.tv_writer.specs.declared.serializers.SerializeError.TheVariants.{Io, Memory};
 ghost use Rattle.tv_format.specs.Short.{short_document};
 ghost use Rattle.tv_format.specs.Version.{V2};
 
@@ -73,7 +73,7 @@ pub use tv_store::laws::{
 };
 pub use tv_store::migration_trip::{MigrationTrip, migrations_are_read_back};
 pub use tv_store::round_trip::{RoundTrip, RoundTripError, additions_are_stored_and_read_back};
-pub use tv_store::stepped::stepped_decoders_are_paid_for;
+pub use tv_store::direct_decoder::stepped_decoders_are_paid_for;
 use tv_store::{
     BinaryDocumentSerializer, DeserializeError, DocStoreVersion, SerializeError, read_document,
 };

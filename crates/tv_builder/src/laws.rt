@@ -21,9 +21,9 @@ ghost use Rattle.tv_builder.specs.State.{awaited, and_value, and_list, and_key, 
 ghost use Rattle.tv_builder.specs.State.{and_bytes, and_end, list_head, parts_of};
 ghost use Rattle.tv_builder.specs.State.{lists_of, children_of};
 ghost use Rattle.tv_builder.specs.Weight.{document_weight, state_weight};
-ghost use Rattle.tv_builder.specs.declared.awaits.Awaits.TheVariants.{Value, Key};
-ghost use Rattle.tv_builder.specs.declared.bytes_kind.BytesKind.{BytesKind};
-ghost use Rattle.tv_builder.specs.declared.list_kind.ListKind.{ListKind};
+ghost use Rattle.tv_builder.specs.declared.kinds.Awaits.TheVariants.{Value, Key};
+ghost use Rattle.tv_builder.specs.declared.kinds.BytesKind.{BytesKind};
+ghost use Rattle.tv_builder.specs.declared.kinds.ListKind.{ListKind};
 
 /// Bytes that encode some parts encode those for which they are traded.
 pub fn parts_are_traded()

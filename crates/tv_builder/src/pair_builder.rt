@@ -7,13 +7,10 @@ ghost use Rattle.tv_builder.specs.Finish.{HoldsPrefix, HoldsPrefix-prop, Settled
 ghost use Rattle.tv_builder.specs.TreeBytes.{document_heap};
 ghost use Rattle.tv_builder.specs.Weight.{document_weight, state_weight};
 
-use crate::awaits::Awaits;
-use crate::build_error::BuildError;
 use crate::building::Building;
-use crate::bytes_kind::BytesKind;
-use crate::heap_pair::HeapPair;
-use crate::heap_pairs::{HeapPairs, push_pair};
-use crate::list_kind::ListKind;
+use crate::errors::BuildError;
+use crate::heap_pairs::{HeapPair, HeapPairs, push_pair};
+use crate::kinds::{Awaits, BytesKind, ListKind};
 use tv_value::leaf::ReferenceValueLeaf;
 use tv_value::value::Value;
 
@@ -83,8 +80,8 @@ impl PairBuilder {
     ghost use Rattle.tv_builder.specs.Fits.{LeafFits, ListFits, KeyFits, HeadFits};
     ghost use Rattle.tv_builder.specs.State.{and_value, and_list, and_key, and_head, and_bytes};
     ghost use Rattle.tv_builder.specs.State.{awaited, head_awaits, in_lists, lists_of, children_of};
-    ghost use Rattle.tv_builder.specs.declared.awaits.Awaits.TheVariants.{Value as ValueNext};
-    ghost use Rattle.tv_builder.specs.declared.awaits.Awaits.TheVariants.{Key as KeyNext};
+    ghost use Rattle.tv_builder.specs.declared.kinds.Awaits.TheVariants.{Value as ValueNext};
+    ghost use Rattle.tv_builder.specs.declared.kinds.Awaits.TheVariants.{Key as KeyNext};
     ghost use Rattle.tv_builder.specs.Builder.{built, state_of, heap_so_far, kept_heap};
     ghost use Rattle.tv_builder.specs.Builder.{pairs_so_far};
     ghost use Rattle.tv_builder.specs.Builder.{TakesBytes, Builds, Ends};

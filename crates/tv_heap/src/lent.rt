@@ -21,8 +21,8 @@ ghost use Rattle.tv_heap.specs.Reads.{Stands, ShortSized, ShortText, ShortTokeni
 ghost use Rattle.tv_heap.specs.Reads.{LeafStands};
 ghost use Rattle.tv_heap.specs.TypeCode.{type_code};
 
-use crate::encoded::Encoded;
 use crate::room::MAX_HEAP_LEN;
+use crate::value::Encoded;
 use crate::value_type::ValueType;
 use tv_base::vint::VInt;
 use tv_format::leaf_type::{Form, LeafType};

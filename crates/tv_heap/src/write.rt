@@ -18,8 +18,7 @@ ghost use Rattle.tv_heap.specs.LeafBytes.{leaf_value_type, leaf_address};
 ghost use Rattle.tv_heap.specs.TypeCode.{leaf_heap_type, type_code};
 ghost use Rattle.tv_heap.specs.Wrote.{Wrote};
 
-use crate::place::Place;
-use crate::value_type::ValueType;
+use crate::value_type::{Place, ValueType};
 use std::alloc::AllocError;
 use tv_base::byte_buffer::ByteBuffer;
 use tv_format::leaf_type::LeafType;

@@ -16,7 +16,7 @@ ghost use Rattle.hex.specs.Hex.{encode_lower};
 use crate::import::put_stored;
 use std::alloc::{AllocError, Global};
 use tv_base::{SliceSource, VecSink};
-use tv_doc::doc_parsing_error::DocParsingError;
+use tv_doc::errors::DocParsingError;
 use tv_doc::document::CompactDoc;
 use tv_doc::document_trait::Document;
 use tv_doc::laws::documents_are_valid;

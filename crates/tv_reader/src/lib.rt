@@ -3,9 +3,7 @@
 
 pub mod encoded_tokens;
 pub mod error;
-pub mod fields;
 pub mod heads;
-pub mod kinds;
 pub mod laws;
 pub mod leaves;
 pub mod legacy;

@@ -21,9 +21,8 @@ ghost use Rattle.tv_reader.specs.declared.value_type.ValueType.TheVariants as ty
 ghost use Rattle.tv_value.specs.Owned.{owned_tree, owned_entries};
 
 use crate::error::{DeserializeError, ValueType};
-use crate::kinds::take_kind;
 use crate::legacy::take_legacy;
-use crate::value_type::take_leaf;
+use crate::value_type::{take_kind, take_leaf};
 use crate::version::DocStoreVersion;
 use std::alloc::Global;
 use tv_base::take::{take_string, take_vint};

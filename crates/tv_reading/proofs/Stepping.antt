@@ -7,7 +7,7 @@ use Rattle.tv_base.specs.Source.{Failures}
 use Rattle.tv_base.proofs.Numbers.{length-fixed}
 use Rattle.tv_builder.specs.Behind.{document_parts, open_parts}
 use Rattle.tv_builder.specs.Prefix.{EncodesPart}
-use Rattle.tv_builder.specs.declared.bytes_kind.BytesKind.TheVariants as kinds
+use Rattle.tv_builder.specs.declared.kinds.BytesKind.TheVariants as kinds
 use Rattle.tv_builder.specs.Parts.{Part, number, field, value, array_head, object_head, bytes_head, Trades, same}
 use Rattle.tv_builder.specs.State.{parts_of}
 use Rattle.tv_builder.proofs.Grammar.{each_append, trades_sound}

@@ -8,9 +8,9 @@ use Rattle.tv_base.specs.ErrorInPart.{ErrorInNumber, number_ends, bytes_end}
 use Rattle.tv_base.specs.Parts.{Each}
 use Rattle.tv_base.specs.ReadsAs.{EndsEarly}
 use Rattle.tv_base.specs.Source.{Failures}
-use Rattle.tv_builder.specs.declared.awaits.Awaits.TheVariants as awaits
-use Rattle.tv_builder.specs.declared.list_kind.ListKind.{ListKind}
-use Rattle.tv_builder.specs.declared.list_kind.ListKind.TheVariants.{Array, Object}
+use Rattle.tv_builder.specs.declared.kinds.Awaits.TheVariants as awaits
+use Rattle.tv_builder.specs.declared.kinds.ListKind.{ListKind}
+use Rattle.tv_builder.specs.declared.kinds.ListKind.TheVariants.{Array, Object}
 use Rattle.tv_builder.specs.Behind.{pairs_parts, document_parts}
 use Rattle.tv_builder.specs.Prefix.{EncodesPart, Encoded}
 use Rattle.tv_builder.specs.State.{State, complete, in_lists, in_bytes, next_at, next_in, awaited}

@@ -6,7 +6,7 @@ use Rattle.tv_base.specs.declared.cause.Cause.TheVariants as causes
 use Rattle.tv_base.specs.ErrorInPart.{ErrorInBytes}
 use Rattle.tv_base.specs.Source.{Failures}
 use Rattle.tv_base.proofs.AgreeWidths.{AreBytes, bytes_error}
-use Rattle.tv_builder.specs.declared.awaits.Awaits.TheVariants as awaits
+use Rattle.tv_builder.specs.declared.kinds.Awaits.TheVariants as awaits
 use Rattle.tv_builder.specs.Parts.{Part, some_bytes}
 use Rattle.tv_builder.specs.State.{State, complete, in_lists, in_bytes, awaited}
 use Rattle.tv_builder.specs.Builder.{built, state_of}

@@ -11,16 +11,14 @@ ghost use Rattle.tv_reader.specs.Finds.{Finds, Nothing};
 ghost use Rattle.tv_reader.specs.Version.{version_of};
 ghost use Rattle.tv_reader.specs.declared.error.DeserializeError.TheVariants.{HeapFull};
 
-use crate::buffered::take_buffered_pairs;
-use crate::chosen_buffered::take_buffered_chosen;
+use crate::buffered::{take_buffered_chosen, take_buffered_pairs};
 use crate::document::take_pair_value;
 use crate::items::pass_value;
 use crate::wanted::is_among;
 use std::alloc::Global;
 use tv_base::ByteSource;
 use tv_builder::heap_pairs::HeapPairs;
-use tv_reader::fields::take_field;
-use tv_reader::heads::take_document_head;
+use tv_reader::heads::{take_document_head, take_field};
 use tv_reader::{DeserializeError, DocStoreVersion};
 use tv_value::field::Field;
 

@@ -18,11 +18,9 @@ use std::alloc::Global;
 use tv_base::ByteSource;
 use tv_base::take::take_vint;
 use tv_reader::DeserializeError;
-use tv_reader::fields::take_field;
-use tv_reader::heads::take_document_head;
-use tv_reader::kinds::take_kind;
+use tv_reader::heads::{take_document_head, take_field};
 use tv_reader::trees::{take_entry_count, take_legacy_object};
-use tv_reader::value_type::{ValueType, take_leaf};
+use tv_reader::value_type::{ValueType, take_kind, take_leaf};
 use tv_reader::version::DocStoreVersion;
 use tv_value::nesting::MAX_DEPTH;
 

@@ -11,7 +11,7 @@ ghost use Rattle.tv_reading.specs.declared.items.ItemKind.TheVariants as kinds;
 
 use tv_base::take::{take, take_pieces, take_vint};
 use tv_base::{ByteSource, Cause};
-use tv_reader::kinds::take_kind;
+use tv_reader::value_type::take_kind;
 use tv_reader::{DeserializeError, DocStoreVersion, ValueType};
 
 // Passes over this many bytes if they are buffered and can be counted, and says whether it did.

@@ -30,8 +30,8 @@ use Rattle.tv_store.specs.declared.migration.MigrateError.TheVariants.{Read, Wri
 use Rattle.tv_store.specs.declared.round_trip.RoundTripError.{RoundTripError}
 use Rattle.tv_store.specs.declared.round_trip.RoundTripError.TheVariants as trips
 use Rattle.tv_writer.specs.Error.{write_stop, IsIoOrMemory}
-use Rattle.tv_writer.specs.declared.error.SerializeError.{SerializeError}
-use Rattle.tv_writer.specs.declared.error.SerializeError.TheVariants as writes
+use Rattle.tv_writer.specs.declared.serializers.SerializeError.{SerializeError}
+use Rattle.tv_writer.specs.declared.serializers.SerializeError.TheVariants as writes
 
 -- ---- writing, in the errors of migrating
 

@@ -23,7 +23,7 @@ use Rattle.tv_store.specs.declared.block_migration.MigrateBlockError.{MigrateBlo
 use Rattle.tv_store.specs.declared.block_migration.MigrateBlockError.TheVariants.{Read, Write, TooMany}
 use Rattle.tv_store.specs.declared.projection.Projection.TheVariants.{All}
 use Rattle.tv_writer.specs.Error.{Unwritten, write_stop, IsIoOrMemory}
-use Rattle.tv_writer.specs.declared.error.SerializeError.{SerializeError}
+use Rattle.tv_writer.specs.declared.serializers.SerializeError.{SerializeError}
 
 -- these documents are encoded, one after the other
 abbrev pub EncodesBlock : Version → List ℕ → List Document → Type 0

@@ -28,10 +28,8 @@ ghost use Rattle.tv_store.specs.Documents.{in_place};
 ghost use Rattle.tv_store.specs.declared.limits.LimitedReadError.{LimitedReadError};
 ghost use Rattle.tv_store.specs.declared.limits.LimitedReadError.TheVariants.{Read, Limit};
 
-use crate::de::DocStoreVersion;
 use crate::depth::document_within;
 use crate::direct_decoder::{DirectDecoder, Step};
-use crate::error::DeserializeError;
 use std::alloc::Global;
 use std::fmt;
 use std::fmt::{Display, Formatter, Write};
@@ -40,6 +38,7 @@ use thiserror::Error;
 use tv_base::{ByteSource, Cause};
 use tv_builder::heap_pairs::HeapPairs;
 use tv_doc::document::CompactDoc;
+use tv_reader::{DeserializeError, DocStoreVersion};
 
 /// What reading one document may take. `None` doesn't limit. (Not in tantivy.)
 #[derive(Clone, Copy, Debug, Default, PartialEq, Eq)]

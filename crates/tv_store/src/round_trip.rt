@@ -13,8 +13,7 @@ ghost use Rattle.tv_format.specs.Short.{short_document, IsDocument};
 ghost use Rattle.tv_format.specs.Tree.{Document};
 ghost use Rattle.tv_format.specs.Version.{V2, IsWritten};
 
-use crate::de::{DocStoreVersion, read_document};
-use crate::error::{DeserializeError, SerializeError};
+use crate::de::read_document;
 use crate::laws::{stored_pairs_are_valid, stored_pairs_need_no_more_room};
 use crate::se::BinaryDocumentSerializer;
 use std::alloc::{AllocError, Global};
@@ -25,9 +24,11 @@ use tv_doc::laws::documents_are_valid;
 use tv_reader::laws::{
     documents_have_one_reading, malformed_documents_derive_none, short_documents_encode,
 };
+use tv_reader::{DeserializeError, DocStoreVersion};
 use tv_schema::Schema;
 use tv_value::field::Field;
 use tv_value::owned_value::OwnedValue;
+use tv_writer::SerializeError;
 
 /// What was added, written and read back. (Not in tantivy.)
 #[derive(Drop)]

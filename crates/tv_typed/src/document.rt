@@ -30,7 +30,7 @@ use tv_base::ByteSource;
 use tv_base::take::take_vint;
 use tv_builder::heap_pairs::HeapPairs;
 use tv_reader::DeserializeError;
-use tv_reader::fields::take_field;
+use tv_reader::heads::take_field;
 use tv_reading::document::take_pair_value;
 use tv_value::field::Field;
 

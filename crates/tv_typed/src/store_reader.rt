@@ -15,8 +15,8 @@ ghost use Rattle.tv_reader.specs.declared.error.DeserializeError.TheVariants as 
 use std::alloc::Global;
 use tv_base::take::take_vint;
 use tv_base::{ByteSource, ReadError};
-use tv_reader::kinds::take_kind;
 use tv_reader::trees::{take_entry_count, take_key};
+use tv_reader::value_type::take_kind;
 use tv_reader::{DeserializeError, DocStoreVersion, ValueType};
 use tv_value::nesting::MAX_DEPTH;
 
