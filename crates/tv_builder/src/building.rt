@@ -99,10 +99,8 @@ impl Building {
     ghost use Rattle.tv_builder.specs.Moves.{CanGive, GivesPlace, GivesNot, Does, InState, last_bytes};
     ghost use Rattle.tv_builder.specs.Fits.{LeafFits, ListFits, KeyFits, HeadFits};
     ghost use Rattle.tv_builder.specs.Shows.{HoldsSomeState, awaited_by};
-    ghost use Rattle.tv_builder.specs.State.{and_value, and_list, and_key, and_head, and_bytes};
-    ghost use Rattle.tv_builder.specs.State.{and_end, head_awaits};
-    ghost use Rattle.tv_builder.specs.declared.kinds.Awaits.TheVariants.{Value as ValueNext};
-    ghost use Rattle.tv_builder.specs.declared.kinds.Awaits.TheVariants.{Key as KeyNext};
+    ghost use Rattle.tv_builder.specs.State.{and_value, and_list, and_key, and_head, and_bytes, and_end, head_awaits};
+    ghost use Rattle.tv_builder.specs.declared.kinds.Awaits.TheVariants.{Value as ValueNext, Key as KeyNext};
 
     // After this heap, where a value is awaited. It takes no memory.
     pub(crate) fn new(alloc: Global, heap: ByteBuffer) -> Building

@@ -96,8 +96,7 @@ pub struct HeapPairs {
 
 impl HeapPairs {
     ghost use Rattle.tv_builder.specs.EncodedPairs.{AddsEncodedPair, AddsEncoded, StoodIn};
-    ghost use Rattle.tv_builder.specs.HeldPairs.{document_of, heap_of, heap_capacity};
-    ghost use Rattle.tv_builder.specs.HeldPairs.{pairs_capacity, Adds, IsUnchanged, KeepsMemory};
+    ghost use Rattle.tv_builder.specs.HeldPairs.{document_of, heap_of, heap_capacity, pairs_capacity, Adds, IsUnchanged, KeepsMemory};
     ghost use Rattle.tv_builder.specs.declared.heap_pairs.HeapPairs.{HeapPairs};
 
     /// No pairs, which take no memory.

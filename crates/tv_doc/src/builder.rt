@@ -46,9 +46,7 @@ impl Drop for TreeBuilder {
 impl TreeBuilder {
     ghost use Rattle.tv_builder.specs.State.{awaited, children_of};
     ghost use Rattle.tv_builder.specs.declared.kinds.ListKind.TheVariants.{Array, Object};
-    ghost use Rattle.tv_doc.specs.Builder.{IsNewBuilder, IsDocumentOf, IsHeapLength};
-    ghost use Rattle.tv_doc.specs.Builder.{state_of, open_lists};
-    ghost use Rattle.tv_doc.specs.Builder.{BuildsLeaf, BuildsTree, BuildsList, BuildsKey};
+    ghost use Rattle.tv_doc.specs.Builder.{IsNewBuilder, IsDocumentOf, IsHeapLength, state_of, open_lists, BuildsLeaf, BuildsTree, BuildsList, BuildsKey};
     ghost use Rattle.tv_doc.specs.Builder.{BeginsBytes, BuildsBytes, Ends, Finishes};
     ghost use Rattle.tv_value.specs.Lent.{leaf_of};
 

@@ -56,9 +56,7 @@ impl Drop for CompactDoc {
 
 impl CompactDoc {
     ghost use Rattle.tv_doc.specs.Belongs.{Belongs};
-    ghost use Rattle.tv_doc.specs.Document.{document_of, heap_of, places_of};
-    ghost use Rattle.tv_doc.specs.Document.{Adds, AddsLeaf, Clears, IsEmptyWith, IsUnchanged, KeepsMemory};
-    ghost use Rattle.tv_doc.specs.Document.{ReadsAt, Shrinks};
+    ghost use Rattle.tv_doc.specs.Document.{document_of, heap_of, places_of, Adds, AddsLeaf, Clears, IsEmptyWith, IsUnchanged, KeepsMemory, ReadsAt, Shrinks};
     ghost use Rattle.tv_doc.specs.MapValue.{map_tree};
     ghost use Rattle.tv_heap.specs.Value.{tree_of};
     ghost use Rattle.tv_doc.specs.FieldValues.{pairs_left, values_left, values_of};

@@ -13,8 +13,7 @@ ghost use Rattle.tv_format.specs.Tree.{Tree, Entries, Document};
 ghost use Rattle.tv_format.specs.Version.{Version, IsWritten};
 ghost use Rattle.tv_reader.specs.Depth.{EncodesWithin, Opens};
 ghost use Rattle.tv_reader.specs.Legacy.{Legacy, ErrorInLegacy};
-ghost use Rattle.tv_reader.specs.LegacyLaws.{BeginsLegacy, IsMalformed, BeginsValue};
-ghost use Rattle.tv_reader.specs.LegacyLaws.{HasErrorInValue, DerivesDocument, HasErrorInDocument};
+ghost use Rattle.tv_reader.specs.LegacyLaws.{BeginsLegacy, IsMalformed, BeginsValue, HasErrorInValue, DerivesDocument, HasErrorInDocument};
 ghost use Rattle.tv_value.specs.Nesting.{NestsWithin};
 
 /// No legacy object begins another, and each has one list of entries.

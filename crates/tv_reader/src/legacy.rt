@@ -4,8 +4,7 @@
 ghost use Rattle.std.specs.Prelude.{◌≡◌, ◌<◌, ◌+◌, ◌^◌, ℕ, [], ◌∷◌, IfErr};
 ghost use Rattle.tv_base.specs.Take.{TakesBy, TakesLean, MayStop};
 ghost use Rattle.tv_reader.specs.Legacy.{next, outside};
-ghost use Rattle.tv_reader.specs.LegacyReading.{is_blank as is_blank_byte, nonblank_at, slice_at};
-ghost use Rattle.tv_reader.specs.LegacyReading.{legacy_at, rest_at, AnswersSlice};
+ghost use Rattle.tv_reader.specs.LegacyReading.{is_blank as is_blank_byte, nonblank_at, slice_at, legacy_at, rest_at, AnswersSlice};
 ghost use Rattle.tv_value.specs.Owned.{owned_tree};
 
 use serde_json::Value;

@@ -3,8 +3,7 @@
 ghost use Rattle.std.specs.Prelude.{◌≡◌, [], Ok, IfSome, IsErrOf, true};
 ghost use Rattle.tv_builder.specs.HeldPairs.{document_of};
 ghost use Rattle.tv_reading.specs.ChosenFields.{EncodesChosen, HasNoRoomChosen};
-ghost use Rattle.tv_reading.specs.ChosenPair.{BeginsAsPair, AddsIf, FindsPair, FindsNoPair};
-ghost use Rattle.tv_reading.specs.ChosenPair.{PairHasNoRoom};
+ghost use Rattle.tv_reading.specs.ChosenPair.{BeginsAsPair, AddsIf, FindsPair, FindsNoPair, PairHasNoRoom};
 ghost use Rattle.tv_reading.specs.Documents.{NoDocument};
 ghost use Rattle.tv_reading.specs.PairValue.{CanStand};
 ghost use Rattle.tv_reader.specs.Finds.{Finds, Nothing};

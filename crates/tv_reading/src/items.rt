@@ -7,9 +7,8 @@ ghost use Rattle.tv_reader.specs.Finds.{FindsRoomy, Nothing};
 ghost use Rattle.tv_reader.specs.Trees.{NoValue};
 ghost use Rattle.tv_reader.specs.ValueType.{type_prefix};
 ghost use Rattle.tv_reader.specs.Version.{version_of};
-ghost use Rattle.tv_reading.specs.Skip.{Before, ErrorBefore, ErrorInItem, ErrorInLeft};
-ghost use Rattle.tv_reading.specs.Skip.{AreLeft, IsValueEncoding, IsDocumentEncoding, OpensValue, OpensItem, TakesItem};
-ghost use Rattle.tv_reading.specs.Skip.{open_items, Passed};
+ghost use Rattle.tv_reading.specs.Skip.{Before, ErrorBefore, ErrorInItem, ErrorInLeft, AreLeft, IsValueEncoding, IsDocumentEncoding, OpensValue, OpensItem};
+ghost use Rattle.tv_reading.specs.Skip.{TakesItem, open_items, Passed};
 
 use crate::encoded::behind_as_many;
 use crate::parts::{skip_key, skip_sized, skip_text};

@@ -5,8 +5,7 @@ ghost use Rattle.tv_base.specs.ErrorInPart.{ErrorInBytes, ErrorInSized, ErrorInT
 ghost use Rattle.tv_format.specs.InputError.{Corrupt, ErrorInCodedKey, ErrorInKey};
 ghost use Rattle.tv_reader.specs.Finds.{FindsLean, FindsRoomy, Nothing};
 ghost use Rattle.tv_reader.specs.Version.{version_of};
-ghost use Rattle.tv_reading.specs.Skip.{Before, IsSizedEncoding, IsTextEncoding, IsTextOf, ErrorInTextOf, MayTest};
-ghost use Rattle.tv_reading.specs.Skip.{PassesBytes, Tested, IsCodedText};
+ghost use Rattle.tv_reading.specs.Skip.{Before, IsSizedEncoding, IsTextEncoding, IsTextOf, ErrorInTextOf, MayTest, PassesBytes, Tested, IsCodedText};
 ghost use Rattle.tv_reading.specs.declared.items.ItemKind.TheVariants as kinds;
 
 use tv_base::take::{take, take_pieces, take_vint};

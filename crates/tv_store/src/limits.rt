@@ -16,12 +16,8 @@ ghost use Rattle.tv_reader.specs.declared.error.DeserializeError.{DeserializeErr
 ghost use Rattle.tv_reader.specs.Version.{version_of};
 ghost use Rattle.tv_reader.specs.declared.error.DeserializeError.TheVariants.{CorruptedValue, HeapFull, AlreadyFailed};
 ghost use Rattle.tv_format.specs.InputError.{corrupted};
-ghost use Rattle.tv_store.specs.Limits.{Checks, FindsWithin, IsPast};
-ghost use Rattle.tv_store.specs.Limits.{AllNestWithinLimit, TestsDepth};
-ghost use Rattle.tv_store.specs.Limits.{ReadsByLimits, IsLimitedError, limited_stop};
-ghost use Rattle.tv_store.specs.Limits.{first_count, FindsPart, IsCapped};
-ghost use Rattle.tv_store.specs.Limits.{ReadsWithin, StopsWithin, Told};
-ghost use Rattle.tv_store.specs.Limits.{EndsPart, LeavesPart, ReadsStepWithin, TestsPart};
+ghost use Rattle.tv_store.specs.Limits.{Checks, FindsWithin, IsPast, AllNestWithinLimit, TestsDepth, ReadsByLimits, IsLimitedError, limited_stop, first_count};
+ghost use Rattle.tv_store.specs.Limits.{FindsPart, IsCapped, ReadsWithin, StopsWithin, Told, EndsPart, LeavesPart, ReadsStepWithin, TestsPart};
 ghost use Rattle.tv_store.specs.Decoder.{SaysDone, StaysPaid};
 ghost use Rattle.tv_reading.specs.Kept.{Grows, KeepsPairs};
 ghost use Rattle.tv_store.specs.Documents.{in_place};

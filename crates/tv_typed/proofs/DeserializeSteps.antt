@@ -27,8 +27,7 @@ use Rattle.tv_reader.proofs.BehindKinds.{kind_edge}
 use Rattle.tv_reader.proofs.Finding.{found_behind, stop_map}
 use Rattle.tv_reader.proofs.DepthSteps.{err_of}
 use Rattle.tv_typed.specs.Typed.{typed_stop, ReadsIf, DeserializesBy}
-use Rattle.tv_typed.specs.Excluding.{type_of_leaf, leaf_excludes, tree_excludes, next_excludes}
-use Rattle.tv_typed.specs.Excluding.{with_legacy}
+use Rattle.tv_typed.specs.Excluding.{type_of_leaf, leaf_excludes, tree_excludes, next_excludes, with_legacy}
 use Rattle.tv_typed.specs.Values.{EncodesAs, EncodedAs, IsFixed, ReadsLeafBy, IsLeafOf, IsTree, EncodesLeaf, LeafRefused, TreeRefused, CodeRefused, in_code, NextRefused, RefusalsExclude, SparesBytes, IsReadOf, OnlyBy}
 use Rattle.tv_typed.specs.declared.store_reader.StoreReader.{StoreReader}
 

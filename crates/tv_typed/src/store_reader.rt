@@ -1,7 +1,6 @@
 //! A source that is read as a store of one version.
 
-ghost use Rattle.std.specs.Prelude.{◌≡◌, true, false, is_err, IfErr, IsErrOf, OnOk, OnErr};
-ghost use Rattle.std.specs.Prelude.{string_bytes};
+ghost use Rattle.std.specs.Prelude.{◌≡◌, true, false, is_err, IfErr, IsErrOf, OnOk, OnErr, string_bytes};
 ghost use Rattle.tv_reader.specs.ValueType.{IsCoded};
 ghost use Rattle.tv_reader.specs.Version.{version_of};
 ghost use Rattle.tv_reader.specs.declared.value_type.ValueType.TheVariants as types;
