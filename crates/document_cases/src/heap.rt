@@ -10,7 +10,7 @@ use tv_builder::heap_pairs::HeapPairs;
 use tv_doc::lent_borrowed::LentBorrowed;
 use tv_format::version::WriteVersion;
 use tv_heap::len::leaf_len;
-use tv_heap::place::Place;
+use tv_heap::value_type::Place;
 use tv_heap::value_type::ValueType;
 use tv_json::Scratch;
 use tv_json::read::read_borrowed;

@@ -55,8 +55,8 @@ pub use Rattle.tv_value.specs.TokenRef
 pub use Rattle.tv_value.specs.PreTokenized
 pub use Rattle.tv_value.specs.EncodedTokens
 pub use Rattle.tv_value.specs.SameTokens
-pub use Rattle.tv_legacy.specs.Legacy
-pub use Rattle.tv_legacy.specs.LegacyLaws
+pub use Rattle.tv_reader.specs.Legacy
+pub use Rattle.tv_reader.specs.LegacyLaws
 -- options, types and schemas
 pub use Rattle.tv_options.specs.FacetOptions
 pub use Rattle.tv_options.specs.FastFieldTextOptions

@@ -10,7 +10,7 @@ ghost use Rattle.tv_heap.specs.Room.{document_room};
 ghost use Rattle.tv_reader.specs.Error.{store_stop};
 ghost use Rattle.tv_store.specs.Documents.{ReturnsDocument};
 ghost use Rattle.tv_store.specs.Stored.{stored};
-ghost use Rattle.tv_writer.specs.declared.error.SerializeError.TheVariants.{Io, Memory};
+ghost use Rattle.tv_writer.specs.declared.serializers.SerializeError.TheVariants.{Io, Memory};
 ghost use Rattle.tv_format.specs.Short.{short_document};
 ghost use Rattle.tv_format.specs.Version.{V2};
 
@@ -42,8 +42,6 @@ pub use tv_indexing::laws::{terms_of_texts_are_of_no_other_value, texts_of_value
 pub use tv_json::laws::{
     no_text_goes_on_from_a_fault, syntax_faults_are_unique, texts_that_are_read_have_the_syntax,
 };
-/// The laws of legacy objects, and of values and documents that have them.
-pub use tv_legacy::laws as legacy;
 pub use tv_options::laws::{
     comparisons_of_facet_options_agree, comparisons_of_flag_lists_agree,
     comparisons_of_flag_options_agree, comparisons_of_flags_agree,
@@ -55,6 +53,8 @@ pub use tv_options::laws::{
     string_is_one_token, text_is_indexed_by_words, textual_options_join_associatively,
     textual_options_join_idempotently, types_and_codes_agree, types_are_listed_once,
 };
+/// The laws of legacy objects, and of values and documents that have them.
+pub use tv_reader::laws as legacy;
 pub use tv_reader::laws::{
     nested_values_are_encoded_within, too_deep_bytes_encode_no_nested_value,
     too_deep_bytes_encode_none_within, values_within_a_depth_are_encoded,
@@ -73,7 +73,7 @@ pub use tv_store::laws::{
 };
 pub use tv_store::migration_trip::{MigrationTrip, migrations_are_read_back};
 pub use tv_store::round_trip::{RoundTrip, RoundTripError, additions_are_stored_and_read_back};
-pub use tv_store::stepped::stepped_decoders_are_paid_for;
+pub use tv_store::direct_decoder::stepped_decoders_are_paid_for;
 use tv_store::{
     BinaryDocumentSerializer, DeserializeError, DocStoreVersion, SerializeError, read_document,
 };

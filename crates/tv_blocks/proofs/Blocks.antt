@@ -12,7 +12,7 @@ use Rattle.tv_format.specs.Encoding.{EncodesDocument}
 use Rattle.tv_format.specs.InputError.{Refusal, corrupted, no_text_key}
 use Rattle.tv_format.specs.Tree.{Document}
 use Rattle.tv_format.specs.Version.{Version}
-use Rattle.tv_legacy.specs.Legacy.{Legacy}
+use Rattle.tv_reader.specs.Legacy.{Legacy}
 use Rattle.tv_reader.specs.Error.{IsRefusal}
 use Rattle.tv_reader.specs.Error.IsRefusal.{is_corrupted, is_no_text}
 use Rattle.tv_reader.specs.ValueType.{value_type_code}

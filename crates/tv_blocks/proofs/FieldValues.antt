@@ -14,7 +14,7 @@ use Rattle.tv_doc.specs.FieldValues.{values_of}
 use Rattle.tv_format.specs.Encoding.{EncodesDocument}
 use Rattle.tv_format.specs.Tree.{Document, Leaf, Tree, leaf}
 use Rattle.tv_format.specs.Version.{Version}
-use Rattle.tv_legacy.specs.Legacy.{Legacy}
+use Rattle.tv_reader.specs.Legacy.{Legacy}
 use Rattle.tv_reading.specs.ChosenFields.{HasNoRoomChosen, chosen, is_among}
 use Rattle.tv_store.proofs.BlocksSoFar.{each-snoc, joined_more, start_at}
 use Rattle.tv_store.specs.Reading.{EncodesChosenPairs}

@@ -1,8 +1,8 @@
 -- Documents of lines, and why there is none.
 use Rattle.std.proofs.Common.{◌≡◌, ℕ, false, List, Err, refl}
 use Rattle.tv_blocks.specs.LineRefusals.{IsLenient}
-use Rattle.tv_doc.specs.declared.doc_parsing_error.DocParsingError.TheVariants as errors
-use Rattle.tv_doc.specs.declared.strict_parsing_error.StrictParsingError.TheVariants.{Parsing, UnknownKey, RepeatedKey}
+use Rattle.tv_doc.specs.declared.errors.DocParsingError.TheVariants as errors
+use Rattle.tv_doc.specs.declared.errors.StrictParsingError.TheVariants.{Parsing, UnknownKey, RepeatedKey}
 use Rattle.tv_field.specs.Entry.{Entry}
 use Rattle.tv_lines.specs.LineDocuments.{MakesNone}
 use Rattle.tv_lines.specs.declared.line_document.LineError.{LineError}

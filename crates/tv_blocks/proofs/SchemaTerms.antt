@@ -17,7 +17,7 @@ use Rattle.tv_format.specs.Tree.{Document}
 use Rattle.tv_format.specs.Version.{Version}
 use Rattle.tv_indexing.specs.DocumentTerms.{Terms, document_terms}
 use Rattle.tv_indexing.specs.Visits.{Takes, TakesAll, TakesSome}
-use Rattle.tv_legacy.specs.Legacy.{Legacy}
+use Rattle.tv_reader.specs.Legacy.{Legacy}
 use Rattle.tv_store.proofs.BlocksSoFar.{each-snoc, joined_more, start_at}
 use Rattle.tv_store.specs.Documents.{BeginsWithDocument, HasNoRoom}
 

@@ -7,9 +7,9 @@ use Rattle.tv_blocks.specs.declared.line_refusal.LineRefusal.TheVariants as line
 use Rattle.tv_blocks.specs.declared.line_refusal.ValueRefusal.{ValueRefusal}
 use Rattle.tv_blocks.specs.declared.line_refusal.ValueRefusal.TheVariants as refusals
 use Rattle.tv_doc.specs.Document.{document_of}
-use Rattle.tv_doc.specs.declared.doc_parsing_error.DocParsingError.TheVariants as parsing
+use Rattle.tv_doc.specs.declared.errors.DocParsingError.TheVariants as parsing
 use Rattle.tv_doc.specs.declared.document.CompactDoc.{CompactDoc}
-use Rattle.tv_doc.specs.declared.strict_parsing_error.StrictParsingError.TheVariants.{Parsing}
+use Rattle.tv_doc.specs.declared.errors.StrictParsingError.TheVariants.{Parsing}
 use Rattle.tv_field.specs.Entry.{Entry}
 use Rattle.tv_field.specs.declared.value_parsing_error.ValueParsingError.{ValueParsingError}
 use Rattle.tv_field.specs.declared.value_parsing_error.ValueParsingError.TheVariants as values

@@ -2,17 +2,17 @@
 use Rattle.std.proofs.Common.{◌≡◌, ℕ, ◌<◌, ◌≤◌, List, [], ◌∷◌, length, None, Result, Ok, Err, OnOk, IfErr, IsErrAnd, refl, sym, ◌∙◌, ap, subst, arith}
 use Rattle.tv_base.specs.Sink.{IsPrefix}
 use Rattle.tv_format.specs.Tree.{Tree, leaf, text}
-use Rattle.tv_builder.specs.declared.add_error.AddError.{AddError}
-use Rattle.tv_builder.specs.declared.add_error.AddError.TheVariants as adds
-use Rattle.tv_builder.specs.declared.awaits.Awaits.{Awaits}
-use Rattle.tv_builder.specs.declared.awaits.Awaits.TheVariants as awaits
-use Rattle.tv_builder.specs.declared.build_error.BuildError.{BuildError}
-use Rattle.tv_builder.specs.declared.build_error.BuildError.TheVariants.{AlreadyFailed, OutOfPlace, NotUtf8, HeapFull, Memory}
+use Rattle.tv_builder.specs.declared.errors.AddError.{AddError}
+use Rattle.tv_builder.specs.declared.errors.AddError.TheVariants as adds
+use Rattle.tv_builder.specs.declared.kinds.Awaits.{Awaits}
+use Rattle.tv_builder.specs.declared.kinds.Awaits.TheVariants as awaits
+use Rattle.tv_builder.specs.declared.errors.BuildError.{BuildError}
+use Rattle.tv_builder.specs.declared.errors.BuildError.TheVariants.{AlreadyFailed, OutOfPlace, NotUtf8, HeapFull, Memory}
 use Rattle.tv_builder.specs.declared.building.Building.{Building}
-use Rattle.tv_builder.specs.declared.bytes_kind.BytesKind.{BytesKind}
-use Rattle.tv_builder.specs.declared.bytes_kind.BytesKind.TheVariants as kinds
-use Rattle.tv_builder.specs.declared.frame.Frame.{Frame}
-use Rattle.tv_heap.specs.declared.place.Place.{Place}
+use Rattle.tv_builder.specs.declared.kinds.BytesKind.{BytesKind}
+use Rattle.tv_builder.specs.declared.kinds.BytesKind.TheVariants as kinds
+use Rattle.tv_builder.specs.declared.building.Frame.{Frame}
+use Rattle.tv_heap.specs.declared.value_type.Place.{Place}
 use Rattle.tv_builder.specs.Given.{Given, given}
 use Rattle.tv_builder.specs.Image.{held, image_of, ShowsBehind}
 use Rattle.tv_builder.specs.StateHeap.{full_length}

@@ -7,8 +7,8 @@ use Rattle.std.proofs.lemmas.List.{length-reverse}
 use Rattle.tv_builder.specs.contracts.awaits.Awaits.{the_row}
 use Rattle.tv_builder.specs.declared.building.Building.{Building}
 use Rattle.tv_builder.specs.declared.building.OpenBytes.{OpenBytes}
-use Rattle.tv_builder.specs.declared.frame.Frame.{Frame}
-use Rattle.tv_heap.specs.declared.place.Place.{Place}
+use Rattle.tv_builder.specs.declared.building.Frame.{Frame}
+use Rattle.tv_heap.specs.declared.value_type.Place.{Place}
 use Rattle.tv_builder.specs.Given.{pending_in}
 use Rattle.tv_builder.specs.Shows.{ShowsLists, ShowsAt, HoldsSomeState, frames_of, awaited_by}
 use Rattle.tv_builder.specs.State.{OpenList, State, complete, in_lists, in_bytes, awaited, lists_of, children_of}

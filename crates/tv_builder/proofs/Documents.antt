@@ -10,7 +10,7 @@ use base.Stored.{Coded-set}
 use Rattle.tv_format.specs.Tree.{Leaf, null, boolean, Tree, leaf, array, object, Document}
 use Rattle.tv_format.specs.TreeCode.{coded_document}
 use Rattle.tv_builder.specs.declared.heap_pairs.HeapPairs.{HeapPairs}
-use Rattle.tv_builder.specs.declared.heap_pair.HeapPair.{HeapPair}
+use Rattle.tv_builder.specs.declared.heap_pairs.HeapPair.{HeapPair}
 use Rattle.tv_builder.specs.HeldPairs.{heap_of, document_of, IsUnchanged, Added, ReadsAt}
 use Rattle.tv_builder.specs.Holds.{pair_at, ReadsPair, ReadsPairs, Holds, one_document}
 use Rattle.tv_heap.specs.Room.{room, document_room}
@@ -18,7 +18,7 @@ use Rattle.tv_heap.specs.Weight.{document_weight}
 use Rattle.tv_heap.specs.TypeCode.{type_code}
 use Rattle.tv_base.specs.Sink.{IsPrefix}
 use Rattle.tv_heap.specs.Reads.{ReadsTree}
-use Rattle.tv_heap.specs.declared.place.Place.{Place}
+use Rattle.tv_heap.specs.declared.value_type.Place.{Place}
 use Rattle.tv_heap.proofs.Grown.{grown}
 use Rattle.tv_builder.specs.TreeBytes.{leaf_place, tree_heap, tree_place, elements_heap, entries_heap, document_heap}
 use Rattle.tv_builder.specs.Whole.{Put}

@@ -14,10 +14,10 @@ use Rattle.tv_format.proofs.Prefixes.{begins_nothing, begins_cut, begins_then, b
 use Rattle.tv_heap.specs.Room.{room}
 use Rattle.tv_builder.specs.EncodedPut.{EncodedPut}
 use Rattle.tv_builder.specs.TreeBytes.{tree_heap, tree_place, document_heap, document_pairs}
-use Rattle.tv_heap.specs.declared.place.Place.{Place}
+use Rattle.tv_heap.specs.declared.value_type.Place.{Place}
 use Rattle.tv_builder.proofs.Giving.{prefix_then}
 use Rattle.tv_builder.specs.declared.heap_pairs.HeapPairs.{HeapPairs}
-use Rattle.tv_builder.specs.declared.heap_pair.HeapPair.{HeapPair}
+use Rattle.tv_builder.specs.declared.heap_pairs.HeapPair.{HeapPair}
 use Rattle.tv_builder.specs.HeldPairs.{document_of, heap_of, Added, IsUnchanged}
 use Rattle.tv_builder.specs.Keeping.{PairKept}
 use Rattle.tv_builder.specs.EncodedPairs.{IsStart, AddsEncodedPair, AddsEncoded, StoodIn}

@@ -11,12 +11,12 @@ use Rattle.tv_heap.specs.TypeCode.{type_code}
 use Rattle.tv_heap.specs.declared.value_type.ValueType.{ValueType}
 use Rattle.tv_heap.specs.declared.value_type.ValueType.TheVariants as types
 use Rattle.tv_heap.proofs.Writes.{at_end, longer, sized_some}
-use Rattle.tv_builder.specs.declared.build_error.BuildError.{BuildError}
+use Rattle.tv_builder.specs.declared.errors.BuildError.{BuildError}
 use Rattle.tv_builder.specs.declared.building.Building.{Building}
 use Rattle.tv_builder.specs.declared.building.OpenBytes.{OpenBytes}
-use Rattle.tv_builder.specs.declared.bytes_kind.BytesKind.{BytesKind}
-use Rattle.tv_builder.specs.declared.bytes_kind.BytesKind.TheVariants as kinds
-use Rattle.tv_heap.specs.declared.place.Place.{Place}
+use Rattle.tv_builder.specs.declared.kinds.BytesKind.{BytesKind}
+use Rattle.tv_builder.specs.declared.kinds.BytesKind.TheVariants as kinds
+use Rattle.tv_heap.specs.declared.value_type.Place.{Place}
 use Rattle.tv_builder.specs.Builder.{HasAllBytes, HasContent}
 use Rattle.tv_builder.specs.Given.{Given, given}
 use Rattle.tv_builder.specs.Image.{held, image_of, ShowsBehind}

@@ -7,11 +7,11 @@ use Rattle.std.specs.Coded.{Coded-set}
 use Rattle.tv_format.specs.Tree.{Tree}
 use Rattle.tv_heap.specs.Reads.{ReadsTree}
 use Rattle.tv_heap.specs.TypeCode.{type_code}
-use Rattle.tv_builder.specs.declared.build_error.BuildError.{BuildError}
-use Rattle.tv_builder.specs.declared.build_error.BuildError.TheVariants.{AlreadyFailed, OutOfPlace, NotUtf8, HeapFull, Memory}
+use Rattle.tv_builder.specs.declared.errors.BuildError.{BuildError}
+use Rattle.tv_builder.specs.declared.errors.BuildError.TheVariants.{AlreadyFailed, OutOfPlace, NotUtf8, HeapFull, Memory}
 use Rattle.tv_builder.specs.declared.building.Building.{Building}
 use Rattle.tv_heap.specs.contracts.place.Place.{the_row}
-use Rattle.tv_heap.specs.declared.place.Place.{Place}
+use Rattle.tv_heap.specs.declared.value_type.Place.{Place}
 use Rattle.tv_builder.specs.Given.{Given, pending_in}
 use Rattle.tv_builder.specs.Image.{held, image_of, ShowsBehind}
 use Rattle.tv_builder.specs.OneState.{StandsBehind, same_behind}
@@ -20,7 +20,7 @@ use Rattle.tv_builder.specs.StateHeap.{state_heap}
 use Rattle.tv_builder.specs.TreeBytes.{tree_place, document_heap}
 use Rattle.tv_builder.specs.State.{State, complete, in_lists, in_bytes}
 use Rattle.tv_builder.specs.declared.pair_builder.PairBuilder.{PairBuilder}
-use Rattle.tv_builder.specs.declared.heap_pair.HeapPair.{HeapPair}
+use Rattle.tv_builder.specs.declared.heap_pairs.HeapPair.{HeapPair}
 use Rattle.tv_builder.specs.Finish.{HoldsPrefix, Settled, Kept, KeptNot, WhyNoPair}
 use Rattle.tv_builder.specs.Builder.{built, state_of, heap_so_far, kept_heap, Fails, Finished, FinishesIf, Finishes, IsComplete}
 use Rattle.tv_builder.specs.Holds.{ReadsPairs, Holds, pair_at}

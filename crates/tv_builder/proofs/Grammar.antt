@@ -6,10 +6,10 @@ use Rattle.tv_base.specs.Parts.{Then, Text, Each}
 use Rattle.tv_format.specs.Encoding.{Key, Encodes, EncodesElements, EncodesEntries}
 use Rattle.tv_format.specs.Tree.{Tree, leaf, array, object, Entries, elements, entries, element_count, entry_count}
 use Rattle.tv_format.specs.Version.{Version, V1, V2, V3, entry_total}
-use Rattle.tv_builder.specs.declared.bytes_kind.BytesKind.{BytesKind}
-use Rattle.tv_builder.specs.declared.bytes_kind.BytesKind.TheVariants as kinds
-use Rattle.tv_builder.specs.declared.list_kind.ListKind.{ListKind}
-use Rattle.tv_builder.specs.declared.list_kind.ListKind.TheVariants as lists
+use Rattle.tv_builder.specs.declared.kinds.BytesKind.{BytesKind}
+use Rattle.tv_builder.specs.declared.kinds.BytesKind.TheVariants as kinds
+use Rattle.tv_builder.specs.declared.kinds.ListKind.{ListKind}
+use Rattle.tv_builder.specs.declared.kinds.ListKind.TheVariants as lists
 use Rattle.tv_builder.specs.State.{OpenList, State, complete, in_lists, in_bytes, lists_of, children_of, list_parts, lists_parts, parts_of, list_head, children_parts, key_parts, value_parts, key_text}
 use Rattle.tv_builder.specs.Prefix.{KeyHead, BytesHead, EncodesPart, Encoded}
 use Rattle.tv_builder.specs.Parts.{Part, pair, value, bytes_head, some_bytes, entry_parts, bytes_part, IsContentOf, Rule, full_array, full_object, full_bytes, more_bytes, no_bytes, full_pair, Trades, same, by_rule}

@@ -6,13 +6,13 @@ use Rattle.tv_heap.specs.LeafBytes.{leaf_bytes, leaf_value_type, leaf_address}
 use Rattle.tv_heap.specs.Room.{leaf_room, room}
 use Rattle.tv_heap.specs.TypeCode.{type_code}
 use Rattle.tv_heap.specs.Wrote.{Wrote}
-use Rattle.tv_heap.specs.declared.place.Place.{Place}
+use Rattle.tv_heap.specs.declared.value_type.Place.{Place}
 use Rattle.tv_heap.proofs.Writes.{leaf_fits}
 use Rattle.tv_value.specs.Lent.{leaf_of}
 use Rattle.tv_value.specs.declared.leaf.ReferenceValueLeaf.{ReferenceValueLeaf}
-use Rattle.tv_builder.specs.declared.add_error.AddError.{AddError}
-use Rattle.tv_builder.specs.declared.add_error.AddError.TheVariants.{HeapFull, Memory}
-use Rattle.tv_builder.specs.declared.heap_pair.HeapPair.{HeapPair}
+use Rattle.tv_builder.specs.declared.errors.AddError.{AddError}
+use Rattle.tv_builder.specs.declared.errors.AddError.TheVariants.{HeapFull, Memory}
+use Rattle.tv_builder.specs.declared.heap_pairs.HeapPair.{HeapPair}
 use Rattle.tv_builder.specs.declared.heap_pairs.HeapPairs.{HeapPairs}
 use Rattle.tv_builder.specs.HeldPairs.{heap_of, Added, Adds, RefusesAddition, IsUnchanged, GrowsLittle}
 use Rattle.tv_builder.specs.Keeping.{KeepsPair, PairKept, PairCut}

@@ -3,9 +3,9 @@ use Rattle.std.proofs.Common.{◌≡◌, ℕ, suc, ◌+◌, ◌≤◌, List, [],
 use Rattle.std.proofs.lemmas.List.{reverse-append}
 use Rattle.tv_format.specs.Tree.{Tree, leaf, text}
 use Rattle.tv_value.specs.Children.{Child, IsListOf, children_left, children_size}
-use Rattle.tv_heap.specs.declared.place.Place.{Place}
-use Rattle.tv_builder.specs.declared.add_error.AddError.{AddError}
-use Rattle.tv_builder.specs.declared.list_kind.ListKind.{ListKind}
+use Rattle.tv_heap.specs.declared.value_type.Place.{Place}
+use Rattle.tv_builder.specs.declared.errors.AddError.{AddError}
+use Rattle.tv_builder.specs.declared.kinds.ListKind.{ListKind}
 use Rattle.tv_builder.specs.declared.nested.UnfinishedList.{UnfinishedList}
 use Rattle.tv_builder.specs.Given.{place_bytes}
 use Rattle.tv_builder.specs.Nested.{KeyPut}

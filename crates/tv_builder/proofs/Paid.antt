@@ -17,10 +17,10 @@ use Rattle.tv_format.specs.Version.{Version, V1, V2, V3, Scale, plain, thousands
 use Rattle.tv_heap.specs.LeafBytes.{content_bytes, leaf_bytes}
 use Rattle.tv_heap.specs.Weight.{tree_weight, elements_weight, entries_weight, document_weight}
 use Rattle.tv_heap.proofs.Writes.{length_eight, length_sixteen}
-use Rattle.tv_builder.specs.declared.bytes_kind.BytesKind.{BytesKind}
-use Rattle.tv_builder.specs.declared.bytes_kind.BytesKind.TheVariants as kinds
-use Rattle.tv_builder.specs.declared.list_kind.ListKind.{ListKind}
-use Rattle.tv_builder.specs.declared.list_kind.ListKind.TheVariants as lists
+use Rattle.tv_builder.specs.declared.kinds.BytesKind.{BytesKind}
+use Rattle.tv_builder.specs.declared.kinds.BytesKind.TheVariants as kinds
+use Rattle.tv_builder.specs.declared.kinds.ListKind.{ListKind}
+use Rattle.tv_builder.specs.declared.kinds.ListKind.TheVariants as lists
 use Rattle.tv_builder.specs.Behind.{pairs_parts, document_parts, open_parts}
 use Rattle.tv_builder.specs.Prefix.{KeyHead, BytesHead, EncodesPart, Encoded}
 use Rattle.tv_builder.specs.Parts.{value, field}

@@ -14,11 +14,11 @@ use Rattle.tv_heap.specs.TypeCode.{type_code}
 use Rattle.tv_heap.specs.Wrote.{Wrote}
 use Rattle.tv_heap.proofs.Grown.{grown_elements}
 use Rattle.tv_heap.proofs.Lists.{elements_push}
-use Rattle.tv_builder.specs.declared.add_error.AddError.{AddError}
-use Rattle.tv_builder.specs.declared.add_error.AddError.TheVariants.{HeapFull, Memory}
-use Rattle.tv_builder.specs.declared.list_kind.ListKind.{ListKind}
-use Rattle.tv_builder.specs.declared.list_kind.ListKind.TheVariants.{Array, Object}
-use Rattle.tv_heap.specs.declared.place.Place.{Place}
+use Rattle.tv_builder.specs.declared.errors.AddError.{AddError}
+use Rattle.tv_builder.specs.declared.errors.AddError.TheVariants.{HeapFull, Memory}
+use Rattle.tv_builder.specs.declared.kinds.ListKind.{ListKind}
+use Rattle.tv_builder.specs.declared.kinds.ListKind.TheVariants.{Array, Object}
+use Rattle.tv_heap.specs.declared.value_type.Place.{Place}
 use Rattle.tv_builder.specs.Given.{place_bytes}
 use Rattle.tv_builder.specs.Kinds.{list_type, total}
 pub use Rattle.tv_builder.specs.Nested.{flat, flat_entries, IsOfKind, ChildPut, KeyNotPut}

@@ -15,7 +15,7 @@ use Rattle.tv_format.specs.Short.{short_token}
 use Rattle.tv_format.specs.Tree.{Token, Tree, leaf, array, object, Elements, no_elements, element, Entries, no_entries, entry}
 use Rattle.tv_heap.specs.LeafBytes.{content_bytes, leaf_bytes}
 use Rattle.tv_heap.specs.Room.{content_room, token_room, room, elements_room, entries_room}
-use Rattle.tv_heap.specs.declared.place.Place.{Place}
+use Rattle.tv_heap.specs.declared.value_type.Place.{Place}
 use Rattle.tv_heap.proofs.Writes.{length_eight, length_sixteen}
 use Rattle.tv_builder.specs.Given.{place_bytes}
 use Rattle.tv_builder.proofs.Within.{token_parts}

@@ -10,10 +10,10 @@ use Rattle.tv_format.specs.InputError.{Refusal, corrupted, corrupt, ErrorInKey, 
 use Rattle.tv_format.specs.Encoding.{Key, EncodesElements, EncodesEntries, EncodesPair}
 use Rattle.tv_format.specs.Tree.{Tree, elements, element_count, entries, entry_count, Entries, Document}
 use Rattle.tv_format.specs.Version.{Version, V1, V2, V3}
-use Rattle.tv_builder.specs.declared.bytes_kind.BytesKind.{BytesKind}
-use Rattle.tv_builder.specs.declared.bytes_kind.BytesKind.TheVariants as kinds
-use Rattle.tv_builder.specs.declared.list_kind.ListKind.{ListKind}
-use Rattle.tv_builder.specs.declared.list_kind.ListKind.TheVariants as lists
+use Rattle.tv_builder.specs.declared.kinds.BytesKind.{BytesKind}
+use Rattle.tv_builder.specs.declared.kinds.BytesKind.TheVariants as kinds
+use Rattle.tv_builder.specs.declared.kinds.ListKind.{ListKind}
+use Rattle.tv_builder.specs.declared.kinds.ListKind.TheVariants as lists
 use Rattle.tv_format.specs.declared.leaf_type.LeafType.TheVariants as leaves
 use Rattle.tv_builder.specs.Behind.{pairs_parts, document_parts, open_parts, ErrorsBehind}
 use Rattle.tv_builder.specs.Prefix.{EncodesPart, KeyHead}

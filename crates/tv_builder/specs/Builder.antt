@@ -2,15 +2,15 @@
 use Rattle.std.specs.Prelude.{◌≡◌, ℕ, ◌+◌, ◌<◌, ◌≤◌, Bool, true, false, List, [], ◌∷◌, ◌++◌, length, take, Result, Ok, Err}
 use Rattle.tv_base.specs.Sink.{IsPrefix}
 use Rattle.tv_format.specs.Tree.{Tree, Document}
-use Rattle.tv_builder.specs.declared.build_error.BuildError.{BuildError}
-use Rattle.tv_builder.specs.declared.build_error.BuildError.TheVariants.{AlreadyFailed, OutOfPlace, NotUtf8, HeapFull, Memory}
+use Rattle.tv_builder.specs.declared.errors.BuildError.{BuildError}
+use Rattle.tv_builder.specs.declared.errors.BuildError.TheVariants.{AlreadyFailed, OutOfPlace, NotUtf8, HeapFull, Memory}
 use Rattle.tv_builder.specs.Holds.{pair_at}
 use Rattle.tv_builder.specs.StateHeap.{state_heap, full_length}
 use Rattle.tv_builder.specs.Parts.{IsContentOf}
 use Rattle.tv_builder.specs.State.{State, complete, in_lists, in_bytes, and_end, state_room}
 use Rattle.tv_builder.specs.TreeBytes.{tree_place}
 use Rattle.tv_heap.specs.Room.{document_room}
-use Rattle.tv_builder.specs.declared.heap_pair.HeapPair.{HeapPair}
+use Rattle.tv_builder.specs.declared.heap_pairs.HeapPair.{HeapPair}
 use Rattle.tv_builder.specs.declared.pair_builder.PairBuilder.{PairBuilder}
 
 -- the finished pairs

@@ -9,7 +9,7 @@ use Rattle.tv_format.specs.Version.{Version}
 use Rattle.tv_builder.specs.TreeBytes.{document_heap, document_pairs}
 use Rattle.tv_builder.specs.HeldPairs.{document_of, heap_of, Added, IsUnchanged}
 use Rattle.tv_builder.specs.declared.heap_pairs.HeapPairs.{HeapPairs}
-use Rattle.tv_builder.specs.declared.heap_pair.HeapPair.{HeapPair}
+use Rattle.tv_builder.specs.declared.heap_pairs.HeapPair.{HeapPair}
 
 -- The old heap is a prefix of the heap now, and the old pairs, with their fields, types and addresses, come before all others.
 pub record IsStart (old now : HeapPairs) : Type 0 where

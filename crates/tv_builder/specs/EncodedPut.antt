@@ -5,7 +5,7 @@ use Rattle.tv_format.specs.Encoding.{Encodes, NoLegacy}
 use Rattle.tv_format.specs.Tree.{Tree}
 use Rattle.tv_format.specs.Version.{Version}
 use Rattle.tv_builder.specs.Whole.{Put}
-use Rattle.tv_heap.specs.declared.place.Place.{Place}
+use Rattle.tv_heap.specs.declared.value_type.Place.{Place}
 
 pub record EncodedPut (v : Version) (whole rest old new : List ℕ) (p : Place) : Type 0 where
   pub tree : Tree

@@ -1,10 +1,10 @@
 -- What is left of a value that comes part by part where it is dropped, or becomes that of a pair.
 use Rattle.std.specs.Prelude.{◌≡◌, ℕ, ◌<◌, ◌^◌, List, [], ◌∷◌, ◌++◌, length, take, Some, None, Bool, true, Result, OnOk, OnErr}
-use Rattle.tv_builder.specs.declared.build_error.BuildError.{BuildError}
-use Rattle.tv_builder.specs.declared.build_error.BuildError.TheVariants.{OutOfPlace, Memory}
+use Rattle.tv_builder.specs.declared.errors.BuildError.{BuildError}
+use Rattle.tv_builder.specs.declared.errors.BuildError.TheVariants.{OutOfPlace, Memory}
 use Rattle.tv_builder.specs.declared.building.Building.{Building}
-use Rattle.tv_heap.specs.declared.place.Place.{Place}
-use Rattle.tv_builder.specs.declared.heap_pair.HeapPair.{HeapPair}
+use Rattle.tv_heap.specs.declared.value_type.Place.{Place}
+use Rattle.tv_builder.specs.declared.heap_pairs.HeapPair.{HeapPair}
 use Rattle.tv_builder.specs.Holds.{Holds, Holds-prop, pair_at}
 
 -- the finished pairs stand at the start of the heap that is kept

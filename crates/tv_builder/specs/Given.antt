@@ -3,8 +3,8 @@ use Rattle.std.specs.Prelude.{ℕ, suc, ◌+◌, ◌<◌, ◌≤◌, Bool, cond,
 use Rattle.tv_base.specs.Number.{vnum}
 use Rattle.tv_base.specs.Parts.{short_sized}
 use Rattle.tv_heap.specs.TypeCode.{type_code}
-use Rattle.tv_builder.specs.declared.frame.Frame.{Frame}
-use Rattle.tv_heap.specs.declared.place.Place.{Place}
+use Rattle.tv_builder.specs.declared.building.Frame.{Frame}
+use Rattle.tv_heap.specs.declared.value_type.Place.{Place}
 use Rattle.tv_builder.specs.Kinds.{total, list_type}
 
 -- how a place stands in its list's bytes

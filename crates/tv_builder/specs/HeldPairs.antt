@@ -8,8 +8,8 @@ use Rattle.tv_heap.specs.Room.{room}
 use Rattle.tv_heap.specs.TypeCode.{type_code}
 use Rattle.tv_builder.specs.Holds.{pair_at}
 use Rattle.tv_builder.specs.TreeBytes.{tree_heap, tree_place}
-use Rattle.tv_builder.specs.declared.add_error.AddError.{AddError}
-use Rattle.tv_builder.specs.declared.add_error.AddError.TheVariants.{HeapFull, Memory}
+use Rattle.tv_builder.specs.declared.errors.AddError.{AddError}
+use Rattle.tv_builder.specs.declared.errors.AddError.TheVariants.{HeapFull, Memory}
 use Rattle.tv_builder.specs.declared.heap_pairs.HeapPairs.{HeapPairs}
 
 -- the fields and trees, in order

@@ -6,11 +6,11 @@ use mathlib.Core.HLevel.{Σ_prop_path}
 use base.Stored.{Coded-set}
 use Rattle.tv_format.specs.Tree.{Tree, Document}
 use Rattle.tv_format.specs.TreeCode.{coded_document}
-use Rattle.tv_heap.specs.declared.place.Place.{Place}
+use Rattle.tv_heap.specs.declared.value_type.Place.{Place}
 use Rattle.tv_heap.specs.TypeCode.{type_code}
 use Rattle.tv_heap.specs.Reads.{ReadsTree}
 use Rattle.tv_heap.specs.ReadsLaws.{one_tree}
-use Rattle.tv_builder.specs.declared.heap_pair.HeapPair.{HeapPair}
+use Rattle.tv_builder.specs.declared.heap_pairs.HeapPair.{HeapPair}
 
 -- a field, and where its value stands
 abbrev pub pair_at : ℕ → Place → HeapPair

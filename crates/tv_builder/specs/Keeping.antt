@@ -1,10 +1,10 @@
 -- The last step of an addition: the pair of a field and a value that stands at the end of a heap is kept.
 use Rattle.std.specs.Prelude.{◌≡◌, ℕ, List, [], ◌∷◌, ◌++◌, take, Result, Ok, Err}
-use Rattle.tv_heap.specs.declared.place.Place.{Place}
+use Rattle.tv_heap.specs.declared.value_type.Place.{Place}
 use Rattle.tv_builder.specs.Holds.{pair_at}
-use Rattle.tv_builder.specs.declared.add_error.AddError.{AddError}
-use Rattle.tv_builder.specs.declared.add_error.AddError.TheVariants.{Memory}
-use Rattle.tv_builder.specs.declared.heap_pair.HeapPair.{HeapPair}
+use Rattle.tv_builder.specs.declared.errors.AddError.{AddError}
+use Rattle.tv_builder.specs.declared.errors.AddError.TheVariants.{Memory}
+use Rattle.tv_builder.specs.declared.heap_pairs.HeapPair.{HeapPair}
 
 -- the new pair is after the old ones, and the heap is as it was
 pub record PairKept (mid new : List ℕ) (ps qs : List HeapPair) (field : ℕ) (place : Place) : Type 0 where

@@ -1,8 +1,8 @@
 -- What has come of a document, as a flat list of parts in reading order, and how some parts are traded for others.
 use Rattle.std.specs.Prelude.{◌≡◌, ℕ, List, [], ◌∷◌, ◌++◌, length, map, IsUtf8}
 use Rattle.tv_format.specs.Tree.{Tree, leaf, text, facet, bytes, array, object, elements, entries}
-use Rattle.tv_builder.specs.declared.bytes_kind.BytesKind.{BytesKind}
-use Rattle.tv_builder.specs.declared.bytes_kind.BytesKind.TheVariants.{Str, Facet, Bytes, Key}
+use Rattle.tv_builder.specs.declared.kinds.BytesKind.{BytesKind}
+use Rattle.tv_builder.specs.declared.kinds.BytesKind.TheVariants.{Str, Facet, Bytes, Key}
 
 pub data Part : Type 0 where
   -- the number of the pairs

@@ -5,8 +5,8 @@ use Rattle.tv_base.specs.Parts.{Behind, Each}
 use Rattle.tv_format.specs.Encoding.{Key, Encodes, EncodesPair}
 use Rattle.tv_format.specs.Tree.{Entries}
 use Rattle.tv_format.specs.Version.{Version, V1, V2, V3, entry_total}
-use Rattle.tv_builder.specs.declared.bytes_kind.BytesKind.{BytesKind}
-use Rattle.tv_builder.specs.declared.bytes_kind.BytesKind.TheVariants as kinds
+use Rattle.tv_builder.specs.declared.kinds.BytesKind.{BytesKind}
+use Rattle.tv_builder.specs.declared.kinds.BytesKind.TheVariants as kinds
 use Rattle.tv_builder.specs.Parts.{Part, number, pair, field, value, key, array_head, object_head, bytes_head, some_bytes}
 
 -- the length of a key, with its code in versions 1 and 2

@@ -4,13 +4,13 @@ use Rattle.tv_base.specs.Number.{vnum}
 use Rattle.tv_format.specs.Tree.{Tree, elements}
 use Rattle.tv_heap.specs.Reads.{ReadsTree, ReadsElements}
 use Rattle.tv_heap.specs.TypeCode.{type_code}
-use Rattle.tv_builder.specs.declared.awaits.Awaits.{Awaits}
-use Rattle.tv_builder.specs.declared.awaits.Awaits.TheVariants as awaits
+use Rattle.tv_builder.specs.declared.kinds.Awaits.{Awaits}
+use Rattle.tv_builder.specs.declared.kinds.Awaits.TheVariants as awaits
 use Rattle.tv_builder.specs.declared.building.Building.{Building}
 use Rattle.tv_builder.specs.declared.building.OpenBytes.{OpenBytes}
-use Rattle.tv_builder.specs.declared.bytes_kind.BytesKind.{BytesKind}
-use Rattle.tv_builder.specs.declared.frame.Frame.{Frame}
-use Rattle.tv_heap.specs.declared.place.Place.{Place}
+use Rattle.tv_builder.specs.declared.kinds.BytesKind.{BytesKind}
+use Rattle.tv_builder.specs.declared.building.Frame.{Frame}
+use Rattle.tv_heap.specs.declared.value_type.Place.{Place}
 use Rattle.tv_builder.specs.Given.{pending_in}
 use Rattle.tv_builder.specs.State.{OpenList, State, complete, in_lists, in_bytes, next_at, IsState}
 

@@ -4,8 +4,8 @@ use Rattle.tv_base.specs.Number.{vnum}
 use Rattle.tv_base.specs.Parts.{short_sized}
 use Rattle.tv_format.specs.Tree.{Tree, elements}
 use Rattle.tv_heap.specs.Weight.{elements_weight}
-use Rattle.tv_builder.specs.declared.list_kind.ListKind.{ListKind}
-use Rattle.tv_builder.specs.declared.list_kind.ListKind.TheVariants as lists
+use Rattle.tv_builder.specs.declared.kinds.ListKind.{ListKind}
+use Rattle.tv_builder.specs.declared.kinds.ListKind.TheVariants as lists
 use Rattle.tv_builder.specs.State.{OpenList, State, complete, in_lists, in_bytes, key_text}
 pub use Rattle.tv_heap.specs.Weight.{tree_weight, document_weight}
 

@@ -1,27 +1,65 @@
 //! A heap, and a value that is written into it part by part.
 
-ghost use Rattle.std.specs.Prelude.{◌≡◌, ◌≤◌, [], ◌↔◌, length, take, OnOk, IfErr, IsErrOf};
-ghost use Rattle.std.specs.Prelude.{IsTrue};
+ghost use Rattle.std.specs.Prelude.{◌≡◌, ◌≤◌, [], ◌↔◌, length, take, OnOk, IfErr, IsErrOf, IsTrue};
 ghost use Rattle.tv_format.specs.Tree.{leaf as leaf_tree};
 ghost use Rattle.tv_value.specs.Lent.{leaf_of};
 
-use crate::awaits::Awaits;
-use crate::build_error::BuildError;
-use crate::bytes_kind::BytesKind;
-use crate::fits::has_room;
-use crate::frame::Frame;
-use crate::list_kind::ListKind;
-use crate::whole::{put_leaf, put_list, put_tree};
+use crate::errors::BuildError;
+use crate::kinds::{Awaits, BytesKind, ListKind};
+use crate::whole::{has_room, put_leaf, put_list, put_tree};
 use std::alloc::Global;
 use tv_base::byte_buffer::ByteBuffer;
-use tv_heap::place::Place;
 use tv_heap::room::MAX_HEAP_LEN;
+use tv_heap::value_type::Place;
 use tv_heap::write::push_place;
 use tv_value::encode::push_number;
 use tv_value::leaf::ReferenceValueLeaf;
 use tv_value::nested::lend;
 use tv_value::nesting::MAX_DEPTH;
 use tv_value::value::Value;
+
+// A list of which children are still awaited.
+#[derive(Clone, Copy, Debug)]
+pub(crate) struct Frame {
+    pub kind: ListKind,
+    // How many elements or entries are announced.
+    pub announced: u64,
+    // How many children are finished, keys among them.
+    pub finished: usize,
+    // Where the places of its children begin.
+    pub first: usize,
+}
+
+impl Frame {
+    ghost use Rattle.tv_builder.specs.Given.{lacks};
+    ghost use Rattle.tv_builder.specs.State.{next_at};
+
+    // What its next child is.
+    pub(crate) fn awaits(self) -> Awaits
+        ensures { result ≡ next_at self.kind self.finished }
+    {
+        match self.kind {
+            ListKind::Array => Awaits::Value,
+            ListKind::Object => {
+                if self.finished % 2 == 0 {
+                    Awaits::Key
+                } else {
+                    Awaits::Value
+                }
+            }
+        }
+    }
+
+    // Whether a child is still awaited.
+    pub(crate) fn lacks(self) -> bool
+        ensures { result ≡ lacks self }
+    {
+        match self.kind {
+            ListKind::Array => (self.finished as u64) < self.announced,
+            ListKind::Object => self.finished as u64 / 2 < self.announced,
+        }
+    }
+}
 
 // The bytes of an open value.
 #[derive(Clone, Copy, Debug)]
@@ -61,10 +99,8 @@ impl Building {
     ghost use Rattle.tv_builder.specs.Moves.{CanGive, GivesPlace, GivesNot, Does, InState, last_bytes};
     ghost use Rattle.tv_builder.specs.Fits.{LeafFits, ListFits, KeyFits, HeadFits};
     ghost use Rattle.tv_builder.specs.Shows.{HoldsSomeState, awaited_by};
-    ghost use Rattle.tv_builder.specs.State.{and_value, and_list, and_key, and_head, and_bytes};
-    ghost use Rattle.tv_builder.specs.State.{and_end, head_awaits};
-    ghost use Rattle.tv_builder.specs.declared.awaits.Awaits.TheVariants.{Value as ValueNext};
-    ghost use Rattle.tv_builder.specs.declared.awaits.Awaits.TheVariants.{Key as KeyNext};
+    ghost use Rattle.tv_builder.specs.State.{and_value, and_list, and_key, and_head, and_bytes, and_end, head_awaits};
+    ghost use Rattle.tv_builder.specs.declared.kinds.Awaits.TheVariants.{Value as ValueNext, Key as KeyNext};
 
     // After this heap, where a value is awaited. It takes no memory.
     pub(crate) fn new(alloc: Global, heap: ByteBuffer) -> Building

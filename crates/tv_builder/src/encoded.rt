@@ -6,14 +6,14 @@ ghost use Rattle.tv_builder.specs.EncodedPut.{EncodedPut};
 ghost use Rattle.tv_format.specs.WriteVersion.{written_version};
 ghost use Rattle.tv_format.specs.declared.version.WriteVersion.{WriteVersion};
 
-use crate::list_kind::ListKind;
+use crate::kinds::ListKind;
 use crate::whole::{put_content, put_list};
 use tv_base::byte_buffer::ByteBuffer;
 use tv_format::leaf_type::{Form, LeafType};
 use tv_format::type_codes::{ARRAY_CODE, OBJECT_CODE};
 use tv_format::version::WriteVersion;
-use tv_heap::place::Place;
 use tv_heap::room::MAX_HEAP_LEN;
+use tv_heap::value_type::Place;
 use tv_heap::write::push_place;
 use tv_value::content::LeafContent;
 use tv_value::in_place::{

@@ -1,7 +1,6 @@
 //! Pairs of a field and a value, the values in one heap.
 
-ghost use Rattle.std.specs.Prelude.{◌≡◌, ◌<◌, ◌≤◌, ◌^◌, [], ◌∷◌, ◌++◌, OnOk, OnErr, IfOk, IfSome};
-ghost use Rattle.std.specs.Prelude.{IfNone, length, vec_capacity, vec_len};
+ghost use Rattle.std.specs.Prelude.{◌≡◌, ◌<◌, ◌≤◌, ◌^◌, [], ◌∷◌, ◌++◌, OnOk, OnErr, IfOk, IfSome, IfNone, length, vec_capacity, vec_len};
 ghost use Rattle.tv_builder.specs.Holds.{Holds, Holds-prop};
 ghost use Rattle.tv_builder.specs.Keeping.{KeepsPair};
 ghost use Rattle.tv_builder.specs.TreeBytes.{document_heap};
@@ -9,20 +8,27 @@ ghost use Rattle.tv_format.specs.Tree.{leaf};
 ghost use Rattle.tv_format.specs.WriteVersion.{written_version};
 ghost use Rattle.tv_value.specs.Lent.{leaf_of};
 
-use crate::add_error::AddError;
 use crate::encoded::put_encoded;
-use crate::fits::has_value_room;
-use crate::heap_pair::HeapPair;
-use crate::whole::put_within;
+use crate::errors::AddError;
+use crate::whole::{has_value_room, put_within};
 use std::alloc::{AllocError, Global};
 use tv_base::byte_buffer::ByteBuffer;
 use tv_format::version::WriteVersion;
-use tv_heap::place::Place;
 use tv_heap::room::{MAX_HEAP_LEN, leaf_room};
+use tv_heap::value_type::Place;
 use tv_heap::write::write_leaf;
 use tv_value::leaf::ReferenceValueLeaf;
 use tv_value::nesting::MAX_DEPTH;
 use tv_value::value::{ReferenceValue, Value};
+
+/// A field, and where its value stands in the heap. (Not in tantivy.)
+#[derive(Clone, Copy, Debug)]
+pub struct HeapPair {
+    /// The field's number.
+    pub field: u32,
+    /// Where the value stands.
+    pub place: Place,
+}
 
 // The first pair makes room for this many.
 const FIRST_PAIRS: usize = 16;
@@ -90,8 +96,7 @@ pub struct HeapPairs {
 
 impl HeapPairs {
     ghost use Rattle.tv_builder.specs.EncodedPairs.{AddsEncodedPair, AddsEncoded, StoodIn};
-    ghost use Rattle.tv_builder.specs.HeldPairs.{document_of, heap_of, heap_capacity};
-    ghost use Rattle.tv_builder.specs.HeldPairs.{pairs_capacity, Adds, IsUnchanged, KeepsMemory};
+    ghost use Rattle.tv_builder.specs.HeldPairs.{document_of, heap_of, heap_capacity, pairs_capacity, Adds, IsUnchanged, KeepsMemory};
     ghost use Rattle.tv_builder.specs.declared.heap_pairs.HeapPairs.{HeapPairs};
 
     /// No pairs, which take no memory.

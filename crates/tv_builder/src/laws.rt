@@ -14,16 +14,13 @@ ghost use Rattle.tv_builder.specs.declared.heap_pairs.HeapPairs.{HeapPairs};
 ghost use Rattle.tv_builder.specs.declared.pair_builder.PairBuilder.{PairBuilder};
 ghost use Rattle.tv_builder.specs.Behind.{document_parts, open_parts};
 ghost use Rattle.tv_builder.specs.Prefix.{Encoded};
-ghost use Rattle.tv_builder.specs.Parts.{Part, Trades, IsContentOf, value, key, bytes_head};
-ghost use Rattle.tv_builder.specs.Parts.{some_bytes};
-ghost use Rattle.tv_builder.specs.State.{State, OpenList, IsState, in_lists, in_bytes};
-ghost use Rattle.tv_builder.specs.State.{awaited, and_value, and_list, and_key, and_head};
-ghost use Rattle.tv_builder.specs.State.{and_bytes, and_end, list_head, parts_of};
-ghost use Rattle.tv_builder.specs.State.{lists_of, children_of};
+ghost use Rattle.tv_builder.specs.Parts.{Part, Trades, IsContentOf, value, key, bytes_head, some_bytes};
+ghost use Rattle.tv_builder.specs.State.{State, OpenList, IsState, in_lists, in_bytes, awaited, and_value, and_list, and_key, and_head, and_bytes, and_end};
+ghost use Rattle.tv_builder.specs.State.{list_head, parts_of, lists_of, children_of};
 ghost use Rattle.tv_builder.specs.Weight.{document_weight, state_weight};
-ghost use Rattle.tv_builder.specs.declared.awaits.Awaits.TheVariants.{Value, Key};
-ghost use Rattle.tv_builder.specs.declared.bytes_kind.BytesKind.{BytesKind};
-ghost use Rattle.tv_builder.specs.declared.list_kind.ListKind.{ListKind};
+ghost use Rattle.tv_builder.specs.declared.kinds.Awaits.TheVariants.{Value, Key};
+ghost use Rattle.tv_builder.specs.declared.kinds.BytesKind.{BytesKind};
+ghost use Rattle.tv_builder.specs.declared.kinds.ListKind.{ListKind};
 
 /// Bytes that encode some parts encode those for which they are traded.
 pub fn parts_are_traded()

@@ -8,13 +8,13 @@ ghost use Rattle.tv_format.specs.Tree.{leaf};
 ghost use Rattle.tv_value.specs.Children.{IsListOf, children_left};
 ghost use Rattle.tv_value.specs.Lent.{leaf_of, nested_tree};
 
-use crate::add_error::AddError;
-use crate::list_kind::ListKind;
+use crate::errors::AddError;
+use crate::kinds::ListKind;
 use crate::whole::{put_leaf, put_list, put_single};
 use std::alloc::{AllocError, Global};
 use std::convert::AsStr;
 use tv_base::byte_buffer::ByteBuffer;
-use tv_heap::place::Place;
+use tv_heap::value_type::Place;
 use tv_heap::write::push_place;
 use tv_value::children::Children;
 use tv_value::leaf::ReferenceValueLeaf;

@@ -1,19 +1,15 @@
 //! Building the values of pairs part by part, in one heap.
 
-ghost use Rattle.std.specs.Prelude.{◌≡◌, ◌+◌, ◌<◌, ◌≤◌, [], OnOk, IfErr, IsErrOf, length};
-ghost use Rattle.std.specs.Prelude.{take, true, false, None};
+ghost use Rattle.std.specs.Prelude.{◌≡◌, ◌+◌, ◌<◌, ◌≤◌, [], OnOk, IfErr, IsErrOf, length, take, true, false, None};
 ghost use Rattle.tv_builder.specs.OneState.{StandsBehind, StandsBehind-prop};
 ghost use Rattle.tv_builder.specs.Finish.{HoldsPrefix, HoldsPrefix-prop, Settled, Kept, KeptNot};
 ghost use Rattle.tv_builder.specs.TreeBytes.{document_heap};
 ghost use Rattle.tv_builder.specs.Weight.{document_weight, state_weight};
 
-use crate::awaits::Awaits;
-use crate::build_error::BuildError;
 use crate::building::Building;
-use crate::bytes_kind::BytesKind;
-use crate::heap_pair::HeapPair;
-use crate::heap_pairs::{HeapPairs, push_pair};
-use crate::list_kind::ListKind;
+use crate::errors::BuildError;
+use crate::heap_pairs::{HeapPair, HeapPairs, push_pair};
+use crate::kinds::{Awaits, BytesKind, ListKind};
 use tv_value::leaf::ReferenceValueLeaf;
 use tv_value::value::Value;
 
@@ -81,14 +77,9 @@ pub struct PairBuilder {
 #[tactic(auto, using(crate::proofs::PairBuilding::stands))]
 impl PairBuilder {
     ghost use Rattle.tv_builder.specs.Fits.{LeafFits, ListFits, KeyFits, HeadFits};
-    ghost use Rattle.tv_builder.specs.State.{and_value, and_list, and_key, and_head, and_bytes};
-    ghost use Rattle.tv_builder.specs.State.{awaited, head_awaits, in_lists, lists_of, children_of};
-    ghost use Rattle.tv_builder.specs.declared.awaits.Awaits.TheVariants.{Value as ValueNext};
-    ghost use Rattle.tv_builder.specs.declared.awaits.Awaits.TheVariants.{Key as KeyNext};
-    ghost use Rattle.tv_builder.specs.Builder.{built, state_of, heap_so_far, kept_heap};
-    ghost use Rattle.tv_builder.specs.Builder.{pairs_so_far};
-    ghost use Rattle.tv_builder.specs.Builder.{TakesBytes, Builds, Ends};
-    ghost use Rattle.tv_builder.specs.Builder.{Finishes};
+    ghost use Rattle.tv_builder.specs.State.{and_value, and_list, and_key, and_head, and_bytes, awaited, head_awaits, in_lists, lists_of, children_of};
+    ghost use Rattle.tv_builder.specs.declared.kinds.Awaits.TheVariants.{Value as ValueNext, Key as KeyNext};
+    ghost use Rattle.tv_builder.specs.Builder.{built, state_of, heap_so_far, kept_heap, pairs_so_far, TakesBytes, Builds, Ends, Finishes};
     ghost use Rattle.tv_builder.specs.HeldPairs.{document_of, heap_of};
     ghost use Rattle.tv_format.specs.Tree.{leaf as leaf_tree};
     ghost use Rattle.tv_value.specs.Lent.{leaf_of};

@@ -3,7 +3,7 @@ use Rattle.std.proofs.Common.{◌≡◌, ℕ, List, [], ◌∷◌, ◌++◌, len
 use Rattle.tv_builder.specs.Holds.{pair_at}
 use Rattle.tv_builder.specs.TreeBytes.{tree_heap, tree_place}
 use Rattle.tv_format.specs.Tree.{Tree, Document}
-use Rattle.tv_builder.specs.declared.add_error.AddError.{AddError}
+use Rattle.tv_builder.specs.declared.errors.AddError.{AddError}
 use Rattle.tv_doc.specs.declared.document.CompactDoc.{CompactDoc}
 use Rattle.tv_doc.specs.Additions.{Addition, pair_of, accepted_pairs, Runs, Keeps, Accepts, AddsEach, IsEmpty, IsMade}
 use Rattle.tv_doc.specs.Document.{document_of, heap_of, places_of, Adds, IsUnchanged, IsWithinRoom}

@@ -10,10 +10,10 @@ use Rattle.tv_field.specs.Entry.{Entry}
 use Rattle.tv_doc.specs.NotedFields.{AreNoted, ChecksKeys, NotesKey, ParsesStrictlyAfter, is_of_value}
 use Rattle.tv_doc.specs.StrictJson.{IsObject, NameFieldsOnce, OfItsKeys, ParsesStrictly, keys_of}
 use Rattle.tv_doc.specs.JsonObject.{Parses}
-use Rattle.tv_doc.specs.declared.doc_parsing_error.DocParsingError.{DocParsingError}
-use Rattle.tv_doc.specs.declared.doc_parsing_error.DocParsingError.TheVariants as error
-use Rattle.tv_doc.specs.declared.strict_parsing_error.StrictParsingError.{StrictParsingError}
-use Rattle.tv_doc.specs.declared.strict_parsing_error.StrictParsingError.TheVariants.{Parsing, UnknownKey, RepeatedKey}
+use Rattle.tv_doc.specs.declared.errors.DocParsingError.{DocParsingError}
+use Rattle.tv_doc.specs.declared.errors.DocParsingError.TheVariants as error
+use Rattle.tv_doc.specs.declared.errors.StrictParsingError.{StrictParsingError}
+use Rattle.tv_doc.specs.declared.errors.StrictParsingError.TheVariants.{Parsing, UnknownKey, RepeatedKey}
 use Rattle.tv_doc.proofs.KeysRead.{behind_first, object_written}
 use Rattle.tv_doc.proofs.StrictKeys.{is_repeated}
 

@@ -16,10 +16,10 @@ use Rattle.tv_doc.specs.Document.{IsUnchanged, RefusesAddition}
 use Rattle.tv_doc.specs.InPlace.{in_place}
 use Rattle.tv_doc.specs.JsonObject.{FieldJson, Pairs, IsRefused, RefusesRow, StopsAt, IsValueError, MakesDocument, Parses, ParsesOrTells, AddsFieldValues, AddsOrTells, AddsValues, object_values}
 use Rattle.tv_doc.specs.JsonObject.IsShort.{for_pair, for_value, for_error}
-use Rattle.tv_builder.specs.declared.add_error.AddError.{AddError}
-use Rattle.tv_builder.specs.declared.add_error.AddError.TheVariants.{HeapFull, Memory}
-use Rattle.tv_doc.specs.declared.doc_parsing_error.DocParsingError.{DocParsingError}
-use Rattle.tv_doc.specs.declared.doc_parsing_error.DocParsingError.TheVariants as error
+use Rattle.tv_builder.specs.declared.errors.AddError.{AddError}
+use Rattle.tv_builder.specs.declared.errors.AddError.TheVariants.{HeapFull, Memory}
+use Rattle.tv_doc.specs.declared.errors.DocParsingError.{DocParsingError}
+use Rattle.tv_doc.specs.declared.errors.DocParsingError.TheVariants as error
 use Rattle.tv_doc.specs.declared.document.CompactDoc.{CompactDoc}
 use Rattle.tv_doc.proofs.Additions.{unchanged_same, each_from, each_append, each_one, from_empty, made_of}
 

@@ -4,7 +4,7 @@ use Rattle.std.proofs.Math.Logic.{∥∥₁_elim, ∥∥₁_map}
 use Rattle.std.proofs.Math.Nat.{ℕ_set}
 use mathlib.Core.HLevel.{⊥_prop}
 use Rattle.tv_format.specs.Tree.{Tree, Document}
-use Rattle.tv_builder.specs.declared.heap_pair.HeapPair.{HeapPair}
+use Rattle.tv_builder.specs.declared.heap_pairs.HeapPair.{HeapPair}
 use Rattle.tv_heap.specs.Held.{Held}
 use Rattle.tv_builder.specs.Holds.{ReadsPair, ReadsPairs, Holds}
 use Rattle.tv_heap.specs.Reads.{ReadsTree}

@@ -4,7 +4,7 @@ use Rattle.tv_format.specs.Tree.{Tree, Document}
 use Rattle.tv_doc.specs.Additions.{AddsEach, IsEmpty}
 use Rattle.tv_doc.specs.Document.{RefusesAddition}
 use Rattle.tv_doc.specs.NamedPairs.{StopsAtPair, MakesPairs}
-use Rattle.tv_builder.specs.declared.add_error.AddError.{AddError}
+use Rattle.tv_builder.specs.declared.errors.AddError.{AddError}
 use Rattle.tv_doc.specs.declared.document.CompactDoc.{CompactDoc}
 use Rattle.tv_doc.proofs.Additions.{unchanged_same, each_append, from_empty, made_of}
 

@@ -12,7 +12,7 @@ use Rattle.tv_format.specs.Short.{IsSized, IsText, IsContent, IsValue, AreElemen
 use Rattle.tv_format.specs.Tree.{Tree, leaf, array, object, Elements, no_elements, element, Entries, no_entries, entry, element_count, entry_count, Document}
 use Rattle.tv_format.specs.ShortLaws.{AreTokens-prop, IsText-prop}
 use Rattle.tv_doc.specs.declared.document.CompactDoc.{CompactDoc}
-use Rattle.tv_builder.specs.declared.heap_pair.HeapPair.{HeapPair}
+use Rattle.tv_builder.specs.declared.heap_pairs.HeapPair.{HeapPair}
 use Rattle.tv_doc.specs.Document.{document_of}
 use Rattle.tv_builder.specs.Holds.{ReadsPairs}
 use Rattle.tv_heap.specs.Reads.{ShortText, ContentStands, ReadsTree, ReadsElements, ReadsEntries}

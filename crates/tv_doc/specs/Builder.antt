@@ -28,12 +28,12 @@ use Rattle.tv_builder.specs.State.{and_value, and_list, and_key, and_head, and_b
 use Rattle.tv_builder.specs.StateHeap.{state_heap}
 use Rattle.tv_builder.specs.TreeBytes.{tree_place, document_heap}
 use Rattle.tv_builder.specs.Weight.{document_weight, state_weight}
-use Rattle.tv_builder.specs.declared.awaits.Awaits.TheVariants as awaits
-use Rattle.tv_builder.specs.declared.bytes_kind.BytesKind.{BytesKind}
-use Rattle.tv_builder.specs.declared.list_kind.ListKind.{ListKind}
-use Rattle.tv_builder.specs.declared.heap_pair.HeapPair.{HeapPair}
-use Rattle.tv_builder.specs.declared.build_error.BuildError.{BuildError}
-use Rattle.tv_builder.specs.declared.build_error.BuildError.TheVariants.{HeapFull}
+use Rattle.tv_builder.specs.declared.kinds.Awaits.TheVariants as awaits
+use Rattle.tv_builder.specs.declared.kinds.BytesKind.{BytesKind}
+use Rattle.tv_builder.specs.declared.kinds.ListKind.{ListKind}
+use Rattle.tv_builder.specs.declared.heap_pairs.HeapPair.{HeapPair}
+use Rattle.tv_builder.specs.declared.errors.BuildError.{BuildError}
+use Rattle.tv_builder.specs.declared.errors.BuildError.TheVariants.{HeapFull}
 use Rattle.tv_doc.specs.Document.{document_of, heap_of, pairs_of}
 use Rattle.tv_doc.specs.declared.builder.TreeBuilder.{TreeBuilder}
 use Rattle.tv_doc.specs.declared.document.CompactDoc.{CompactDoc}

@@ -15,8 +15,8 @@
 use Rattle.std.specs.Prelude.{◌≡◌, ◌≤◌, ℕ, List, [], length, Option, Result}
 use Rattle.tv_builder.specs.HeldPairs as held
 use Rattle.tv_builder.specs.TreeBytes.{document_heap}
-use Rattle.tv_builder.specs.declared.add_error.AddError.{AddError}
-use Rattle.tv_builder.specs.declared.heap_pair.HeapPair.{HeapPair}
+use Rattle.tv_builder.specs.declared.errors.AddError.{AddError}
+use Rattle.tv_builder.specs.declared.heap_pairs.HeapPair.{HeapPair}
 use Rattle.tv_format.specs.Tree.{Leaf, Tree, Document, leaf}
 use Rattle.tv_heap.specs.Room.{document_room}
 use Rattle.tv_doc.specs.declared.document.CompactDoc.{CompactDoc}

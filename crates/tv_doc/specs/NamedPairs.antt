@@ -20,13 +20,13 @@ use Rattle.tv_doc.specs.Document.{document_of, RefusesAddition}
 use Rattle.tv_doc.specs.FieldValues.{values_of}
 use Rattle.tv_doc.specs.Named.{IsNamed, Named, NamedNestWithin, field_names}
 use Rattle.tv_heap.specs.Room.{document_room}
-use Rattle.tv_builder.specs.declared.add_error.AddError.{AddError}
-use Rattle.tv_builder.specs.declared.add_error.AddError.TheVariants as adding
-use Rattle.tv_doc.specs.declared.doc_parsing_error.DocParsingError.{DocParsingError}
-use Rattle.tv_doc.specs.declared.doc_parsing_error.DocParsingError.TheVariants as errors
+use Rattle.tv_builder.specs.declared.errors.AddError.{AddError}
+use Rattle.tv_builder.specs.declared.errors.AddError.TheVariants as adding
+use Rattle.tv_doc.specs.declared.errors.DocParsingError.{DocParsingError}
+use Rattle.tv_doc.specs.declared.errors.DocParsingError.TheVariants as errors
 use Rattle.tv_doc.specs.declared.document.CompactDoc.{CompactDoc}
-use Rattle.tv_doc.specs.declared.named_back_error.NamedBackError.{NamedBackError}
-use Rattle.tv_doc.specs.declared.named_back_error.NamedBackError.TheVariants as back
+use Rattle.tv_doc.specs.declared.errors.NamedBackError.{NamedBackError}
+use Rattle.tv_doc.specs.declared.errors.NamedBackError.TheVariants as back
 use Rattle.tv_value.specs.declared.copy_error.CopyError.TheVariants as copying
 use Rattle.tv_value.specs.declared.nesting.TheConstants.{MAX_DEPTH}
 

@@ -6,11 +6,11 @@ use Rattle.tv_schema.specs.Schema.{field_named}
 use Rattle.tv_doc.specs.StrictJson.{NameFieldsOnce, FirstIsUnknown, FirstIsRepeated, ParsesStrictly}
 use Rattle.tv_doc.specs.InPlace.{in_place}
 use Rattle.tv_doc.specs.JsonObject.{Parses}
-use Rattle.tv_doc.specs.declared.doc_parsing_error.DocParsingError.{DocParsingError}
-use Rattle.tv_doc.specs.declared.doc_parsing_error.DocParsingError.TheVariants as error
+use Rattle.tv_doc.specs.declared.errors.DocParsingError.{DocParsingError}
+use Rattle.tv_doc.specs.declared.errors.DocParsingError.TheVariants as error
 use Rattle.tv_doc.specs.declared.document.CompactDoc.{CompactDoc}
-use Rattle.tv_doc.specs.declared.strict_parsing_error.StrictParsingError.{StrictParsingError}
-use Rattle.tv_doc.specs.declared.strict_parsing_error.StrictParsingError.TheVariants.{Parsing, UnknownKey, RepeatedKey}
+use Rattle.tv_doc.specs.declared.errors.StrictParsingError.{StrictParsingError}
+use Rattle.tv_doc.specs.declared.errors.StrictParsingError.TheVariants.{Parsing, UnknownKey, RepeatedKey}
 
 -- the fields that these keys name are noted, by their numbers, and no others
 pub record AreNoted (schema : List Entry) (keys : List (List ℕ)) (noted : List Bool) : Type 0 where

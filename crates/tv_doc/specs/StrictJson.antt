@@ -18,10 +18,10 @@ use Rattle.tv_doc.specs.Belongs.{Belongs}
 use Rattle.tv_doc.specs.Document.{document_of}
 use Rattle.tv_doc.specs.InPlace.{in_place}
 use Rattle.tv_doc.specs.JsonObject.{Parses}
-use Rattle.tv_doc.specs.declared.doc_parsing_error.DocParsingError.TheVariants as error
+use Rattle.tv_doc.specs.declared.errors.DocParsingError.TheVariants as error
 use Rattle.tv_doc.specs.declared.document.CompactDoc.{CompactDoc}
-use Rattle.tv_doc.specs.declared.strict_parsing_error.StrictParsingError.{StrictParsingError}
-use Rattle.tv_doc.specs.declared.strict_parsing_error.StrictParsingError.TheVariants.{Parsing, UnknownKey, RepeatedKey}
+use Rattle.tv_doc.specs.declared.errors.StrictParsingError.{StrictParsingError}
+use Rattle.tv_doc.specs.declared.errors.StrictParsingError.TheVariants.{Parsing, UnknownKey, RepeatedKey}
 
 -- the keys of an object's members, each as often as it stands, from left to right
 abbrev pub keys_of : written.Members → List (List ℕ)

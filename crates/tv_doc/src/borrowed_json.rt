@@ -11,11 +11,10 @@ ghost use Rattle.tv_schema.specs.Schema.{field_named};
 ghost use Rattle.tv_value.specs.Lent.{leaf_of};
 ghost use Rattle.tv_format.specs.Tree.{leaf};
 
-use crate::doc_parsing_error::DocParsingError;
 use crate::document::CompactDoc;
-use crate::json_object::{add_value, invalid_json};
+use crate::errors::DocParsingError;
+use crate::json_object::{NamedField, add_value, invalid_json};
 use crate::lent_borrowed::LentBorrowed;
-use crate::named_field::NamedField;
 use crate::parse_buffers::{Adding, ParseBuffers};
 use tv_field::FieldType;
 use tv_field::json_value::{

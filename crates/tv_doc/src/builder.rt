@@ -3,10 +3,9 @@
 ghost use Rattle.std.specs.Prelude.{◌≡◌, length};
 
 use crate::document::CompactDoc;
-pub use tv_builder::awaits::Awaits;
-pub use tv_builder::build_error::BuildError;
-pub use tv_builder::bytes_kind::BytesKind;
-use tv_builder::list_kind::ListKind;
+pub use tv_builder::errors::BuildError;
+use tv_builder::kinds::ListKind;
+pub use tv_builder::kinds::{Awaits, BytesKind};
 use tv_builder::pair_builder::PairBuilder;
 use tv_value::field::Field;
 use tv_value::leaf::ReferenceValueLeaf;
@@ -46,10 +45,8 @@ impl Drop for TreeBuilder {
 
 impl TreeBuilder {
     ghost use Rattle.tv_builder.specs.State.{awaited, children_of};
-    ghost use Rattle.tv_builder.specs.declared.list_kind.ListKind.TheVariants.{Array, Object};
-    ghost use Rattle.tv_doc.specs.Builder.{IsNewBuilder, IsDocumentOf, IsHeapLength};
-    ghost use Rattle.tv_doc.specs.Builder.{state_of, open_lists};
-    ghost use Rattle.tv_doc.specs.Builder.{BuildsLeaf, BuildsTree, BuildsList, BuildsKey};
+    ghost use Rattle.tv_builder.specs.declared.kinds.ListKind.TheVariants.{Array, Object};
+    ghost use Rattle.tv_doc.specs.Builder.{IsNewBuilder, IsDocumentOf, IsHeapLength, state_of, open_lists, BuildsLeaf, BuildsTree, BuildsList, BuildsKey};
     ghost use Rattle.tv_doc.specs.Builder.{BeginsBytes, BuildsBytes, Ends, Finishes};
     ghost use Rattle.tv_value.specs.Lent.{leaf_of};
 

@@ -7,8 +7,8 @@ ghost use Rattle.tv_doc.specs.Named.{named_of};
 ghost use Rattle.tv_doc.specs.NamedPairs.{AddsNamedPairs, ConvertsNamed, pairs_of_field};
 
 use crate::add_error::AddError;
-use crate::doc_parsing_error::DocParsingError;
 use crate::document::CompactDoc;
+use crate::errors::DocParsingError;
 use crate::named::NamedFieldDocument;
 use std::alloc::Global;
 use tv_schema::Schema;

@@ -1,26 +1,26 @@
 //! Documents: pairs of a field and a value, the values in one heap.
 
-ghost use Rattle.std.specs.Prelude.{◌≡◌, [], ◌↔◌, IsTrue, IfOk, option_map, length, map};
-ghost use Rattle.std.specs.Prelude.{slice_get};
+ghost use Rattle.std.specs.Prelude.{◌≡◌, [], ◌↔◌, IsTrue, IfOk, option_map, length, map, slice_get};
 ghost use Rattle.std.specs.Net.Addr.{ipv6_bits};
 ghost use Rattle.std.specs.String.{string_bytes};
 ghost use Rattle.tv_value.specs.HeldTokens.{token_of};
-ghost use Rattle.tv_format.specs.Tree.{text, unsigned, signed, boolean, date, facet};
-ghost use Rattle.tv_format.specs.Tree.{bytes as bytes_leaf};
-ghost use Rattle.tv_format.specs.Tree.{ip_address, tokenized};
+ghost use Rattle.tv_format.specs.Tree.{text, unsigned, signed, boolean, date, facet, bytes as bytes_leaf, ip_address, tokenized};
 ghost use Rattle.tv_value.specs.Lent.{leaf_of};
+ghost use Rattle.tv_doc.specs.Document.{document_of};
+ghost use Rattle.tv_doc.specs.SameTexts.{HasAll, IsSameSet, SameTexts, field_texts, texts_seen};
 
 use crate::add_error::AddError;
 use crate::document_trait::Document;
 use crate::field_values::{FieldValueIterRef, GetAllIter};
 use crate::map_value::MapValue;
 use std::alloc::{AllocError, Global};
-use std::collections::BTreeMap;
+use std::collections::{BTreeMap, BTreeSet};
 use std::net::Ipv6Addr;
 use tv_base::Facet;
 use tv_builder::heap_pairs::HeapPairs;
 use tv_format::version::WriteVersion;
 use tv_heap::value::CompactDocValue;
+use tv_json::compact::push_json;
 use tv_schema::Schema;
 use tv_value::date_time::DateTime;
 use tv_value::field::Field;
@@ -56,9 +56,7 @@ impl Drop for CompactDoc {
 
 impl CompactDoc {
     ghost use Rattle.tv_doc.specs.Belongs.{Belongs};
-    ghost use Rattle.tv_doc.specs.Document.{document_of, heap_of, places_of};
-    ghost use Rattle.tv_doc.specs.Document.{Adds, AddsLeaf, Clears, IsEmptyWith, IsUnchanged, KeepsMemory};
-    ghost use Rattle.tv_doc.specs.Document.{ReadsAt, Shrinks};
+    ghost use Rattle.tv_doc.specs.Document.{document_of, heap_of, places_of, Adds, AddsLeaf, Clears, IsEmptyWith, IsUnchanged, KeepsMemory, ReadsAt, Shrinks};
     ghost use Rattle.tv_doc.specs.MapValue.{map_tree};
     ghost use Rattle.tv_heap.specs.Value.{tree_of};
     ghost use Rattle.tv_doc.specs.FieldValues.{pairs_left, values_left, values_of};
@@ -361,5 +359,49 @@ impl<'a> Document<'a> for CompactDoc {
 
     fn iter_fields_and_values(&'a self) -> FieldValueIterRef<'a> {
         self.field_values()
+    }
+}
+
+// Texts of JSON, each beside its field.
+type FieldTexts = BTreeSet<(Field, String)>;
+
+// Those of a document's values.
+fn texts_of(document: &CompactDoc) -> Result<FieldTexts, AllocError>
+    ensures { IfOk result
+        (λ texts. IsSameSet (texts_seen texts) (field_texts (document_of document.now))) }
+{
+    let alloc = document.allocator();
+    let mut texts = BTreeSet::new(alloc);
+    for (field, value) in document.field_values() {
+        let mut text = String::new(alloc);
+        push_json(alloc, &mut text, value)?;
+        let _added = texts.insert((field, text))?;
+    }
+    Ok(texts)
+}
+
+// Whether all of the others are among the texts.
+fn has_all(texts: &FieldTexts, others: &FieldTexts) -> bool
+    ensures { IsTrue result ↔ HasAll (texts_seen texts.now) (texts_seen others.now) }
+{
+    for text in others {
+        if !texts.contains(text) {
+            return false;
+        }
+    }
+    true
+}
+
+impl CompactDoc {
+    /// Whether for each field both documents have the same set of texts of JSON, of each value the one that `push_json` adds. So the order
+    /// of the values, and how often one repeats, doesn't count; nor does the order of the keys of an object. (In place of `==`.) The only
+    /// error is that memory was refused.
+    pub fn same_as(&self, other: &CompactDoc) -> Result<bool, AllocError>
+        ensures { IfOk result
+            (λ same. IsTrue same ↔ SameTexts (document_of self.now) (document_of other.now)) }
+    {
+        let texts = texts_of(self)?;
+        let others = texts_of(other)?;
+        Ok(has_all(&texts, &others) && has_all(&others, &texts))
     }
 }

@@ -5,8 +5,7 @@ ghost use Rattle.std.specs.Iterator.{IsFinite, YieldsFirstBy};
 ghost use Rattle.tv_value.specs.declared.field.Field.{Field};
 ghost use Rattle.tv_format.specs.Tree.{Document as Pairs};
 ghost use Rattle.tv_doc.specs.Grouped.{IsGrouped, group_seen};
-ghost use Rattle.tv_doc.specs.Named.{AddsJsonText, CopiesByName, IsJsonText};
-ghost use Rattle.tv_doc.specs.Named.{NamedNestWithin};
+ghost use Rattle.tv_doc.specs.Named.{AddsJsonText, CopiesByName, IsJsonText, NamedNestWithin};
 ghost use Rattle.tv_doc.specs.FieldValues.{pair_seen};
 
 use crate::grouped::{grouped, sort_pairs};

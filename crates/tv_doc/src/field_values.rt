@@ -4,7 +4,7 @@ ghost use Rattle.std.specs.Prelude.{◌≡◌};
 ghost use Rattle.std.specs.Iterator.{YieldsFirstBy, item_count};
 ghost use Rattle.tv_builder.specs.Holds.{Holds, Holds-prop};
 
-use tv_builder::heap_pair::HeapPair;
+use tv_builder::heap_pairs::HeapPair;
 use tv_heap::value::CompactDocValue;
 use tv_value::field::Field;
 

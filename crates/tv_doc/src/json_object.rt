@@ -2,24 +2,37 @@
 
 ghost use Rattle.std.specs.Prelude.{◌≡◌, ◌∷◌, [], None, IfOk, string_bytes};
 ghost use Rattle.serde_json.specs.View.{view as data_of, items_view, members_view};
+ghost use Rattle.serde_json.specs.Read.{read};
 ghost use Rattle.tv_schema.specs.Schema.{field_named};
 ghost use Rattle.tv_field.specs.JsonAnswer.{lent_tree};
-ghost use Rattle.tv_doc.specs.JsonObject.{object_values, values_at, AddsValues, IsInvalidJson, IsValueError, items_for, value_for};
-ghost use Rattle.tv_doc.specs.JsonObject.{MakesFromObject, Parses, ParsesDocument, ParsesInto, ParsesOrTells};
+ghost use Rattle.tv_doc.specs.JsonObject.{object_values, values_at, AddsValues, IsInvalidJson, IsValueError, items_for, value_for, MakesFromObject, Parses};
+ghost use Rattle.tv_doc.specs.JsonObject.{ParsesDocument, ParsesInto, ParsesOrTells};
 ghost use Rattle.tv_doc.specs.Document.{Adds};
 ghost use Rattle.tv_doc.specs.InPlace.{in_place};
+ghost use Rattle.tv_doc.specs.TextFault.{IsFault, TellsFault};
 
 use crate::add_error::AddError;
-use crate::doc_parsing_error::DocParsingError;
 use crate::document::CompactDoc;
-use crate::named_field::NamedField;
+use crate::errors::DocParsingError;
 use crate::parse_buffers::{Adding, ParseBuffers};
 use serde_json::{Map, Value};
-use std::alloc::Global;
+use std::alloc::{AllocError, Global};
 use tv_base::text_start::text_start;
+use tv_field::FieldType;
 use tv_field::json_value::{JsonRefusal, JsonScratch, LentFieldValue};
+use tv_json::json_fault::{JsonFault, JsonFaultKind};
+use tv_json::json_scan::syntax_fault;
+use tv_json::large_number::large_number;
 use tv_schema::Schema;
 use tv_value::field::Field;
+
+// A field of the schema, by its number, its name and its type.
+#[derive(Clone, Copy)]
+pub(crate) struct NamedField<'a> {
+    pub(crate) field: Field,
+    pub(crate) name: &'a str,
+    pub(crate) field_type: &'a FieldType,
+}
 
 // Adds what is lent.
 fn add_lent(
@@ -245,6 +258,54 @@ impl CompactDoc {
         match add_object(&mut document, &mut scratch, schema, object) {
             Ok(()) => Ok(document),
             Err(error) => Err(error),
+        }
+    }
+}
+
+// What is said of a text that is JSON, and no object.
+const IS_NO_OBJECT: JsonFault = JsonFault {
+    offset: 0,
+    kind: JsonFaultKind::NoObject,
+};
+
+// Where and why a text that the JSON library doesn't read is no JSON.
+fn fault_of(text: &str) -> JsonFault
+    requires { read text.now ≡ None }
+    ensures { IsFault text.now result }
+{
+    if let Some(fault) = syntax_fault(text) {
+        return fault;
+    }
+    JsonFault {
+        offset: large_number(text).unwrap_or(text.len()),
+        kind: JsonFaultKind::NumberTooLarge,
+    }
+}
+
+/// Where and why a text is no JSON object: what `CompactDoc::parse_json` refuses with `InvalidJson`. `None` where the text is a JSON object. (Not in
+/// tantivy.) The only error is that memory was refused.
+///
+/// ```
+/// pub fn fault_in_words(alloc: Global, json: &str) -> Result<Option<String>> {
+///     match text_fault(alloc, json)? {
+///         Some(fault) => Ok(Some(format!(in alloc; "{fault}")?)),
+///         None => Ok(None),
+///     }
+/// }
+/// ```
+pub fn text_fault(alloc: Global, text: &str) -> Result<Option<JsonFault>, AllocError>
+    ensures { IfOk result (TellsFault text.now) }
+{
+    match Value::from_str(alloc, text) {
+        Ok(json) => match json {
+            Value::Object(_) => Ok(None),
+            _ => Ok(Some(IS_NO_OBJECT)),
+        },
+        Err(error) => {
+            if error.is_memory() {
+                return Err(AllocError);
+            }
+            Ok(Some(fault_of(text)))
         }
     }
 }

@@ -1,7 +1,7 @@
 //! Laws of documents, each the contract of a function that does nothing.
 
 ghost use Rattle.std.specs.Prelude.{◌≡◌, ◌⊎◌, List, IfErr, IfOk, IsErrOf};
-ghost use Rattle.tv_builder.specs.declared.build_error.BuildError.TheVariants.{HeapFull, Memory};
+ghost use Rattle.tv_builder.specs.declared.errors.BuildError.TheVariants.{HeapFull, Memory};
 ghost use Rattle.tv_field.specs.Entry.{Entry};
 ghost use Rattle.tv_format.specs.Short.{IsDocument};
 ghost use Rattle.tv_format.specs.Tree.{Document as Pairs};
@@ -16,7 +16,7 @@ ghost use Rattle.tv_doc.specs.NamedPairs.{ConvertsBack, KeepsNamed};
 use crate::builder::{BuildError, TreeBuilder};
 use crate::document::CompactDoc;
 use crate::document_trait::Document;
-use crate::named_back_error::NamedBackError;
+use crate::errors::NamedBackError;
 use std::alloc::Global;
 use tv_schema::Schema;
 use tv_schema::laws::names_are_of_one_field;

@@ -2,7 +2,7 @@
 
 ghost use Rattle.std.specs.Prelude.{◌≡◌, Some, None};
 
-use crate::doc_parsing_error::DocParsingError;
+use crate::errors::DocParsingError;
 use crate::recent_fields::RecentFields;
 use std::alloc::Global;
 use tv_field::json_value::JsonScratch;

@@ -6,10 +6,9 @@ ghost use Rattle.json.specs.Token.{Token};
 ghost use Rattle.tv_doc.specs.NotedFields.{AreNoted, ChecksKeys, NotesKey, ParsesStrictlyAfter, is_of_value};
 ghost use Rattle.tv_doc.specs.StrictJson.{IsObject, OfItsKeys, ParsesStrictDocument, ParsesStrictInto, keys_of};
 
-use crate::doc_parsing_error::DocParsingError;
 use crate::document::CompactDoc;
+use crate::errors::{DocParsingError, StrictParsingError};
 use crate::parse_buffers::ParseBuffers;
-use crate::strict_parsing_error::StrictParsingError;
 use json::Reader;
 use std::alloc::{AllocError, Global};
 use tv_base::text_start::text_start;

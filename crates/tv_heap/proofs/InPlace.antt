@@ -20,8 +20,8 @@ use Rattle.tv_format.specs.declared.leaf_type.LeafType.{LeafType}
 use Rattle.tv_format.specs.Tree.{Token, Leaf, text, Tree, leaf, array, object, Elements, no_elements, element, elements, element_count, Entries, no_entries, entry, entries, entry_count}
 use Rattle.tv_format.specs.TreeCode.{coded_text}
 use Rattle.tv_format.specs.Version.{Version, entry_total}
-use Rattle.tv_heap.specs.declared.encoded.Encoded.{Encoded}
-use Rattle.tv_heap.specs.declared.encoded.Encoded.TheVariants as held
+use Rattle.tv_heap.specs.declared.value.Encoded.{Encoded}
+use Rattle.tv_heap.specs.declared.value.Encoded.TheVariants as held
 use Rattle.tv_heap.specs.Encoded.{HoldsTokens, IsTokenized, SaysTokenized, is_last, last_byte_count}
 use Rattle.tv_heap.specs.Held.{Held, HeldElements, HeldEntries}
 use Rattle.tv_heap.specs.Reads.{Stands, ShortSized, ShortTokenized, ContentStands, LeafStands, ReadsTree, ReadsElements, ReadsEntries}

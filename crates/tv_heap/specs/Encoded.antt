@@ -6,8 +6,8 @@ use Rattle.tv_format.specs.Content.{Content, tokens_content}
 use Rattle.tv_format.specs.Leaves.{content}
 use Rattle.tv_format.specs.Tree.{Tree, leaf, elements, entries}
 use Rattle.tv_format.specs.Version.{Version, entry_total}
-use Rattle.tv_heap.specs.declared.encoded.Encoded.{Encoded}
-use Rattle.tv_heap.specs.declared.encoded.Encoded.TheVariants as held
+use Rattle.tv_heap.specs.declared.value.Encoded.{Encoded}
+use Rattle.tv_heap.specs.declared.value.Encoded.TheVariants as held
 
 -- the bytes in a version, the code first
 abbrev pub encoded_bytes : Version → Encoded → List ℕ

@@ -1,8 +1,7 @@
 //! Decoding in place. Each call gives what stands at an address, whatever stands elsewhere; where nothing of the kind
 //! stands there it gives some bytes or some number.
 
-ghost use Rattle.std.specs.Prelude.{◌≡◌, ◌↔◌, [], ◌∷◌, ◌++◌, ◌<◌, ◌≤◌, ◌^◌, ℕ, ℤ, List, None, Some};
-ghost use Rattle.std.specs.Prelude.{length, option_map};
+ghost use Rattle.std.specs.Prelude.{◌≡◌, ◌↔◌, [], ◌∷◌, ◌++◌, ◌<◌, ◌≤◌, ◌^◌, ℕ, ℤ, List, None, Some, length, option_map};
 ghost use Rattle.tv_base.specs.Number.{vnum, sixteen_bytes, Fixed, Signed};
 ghost use Rattle.tv_base.specs.Parts.{short_sized};
 ghost use Rattle.tv_value.specs.LeafParts.{content_of};
@@ -14,15 +13,13 @@ ghost use Rattle.tv_format.specs.Tree.{Token, Leaf, tokenized};
 ghost use Rattle.tv_format.specs.Version.{Version};
 ghost use Rattle.tv_format.specs.declared.leaf_type.Form.TheVariants as forms;
 ghost use Rattle.tv_heap.specs.declared.value_type.ValueType.{ValueType};
-ghost use Rattle.tv_heap.specs.Encoded.{encoded_bytes, last_byte_count, HoldsTokens, HasFewEntries};
-ghost use Rattle.tv_heap.specs.Encoded.{SaysTokenized};
+ghost use Rattle.tv_heap.specs.Encoded.{encoded_bytes, last_byte_count, HoldsTokens, HasFewEntries, SaysTokenized};
 ghost use Rattle.tv_heap.specs.Lent.{GivesChild, HasText};
-ghost use Rattle.tv_heap.specs.Reads.{Stands, ShortSized, ShortText, ShortTokenized};
-ghost use Rattle.tv_heap.specs.Reads.{LeafStands};
+ghost use Rattle.tv_heap.specs.Reads.{Stands, ShortSized, ShortText, ShortTokenized, LeafStands};
 ghost use Rattle.tv_heap.specs.TypeCode.{type_code};
 
-use crate::encoded::Encoded;
 use crate::room::MAX_HEAP_LEN;
+use crate::value::Encoded;
 use crate::value_type::ValueType;
 use tv_base::vint::VInt;
 use tv_format::leaf_type::{Form, LeafType};

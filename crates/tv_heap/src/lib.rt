@@ -1,11 +1,9 @@
 //! Values in a heap of bytes: how they are written at its end, and borrowed from it.
 #![tactic(auto)]
 
-pub mod encoded;
 pub mod laws;
 pub mod len;
 mod lent;
-pub mod place;
 pub mod room;
 mod same;
 pub mod value;

@@ -2,16 +2,33 @@
 
 ghost use Rattle.std.specs.Prelude.{◌≡◌, ◌↔◌};
 ghost use Rattle.std.specs.Iterator.{YieldsFirstBy, item_count};
-ghost use Rattle.tv_heap.specs.Held.{Held, Held-prop, HeldElements, HeldElements-prop, HeldEntries};
-ghost use Rattle.tv_heap.specs.Held.{HeldEntries-prop};
+ghost use Rattle.tv_heap.specs.Held.{Held, Held-prop, HeldElements, HeldElements-prop, HeldEntries, HeldEntries-prop};
 ghost use Rattle.tv_heap.specs.TypeCode.{type_code};
 
-use crate::encoded::Encoded;
 use crate::lent::{child_at, children, encoded_at, leaf_at, sized_at, text_at};
 use crate::same::same_value;
 use crate::value_type::ValueType;
 use tv_value::nested::{Nested, NestedValue};
 use tv_value::value::{ReferenceValue, Value};
+
+/// What the store has for a value: a code, and what stands in the heap is what the store has after it. (Not in tantivy.)
+#[derive(Clone, Copy)]
+pub enum Encoded<'a> {
+    /// No value.
+    Null,
+    /// A truth value.
+    Bool(bool),
+    /// A code, and a number in eight bytes after it.
+    Number(u8, u64),
+    /// A code, and the bytes after it.
+    Bytes(u8, &'a [u8]),
+    /// A text and its tokens: the bytes after their two codes.
+    Tokenized(&'a [u8]),
+    /// The number of the values of an array, and each of them.
+    Array(u64, CompactDocArrayIter<'a>),
+    /// The number of the entries of an object, below 2^63, and each key and value.
+    Object(u64, CompactDocObjectIter<'a>),
+}
 
 /// A value of a document, which stands in the heap that it is lent from.
 #[derive(Clone, Copy, Debug)]

@@ -1,7 +1,6 @@
 //! Writing values at the end of a heap.
 
-ghost use Rattle.std.specs.Prelude.{◌≡◌, ◌+◌, ◌<◌, ◌≤◌, ◌^◌, ◌∷◌, ◌++◌, OnOk, OnErr, IfOk, length};
-ghost use Rattle.std.specs.Prelude.{take, drop};
+ghost use Rattle.std.specs.Prelude.{◌≡◌, ◌+◌, ◌<◌, ◌≤◌, ◌^◌, ◌∷◌, ◌++◌, OnOk, OnErr, IfOk, length, take, drop};
 ghost use Rattle.tv_base.specs.Buffer.{GrowsWithin};
 ghost use Rattle.tv_base.specs.Number.{vnum, eight_bytes, sixteen_bytes};
 ghost use Rattle.tv_base.specs.Parts.{short_sized};
@@ -13,13 +12,11 @@ ghost use Rattle.tv_value.specs.LeafParts.{content_of};
 ghost use Rattle.tv_format.specs.Leaves.{type_of, content};
 ghost use Rattle.tv_format.specs.Short.{short_tokenized, IsContent};
 ghost use Rattle.tv_format.specs.Tree.{Leaf, leaf};
-ghost use Rattle.tv_heap.specs.LeafBytes.{content_bytes, content_address, leaf_bytes};
-ghost use Rattle.tv_heap.specs.LeafBytes.{leaf_value_type, leaf_address};
+ghost use Rattle.tv_heap.specs.LeafBytes.{content_bytes, content_address, leaf_bytes, leaf_value_type, leaf_address};
 ghost use Rattle.tv_heap.specs.TypeCode.{leaf_heap_type, type_code};
 ghost use Rattle.tv_heap.specs.Wrote.{Wrote};
 
-use crate::place::Place;
-use crate::value_type::ValueType;
+use crate::value_type::{Place, ValueType};
 use std::alloc::AllocError;
 use tv_base::byte_buffer::ByteBuffer;
 use tv_format::leaf_type::LeafType;

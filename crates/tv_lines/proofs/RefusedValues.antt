@@ -9,7 +9,7 @@ use Rattle.serde_json.specs.View.{view}
 use Rattle.serde_json.specs.declared.value.Value.{Value}
 use Rattle.tv_lines.specs.RefusedValues.{AreAccepted, FindsRefused, FirstRefused, IsFloatOf}
 use Rattle.tv_doc.specs.JsonObject.{FieldJson, Pairs, Parses, object_values, values_at, values_for}
-use Rattle.tv_doc.specs.declared.doc_parsing_error.DocParsingError.TheVariants.{ValueError}
+use Rattle.tv_doc.specs.declared.errors.DocParsingError.TheVariants.{ValueError}
 use Rattle.std.specs.Option.{IfSome}
 use Rattle.tv_field.specs.Entry.{Entry}
 use Rattle.tv_field.specs.JsonAnswer.{refusal_of}

@@ -5,9 +5,9 @@ use Rattle.tv_lines.specs.LineDocuments.{MakesNone, ParsesBy, Tells}
 use Rattle.tv_lines.specs.declared.line_document.LineError.{LineError}
 use Rattle.tv_lines.specs.declared.line_document.LineError.TheVariants.{Refused}
 use Rattle.tv_doc.specs.JsonObject.{Parses}
-use Rattle.tv_doc.specs.declared.doc_parsing_error.DocParsingError.{DocParsingError}
-use Rattle.tv_doc.specs.declared.doc_parsing_error.DocParsingError.TheVariants as errors
-use Rattle.tv_doc.specs.declared.strict_parsing_error.StrictParsingError.TheVariants.{Parsing}
+use Rattle.tv_doc.specs.declared.errors.DocParsingError.{DocParsingError}
+use Rattle.tv_doc.specs.declared.errors.DocParsingError.TheVariants as errors
+use Rattle.tv_doc.specs.declared.errors.StrictParsingError.TheVariants.{Parsing}
 use Rattle.tv_field.specs.Entry.{Entry}
 use Rattle.tv_field.specs.declared.value_parsing_error.ValueParsingError.{ValueParsingError}
 use Rattle.tv_field.specs.declared.value_parsing_error.ValueParsingError.TheVariants as values

@@ -7,11 +7,11 @@ use Rattle.tv_doc.specs.Document.{document_of}
 use Rattle.tv_doc.specs.JsonObject.{Parses}
 use Rattle.tv_doc.specs.StrictJson.{ParsesStrictly}
 use Rattle.tv_doc.specs.TextFault.{IsFault}
-use Rattle.tv_doc.specs.declared.doc_parsing_error.DocParsingError.{DocParsingError}
-use Rattle.tv_doc.specs.declared.doc_parsing_error.DocParsingError.TheVariants as parsing
+use Rattle.tv_doc.specs.declared.errors.DocParsingError.{DocParsingError}
+use Rattle.tv_doc.specs.declared.errors.DocParsingError.TheVariants as parsing
 use Rattle.tv_doc.specs.declared.document.CompactDoc.{CompactDoc}
-use Rattle.tv_doc.specs.declared.strict_parsing_error.StrictParsingError.{StrictParsingError}
-use Rattle.tv_doc.specs.declared.strict_parsing_error.StrictParsingError.TheVariants.{Parsing}
+use Rattle.tv_doc.specs.declared.errors.StrictParsingError.{StrictParsingError}
+use Rattle.tv_doc.specs.declared.errors.StrictParsingError.TheVariants.{Parsing}
 use Rattle.tv_field.specs.Entry.{Entry}
 use Rattle.tv_field.specs.declared.value_parsing_error.ValueParsingError.TheVariants.{FloatNumber}
 use Rattle.tv_json.specs.declared.json_fault.JsonFault.{JsonFault}

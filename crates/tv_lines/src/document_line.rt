@@ -16,14 +16,14 @@ ghost use Rattle.hex.specs.Hex.{encode_lower};
 use crate::import::put_stored;
 use std::alloc::{AllocError, Global};
 use tv_base::{SliceSource, VecSink};
-use tv_doc::doc_parsing_error::DocParsingError;
+use tv_doc::errors::DocParsingError;
 use tv_doc::document::CompactDoc;
 use tv_doc::document_trait::Document;
 use tv_doc::laws::documents_are_valid;
 use tv_doc::parse_buffers::ParseBuffers;
 use tv_field::ValueParsingError;
 use tv_format::version::WriteVersion;
-use tv_legacy::laws::{
+use tv_reader::laws::{
     documents_have_one_reading, malformed_documents_derive_none, short_documents_encode,
 };
 use tv_schema::Schema;

@@ -6,7 +6,7 @@ use Rattle.tv_base.specs.Source.{AllBytes, Failures}
 use Rattle.tv_base.specs.Stop.{Stop}
 use Rattle.tv_base.specs.Take as reads
 use Rattle.tv_base.proofs.Agrees.{same_start}
-use Rattle.tv_legacy.specs.Legacy.{Legacy}
+use Rattle.tv_reader.specs.Legacy.{Legacy}
 use Rattle.tv_format.specs.InputError.{Refusal, corrupted, no_text_key, no_extension, other_extension, in_tokenized, ErrorInBody, ErrorInCodedKey, key_ends, key_unknown, key_float, key_other, key_no_extension, key_tokenized, key_other_extension, value_ends, unknown_code, float_code, in_leaf, in_legacy, in_count, in_element, in_entry_count, odd_count, in_entry_key, in_entry}
 use Rattle.tv_format.specs.Leaves.{store_code}
 use Rattle.tv_format.specs.Encoding.{Encodes}

@@ -9,7 +9,7 @@ use Rattle.tv_base.specs.Reading.{vint_at}
 use Rattle.tv_base.specs.Source.{AllBytes, Failures}
 use Rattle.tv_base.specs.Take as reads
 use Rattle.tv_base.proofs.AgreeNumbers.{vint_agrees}
-use Rattle.tv_legacy.specs.Legacy.{Legacy}
+use Rattle.tv_reader.specs.Legacy.{Legacy}
 use Rattle.tv_value.specs.Lent.{key_and}
 use Rattle.tv_value.specs.Owned.{owned_tree, owned_entries}
 use Rattle.tv_format.specs.Encoding.{Key, Encodes}

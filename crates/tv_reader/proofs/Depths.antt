@@ -2,8 +2,8 @@
 use Rattle.std.proofs.Common.{◌≡◌, ◌≢◌, ℕ, zero, suc, ◌<◌, List, [], ◌∷◌, ◌++◌, sym, ap, ◌∙◌, arith, inl, inr, append_assoc}
 use Rattle.std.proofs.lemmas.List.{append_cancel_left}
 use Rattle.tv_base.proofs.Numbers.{one_number}
-use Rattle.tv_legacy.specs.Legacy.{Legacy}
-use Rattle.tv_legacy.proofs.Unique.{one_legacy}
+use Rattle.tv_reader.specs.Legacy.{Legacy}
+use Rattle.tv_reader.proofs.UniqueLegacy.{one_legacy}
 use Rattle.tv_format.specs.Encoding.{Encodes, EncodesElements, EncodesEntries}
 use Rattle.tv_format.specs.Leaves.{type_of}
 use Rattle.tv_format.specs.LeavesLaws.{leaf_coded}

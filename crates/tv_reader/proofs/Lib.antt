@@ -1,3 +1,16 @@
+pub mod Ended
+pub mod Blanks
+pub mod Braces
+pub mod Rests
+pub mod Slices
+pub mod LegacyObjects
+pub mod AgreeLegacy
+pub mod UniqueLegacy
+pub mod Deciding
+pub mod LegacySteps
+pub mod EarlyParts
+pub mod EarlyObjects
+pub mod EarlyTrees
 pub mod Finding
 pub mod Lending
 pub mod Codes

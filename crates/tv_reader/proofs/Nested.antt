@@ -1,8 +1,8 @@
 -- What nests within a depth as a tree is encoded within it, and without legacy objects only that.
 use Rattle.std.proofs.Common.{◌≡◌, ℕ, zero, suc, List, ◌∷◌, sym, subst, ◌∙◌, inl, inr}
 use Rattle.tv_base.proofs.Numbers.{one_number}
-use Rattle.tv_legacy.specs.Legacy.{Legacy}
-use Rattle.tv_legacy.proofs.Unique.{one_legacy}
+use Rattle.tv_reader.specs.Legacy.{Legacy}
+use Rattle.tv_reader.proofs.UniqueLegacy.{one_legacy}
 use Rattle.tv_format.specs.Encoding.{Encodes, EncodesElements, EncodesEntries, NoLegacy}
 use Rattle.tv_format.specs.Tree.{Tree, leaf, array, object, Elements, no_elements, element, element_count, Entries, no_entries, entry, entry_count}
 use Rattle.tv_format.specs.Version.{Version, entry_total}

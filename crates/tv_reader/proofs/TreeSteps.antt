@@ -17,9 +17,9 @@ use Rattle.tv_base.proofs.Agrees.{Agrees, InTurn, agrees_too, in_turn, chosen, n
 use Rattle.tv_base.proofs.AgreeNumbers.{vint_agrees}
 use Rattle.tv_base.proofs.AgreeParts.{text_agrees}
 use Rattle.tv_base.proofs.EarlyNumbers.{number_early}
-use Rattle.tv_legacy.specs.Legacy.{Legacy}
-use Rattle.tv_legacy.specs.LegacyReading.{legacy_at}
-use Rattle.tv_legacy.proofs.Agrees.{LegacyTree, legacy_agrees}
+use Rattle.tv_reader.specs.Legacy.{Legacy}
+use Rattle.tv_reader.specs.LegacyReading.{legacy_at}
+use Rattle.tv_reader.proofs.AgreeLegacy.{LegacyTree, legacy_agrees}
 use Rattle.tv_format.specs.InputError.{Refusal, corrupted, no_text_key, ErrorInCodedKey, key_ends, key_no_extension, in_key, ErrorInKey, corrupt, value_ends, no_extension, in_legacy, in_count, in_element, in_entry_count, odd_count, in_entry_key, in_entry}
 use Rattle.tv_format.specs.ErrorInList.{in_next_key, in_next_value}
 use Rattle.tv_value.specs.Lent.{key_and}

@@ -1,3 +1,7 @@
+pub mod Legacy
+pub mod LegacyReading
+pub mod LegacyScan
+pub mod LegacyLaws
 pub mod ValueType
 pub mod Error
 pub mod Version

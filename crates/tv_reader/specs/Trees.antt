@@ -6,7 +6,7 @@ use Rattle.tv_base.specs.declared.cause.Cause.TheVariants.{OddObject}
 use Rattle.tv_base.specs.Number.{VNum}
 use Rattle.tv_base.specs.Parts.{Then, Behind, Text}
 use Rattle.tv_base.specs.ErrorInPart.{ErrorInNumber, InThen}
-use Rattle.tv_legacy.specs.Legacy.{Legacy, ErrorInLegacy}
+use Rattle.tv_reader.specs.Legacy.{Legacy, ErrorInLegacy}
 use Rattle.tv_format.specs.InputError.{Refusal, ErrorInValue, ErrorInKey}
 use Rattle.tv_format.specs.ErrorInList.{ErrorInElements, ErrorInEntries}
 use Rattle.tv_value.specs.Owned.{owned_tree, owned_entries}

@@ -8,14 +8,15 @@ ghost use Rattle.tv_reader.specs.Heads.{EncodesHead, EncodesKeyHead, CodedLength
 ghost use Rattle.tv_reader.specs.HeadReading.{head_part};
 ghost use Rattle.tv_reader.specs.Trees.{NoValue};
 ghost use Rattle.tv_reader.specs.Version.{version_of};
+ghost use Rattle.tv_reader.specs.Error.{StoreTakesLean};
+ghost use Rattle.tv_reader.specs.Fields.{field_at};
 ghost use Rattle.tv_format.specs.InputError.{Corrupt, ErrorInCodedKey, ErrorInKey};
 
 use crate::error::DeserializeError;
-use crate::kinds::take_kind;
-use crate::value_type::{ValueType, take_head_behind};
+use crate::value_type::{ValueType, take_head_behind, take_kind};
 use crate::version::DocStoreVersion;
 use tv_base::ByteSource;
-use tv_base::take::take_vint;
+use tv_base::take::{take_u32, take_vint};
 use tv_format::leaf_type::LeafType;
 use tv_value::leaf::ReferenceValueLeaf;
 
@@ -112,4 +113,16 @@ pub fn take_document_head<S: ByteSource>(
 {
     let number = take_vint(source, count)?;
     Ok(number)
+}
+
+/// Takes a field number.
+///
+/// Errors: `CorruptedValue(UnexpectedEnd)` where fewer than four bytes are left, and `Io`.
+#[tactic(auto, using(tv_base::proofs::TakeSteps::Taken_then), unfolding(crate::specs::Fields::field_at))]
+pub fn take_field<S: ByteSource>(source: &mut S, count: &mut u64) -> Result<u32, DeserializeError>
+    ensures takes { StoreTakesLean S.ByteSource source.old count.old source.new count.new
+        (λ x. x) result field_at }
+    ensures at_most { count.new ≤ count.old + 4 }
+{
+    Ok(take_u32(source, count)?)
 }

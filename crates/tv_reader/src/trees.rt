@@ -8,12 +8,10 @@ ghost use Rattle.tv_format.specs.Tree.{elements, entries};
 ghost use Rattle.tv_format.specs.Version.{Version};
 ghost use Rattle.tv_format.specs.InputError.{ErrorInCodedKey, ErrorInKey};
 ghost use Rattle.tv_reader.specs.Counts.{half_at, entry_count_at};
-ghost use Rattle.tv_reader.specs.Depth.{Opens, EncodesWithin, ElementsWithin, EntriesWithin};
-ghost use Rattle.tv_reader.specs.Depth.{BehindKey, AmongElements, AmongEntries};
+ghost use Rattle.tv_reader.specs.Depth.{Opens, EncodesWithin, ElementsWithin, EntriesWithin, BehindKey, AmongElements, AmongEntries};
 ghost use Rattle.tv_reader.specs.Finds.{FindsRoomy, FindsDeep};
-ghost use Rattle.tv_reader.specs.Trees.{EncodesValue, NoValue, EncodesBehind, NoneBehind};
-ghost use Rattle.tv_reader.specs.Trees.{EncodesItems, NoItems, EncodesMember, NoMember};
-ghost use Rattle.tv_reader.specs.Trees.{EncodesMembers, NoMembers, CodedKey};
+ghost use Rattle.tv_reader.specs.Trees.{EncodesValue, NoValue, EncodesBehind, NoneBehind, EncodesItems, NoItems, EncodesMember, NoMember, EncodesMembers};
+ghost use Rattle.tv_reader.specs.Trees.{NoMembers, CodedKey};
 ghost use Rattle.tv_reader.specs.ValueType.{type_prefix};
 ghost use Rattle.tv_reader.specs.Version.{version_of};
 ghost use Rattle.tv_reader.specs.declared.error.DeserializeError.TheVariants as errors;
@@ -21,13 +19,12 @@ ghost use Rattle.tv_reader.specs.declared.value_type.ValueType.TheVariants as ty
 ghost use Rattle.tv_value.specs.Owned.{owned_tree, owned_entries};
 
 use crate::error::{DeserializeError, ValueType};
-use crate::kinds::take_kind;
-use crate::value_type::take_leaf;
+use crate::legacy::take_legacy;
+use crate::value_type::{take_kind, take_leaf};
 use crate::version::DocStoreVersion;
 use std::alloc::Global;
 use tv_base::take::{take_string, take_vint};
 use tv_base::{ByteSource, Cause, ReadError};
-use tv_legacy::take::take_legacy;
 use tv_value::owned_value::OwnedValue;
 
 // Half of a number.

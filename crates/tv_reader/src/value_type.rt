@@ -1,23 +1,26 @@
 //! The types of values in the store, and what is done by type.
 
-ghost use Rattle.std.specs.Prelude.{◌≡◌, ◌≤◌, ◌+◌, IsTrue, IfOk};
+ghost use Rattle.std.specs.Prelude.{◌≡◌, ◌≤◌, ◌+◌, IsTrue, IfOk, ◌<◌, OnOk};
 ghost use Rattle.tv_base.specs.Take.{TakesBy, TakesLean};
 ghost use Rattle.tv_reader.specs.HeadReading.{head_part, head_at};
 ghost use Rattle.tv_reader.specs.Leaves.{leaf_at, is_leaf_type, IsSingle};
 ghost use Rattle.tv_reader.specs.ValueType.{of_leaf, leaf_type, value_type_with};
 ghost use Rattle.tv_reader.specs.Version.{version_of};
+ghost use Rattle.tv_reader.specs.Kinds.{extension_at, kind_at};
 ghost use Rattle.tv_value.specs.Owned.{owned_tree};
 
 use crate::heads::Head;
 use crate::leaves::{take_date, take_ip_address, take_tokenized};
 use crate::trees::take_entry_count;
-use crate::type_codes::{ARRAY_CODE, JSON_OBJ_CODE, OBJECT_CODE};
+use crate::type_codes::{
+    ARRAY_CODE, EXT_CODE, F64_CODE, JSON_OBJ_CODE, OBJECT_CODE, TOK_STR_EXT_CODE,
+};
 use crate::version::DocStoreVersion;
 use std::alloc::Global;
 use tv_base::take::{
-    take_bool, take_bytes, take_facet, take_i64, take_string, take_u64, take_vint,
+    take_bool, take_bytes, take_facet, take_i64, take_string, take_u8, take_u64, take_vint,
 };
-use tv_base::{ByteSource, ReadError};
+use tv_base::{ByteSource, Cause, ReadError};
 use tv_format::leaf_type::LeafType;
 use tv_value::leaf::ReferenceValueLeaf;
 use tv_value::owned_value::OwnedValue;
@@ -175,5 +178,39 @@ pub fn take_leaf<S: ByteSource>(
         ValueType::IpAddr => Ok(OwnedValue::IpAddr(take_ip_address(source, count)?)),
         ValueType::Null => Ok(OwnedValue::Null),
         ValueType::JSONObject | ValueType::Array | ValueType::Object => unreachable!(),
+    }
+}
+
+#[tactic(auto, unfolding(crate::specs::Kinds::extension_at))]
+fn take_extension<S: ByteSource>(source: &mut S, count: &mut u64) -> Result<ValueType, ReadError>
+    ensures takes { TakesLean S.ByteSource source.old count.old source.new count.new
+        (λ x. x) result extension_at }
+    ensures advances { OnOk result (count.old < count.new) }
+    ensures at_most { count.new ≤ count.old + 1 }
+{
+    match take_u8(source, count)? {
+        TOK_STR_EXT_CODE => Ok(ValueType::PreTokStr),
+        code => Err(ReadError::Corrupted(Cause::UnknownExtCode(code))),
+    }
+}
+
+/// Takes all that stands before a value: the code of its type, and after the code of an extension its own.
+///
+/// Errors: those of `take_u8`, `Corrupted(FloatCode)` at the code of floating-point numbers, `Corrupted(UnknownTypeCode)` at one
+/// above 13, and `Corrupted(UnknownExtCode)` at an extension other than 0.
+#[tactic(auto, using(tv_base::proofs::TakeSteps::Taken_then), unfolding(crate::specs::Kinds::kind_at))]
+pub fn take_kind<S: ByteSource>(source: &mut S, count: &mut u64) -> Result<ValueType, ReadError>
+    ensures takes { TakesLean S.ByteSource source.old count.old source.new count.new
+        (λ x. x) result kind_at }
+    ensures advances { OnOk result (count.old < count.new) }
+    ensures at_most { count.new ≤ count.old + 2 }
+{
+    match take_u8(source, count)? {
+        EXT_CODE => take_extension(source, count),
+        F64_CODE => Err(ReadError::Corrupted(Cause::FloatCode)),
+        code => match ValueType::from_code(code) {
+            Some(kind) => Ok(kind),
+            None => Err(ReadError::Corrupted(Cause::UnknownTypeCode(code))),
+        },
     }
 }

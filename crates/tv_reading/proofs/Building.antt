@@ -1,7 +1,7 @@
 -- What the calls of a builder leave where each is made in its place.
 use Rattle.std.proofs.Common.{◌≡◌, ℕ, false, Result, Ok, Err, subst}
-use Rattle.tv_builder.specs.declared.build_error.BuildError.{BuildError}
-use Rattle.tv_builder.specs.declared.build_error.BuildError.TheVariants.{AlreadyFailed, OutOfPlace, NotUtf8, HeapFull, Memory}
+use Rattle.tv_builder.specs.declared.errors.BuildError.{BuildError}
+use Rattle.tv_builder.specs.declared.errors.BuildError.TheVariants.{AlreadyFailed, OutOfPlace, NotUtf8, HeapFull, Memory}
 use Rattle.tv_builder.specs.State.{State, and_end}
 use Rattle.tv_builder.specs.declared.pair_builder.PairBuilder.{PairBuilder}
 use Rattle.tv_builder.specs.Builder.{state_of, Overfull, Goes, BuildsIf, Builds, HasAllBytes, HasContent, EndsIf, Ends, IsComplete, Finished, FinishesIf, Finishes}

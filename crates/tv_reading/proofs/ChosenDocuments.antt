@@ -14,7 +14,7 @@ use Rattle.tv_builder.specs.HeldPairs.{document_of}
 use Rattle.tv_builder.specs.declared.heap_pairs.HeapPairs.{HeapPairs}
 use Rattle.tv_builder.proofs.Grammar.{each_append}
 use Rattle.tv_heap.specs.Room.{document_room}
-use Rattle.tv_legacy.specs.Legacy.{Legacy, ErrorInLegacy}
+use Rattle.tv_reader.specs.Legacy.{Legacy, ErrorInLegacy}
 use Rattle.tv_format.specs.Encoding.{EncodesPair}
 use Rattle.tv_format.specs.InputError.{Refusal, Corrupt, ErrorInPair}
 use Rattle.tv_format.specs.Tree.{Tree, Document}

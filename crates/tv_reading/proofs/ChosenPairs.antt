@@ -12,7 +12,7 @@ use Rattle.tv_base.proofs.Numbers.{one_fixed}
 use Rattle.tv_base.proofs.Widths.{fixed_4}
 use Rattle.tv_builder.specs.HeldPairs.{document_of}
 use Rattle.tv_builder.specs.declared.heap_pairs.HeapPairs.{HeapPairs}
-use Rattle.tv_legacy.specs.Legacy.{Legacy, ErrorInLegacy}
+use Rattle.tv_reader.specs.Legacy.{Legacy, ErrorInLegacy}
 use Rattle.tv_format.specs.Encoding.{EncodesPair, NoLegacy}
 use Rattle.tv_format.specs.InputError.{Refusal, corrupted, ErrorInPair}
 use Rattle.tv_format.specs.Tree.{Tree, Document}

@@ -17,7 +17,7 @@ use Rattle.tv_format.proofs.Prefixes.{begins_item, begins_nothing, begins_then}
 use Rattle.tv_format.specs.Encoding.{EncodesPair, NoLegacy}
 use Rattle.tv_format.specs.Tree.{Tree, Document}
 use Rattle.tv_format.specs.Version.{Version}
-use Rattle.tv_legacy.specs.Legacy.{Legacy}
+use Rattle.tv_reader.specs.Legacy.{Legacy}
 use Rattle.tv_reader.specs.Error.{StoreMayStop}
 use Rattle.tv_reader.specs.Finds.{FindsIf, Nothing}
 use Rattle.tv_reader.proofs.Finding.{finds_as, finds_then}

@@ -9,7 +9,7 @@ use Rattle.tv_format.specs.ErrorInList.{ErrorInElements, ErrorInEntries, in_next
 use Rattle.tv_format.specs.InputError.{Refusal, ErrorInPair, in_element, in_entry_key, in_entry}
 use Rattle.tv_format.specs.Tree.{array, object, Elements, no_elements, element, element_count, Entries, no_entries, entry, entry_count, Document}
 use Rattle.tv_format.specs.Version.{Version, entry_total}
-use Rattle.tv_legacy.specs.Legacy.{Legacy, ErrorInLegacy}
+use Rattle.tv_reader.specs.Legacy.{Legacy, ErrorInLegacy}
 use Rattle.tv_reader.specs.Trees.{NoValue}
 use Rattle.tv_reader.proofs.BehindKinds.{value_ended}
 use Rattle.tv_reader.proofs.TreeSteps.{key_error_ended, no_rest}

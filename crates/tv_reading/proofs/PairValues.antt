@@ -17,8 +17,8 @@ use Rattle.tv_builder.specs.declared.heap_pairs.HeapPairs.{HeapPairs}
 use Rattle.tv_builder.proofs.Grammar.{each_append}
 use Rattle.tv_heap.specs.Room.{room, document_room}
 use Rattle.tv_heap.proofs.ListRooms.{document_room-cons}
-use Rattle.tv_legacy.specs.Legacy.{Legacy, ErrorInLegacy}
-use Rattle.tv_legacy.proofs.Unique.{one_legacy, legacy_excludes}
+use Rattle.tv_reader.specs.Legacy.{Legacy, ErrorInLegacy}
+use Rattle.tv_reader.proofs.UniqueLegacy.{one_legacy, legacy_excludes}
 use Rattle.tv_format.specs.Encoding.{Encodes, EncodesPair, EncodesDocument}
 use Rattle.tv_format.specs.InputError.{Refusal, ErrorInPair, ErrorInDocument}
 use Rattle.tv_format.specs.Tree.{Tree, Document}

@@ -10,8 +10,8 @@ use Rattle.tv_builder.specs.Parts.{field}
 use Rattle.tv_builder.specs.State.{State, IsState, parts_of, state_room}
 use Rattle.tv_heap.specs.Room.{document_room}
 use Rattle.tv_heap.proofs.ListRooms.{document_room-cons}
-use Rattle.tv_legacy.specs.Legacy.{Legacy}
-use Rattle.tv_legacy.proofs.Unique.{one_legacy}
+use Rattle.tv_reader.specs.Legacy.{Legacy}
+use Rattle.tv_reader.proofs.UniqueLegacy.{one_legacy}
 use Rattle.tv_format.specs.Encoding.{EncodesPair, EncodesDocument}
 use Rattle.tv_format.specs.Tree.{Tree, Document}
 use Rattle.tv_format.specs.Version.{Version}

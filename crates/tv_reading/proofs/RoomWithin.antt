@@ -17,10 +17,10 @@ use Rattle.tv_format.proofs.Leaves.{agree_key, total_same}
 use Rattle.tv_format.proofs.Trees.{one_tree, one_pair}
 use Rattle.tv_heap.specs.Room.{room, content_room, elements_room, entries_room, document_room}
 use Rattle.tv_heap.proofs.ListRooms.{document_room-cons}
-use Rattle.tv_builder.specs.declared.bytes_kind.BytesKind.{BytesKind}
-use Rattle.tv_builder.specs.declared.bytes_kind.BytesKind.TheVariants as kinds
-use Rattle.tv_builder.specs.declared.list_kind.ListKind.{ListKind}
-use Rattle.tv_builder.specs.declared.list_kind.ListKind.TheVariants.{Array, Object}
+use Rattle.tv_builder.specs.declared.kinds.BytesKind.{BytesKind}
+use Rattle.tv_builder.specs.declared.kinds.BytesKind.TheVariants as kinds
+use Rattle.tv_builder.specs.declared.kinds.ListKind.{ListKind}
+use Rattle.tv_builder.specs.declared.kinds.ListKind.TheVariants.{Array, Object}
 use Rattle.tv_builder.specs.Behind.{pairs_parts, open_parts}
 use Rattle.tv_builder.specs.Prefix.{KeyHead, EncodesPart}
 use Rattle.tv_builder.specs.Kinds.{total}

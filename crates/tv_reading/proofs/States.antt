@@ -2,14 +2,14 @@
 use Rattle.std.proofs.Common.{◌≡◌, ℕ, ◌%◌, nat_eq, List, [], ◌∷◌, length, refl, sym, ◌∙◌, inl, inr}
 use Rattle.std.proofs.lemmas.Bool.{cond-true, cond-false}
 use Rattle.std.proofs.lemmas.Bool.Decides.{eqb_tells}
-use Rattle.tv_builder.specs.declared.awaits.Awaits.TheVariants as awaits
+use Rattle.tv_builder.specs.declared.kinds.Awaits.TheVariants as awaits
 use Rattle.std.specs.Coded.{le_prop}
 use Rattle.std.proofs.Math.Logic.{∥∥₁_elim}
 use Rattle.std.proofs.Math.Nat.{ℕ_set}
-use Rattle.tv_builder.specs.declared.bytes_kind.BytesKind.{BytesKind}
-use Rattle.tv_builder.specs.declared.bytes_kind.BytesKind.TheVariants as kinds
-use Rattle.tv_builder.specs.declared.list_kind.ListKind.{ListKind}
-use Rattle.tv_builder.specs.declared.list_kind.ListKind.TheVariants.{Array, Object}
+use Rattle.tv_builder.specs.declared.kinds.BytesKind.{BytesKind}
+use Rattle.tv_builder.specs.declared.kinds.BytesKind.TheVariants as kinds
+use Rattle.tv_builder.specs.declared.kinds.ListKind.{ListKind}
+use Rattle.tv_builder.specs.declared.kinds.ListKind.TheVariants.{Array, Object}
 use Rattle.tv_builder.specs.State.{OpenList, State, complete, in_lists, in_bytes, next_at, IsKeyLeaf, StartsWithKey, StartsWithValue, AreChildren, IsList, AreLists, IsValueNext, IsKeyNext, AllAwait, OthersAwait, HeadNext, IsState}
 use Rattle.tv_builder.specs.declared.pair_builder.PairBuilder.{PairBuilder}
 use Rattle.tv_builder.specs.Builder.{state_of}

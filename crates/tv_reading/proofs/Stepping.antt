@@ -7,7 +7,7 @@ use Rattle.tv_base.specs.Source.{Failures}
 use Rattle.tv_base.proofs.Numbers.{length-fixed}
 use Rattle.tv_builder.specs.Behind.{document_parts, open_parts}
 use Rattle.tv_builder.specs.Prefix.{EncodesPart}
-use Rattle.tv_builder.specs.declared.bytes_kind.BytesKind.TheVariants as kinds
+use Rattle.tv_builder.specs.declared.kinds.BytesKind.TheVariants as kinds
 use Rattle.tv_builder.specs.Parts.{Part, number, field, value, array_head, object_head, bytes_head, Trades, same}
 use Rattle.tv_builder.specs.State.{parts_of}
 use Rattle.tv_builder.proofs.Grammar.{each_append, trades_sound}
@@ -15,7 +15,7 @@ use Rattle.tv_builder.proofs.Trading.{trades_as, trades_from}
 use Rattle.tv_builder.specs.declared.pair_builder.PairBuilder.{PairBuilder}
 use Rattle.tv_builder.specs.Builder.{built, state_of}
 use Rattle.tv_builder.proofs.Paid.{groups_take, scaled_length}
-use Rattle.tv_legacy.specs.Legacy.{Legacy}
+use Rattle.tv_reader.specs.Legacy.{Legacy}
 use Rattle.tv_reader.specs.Finds.{FindsIf}
 use Rattle.tv_reader.specs.HeadReading.{head_part}
 use Rattle.tv_reader.specs.Heads.{HeadPart, leaf_head, length_head, HasWidth, array_head as array_number, object_head as object_number, tokenized_head, legacy_head, EncodesHead, EncodesKeyHead}

@@ -8,17 +8,17 @@ use Rattle.tv_base.specs.ErrorInPart.{ErrorInNumber, number_ends, bytes_end}
 use Rattle.tv_base.specs.Parts.{Each}
 use Rattle.tv_base.specs.ReadsAs.{EndsEarly}
 use Rattle.tv_base.specs.Source.{Failures}
-use Rattle.tv_builder.specs.declared.awaits.Awaits.TheVariants as awaits
-use Rattle.tv_builder.specs.declared.list_kind.ListKind.{ListKind}
-use Rattle.tv_builder.specs.declared.list_kind.ListKind.TheVariants.{Array, Object}
+use Rattle.tv_builder.specs.declared.kinds.Awaits.TheVariants as awaits
+use Rattle.tv_builder.specs.declared.kinds.ListKind.{ListKind}
+use Rattle.tv_builder.specs.declared.kinds.ListKind.TheVariants.{Array, Object}
 use Rattle.tv_builder.specs.Behind.{pairs_parts, document_parts}
 use Rattle.tv_builder.specs.Prefix.{EncodesPart, Encoded}
 use Rattle.tv_builder.specs.State.{State, complete, in_lists, in_bytes, next_at, next_in, awaited}
 use Rattle.tv_builder.specs.declared.heap_pairs.HeapPairs.{HeapPairs}
 use Rattle.tv_builder.specs.HeldPairs.{document_of}
 use Rattle.tv_builder.specs.Builder.{built, state_of}
-use Rattle.tv_legacy.specs.Legacy.{Legacy, ErrorInLegacy}
-use Rattle.tv_legacy.proofs.Unique.{one_legacy, legacy_excludes, single_legacy}
+use Rattle.tv_reader.specs.Legacy.{Legacy, ErrorInLegacy}
+use Rattle.tv_reader.proofs.UniqueLegacy.{one_legacy, legacy_excludes, single_legacy}
 use Rattle.tv_reader.specs.Finds.{FindsIf, Nothing}
 use Rattle.tv_reader.specs.declared.error.DeserializeError.{DeserializeError}
 use Rattle.tv_reader.specs.declared.error.DeserializeError.TheVariants as errors

@@ -6,11 +6,11 @@ use Rattle.tv_base.specs.declared.cause.Cause.TheVariants as causes
 use Rattle.tv_base.specs.ErrorInPart.{ErrorInBytes}
 use Rattle.tv_base.specs.Source.{Failures}
 use Rattle.tv_base.proofs.AgreeWidths.{AreBytes, bytes_error}
-use Rattle.tv_builder.specs.declared.awaits.Awaits.TheVariants as awaits
+use Rattle.tv_builder.specs.declared.kinds.Awaits.TheVariants as awaits
 use Rattle.tv_builder.specs.Parts.{Part, some_bytes}
 use Rattle.tv_builder.specs.State.{State, complete, in_lists, in_bytes, awaited}
 use Rattle.tv_builder.specs.Builder.{built, state_of}
-use Rattle.tv_legacy.specs.Legacy.{Legacy}
+use Rattle.tv_reader.specs.Legacy.{Legacy}
 use Rattle.tv_reader.specs.Finds.{ShowsRefusal, Found, FindsIf}
 use Rattle.tv_reader.specs.HeadReading.{head_part}
 use Rattle.tv_reader.specs.Heads.{EncodesHead}

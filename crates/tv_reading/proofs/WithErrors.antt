@@ -3,15 +3,15 @@ use Rattle.std.proofs.Common.{◌≡◌, ℕ, ◌-◌, ◌<◌, List, [], ◌∷
 use Rattle.tv_base.specs.declared.cause.Cause.{Cause}
 use Rattle.tv_base.specs.declared.cause.Cause.TheVariants.{UnexpectedEnd, NotUtf8}
 use Rattle.tv_base.specs.ErrorInPart.{ErrorInNumber, ErrorInBytes}
-use Rattle.tv_builder.specs.declared.awaits.Awaits.{Awaits}
-use Rattle.tv_builder.specs.declared.awaits.Awaits.TheVariants as awaits
+use Rattle.tv_builder.specs.declared.kinds.Awaits.{Awaits}
+use Rattle.tv_builder.specs.declared.kinds.Awaits.TheVariants as awaits
 use Rattle.tv_builder.specs.Behind.{ErrorsBehind}
 use Rattle.tv_builder.specs.Prefix.{Encoded}
 use Rattle.tv_builder.specs.State.{OpenList, State, complete, in_lists, in_bytes, next_in, awaited, IsState}
 use Rattle.tv_builder.proofs.WithErrors.{field_errors, value_errors, key_errors, end_errors, text_errors}
 use Rattle.tv_builder.proofs.Sound.{all_await, next_key}
 use Rattle.tv_builder.specs.Builder.{built, state_of}
-use Rattle.tv_legacy.specs.Legacy.{Legacy, ErrorInLegacy}
+use Rattle.tv_reader.specs.Legacy.{Legacy, ErrorInLegacy}
 use Rattle.tv_format.specs.InputError.{Refusal, corrupted, Corrupt, corrupt, ErrorInKey, ErrorInValue, ErrorInDocument}
 use Rattle.tv_format.specs.Tree.{Document}
 use Rattle.tv_format.specs.Version.{Version}

@@ -7,7 +7,7 @@ use Rattle.tv_builder.specs.declared.heap_pairs.HeapPairs.{HeapPairs}
 use Rattle.tv_format.specs.Encoding.{EncodesPair}
 use Rattle.tv_format.specs.Tree.{Tree, Document}
 use Rattle.tv_format.specs.Version.{Version}
-use Rattle.tv_legacy.specs.Legacy.{Legacy}
+use Rattle.tv_reader.specs.Legacy.{Legacy}
 use Rattle.tv_reading.specs.ChosenFields.{chosen}
 use Rattle.tv_value.specs.declared.field.Field.{Field}
 

@@ -7,7 +7,7 @@ use Rattle.tv_builder.specs.State.{State, IsState, state_room}
 use Rattle.tv_builder.specs.HeldPairs.{document_of}
 use Rattle.tv_builder.specs.declared.heap_pairs.HeapPairs.{HeapPairs}
 use Rattle.tv_heap.specs.Room.{document_room}
-use Rattle.tv_legacy.specs.Legacy.{Legacy}
+use Rattle.tv_reader.specs.Legacy.{Legacy}
 use Rattle.tv_format.specs.Encoding.{EncodesDocument}
 use Rattle.tv_format.specs.Tree.{Document}
 use Rattle.tv_format.specs.Version.{Version}

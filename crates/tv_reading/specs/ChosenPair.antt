@@ -8,7 +8,7 @@ use Rattle.tv_builder.specs.State.{State, IsState, parts_of, state_room}
 use Rattle.tv_builder.specs.HeldPairs.{document_of}
 use Rattle.tv_builder.specs.declared.heap_pairs.HeapPairs.{HeapPairs}
 use Rattle.tv_heap.specs.Room.{document_room}
-use Rattle.tv_legacy.specs.Legacy.{Legacy, ErrorInLegacy}
+use Rattle.tv_reader.specs.Legacy.{Legacy, ErrorInLegacy}
 use Rattle.tv_format.specs.Encoding.{EncodesPair}
 use Rattle.tv_format.specs.InputError.{Refusal, ErrorInPair}
 use Rattle.tv_format.specs.Tree.{Tree, Document}

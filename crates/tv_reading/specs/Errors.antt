@@ -1,7 +1,7 @@
 -- What the errors of a tree builder are called by a reader of the store.
 use Rattle.tv_base.specs.declared.cause.Cause.TheVariants as causes
-use Rattle.tv_builder.specs.declared.build_error.BuildError.{BuildError}
-use Rattle.tv_builder.specs.declared.build_error.BuildError.TheVariants as builds
+use Rattle.tv_builder.specs.declared.errors.BuildError.{BuildError}
+use Rattle.tv_builder.specs.declared.errors.BuildError.TheVariants as builds
 use Rattle.tv_reader.specs.declared.error.DeserializeError.{DeserializeError}
 use Rattle.tv_reader.specs.declared.error.DeserializeError.TheVariants as errors
 

@@ -6,9 +6,9 @@ use Rattle.tv_builder.specs.Behind.{open_parts}
 use Rattle.tv_builder.specs.Kinds.{IsTextKind}
 use Rattle.tv_builder.specs.Parts.{Part, Trades, value, array_head, object_head, bytes_head}
 use Rattle.tv_builder.specs.State.{State, complete, in_lists, in_bytes, IsState, awaited, state_room}
-use Rattle.tv_builder.specs.declared.awaits.Awaits.{Awaits}
-use Rattle.tv_builder.specs.declared.bytes_kind.BytesKind.{BytesKind}
-use Rattle.tv_builder.specs.declared.bytes_kind.BytesKind.TheVariants as kinds
+use Rattle.tv_builder.specs.declared.kinds.Awaits.{Awaits}
+use Rattle.tv_builder.specs.declared.kinds.BytesKind.{BytesKind}
+use Rattle.tv_builder.specs.declared.kinds.BytesKind.TheVariants as kinds
 use Rattle.tv_builder.specs.Builder.{built, state_of, HasAllBytes, HasContent}
 use Rattle.tv_heap.specs.Room.{document_room}
 use Rattle.tv_reader.specs.Heads.{HeadPart, leaf_head, length_head, array_head as array_number, object_head as object_number, tokenized_head, legacy_head}

@@ -10,7 +10,7 @@ use Rattle.tv_format.specs.Encoding.{TokenEncoding, Tokenized, Key, Encodes, Enc
 use Rattle.tv_format.specs.InputError.{Refusal, corrupted, Corrupt, ErrorInToken, ErrorInKey}
 use Rattle.tv_format.specs.Tree.{Token, Tree, Document}
 use Rattle.tv_format.specs.Version.{Version, entry_total}
-use Rattle.tv_legacy.specs.Legacy.{Legacy}
+use Rattle.tv_reader.specs.Legacy.{Legacy}
 use Rattle.tv_reader.specs.Trees.{NoValue}
 use Rattle.tv_reading.specs.declared.items.ItemKind.{ItemKind}
 use Rattle.tv_reading.specs.declared.items.ItemKind.TheVariants as kinds

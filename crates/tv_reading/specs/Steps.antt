@@ -1,7 +1,7 @@
 -- What a step of a reader takes, and what has come then.
 use Rattle.std.specs.Prelude.{◌≡◌, ℕ, ◌+◌, ◌<◌, ◌≤◌, ◌⊎◌, Bool, true, false, List, [], ◌∷◌, ◌++◌, length}
 use Rattle.tv_builder.specs.Prefix.{Encoded}
-use Rattle.tv_legacy.specs.Legacy.{Legacy}
+use Rattle.tv_reader.specs.Legacy.{Legacy}
 use Rattle.tv_format.specs.Encoding.{NoLegacy}
 use Rattle.tv_format.specs.Tree.{Entries}
 use Rattle.tv_format.specs.Version.{Version}

@@ -3,24 +3,21 @@
 ghost use Rattle.std.specs.Prelude.{◌≡◌, [], Ok, IfSome, IsErrOf, true};
 ghost use Rattle.tv_builder.specs.HeldPairs.{document_of};
 ghost use Rattle.tv_reading.specs.ChosenFields.{EncodesChosen, HasNoRoomChosen};
-ghost use Rattle.tv_reading.specs.ChosenPair.{BeginsAsPair, AddsIf, FindsPair, FindsNoPair};
-ghost use Rattle.tv_reading.specs.ChosenPair.{PairHasNoRoom};
+ghost use Rattle.tv_reading.specs.ChosenPair.{BeginsAsPair, AddsIf, FindsPair, FindsNoPair, PairHasNoRoom};
 ghost use Rattle.tv_reading.specs.Documents.{NoDocument};
 ghost use Rattle.tv_reading.specs.PairValue.{CanStand};
 ghost use Rattle.tv_reader.specs.Finds.{Finds, Nothing};
 ghost use Rattle.tv_reader.specs.Version.{version_of};
 ghost use Rattle.tv_reader.specs.declared.error.DeserializeError.TheVariants.{HeapFull};
 
-use crate::buffered::take_buffered_pairs;
-use crate::chosen_buffered::take_buffered_chosen;
+use crate::buffered::{take_buffered_chosen, take_buffered_pairs};
 use crate::document::take_pair_value;
 use crate::items::pass_value;
 use crate::wanted::is_among;
 use std::alloc::Global;
 use tv_base::ByteSource;
 use tv_builder::heap_pairs::HeapPairs;
-use tv_reader::fields::take_field;
-use tv_reader::heads::take_document_head;
+use tv_reader::heads::{take_document_head, take_field};
 use tv_reader::{DeserializeError, DocStoreVersion};
 use tv_value::field::Field;
 

@@ -2,14 +2,13 @@
 
 ghost use Rattle.std.specs.Prelude.{◌≡◌, ◌<◌, ◌∷◌, ◌++◌, [], Ok, OnOk};
 ghost use Rattle.tv_format.specs.InputError.{ErrorInDocument};
-ghost use Rattle.tv_legacy.specs.Legacy.{Legacy, ErrorInLegacy};
+ghost use Rattle.tv_reader.specs.Legacy.{Legacy, ErrorInLegacy};
 ghost use Rattle.tv_reader.specs.Finds.{FindsRoomy, Nothing};
 ghost use Rattle.tv_reader.specs.Trees.{NoValue};
 ghost use Rattle.tv_reader.specs.ValueType.{type_prefix};
 ghost use Rattle.tv_reader.specs.Version.{version_of};
-ghost use Rattle.tv_reading.specs.Skip.{Before, ErrorBefore, ErrorInItem, ErrorInLeft};
-ghost use Rattle.tv_reading.specs.Skip.{AreLeft, IsValueEncoding, IsDocumentEncoding, OpensValue, OpensItem, TakesItem};
-ghost use Rattle.tv_reading.specs.Skip.{open_items, Passed};
+ghost use Rattle.tv_reading.specs.Skip.{Before, ErrorBefore, ErrorInItem, ErrorInLeft, AreLeft, IsValueEncoding, IsDocumentEncoding, OpensValue, OpensItem};
+ghost use Rattle.tv_reading.specs.Skip.{TakesItem, open_items, Passed};
 
 use crate::encoded::behind_as_many;
 use crate::parts::{skip_key, skip_sized, skip_text};
@@ -18,11 +17,9 @@ use std::alloc::Global;
 use tv_base::ByteSource;
 use tv_base::take::take_vint;
 use tv_reader::DeserializeError;
-use tv_reader::fields::take_field;
-use tv_reader::heads::take_document_head;
-use tv_reader::kinds::take_kind;
+use tv_reader::heads::{take_document_head, take_field};
 use tv_reader::trees::{take_entry_count, take_legacy_object};
-use tv_reader::value_type::{ValueType, take_leaf};
+use tv_reader::value_type::{ValueType, take_kind, take_leaf};
 use tv_reader::version::DocStoreVersion;
 use tv_value::nesting::MAX_DEPTH;
 

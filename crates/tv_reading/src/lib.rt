@@ -4,10 +4,8 @@
 
 pub mod buffered;
 pub mod chosen;
-mod chosen_buffered;
 pub mod document;
 mod encoded;
-mod errors;
 pub mod items;
 mod parts;
 pub mod reading;

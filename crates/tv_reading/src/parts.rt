@@ -5,13 +5,12 @@ ghost use Rattle.tv_base.specs.ErrorInPart.{ErrorInBytes, ErrorInSized, ErrorInT
 ghost use Rattle.tv_format.specs.InputError.{Corrupt, ErrorInCodedKey, ErrorInKey};
 ghost use Rattle.tv_reader.specs.Finds.{FindsLean, FindsRoomy, Nothing};
 ghost use Rattle.tv_reader.specs.Version.{version_of};
-ghost use Rattle.tv_reading.specs.Skip.{Before, IsSizedEncoding, IsTextEncoding, IsTextOf, ErrorInTextOf, MayTest};
-ghost use Rattle.tv_reading.specs.Skip.{PassesBytes, Tested, IsCodedText};
+ghost use Rattle.tv_reading.specs.Skip.{Before, IsSizedEncoding, IsTextEncoding, IsTextOf, ErrorInTextOf, MayTest, PassesBytes, Tested, IsCodedText};
 ghost use Rattle.tv_reading.specs.declared.items.ItemKind.TheVariants as kinds;
 
 use tv_base::take::{take, take_pieces, take_vint};
 use tv_base::{ByteSource, Cause};
-use tv_reader::kinds::take_kind;
+use tv_reader::value_type::take_kind;
 use tv_reader::{DeserializeError, DocStoreVersion, ValueType};
 
 // Passes over this many bytes if they are buffered and can be counted, and says whether it did.

@@ -1,50 +1,54 @@
 //! What has been read of a document, and what its next part does to that.
 
-ghost use Rattle.std.specs.Prelude.{◌≡◌, ◌↔◌, ◌≤◌, ◌<◌, ◌^◌, [], ◌∷◌, ◌+◌, length, take};
-ghost use Rattle.std.specs.Prelude.{IsTrue, IsErrOf, Ok, OnOk, OnErr, Some, None, false};
+ghost use Rattle.std.specs.Prelude.{◌≡◌, ◌↔◌, ◌≤◌, ◌<◌, ◌^◌, [], ◌∷◌, ◌+◌, length, take, IsTrue, IsErrOf, Ok, OnOk, OnErr, Some, None, false};
 ghost use Rattle.tv_builder.specs.Behind.{document_parts, open_parts};
-ghost use Rattle.tv_builder.specs.Parts.{value as value_part, some_bytes};
-ghost use Rattle.tv_builder.specs.Parts.{bytes_head};
-ghost use Rattle.tv_builder.specs.State.{awaited, head_awaits, list_head, lists_of, children_of};
-ghost use Rattle.tv_builder.specs.State.{in_lists};
-ghost use Rattle.tv_builder.specs.declared.awaits.Awaits.TheVariants.{Value as ValueAwaited};
-ghost use Rattle.tv_builder.specs.declared.awaits.Awaits.TheVariants.{Key as KeyAwaited};
-ghost use Rattle.tv_builder.specs.declared.awaits.Awaits.TheVariants.{Bytes as BytesAwaited};
-ghost use Rattle.tv_reading.specs.Prefix.{parts_read, IsSound, IsDone, LacksPair, IsMalformedNext};
-ghost use Rattle.tv_reading.specs.Prefix.{NoRoomBehind};
-ghost use Rattle.tv_reading.specs.Puts.{IsOpen, AtEnd, Awaiting, PutsParts, PutsEnd, PutsBytes, IsParts};
-ghost use Rattle.tv_reading.specs.Puts.{bytes_kind, head_parts};
+ghost use Rattle.tv_builder.specs.Parts.{value as value_part, some_bytes, bytes_head};
+ghost use Rattle.tv_builder.specs.State.{awaited, head_awaits, list_head, lists_of, children_of, in_lists};
+ghost use Rattle.tv_builder.specs.declared.kinds.Awaits.TheVariants.{Value as ValueAwaited, Key as KeyAwaited, Bytes as BytesAwaited};
+ghost use Rattle.tv_reading.specs.Prefix.{parts_read, IsSound, IsDone, LacksPair, IsMalformedNext, NoRoomBehind};
+ghost use Rattle.tv_reading.specs.Puts.{IsOpen, AtEnd, Awaiting, PutsParts, PutsEnd, PutsBytes, IsParts, bytes_kind, head_parts};
 ghost use Rattle.tv_reading.specs.Kept.{Grows, LetGo, KeepsPairs};
 ghost use Rattle.tv_reading.specs.Steps.{Advances, Stepped, Sees, IsFew};
+ghost use Rattle.tv_reading.specs.Errors.{ComesInPlace, build_error};
 ghost use Rattle.tv_builder.specs.Builder.{built, state_of, heap_so_far};
 ghost use Rattle.tv_builder.specs.HeldPairs.{document_of, heap_of};
 ghost use Rattle.tv_reader.specs.Finds.{Finds, FindsLean, Nothing};
 ghost use Rattle.tv_reader.specs.HeadReading.{head_part};
 ghost use Rattle.tv_reader.specs.declared.error.DeserializeError.TheVariants.{HeapFull};
-ghost use Rattle.tv_legacy.specs.Legacy.{Legacy};
+ghost use Rattle.tv_reader.specs.Legacy.{Legacy};
 ghost use Rattle.tv_reader.specs.Version.{version_of};
 ghost use Rattle.tv_value.specs.Lent.{leaf_of};
 ghost use Rattle.tv_format.specs.Tree.{leaf as leaf_tree};
 ghost use Rattle.tv_format.specs.Version.{Version};
 
 use crate::buffered::take_buffered_pairs;
-use crate::errors::store_error;
 use std::alloc::Global;
-use tv_base::ByteSource;
 use tv_base::take::take_pieces;
-use tv_builder::awaits::Awaits;
-use tv_builder::bytes_kind::BytesKind;
+use tv_base::{ByteSource, Cause};
+use tv_builder::errors::BuildError;
 use tv_builder::heap_pairs::HeapPairs;
-use tv_builder::list_kind::ListKind;
+use tv_builder::kinds::{Awaits, BytesKind, ListKind};
 use tv_builder::pair_builder::PairBuilder;
 use tv_format::leaf_type::LeafType;
 use tv_reader::encoded_tokens::take_gathered;
-use tv_reader::fields::take_field;
-use tv_reader::heads::{Head, take_document_head, take_head, take_key_head};
+use tv_reader::heads::{Head, take_document_head, take_field, take_head, take_key_head};
 use tv_reader::trees::take_legacy_object;
 use tv_reader::{DeserializeError, DocStoreVersion};
 use tv_value::leaf::ReferenceValueLeaf;
 use tv_value::value::Value;
+
+// The error of a reader whose next part a builder refused.
+pub(crate) fn store_error(error: BuildError) -> DeserializeError
+    requires { ComesInPlace error }
+    ensures { result ≡ build_error error }
+{
+    match error {
+        BuildError::NotUtf8 => DeserializeError::CorruptedValue(Cause::NotUtf8),
+        BuildError::HeapFull => DeserializeError::HeapFull,
+        BuildError::Memory => DeserializeError::Memory,
+        BuildError::AlreadyFailed | BuildError::OutOfPlace => unreachable!(),
+    }
+}
 
 // No more than this is read of open bytes at once.
 const PIECE: u32 = 4096;

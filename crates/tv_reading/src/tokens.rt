@@ -4,8 +4,7 @@ ghost use Rattle.tv_base.specs.ErrorInPart.{ErrorInNumber, InEach};
 ghost use Rattle.tv_format.specs.Encoding.{TokenEncoding};
 ghost use Rattle.tv_format.specs.InputError.{Corrupt, ErrorInToken, ErrorInTokenized};
 ghost use Rattle.tv_reader.specs.Finds.{FindsRoomy};
-ghost use Rattle.tv_reading.specs.Skip.{IsNumberEncoding, IsTokenEncoding, AreTokenEncodings, IsTextAndNumber};
-ghost use Rattle.tv_reading.specs.Skip.{ErrorInTextAndNumber, ErrorInTokens, AreCounted};
+ghost use Rattle.tv_reading.specs.Skip.{IsNumberEncoding, IsTokenEncoding, AreTokenEncodings, IsTextAndNumber, ErrorInTextAndNumber, ErrorInTokens, AreCounted};
 ghost use Rattle.tv_reading.specs.Skip.{ErrorInCounted, IsTokenizedEncoding};
 
 use crate::parts::skip_text;

@@ -33,8 +33,8 @@ use Rattle.tv_store.proofs.BlocksSoFar.{ReadSoFar, begins_at, read_more, read_no
 use Rattle.tv_store.proofs.Projections.{one_whole, start_after, within_none}
 use Rattle.tv_store.proofs.Resuming.{reads_live}
 use Rattle.tv_writer.specs.Error.{IsIoOrMemory, Unwritten, write_stop}
-use Rattle.tv_writer.specs.declared.error.SerializeError.{SerializeError}
-use Rattle.tv_writer.specs.declared.error.SerializeError.TheVariants as writes
+use Rattle.tv_writer.specs.declared.serializers.SerializeError.{SerializeError}
+use Rattle.tv_writer.specs.declared.serializers.SerializeError.TheVariants as writes
 
 flat-snoc : {A : Type 0} (f : A → List ℕ) (xs : List A) (x : A) → flat_map f (xs ++ x ∷ []) ≡ flat_map f xs ++ f x
 flat-snoc f [] x = append-nil (f x)

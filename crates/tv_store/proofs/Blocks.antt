@@ -18,8 +18,8 @@ use Rattle.tv_format.specs.InputError.{Refusal, corrupt}
 use Rattle.tv_format.specs.Tree.{Document}
 use Rattle.tv_format.specs.Version.{Version}
 use Rattle.tv_format.proofs.SingleTrees.{single_document}
-use Rattle.tv_legacy.specs.Legacy.{Legacy, ErrorInLegacy}
-use Rattle.tv_legacy.proofs.Unique.{one_legacy, legacy_excludes, single_legacy}
+use Rattle.tv_reader.specs.Legacy.{Legacy, ErrorInLegacy}
+use Rattle.tv_reader.proofs.UniqueLegacy.{one_legacy, legacy_excludes, single_legacy}
 use Rattle.tv_reader.specs.Error.{StoreMayStop, StoreMayStopRoomy}
 use Rattle.tv_reader.specs.Finds.{FindsIf}
 use Rattle.tv_reader.specs.declared.error.DeserializeError.{DeserializeError}

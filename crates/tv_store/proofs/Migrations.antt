@@ -17,7 +17,7 @@ use Rattle.tv_format.specs.WriteVersion.{written_version}
 use Rattle.tv_format.specs.declared.version.WriteVersion.{WriteVersion}
 use Rattle.tv_format.specs.declared.version.WriteVersion.TheVariants as versions
 use Rattle.tv_heap.specs.Room.{document_room}
-use Rattle.tv_legacy.specs.Legacy.{Legacy}
+use Rattle.tv_reader.specs.Legacy.{Legacy}
 use Rattle.tv_reader.specs.Error.{store_stop}
 use Rattle.tv_reader.specs.declared.error.DeserializeError.{DeserializeError}
 use Rattle.tv_reader.specs.declared.error.DeserializeError.TheVariants as errors
@@ -30,8 +30,8 @@ use Rattle.tv_store.specs.declared.migration.MigrateError.TheVariants.{Read, Wri
 use Rattle.tv_store.specs.declared.round_trip.RoundTripError.{RoundTripError}
 use Rattle.tv_store.specs.declared.round_trip.RoundTripError.TheVariants as trips
 use Rattle.tv_writer.specs.Error.{write_stop, IsIoOrMemory}
-use Rattle.tv_writer.specs.declared.error.SerializeError.{SerializeError}
-use Rattle.tv_writer.specs.declared.error.SerializeError.TheVariants as writes
+use Rattle.tv_writer.specs.declared.serializers.SerializeError.{SerializeError}
+use Rattle.tv_writer.specs.declared.serializers.SerializeError.TheVariants as writes
 
 -- ---- writing, in the errors of migrating
 

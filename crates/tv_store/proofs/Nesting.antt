@@ -16,8 +16,8 @@ use Rattle.tv_format.specs.Short.{short, short_elements, short_entries, IsText, 
 use Rattle.tv_format.specs.Tree.{Tree, leaf, array, object, text, Elements, no_elements, element, elements, element_count, Entries, no_entries, entry, entries, entry_count}
 use Rattle.tv_format.specs.TreeCode.{coded_tree}
 use Rattle.tv_format.specs.Version.{Version, V2}
-use Rattle.tv_heap.specs.declared.encoded.Encoded.{Encoded}
-use Rattle.tv_heap.specs.declared.encoded.Encoded.TheVariants as held
+use Rattle.tv_heap.specs.declared.value.Encoded.{Encoded}
+use Rattle.tv_heap.specs.declared.value.Encoded.TheVariants as held
 use Rattle.tv_heap.specs.declared.value.CompactDocValue.{CompactDocValue}
 use Rattle.tv_heap.specs.Encoded.{encoded_bytes}
 use Rattle.tv_heap.specs.Reads.{ReadsTree, ReadsElements, ReadsEntries}

@@ -23,8 +23,8 @@ use Rattle.tv_format.specs.Version.{Version}
 use Rattle.tv_format.proofs.ExcludingTrees.{document_excludes, value_excludes}
 use Rattle.tv_format.proofs.Trees.{one_document, one_tree}
 use Rattle.tv_heap.specs.Room.{document_room}
-use Rattle.tv_legacy.specs.Legacy.{Legacy, ErrorInLegacy}
-use Rattle.tv_legacy.proofs.Unique.{one_legacy, legacy_excludes}
+use Rattle.tv_reader.specs.Legacy.{Legacy, ErrorInLegacy}
+use Rattle.tv_reader.proofs.UniqueLegacy.{one_legacy, legacy_excludes}
 use Rattle.tv_reader.specs.Error.{key_stop, store_stop, StoreMayStopRoomy, IsRefusal}
 use Rattle.tv_reader.specs.Error.IsRefusal.{is_corrupted, is_no_text}
 use Rattle.tv_reader.specs.ValueType.{value_type_code}

@@ -10,10 +10,10 @@ use Rattle.tv_base.specs.Stop.Stop.{InputError, Uncounted}
 use Rattle.tv_doc.specs.Additions.{Addition, Runs, accepted_pairs, pair_of, IsEmpty}
 use Rattle.tv_doc.specs.Belongs.{Belongs}
 use Rattle.tv_doc.specs.Document.{document_of, places_of, Adds, IsUnchanged, ReadsAt}
-use Rattle.tv_builder.specs.declared.add_error.AddError.{AddError}
-use Rattle.tv_builder.specs.declared.add_error.AddError.TheVariants as adds
+use Rattle.tv_builder.specs.declared.errors.AddError.{AddError}
+use Rattle.tv_builder.specs.declared.errors.AddError.TheVariants as adds
 use Rattle.tv_doc.specs.declared.document.CompactDoc.{CompactDoc}
-use Rattle.tv_builder.specs.declared.heap_pair.HeapPair.{HeapPair}
+use Rattle.tv_builder.specs.declared.heap_pairs.HeapPair.{HeapPair}
 use Rattle.tv_doc.proofs.Additions.{runs_keep, unchanged_same, unchanged_from, adds_from}
 use Rattle.tv_builder.proofs.Documents.{read_at, none_at, place_at, no_place}
 use Rattle.tv_field.specs.Entry.{Entry}

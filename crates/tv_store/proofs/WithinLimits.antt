@@ -16,7 +16,7 @@ use Rattle.tv_builder.specs.State.{State, in_lists, IsState, lists_of}
 use Rattle.tv_doc.specs.Document.{document_of}
 use Rattle.tv_doc.specs.declared.document.CompactDoc.{CompactDoc}
 use Rattle.tv_builder.specs.Prefix.{Encoded}
-use Rattle.tv_legacy.specs.Legacy.{Legacy}
+use Rattle.tv_reader.specs.Legacy.{Legacy}
 use Rattle.tv_reader.specs.Error.{store_stop, StoreMayStop}
 use Rattle.tv_reader.specs.Finds.{GivesStop, FindsIf, Nothing}
 use Rattle.tv_reader.specs.declared.error.DeserializeError.{DeserializeError}

@@ -5,8 +5,8 @@ use Rattle.std.proofs.lemmas.List.{length-append}
 use Rattle.tv_format.specs.Short.{short, short_elements, short_entries, short_key}
 use Rattle.tv_format.specs.Tree.{tokenized, Tree, leaf, elements, entries}
 use Rattle.tv_format.specs.Version.{Version}
-use Rattle.tv_heap.specs.declared.encoded.Encoded.{Encoded}
-use Rattle.tv_heap.specs.declared.encoded.Encoded.TheVariants as held
+use Rattle.tv_heap.specs.declared.value.Encoded.{Encoded}
+use Rattle.tv_heap.specs.declared.value.Encoded.TheVariants as held
 use Rattle.tv_heap.specs.Encoded.{IsTokenized, SaysTokenized}
 use Rattle.tv_store.specs.Stored.{tree_written}
 

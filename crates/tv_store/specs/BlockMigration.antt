@@ -16,14 +16,14 @@ use Rattle.tv_format.specs.InputError.{Refusal}
 use Rattle.tv_format.specs.Short.{short_document, IsDocument}
 use Rattle.tv_format.specs.Tree.{Document}
 use Rattle.tv_format.specs.Version.{Version}
-use Rattle.tv_legacy.specs.Legacy.{Legacy}
+use Rattle.tv_reader.specs.Legacy.{Legacy}
 use Rattle.tv_store.specs.Documents.{BeginsWithDocument}
 use Rattle.tv_store.specs.Projections.{IsRefusedAt, no_limits, refused_stop}
 use Rattle.tv_store.specs.declared.block_migration.MigrateBlockError.{MigrateBlockError}
 use Rattle.tv_store.specs.declared.block_migration.MigrateBlockError.TheVariants.{Read, Write, TooMany}
 use Rattle.tv_store.specs.declared.projection.Projection.TheVariants.{All}
 use Rattle.tv_writer.specs.Error.{Unwritten, write_stop, IsIoOrMemory}
-use Rattle.tv_writer.specs.declared.error.SerializeError.{SerializeError}
+use Rattle.tv_writer.specs.declared.serializers.SerializeError.{SerializeError}
 
 -- these documents are encoded, one after the other
 abbrev pub EncodesBlock : Version → List ℕ → List Document → Type 0

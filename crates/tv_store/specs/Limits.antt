@@ -18,7 +18,7 @@ use Rattle.tv_reading.specs.Prefix.{parts_at, IsDone, IsPlace, HasNoRoom, IsMalf
 use Rattle.tv_reading.specs.declared.reading.Reading.{Reading}
 use Rattle.tv_doc.specs.Document.{document_of}
 use Rattle.tv_doc.specs.declared.document.CompactDoc.{CompactDoc}
-use Rattle.tv_legacy.specs.Legacy.{Legacy}
+use Rattle.tv_reader.specs.Legacy.{Legacy}
 use Rattle.tv_reader.specs.Error.{store_stop}
 use Rattle.tv_reader.specs.Finds.{FindsBy, GivesStop}
 use Rattle.tv_reader.specs.Version.{version_of}

@@ -19,7 +19,7 @@ use Rattle.tv_store.specs.Reading.{ReadsDocument}
 use Rattle.tv_store.specs.declared.migration.MigrateError.{MigrateError}
 use Rattle.tv_store.specs.declared.migration.MigrateError.TheVariants.{Read, Write}
 use Rattle.tv_writer.specs.Error.{Unwritten, write_stop, IsIoOrMemory}
-use Rattle.tv_writer.specs.declared.error.SerializeError.TheVariants as writes
+use Rattle.tv_writer.specs.declared.serializers.SerializeError.TheVariants as writes
 
 -- why writing stopped
 abbrev pub sink_stop : MigrateError → Stop Unwritten

@@ -1,8 +1,8 @@
 -- Values as they stand in a heap, and what they hold.
 use Rattle.std.specs.Prelude.{ℕ}
 use Rattle.tv_format.specs.Tree.{array, object, elements, entries}
-use Rattle.tv_heap.specs.declared.encoded.Encoded.{Encoded}
-use Rattle.tv_heap.specs.declared.encoded.Encoded.TheVariants as held
+use Rattle.tv_heap.specs.declared.value.Encoded.{Encoded}
+use Rattle.tv_heap.specs.declared.value.Encoded.TheVariants as held
 use Rattle.tv_value.specs.Nesting.{NestsWithin}
 
 -- a value without children

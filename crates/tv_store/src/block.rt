@@ -1,18 +1,14 @@
 //! Documents that stand one after the other, read in the memory of one, and counted.
 
-ghost use Rattle.std.specs.Prelude.{◌≡◌, ◌↔◌, [], length, true, false, Some, Ok, Err};
-ghost use Rattle.std.specs.Prelude.{IsErrOf, IsTrue};
+ghost use Rattle.std.specs.Prelude.{◌≡◌, ◌↔◌, [], length, true, false, Some, Ok, Err, IsErrOf, IsTrue};
 ghost use Rattle.tv_base.specs.Stop.{Counts, Taken};
 ghost use Rattle.tv_doc.specs.Document.{document_of, heap_of};
 ghost use Rattle.tv_reader.specs.Version.{version_of};
-ghost use Rattle.tv_reader.specs.declared.error.DeserializeError.TheVariants.{AlreadyFailed};
-ghost use Rattle.tv_reader.specs.declared.error.DeserializeError.TheVariants.{HeapFull};
-ghost use Rattle.tv_store.specs.BlockSteps.{Finishes, LeavesNone, StartsAt, StepsBlock};
-ghost use Rattle.tv_store.specs.BlockSteps.{place_of, refusal_of};
+ghost use Rattle.tv_reader.specs.declared.error.DeserializeError.TheVariants.{AlreadyFailed, HeapFull};
+ghost use Rattle.tv_store.specs.BlockSteps.{Finishes, LeavesNone, StartsAt, StepsBlock, place_of, refusal_of};
 ghost use Rattle.tv_store.specs.Blocks.{SaysNothingWithin, SeesNext};
 ghost use Rattle.tv_store.specs.Documents.{SaysNothing};
-ghost use Rattle.tv_store.specs.Limits.{AllNestWithinLimit, IsPast, ReadsNextWithin};
-ghost use Rattle.tv_store.specs.Limits.{StopsNextWithin, limited_stop};
+ghost use Rattle.tv_store.specs.Limits.{AllNestWithinLimit, IsPast, ReadsNextWithin, StopsNextWithin, limited_stop};
 ghost use Rattle.tv_store.specs.Reading.{PassesNext, ReadsNext, ReadsNextFields};
 ghost use Rattle.tv_store.specs.declared.limits.LimitedReadError.TheVariants.{Read};
 

@@ -4,20 +4,32 @@ ghost use Rattle.std.specs.Prelude.{◌≡◌, [], IfErr, IfOk, OnOk};
 ghost use Rattle.tv_base.specs.Stop.{Counts};
 ghost use Rattle.tv_format.specs.WriteVersion.{written_version};
 ghost use Rattle.tv_reader.specs.Version.{version_of};
-ghost use Rattle.tv_store.specs.BlockMigration.{MigratesAll, MigratesBefore};
-ghost use Rattle.tv_store.specs.BlockMigration.{migration_sink_stop, migration_source_stop};
+ghost use Rattle.tv_store.specs.BlockMigration.{MigratesAll, MigratesBefore, migration_sink_stop, migration_source_stop};
 
 use crate::block::{BlockReader, RefusedDocument};
-use crate::de::DocStoreVersion;
-use crate::error::SerializeError;
 use crate::limits::LimitedReadError;
 use crate::pair_writer::write_document;
-use crate::watch::Watch;
 use std::alloc::Global;
 use thiserror::Error;
 use tv_base::{ByteSink, ByteSource};
 use tv_doc::laws::documents_are_valid;
 use tv_format::version::WriteVersion;
+use tv_reader::DocStoreVersion;
+use tv_writer::SerializeError;
+
+/// An observer of how far the work on an input has come: a display of progress, say. (Not in tantivy.)
+pub trait Watch {
+    /// One more document, or line, has been done, and `bytes` bytes of the input have been taken from its beginning on.
+    fn advance(&mut self, bytes: u64);
+}
+
+/// Work that isn't watched. (Not in tantivy.)
+#[derive(Clone, Copy)]
+pub struct Unwatched;
+
+impl Watch for Unwatched {
+    fn advance(&mut self, _bytes: u64) {}
+}
 
 /// Which document of a block wasn't migrated, and why. (Not in tantivy.)
 #[derive(Debug, PartialEq, Drop, Error)]

@@ -15,15 +15,14 @@ ghost use Rattle.tv_writer.specs.Error as store;
 ghost use Rattle.tv_writer.specs.Error.{IsIo, IsIoOrMemory};
 ghost use Rattle.tv_value.specs.Nesting.{NestsWithin};
 
-use crate::error::SerializeError;
 use crate::type_codes::{ARRAY_CODE, BOOL_CODE, EXT_CODE, NULL_CODE, TOK_STR_EXT_CODE};
 use std::alloc::Global;
 use tv_base::write::write_all;
 use tv_base::{ByteSink, WriteError};
 use tv_format::version::WriteVersion;
-use tv_heap::encoded::Encoded;
-use tv_heap::value::{CompactDocArrayIter, CompactDocObjectIter, CompactDocValue};
+use tv_heap::value::{CompactDocArrayIter, CompactDocObjectIter, CompactDocValue, Encoded};
 use tv_value::children::Children;
+use tv_writer::SerializeError;
 use tv_writer::deep::write_children_deep;
 use tv_writer::leaf_writer::{write_code, write_coded_bool, write_coded_count, write_coded_u64};
 use tv_writer::value_writer::{write_key, write_object_head};

@@ -10,13 +10,12 @@ ghost use Rattle.tv_store.specs.Documents.{NoDocument};
 ghost use Rattle.tv_store.specs.Reading.{EncodesChosenPairs, ReadsFields};
 
 use crate::de::put_read;
-use crate::error::DeserializeError;
 use std::alloc::Global;
 use std::mem::replace;
 use tv_base::ByteSource;
 use tv_builder::heap_pairs::HeapPairs;
 use tv_doc::document::CompactDoc;
-use tv_reader::version::DocStoreVersion;
+use tv_reader::{DeserializeError, DocStoreVersion};
 use tv_reading::chosen::take_chosen_into;
 use tv_value::field::Field;
 

@@ -8,7 +8,6 @@ mod depth;
 pub mod direct_decoder;
 pub mod early_end;
 mod encoded_writer;
-pub mod error;
 pub mod fields;
 pub mod laws;
 pub mod limits;
@@ -19,16 +18,12 @@ pub mod pairs_given;
 pub mod projection;
 pub mod round_trip;
 pub mod se;
-pub mod skip;
-pub mod stepped;
-pub mod watch;
 
 pub use block::{BlockReader, RefusedDocument};
-pub use block_migration::{MigrateBlockError, migrate_block};
-pub use de::{DocStoreVersion, read_document, read_document_into};
+pub use block_migration::{MigrateBlockError, Unwatched, Watch, migrate_block};
+pub use de::{read_document, read_document_into, skip_document, skip_value};
 pub use direct_decoder::{DirectDecoder, Step};
 pub use early_end::{EarlyEnd, next_of};
-pub use error::{DeserializeError, SerializeError, ValueType};
 pub use fields::{read_fields, read_fields_into};
 pub use limits::{LimitedReadError, ReadLimit, ReadLimits, read_document_within};
 pub use migration::{MigrateError, migrate};
@@ -37,10 +32,9 @@ pub use projection::Projection;
 pub use se::{
     BinaryArraySerializer, BinaryDocumentSerializer, BinaryObjectSerializer, BinaryValueSerializer,
 };
-pub use skip::{skip_document, skip_value};
-pub use tv_reader::type_codes;
+pub use tv_reader::{DeserializeError, DocStoreVersion, ValueType, type_codes};
 pub use tv_typed::{
     BinaryArrayDeserializer, BinaryDocumentDeserializer, BinaryObjectDeserializer,
     BinaryValueDeserializer, DocumentDeserializer, StoreReader, ValueDeserialize, ValueVisitor,
 };
-pub use watch::{Unwatched, Watch};
+pub use tv_writer::SerializeError;

@@ -11,27 +11,21 @@ ghost use Rattle.tv_builder.specs.State.{lists_of};
 ghost use Rattle.tv_doc.specs.Document.{document_of, heap_of};
 ghost use Rattle.tv_reading.specs.Prefix.{IsDone, IsMalformedNext, NoRoomBehind};
 ghost use Rattle.tv_reading.specs.Steps.{Advances, IsFew, Sees, Stepped};
-ghost use Rattle.tv_legacy.specs.Legacy.{Legacy};
+ghost use Rattle.tv_reader.specs.Legacy.{Legacy};
 ghost use Rattle.tv_reader.specs.declared.error.DeserializeError.{DeserializeError};
 ghost use Rattle.tv_reader.specs.Version.{version_of};
 ghost use Rattle.tv_reader.specs.declared.error.DeserializeError.TheVariants.{CorruptedValue, HeapFull, AlreadyFailed};
 ghost use Rattle.tv_format.specs.InputError.{corrupted};
-ghost use Rattle.tv_store.specs.Limits.{Checks, FindsWithin, IsPast};
-ghost use Rattle.tv_store.specs.Limits.{AllNestWithinLimit, TestsDepth};
-ghost use Rattle.tv_store.specs.Limits.{ReadsByLimits, IsLimitedError, limited_stop};
-ghost use Rattle.tv_store.specs.Limits.{first_count, FindsPart, IsCapped};
-ghost use Rattle.tv_store.specs.Limits.{ReadsWithin, StopsWithin, Told};
-ghost use Rattle.tv_store.specs.Limits.{EndsPart, LeavesPart, ReadsStepWithin, TestsPart};
+ghost use Rattle.tv_store.specs.Limits.{Checks, FindsWithin, IsPast, AllNestWithinLimit, TestsDepth, ReadsByLimits, IsLimitedError, limited_stop, first_count};
+ghost use Rattle.tv_store.specs.Limits.{FindsPart, IsCapped, ReadsWithin, StopsWithin, Told, EndsPart, LeavesPart, ReadsStepWithin, TestsPart};
 ghost use Rattle.tv_store.specs.Decoder.{SaysDone, StaysPaid};
 ghost use Rattle.tv_reading.specs.Kept.{Grows, KeepsPairs};
 ghost use Rattle.tv_store.specs.Documents.{in_place};
 ghost use Rattle.tv_store.specs.declared.limits.LimitedReadError.{LimitedReadError};
 ghost use Rattle.tv_store.specs.declared.limits.LimitedReadError.TheVariants.{Read, Limit};
 
-use crate::de::DocStoreVersion;
 use crate::depth::document_within;
 use crate::direct_decoder::{DirectDecoder, Step};
-use crate::error::DeserializeError;
 use std::alloc::Global;
 use std::fmt;
 use std::fmt::{Display, Formatter, Write};
@@ -40,6 +34,7 @@ use thiserror::Error;
 use tv_base::{ByteSource, Cause};
 use tv_builder::heap_pairs::HeapPairs;
 use tv_doc::document::CompactDoc;
+use tv_reader::{DeserializeError, DocStoreVersion};
 
 /// What reading one document may take. `None` doesn't limit. (Not in tantivy.)
 #[derive(Clone, Copy, Debug, Default, PartialEq, Eq)]

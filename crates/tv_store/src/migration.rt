@@ -5,16 +5,17 @@ ghost use Rattle.tv_format.specs.WriteVersion.{written_version};
 ghost use Rattle.tv_reader.specs.Version.{version_of};
 ghost use Rattle.tv_store.specs.Migrate.{Migrates};
 ghost use Rattle.tv_store.specs.declared.migration.MigrateError.{MigrateError};
-ghost use Rattle.tv_writer.specs.declared.error.SerializeError.{SerializeError};
+ghost use Rattle.tv_writer.specs.declared.serializers.SerializeError.{SerializeError};
 
-use crate::de::{DocStoreVersion, read_document};
-use crate::error::{DeserializeError, SerializeError};
+use crate::de::read_document;
 use crate::pair_writer::write_document;
 use std::alloc::Global;
 use thiserror::Error;
 use tv_base::{ByteSink, ByteSource, WriteError};
 use tv_doc::laws::documents_are_valid;
 use tv_format::version::WriteVersion;
+use tv_reader::{DeserializeError, DocStoreVersion};
+use tv_writer::SerializeError;
 
 /// Why a document wasn't migrated. (Not in tantivy.)
 #[derive(Debug, PartialEq, Drop, Error)]

@@ -10,15 +10,15 @@ ghost use Rattle.tv_reader.specs.Version.{version_of};
 ghost use Rattle.tv_store.specs.Documents.{BeginsWithDocument};
 ghost use Rattle.tv_store.specs.Migrate.{IsMemory};
 
-use crate::de::DocStoreVersion;
-use crate::error::{DeserializeError, SerializeError};
 use crate::migration::{MigrateError, migrate};
 use crate::round_trip::{RoundTripError, read_back};
 use std::alloc::Global;
 use tv_base::{SliceSource, VecSink};
 use tv_doc::document::CompactDoc;
 use tv_format::version::WriteVersion;
-use tv_legacy::laws::documents_have_one_reading;
+use tv_reader::laws::documents_have_one_reading;
+use tv_reader::{DeserializeError, DocStoreVersion};
+use tv_writer::SerializeError;
 
 /// What was written of a document in a new version, and what was read back of that. (Not in tantivy.)
 #[derive(Drop)]

@@ -21,19 +21,18 @@ ghost use Rattle.tv_writer.specs.Error.{IsIo, IsIoOrMemory};
 ghost use Rattle.tv_value.specs.Nesting.{AllNestWithin, NestsWithin};
 
 use crate::encoded_writer::write_encoded;
-use crate::error::SerializeError;
 use crate::type_codes::TEXT_CODE;
 use std::alloc::Global;
 use tv_base::write::{write_all, write_u32, write_vint};
 use tv_base::{ByteSink, WriteError};
 use tv_doc::document::CompactDoc;
 use tv_format::version::WriteVersion;
-use tv_heap::encoded::Encoded;
-use tv_heap::value::CompactDocValue;
+use tv_heap::value::{CompactDocValue, Encoded};
 use tv_value::field::Field;
 use tv_value::leaf::ReferenceValueLeaf;
 use tv_value::nesting::MAX_DEPTH;
 use tv_value::value::{ReferenceValue, Value};
+use tv_writer::SerializeError;
 use tv_writer::leaf_writer::{write_coded_text, write_leaf};
 
 // Writes a field and bytes after their code.

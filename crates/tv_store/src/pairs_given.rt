@@ -8,10 +8,10 @@ ghost use Rattle.tv_store.specs.PairsGiven.{IsGiven, PairsRefused};
 ghost use Rattle.tv_typed.specs.Typed.{document_stop};
 ghost use Rattle.tv_format.specs.Tree.{Document};
 
-use crate::error::DeserializeError;
 use std::alloc::Global;
 use tv_builder::heap_pairs::HeapPairs;
 use tv_doc::document::CompactDoc;
+use tv_reader::DeserializeError;
 use tv_typed::document::DocumentDeserializer;
 
 /// A document that is read of the pairs that something gives.

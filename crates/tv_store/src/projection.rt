@@ -9,9 +9,9 @@ ghost use Rattle.tv_store.specs.Projections.{ReadsNextOf, ReadsProjected, kept, 
 ghost use Rattle.tv_store.specs.declared.limits.LimitedReadError.TheVariants.{Read};
 
 use crate::block::{BlockReader, RefusedDocument};
-use crate::error::DeserializeError;
 use crate::limits::{LimitedReadError, ReadLimits};
 use tv_base::ByteSource;
+use tv_reader::DeserializeError;
 use tv_value::field::Field;
 
 /// What is kept of each document of a block. (Not in tantivy.)

@@ -1,7 +1,6 @@
 //! What comes of values that are added to a document, stored, and read back.
 
-ghost use Rattle.std.specs.Prelude.{◌≡◌, ◌<◌, ◌⊎◌, ◌++◌, ℕ, List, length, map, slice_get, IfErr};
-ghost use Rattle.std.specs.Prelude.{IfOk, IsErrOf};
+ghost use Rattle.std.specs.Prelude.{◌≡◌, ◌<◌, ◌⊎◌, ◌++◌, ℕ, List, length, map, slice_get, IfErr, IfOk, IsErrOf};
 ghost use Rattle.std.specs.List.{AllByRecursion};
 ghost use Rattle.tv_doc.specs.Belongs.{Belongs};
 ghost use Rattle.tv_doc.specs.Document.{ReadsAt, document_of, places_of};
@@ -13,8 +12,7 @@ ghost use Rattle.tv_format.specs.Short.{short_document, IsDocument};
 ghost use Rattle.tv_format.specs.Tree.{Document};
 ghost use Rattle.tv_format.specs.Version.{V2, IsWritten};
 
-use crate::de::{DocStoreVersion, read_document};
-use crate::error::{DeserializeError, SerializeError};
+use crate::de::read_document;
 use crate::laws::{stored_pairs_are_valid, stored_pairs_need_no_more_room};
 use crate::se::BinaryDocumentSerializer;
 use std::alloc::{AllocError, Global};
@@ -22,12 +20,14 @@ use thiserror::Error;
 use tv_base::{SliceSource, VecSink};
 use tv_doc::document::CompactDoc;
 use tv_doc::laws::documents_are_valid;
-use tv_legacy::laws::{
+use tv_reader::laws::{
     documents_have_one_reading, malformed_documents_derive_none, short_documents_encode,
 };
+use tv_reader::{DeserializeError, DocStoreVersion};
 use tv_schema::Schema;
 use tv_value::field::Field;
 use tv_value::owned_value::OwnedValue;
+use tv_writer::SerializeError;
 
 /// What was added, written and read back. (Not in tantivy.)
 #[derive(Drop)]

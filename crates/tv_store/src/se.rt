@@ -11,7 +11,6 @@ ghost use Rattle.tv_writer.specs.Error as store;
 ghost use Rattle.tv_writer.specs.Error.{IsIo, IsIoOrMemory};
 ghost use Rattle.tv_value.specs.Nesting.{AllNestWithin, NestsWithin};
 
-use crate::error::SerializeError;
 use crate::pair_writer::write_stored_pair;
 use std::alloc::Global;
 use tv_base::ByteSink;
@@ -23,6 +22,7 @@ use tv_heap::value::CompactDocValue;
 use tv_schema::Schema;
 use tv_value::field::Field;
 use tv_value::nesting::MAX_DEPTH;
+use tv_writer::SerializeError;
 pub use tv_writer::serializers::{
     BinaryArraySerializer, BinaryObjectSerializer, BinaryValueSerializer,
 };

@@ -7,8 +7,8 @@ use Rattle.tv_base.specs.Source.{Failures}
 use Rattle.tv_base.specs.Stop.{Stop, Counts, Taken}
 use Rattle.tv_base.specs.Stop.Stop.{InputError, Uncounted, Failed, Short, Never}
 use Rattle.tv_base.proofs.TakeSteps.{Taken_then}
-use Rattle.tv_legacy.specs.Legacy.{Legacy}
-use Rattle.tv_legacy.proofs.Unique.{one_legacy}
+use Rattle.tv_reader.specs.Legacy.{Legacy}
+use Rattle.tv_reader.proofs.UniqueLegacy.{one_legacy}
 use Rattle.tv_format.specs.Encoding.{Encodes, NoLegacy}
 use Rattle.tv_value.specs.Owned.{owned_tree}
 use Rattle.tv_format.specs.Tree.{Leaf, Tree, leaf}
@@ -27,8 +27,7 @@ use Rattle.tv_reader.proofs.BehindKinds.{kind_edge}
 use Rattle.tv_reader.proofs.Finding.{found_behind, stop_map}
 use Rattle.tv_reader.proofs.DepthSteps.{err_of}
 use Rattle.tv_typed.specs.Typed.{typed_stop, ReadsIf, DeserializesBy}
-use Rattle.tv_typed.specs.Excluding.{type_of_leaf, leaf_excludes, tree_excludes, next_excludes}
-use Rattle.tv_typed.specs.Excluding.{with_legacy}
+use Rattle.tv_typed.specs.Excluding.{type_of_leaf, leaf_excludes, tree_excludes, next_excludes, with_legacy}
 use Rattle.tv_typed.specs.Values.{EncodesAs, EncodedAs, IsFixed, ReadsLeafBy, IsLeafOf, IsTree, EncodesLeaf, LeafRefused, TreeRefused, CodeRefused, in_code, NextRefused, RefusalsExclude, SparesBytes, IsReadOf, OnlyBy}
 use Rattle.tv_typed.specs.declared.store_reader.StoreReader.{StoreReader}
 

@@ -10,7 +10,7 @@ use Rattle.tv_builder.specs.declared.heap_pairs.HeapPairs.{HeapPairs}
 use Rattle.tv_format.specs.Encoding.{EncodesPair}
 use Rattle.tv_format.specs.Tree.{Tree, Document}
 use Rattle.tv_format.specs.Version.{Version}
-use Rattle.tv_legacy.specs.Legacy.{Legacy}
+use Rattle.tv_reader.specs.Legacy.{Legacy}
 use Rattle.tv_reader.specs.Error.{StoreMayStop, store_stop, key_stop}
 use Rattle.tv_reader.specs.Finds.{FindsIf}
 use Rattle.tv_reader.specs.Version.{version_of}

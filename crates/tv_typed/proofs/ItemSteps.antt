@@ -8,7 +8,7 @@ use Rattle.tv_base.specs.ErrorInPart.{InEach}
 use Rattle.tv_base.specs.Source.{Failures}
 use Rattle.tv_base.proofs.EarlyNumbers.{number_early}
 use Rattle.tv_base.proofs.TakeSteps.{Taken_none}
-use Rattle.tv_legacy.specs.Legacy.{Legacy}
+use Rattle.tv_reader.specs.Legacy.{Legacy}
 use Rattle.tv_format.specs.Encoding.{Encodes, EncodesElements, EncodesEntries}
 use Rattle.tv_format.specs.Tree.{Tree, array, object, elements, element_count, entries, entry_count}
 use Rattle.tv_format.specs.Version.{Version, entry_total}

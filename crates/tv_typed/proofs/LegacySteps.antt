@@ -8,8 +8,8 @@ use Rattle.tv_base.specs.Source.{Failures}
 use Rattle.tv_base.specs.Stop.{Stop, CountsStop, Counts, Taken}
 use Rattle.tv_base.specs.Stop.Stop.{InputError, Uncounted, Failed, Short, Never}
 use Rattle.tv_base.proofs.TakeSteps.{Taken_none}
-use Rattle.tv_legacy.specs.Legacy.{Legacy}
-use Rattle.tv_legacy.proofs.Unique.{one_legacy}
+use Rattle.tv_reader.specs.Legacy.{Legacy}
+use Rattle.tv_reader.proofs.UniqueLegacy.{one_legacy}
 use Rattle.tv_format.specs.InputError.{corrupted}
 use Rattle.tv_value.specs.Owned.{owned_tree}
 use Rattle.tv_format.specs.Short.{short, IsValue}

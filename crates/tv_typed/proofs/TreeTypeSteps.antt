@@ -10,9 +10,9 @@ use Rattle.tv_format.specs.Encoding.{Encodes}
 use Rattle.tv_format.specs.InputError.{corrupted}
 use Rattle.tv_format.specs.Tree.{Tree}
 use Rattle.tv_format.specs.Version.{Version}
-use Rattle.tv_legacy.specs.Legacy.{Legacy, ErrorInLegacy}
-use Rattle.tv_legacy.proofs.EarlyObjects.{early_legacy}
-use Rattle.tv_legacy.proofs.EarlyTrees.{early_value}
+use Rattle.tv_reader.specs.Legacy.{Legacy, ErrorInLegacy}
+use Rattle.tv_reader.proofs.EarlyObjects.{early_legacy}
+use Rattle.tv_reader.proofs.EarlyTrees.{early_value}
 use Rattle.tv_reader.specs.Error.{is_corrupted}
 use Rattle.tv_reader.specs.Finds.{GivesStop}
 use Rattle.tv_reader.specs.Trees.{EncodesBehind, NoneBehind}

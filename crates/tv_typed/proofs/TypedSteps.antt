@@ -13,7 +13,7 @@ use Rattle.tv_base.specs.Stop.Stop.{InputError}
 use Rattle.tv_base.specs.Take.{MayStop, MayStopLean, read_stop, TakesIf}
 use Rattle.tv_base.proofs.Agrees.{Agrees}
 use Rattle.tv_base.proofs.ByGrammar.{shows_by, early_by}
-use Rattle.tv_legacy.specs.Legacy.{Legacy}
+use Rattle.tv_reader.specs.Legacy.{Legacy}
 use Rattle.tv_format.specs.InputError.{Refusal, corrupted}
 use Rattle.tv_format.specs.Encoding.{Encodes}
 use Rattle.tv_format.specs.Tree.{Leaf, leaf}

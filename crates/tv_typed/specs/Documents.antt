@@ -6,7 +6,7 @@ use Rattle.tv_base.specs.Parts.{Begins, Then}
 use Rattle.tv_base.specs.Source.{Failures}
 use Rattle.tv_base.specs.ErrorInPart.{InThen, ErrorInNumber, ErrorInBytes}
 use Rattle.tv_base.specs.Number.{Fixed}
-use Rattle.tv_legacy.specs.Legacy.{Legacy}
+use Rattle.tv_reader.specs.Legacy.{Legacy}
 use Rattle.tv_format.specs.InputError.{Corrupt}
 use Rattle.tv_format.specs.Encoding.{EncodesPair}
 use Rattle.tv_format.specs.Tree.{Tree, Document}

@@ -1,8 +1,8 @@
 -- Where a value is refused, no prefix of its bytes encodes a tree of which one is read.
 use Rattle.std.specs.Prelude.{◌≡◌, ℕ, List, ◌∷◌, ◌++◌}
 use Rattle.std.proofs.Common.{refl, sym, ap, subst, ◌∙◌, append_assoc, inl, inr}
-use Rattle.tv_legacy.specs.Legacy.{Legacy, ErrorInLegacy}
-use Rattle.tv_legacy.proofs.Unique.{one_legacy, legacy_excludes}
+use Rattle.tv_reader.specs.Legacy.{Legacy, ErrorInLegacy}
+use Rattle.tv_reader.proofs.UniqueLegacy.{one_legacy, legacy_excludes}
 use Rattle.tv_format.specs.InputError.{Refusal}
 use Rattle.tv_format.specs.Leaves.{type_of}
 use Rattle.tv_format.specs.Encoding.{Encodes, EncodesElements, EncodesEntries, NoLegacy}

@@ -9,8 +9,8 @@ use Rattle.tv_base.specs.ErrorInPart.{InEach}
 use Rattle.tv_base.proofs.Agreement.{one_from, agree_map, agree_then}
 use Rattle.tv_base.proofs.Excluding.{Excludes, rests, excludes_then, excludes_number}
 use Rattle.tv_base.proofs.Numbers.{one_number}
-use Rattle.tv_legacy.specs.Legacy.{Legacy}
-use Rattle.tv_legacy.proofs.Unique.{one_legacy}
+use Rattle.tv_reader.specs.Legacy.{Legacy}
+use Rattle.tv_reader.proofs.UniqueLegacy.{one_legacy}
 use Rattle.tv_format.specs.Encoding.{Key, Encodes, EncodesElements, EncodesEntries, NoLegacy}
 use Rattle.tv_format.specs.Tree.{Tree, object, elements, Entries, entries}
 use Rattle.tv_format.specs.Version.{Version, entry_total}

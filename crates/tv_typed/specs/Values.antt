@@ -6,7 +6,7 @@ use Rattle.tv_base.specs.ErrorInPart.{InThen}
 use Rattle.tv_base.specs.Source.{Failures}
 use Rattle.tv_base.specs.Stop.{Stop}
 use Rattle.tv_base.specs.Stop.Stop.{InputError, Uncounted, Failed, Short, Never}
-use Rattle.tv_legacy.specs.Legacy.{Legacy}
+use Rattle.tv_reader.specs.Legacy.{Legacy}
 use Rattle.tv_format.specs.InputError.{Refusal, corrupted}
 use Rattle.tv_value.specs.Owned.{owned_tree}
 use Rattle.tv_format.specs.Encoding.{Encodes, NoLegacy}

@@ -1,13 +1,11 @@
 //! Arrays in a store.
 
-ghost use Rattle.std.specs.Prelude.{◌≡◌, ◌+◌, ◌-◌, false, true, IsErrOf, IsOk, OnErr, if◌then◌else◌};
-ghost use Rattle.std.specs.Prelude.{is_err};
+ghost use Rattle.std.specs.Prelude.{◌≡◌, ◌+◌, ◌-◌, false, true, IsErrOf, IsOk, OnErr, if◌then◌else◌, is_err};
 ghost use Rattle.tv_base.specs.ErrorInPart.{InEach};
 ghost use Rattle.tv_reader.specs.Version.{version_of};
 ghost use Rattle.tv_reader.specs.declared.error.DeserializeError.TheVariants as errors;
 ghost use Rattle.tv_reader.specs.declared.value_type.ValueType.TheVariants as types;
-ghost use Rattle.tv_typed.specs.Depths.{AmongRead, AtEach, AtItem, AtValue, WhereGiven};
-ghost use Rattle.tv_typed.specs.Depths.{WhereRead, WhereTooDeep};
+ghost use Rattle.tv_typed.specs.Depths.{AmongRead, AtEach, AtItem, AtValue, WhereGiven, WhereRead, WhereTooDeep};
 ghost use Rattle.tv_typed.specs.Lists.{EncodesInto, NextItem, NextItemRefused, gives_some};
 ghost use Rattle.tv_typed.specs.Typed.{Deserializes};
 ghost use Rattle.tv_typed.specs.Values.{EncodesAs, NextRefused};

@@ -9,8 +9,7 @@
 //! `UnsupportedType(JSONObject)` where the type of its values reads past the end of that encoding, which none of this library does.
 
 ghost use Rattle.std.specs.Prelude.{◌≡◌, true, OnErr};
-ghost use Rattle.tv_typed.specs.Depths.{ArrayTooDeep, ArrayWithin, MembersTooDeep};
-ghost use Rattle.tv_typed.specs.Depths.{MembersWithin, WhereRead, WhereTooDeep};
+ghost use Rattle.tv_typed.specs.Depths.{ArrayTooDeep, ArrayWithin, MembersTooDeep, MembersWithin, WhereRead, WhereTooDeep};
 ghost use Rattle.std.specs.BTreeMap as tree;
 ghost use Rattle.std.specs.HashMap as hash;
 ghost use Rattle.tv_typed.specs.ExcludingLegacy.{entries_exclude};

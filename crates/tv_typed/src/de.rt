@@ -1,7 +1,6 @@
 //! Reading values out of a store: of the type that a type of this program reads, and of any type.
 
-ghost use Rattle.std.specs.Prelude.{◌≡◌, Ok, Err, IfOk, IfErr, false, true, List, [], ℕ, OnErr};
-ghost use Rattle.std.specs.Prelude.{IsErrOf};
+ghost use Rattle.std.specs.Prelude.{◌≡◌, Ok, Err, IfOk, IfErr, false, true, List, [], ℕ, OnErr, IsErrOf};
 ghost use Rattle.std.specs.Borrow.{sem, RestsIfErr};
 ghost use Rattle.tv_format.specs.Tree.{Tree};
 ghost use Rattle.tv_format.specs.Version.{Version};
@@ -13,12 +12,9 @@ ghost use Rattle.tv_reader.specs.declared.error.DeserializeError.TheVariants as 
 ghost use Rattle.tv_reader.specs.declared.value_type.ValueType.{ValueType};
 ghost use Rattle.tv_typed.specs.Excluding.{tree_excludes};
 ghost use Rattle.tv_typed.specs.Lists.{EncodesEntry, EntryRefused};
-ghost use Rattle.tv_typed.specs.Depths.{ReadsWithinDepth, IsTooDeep, HasDepth, AtValue};
-ghost use Rattle.tv_typed.specs.Depths.{AtEntry, NestsBehind, OpensBehind};
-ghost use Rattle.tv_typed.specs.Depths.{WhereRead, WhereTooDeep};
+ghost use Rattle.tv_typed.specs.Depths.{ReadsWithinDepth, IsTooDeep, HasDepth, AtValue, AtEntry, NestsBehind, OpensBehind, WhereRead, WhereTooDeep};
 ghost use Rattle.tv_typed.specs.Typed.{ReadsThrough, ReadsDeep, Deserializes};
-ghost use Rattle.tv_typed.specs.Values.{CodeRefused, IsTree, TreeRefused, Only, EncodesAs};
-ghost use Rattle.tv_typed.specs.Values.{DeserializesAs, NextRefused, RefusalsExclude};
+ghost use Rattle.tv_typed.specs.Values.{CodeRefused, IsTree, TreeRefused, Only, EncodesAs, DeserializesAs, NextRefused, RefusalsExclude};
 
 pub use crate::leaf_values::ValueVisitor;
 use crate::store_reader::StoreReader;

@@ -1,7 +1,6 @@
 //! Documents in a store, whose pairs are read one after the other.
 
-ghost use Rattle.std.specs.Prelude.{[], ◌≡◌, ◌+◌, ◌-◌, ◌<◌, List, ℕ, Bool, false, true, Ok, Err, OnErr};
-ghost use Rattle.std.specs.Prelude.{is_err, IfOk, IfErr, IsErrOf, if◌then◌else◌};
+ghost use Rattle.std.specs.Prelude.{[], ◌≡◌, ◌+◌, ◌-◌, ◌<◌, List, ℕ, Bool, false, true, Ok, Err, OnErr, is_err, IfOk, IfErr, IsErrOf, if◌then◌else◌};
 ghost use Rattle.std.specs.Borrow.{sem, RestsIfErr};
 ghost use Rattle.tv_base.specs.Number.{Fixed, VNum};
 ghost use Rattle.tv_base.specs.Source.{Failures};
@@ -15,9 +14,8 @@ ghost use Rattle.tv_format.specs.Tree.{Tree, Document};
 ghost use Rattle.tv_format.specs.Version.{Version};
 ghost use Rattle.tv_typed.specs.Depths.{AtField, AtItem, WhereGiven, WhereRead, WhereTooDeep};
 ghost use Rattle.tv_reading.specs.PairValue.{CanStand};
-ghost use Rattle.tv_typed.specs.Documents.{NextField, GivesPair, RefusesPair, EncodesField};
-ghost use Rattle.tv_typed.specs.Documents.{FieldEnds, FieldRefused, NumberRefused};
-ghost use Rattle.tv_typed.specs.Documents.{NextPair, GivesInto, RefusesInto};
+ghost use Rattle.tv_typed.specs.Documents.{NextField, GivesPair, RefusesPair, EncodesField, FieldEnds, FieldRefused, NumberRefused, NextPair, GivesInto};
+ghost use Rattle.tv_typed.specs.Documents.{RefusesInto};
 ghost use Rattle.tv_typed.specs.Lists.{NextItem, NextItemRefused, gives_some};
 ghost use Rattle.tv_typed.specs.Typed.{typed_stop, document_stop, ReadsThrough, Deserializes};
 ghost use Rattle.tv_typed.specs.contracts.store_reader.StoreReader.{the_row};
@@ -30,7 +28,7 @@ use tv_base::ByteSource;
 use tv_base::take::take_vint;
 use tv_builder::heap_pairs::HeapPairs;
 use tv_reader::DeserializeError;
-use tv_reader::fields::take_field;
+use tv_reader::heads::take_field;
 use tv_reading::document::take_pair_value;
 use tv_value::field::Field;
 

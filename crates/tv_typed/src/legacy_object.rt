@@ -10,8 +10,7 @@ ghost use Rattle.tv_typed.specs.Depths.{MembersTooDeep, MembersWithin, WhereRead
 ghost use Rattle.tv_typed.specs.LegacyObjects.{Retold, OfEncoding, LegacyRefused, MembersRefused};
 ghost use Rattle.tv_typed.specs.Typed.{ReadsThrough, Deserializes};
 ghost use Rattle.tv_typed.specs.Lists.{ObjectRefused};
-ghost use Rattle.tv_typed.specs.Values.{EncodesAs, EncodedAs, DeserializesAs, NextRefused};
-ghost use Rattle.tv_typed.specs.Values.{TreeRefused};
+ghost use Rattle.tv_typed.specs.Values.{EncodesAs, EncodedAs, DeserializesAs, NextRefused, TreeRefused};
 ghost use Rattle.tv_value.specs.Owned.{owned_tree};
 
 use crate::de::ValueDeserialize;

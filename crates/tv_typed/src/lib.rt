@@ -5,7 +5,6 @@ pub mod array;
 pub mod collections;
 pub mod de;
 pub mod document;
-mod leaf_value;
 mod leaf_values;
 mod legacy_object;
 pub mod object;

@@ -1,7 +1,6 @@
 //! Objects in a store.
 
-ghost use Rattle.std.specs.Prelude.{◌≡◌, ◌+◌, ◌-◌, ◌++◌, ◌∷◌, [], false, true, List, IsErrOf, IsOk, OnOk, OnErr};
-ghost use Rattle.std.specs.Prelude.{String, if◌then◌else◌, is_err};
+ghost use Rattle.std.specs.Prelude.{◌≡◌, ◌+◌, ◌-◌, ◌++◌, ◌∷◌, [], false, true, List, IsErrOf, IsOk, OnOk, OnErr, String, if◌then◌else◌, is_err};
 ghost use Rattle.std.specs.BTreeMap as tree;
 ghost use Rattle.std.specs.HashMap as hash;
 ghost use Rattle.std.specs.declared.alloc.Global.{Global};
@@ -11,11 +10,9 @@ ghost use Rattle.tv_reader.specs.declared.error.DeserializeError.TheVariants as 
 ghost use Rattle.tv_reader.specs.declared.value_type.ValueType.TheVariants as types;
 ghost use Rattle.std.proofs.Common.{subst, sym};
 ghost use Rattle.tv_format.specs.Tree.{Tree};
-ghost use Rattle.tv_typed.specs.Depths.{AmongRead, AtEach, AtEntry, AtItem, ObjectTooDeep};
-ghost use Rattle.tv_typed.specs.Depths.{ObjectWithin, WhereGiven, WhereRead, WhereTooDeep};
-ghost use Rattle.tv_typed.specs.Lists.{EncodesInto, EncodesEntry, EntryRefused, GivesLast};
-ghost use Rattle.tv_typed.specs.Lists.{MapOf, ObjectOf, ObjectRefused};
-ghost use Rattle.tv_typed.specs.Lists.{NextItem, NextItemRefused, gives_some};
+ghost use Rattle.tv_typed.specs.Depths.{AmongRead, AtEach, AtEntry, AtItem, ObjectTooDeep, ObjectWithin, WhereGiven, WhereRead, WhereTooDeep};
+ghost use Rattle.tv_typed.specs.Lists.{EncodesInto, EncodesEntry, EntryRefused, GivesLast, MapOf, ObjectOf, ObjectRefused, NextItem, NextItemRefused};
+ghost use Rattle.tv_typed.specs.Lists.{gives_some};
 ghost use Rattle.tv_typed.specs.Typed.{Deserializes};
 ghost use Rattle.tv_typed.specs.Values.{DeserializesAs};
 

@@ -1,7 +1,6 @@
 //! A source that is read as a store of one version.
 
-ghost use Rattle.std.specs.Prelude.{◌≡◌, true, false, is_err, IfErr, IsErrOf, OnOk, OnErr};
-ghost use Rattle.std.specs.Prelude.{string_bytes};
+ghost use Rattle.std.specs.Prelude.{◌≡◌, true, false, is_err, IfErr, IsErrOf, OnOk, OnErr, string_bytes};
 ghost use Rattle.tv_reader.specs.ValueType.{IsCoded};
 ghost use Rattle.tv_reader.specs.Version.{version_of};
 ghost use Rattle.tv_reader.specs.declared.value_type.ValueType.TheVariants as types;
@@ -15,8 +14,8 @@ ghost use Rattle.tv_reader.specs.declared.error.DeserializeError.TheVariants as 
 use std::alloc::Global;
 use tv_base::take::take_vint;
 use tv_base::{ByteSource, ReadError};
-use tv_reader::kinds::take_kind;
 use tv_reader::trees::{take_entry_count, take_key};
+use tv_reader::value_type::take_kind;
 use tv_reader::{DeserializeError, DocStoreVersion, ValueType};
 use tv_value::nesting::MAX_DEPTH;
 

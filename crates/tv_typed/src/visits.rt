@@ -9,8 +9,7 @@ ghost use Rattle.tv_reader.specs.declared.version.DocStoreVersion.TheVariants as
 ghost use Rattle.tv_typed.specs.LegacyObjects.{OfEncoding};
 ghost use Rattle.tv_typed.specs.Lists.{element_total};
 ghost use Rattle.tv_typed.specs.Typed.{Deserializes};
-ghost use Rattle.tv_typed.specs.Visits.{Visits, VisitsItems, VisitsKind, VisitsLegacy};
-ghost use Rattle.tv_typed.specs.Visits.{EncodesNextVisited, NextVisitRefused};
+ghost use Rattle.tv_typed.specs.Visits.{Visits, VisitsItems, VisitsKind, VisitsLegacy, EncodesNextVisited, NextVisitRefused};
 
 use crate::array::BinaryArrayDeserializer;
 use crate::de::BinaryValueDeserializer;

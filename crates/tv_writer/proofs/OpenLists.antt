@@ -11,7 +11,7 @@ use Rattle.tv_value.proofs.ListChildren.{list_size}
 use Rattle.tv_value.specs.Children.{Child, IsListOf, children_size}
 use Rattle.tv_writer.specs.Children.{AreValues, HasHead, IsSingle, short_children, short_head, short_key_of}
 use Rattle.tv_writer.specs.Error.{write_stop}
-use Rattle.tv_writer.specs.declared.error.SerializeError.TheVariants.{Memory}
+use Rattle.tv_writer.specs.declared.serializers.SerializeError.TheVariants.{Memory}
 use Rattle.tv_writer.proofs.WriterSteps.{head_first, list_short, single_short, list_parts, list_value, single_value}
 
 -- ---- children of two lists

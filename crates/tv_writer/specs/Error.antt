@@ -5,8 +5,8 @@ use Rattle.tv_base.specs.declared.write_error.WriteError.{WriteError}
 use Rattle.tv_base.specs.Sink.{WritesBy}
 use Rattle.tv_base.specs.Stop.{Stop}
 use Rattle.tv_base.specs.Stop.Stop.{InputError, Failed, Short}
-use Rattle.tv_writer.specs.declared.error.SerializeError.{SerializeError}
-use Rattle.tv_writer.specs.declared.error.SerializeError.TheVariants as writes
+use Rattle.tv_writer.specs.declared.serializers.SerializeError.{SerializeError}
+use Rattle.tv_writer.specs.declared.serializers.SerializeError.TheVariants as writes
 
 abbrev pub write_error : WriteError → SerializeError
 write_error failed = writes.Io failed.0

@@ -9,8 +9,8 @@ use Rattle.tv_value.specs.Nesting.{NestsWithin}
 use Rattle.tv_value.specs.declared.nesting.TheConstants.{MAX_DEPTH}
 use Rattle.tv_writer.specs.Children.{short_key_of}
 use Rattle.tv_writer.specs.Error.{WritesStore, IsIo, IsIoOrMemory}
-use Rattle.tv_writer.specs.declared.error.SerializeError.{SerializeError}
-use Rattle.tv_writer.specs.declared.error.SerializeError.TheVariants.{TooMany, TooDeep, Memory}
+use Rattle.tv_writer.specs.declared.serializers.SerializeError.{SerializeError}
+use Rattle.tv_writer.specs.declared.serializers.SerializeError.TheVariants.{TooMany, TooDeep, Memory}
 use Rattle.tv_writer.specs.declared.serializers.Depth.{Depth}
 use Rattle.tv_writer.specs.declared.serializers.Depth.TheVariants as depths
 

@@ -10,7 +10,7 @@ ghost use Rattle.tv_writer.specs.Error as store;
 ghost use Rattle.tv_writer.specs.Error.{IsIoOrMemory};
 
 use crate::encoding::has_head;
-use crate::error::SerializeError;
+use crate::serializers::SerializeError;
 use crate::value_writer::{child_count, write_child_key, write_head};
 use std::alloc::{AllocError, Global};
 use tv_base::ByteSink;

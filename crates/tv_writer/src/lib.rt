@@ -3,10 +3,10 @@
 
 pub mod deep;
 pub mod encoding;
-pub mod error;
 pub mod leaf_writer;
 pub mod serializers;
 pub mod value_writer;
 
-pub use error::SerializeError;
-pub use serializers::{BinaryArraySerializer, BinaryObjectSerializer, BinaryValueSerializer};
+pub use serializers::{
+    BinaryArraySerializer, BinaryObjectSerializer, BinaryValueSerializer, SerializeError,
+};

@@ -1,27 +1,64 @@
 //! Writing values, arrays and objects one by one, in either version of the store that is written.
 
-ghost use Rattle.std.specs.Prelude.{◌≡◌, ◌==◌, ◌*◌, ◌<◌, ◌≤◌, ◌^◌, ◌++◌, Ok, Err, IfOk, IfErr};
-ghost use Rattle.std.specs.Prelude.{if◌then◌else◌};
+ghost use Rattle.std.specs.Prelude.{◌≡◌, ◌==◌, ◌*◌, ◌<◌, ◌≤◌, ◌^◌, ◌++◌, Ok, Err, IfOk, IfErr, if◌then◌else◌};
 ghost use Rattle.tv_base.specs.Number.{vnum};
 ghost use Rattle.tv_base.specs.Writing.{Writes};
 ghost use Rattle.tv_writer.specs.Error as store;
-ghost use Rattle.tv_writer.specs.Error.{IsIo, IsIoOrMemory};
-ghost use Rattle.tv_writer.specs.Serialized.{FailsToWrite, WritesNothing, WritesToDepth, awaited_after};
-ghost use Rattle.tv_writer.specs.Serialized.{RefusesOrLacksMemory, short_child};
+ghost use Rattle.tv_writer.specs.Error.{IsIo, IsIoOrMemory, write_error};
+ghost use Rattle.tv_writer.specs.Serialized.{FailsToWrite, WritesNothing, WritesToDepth, awaited_after, RefusesOrLacksMemory, short_child};
 ghost use Rattle.tv_format.specs.Short.{short, short_key, IsValue};
 ghost use Rattle.tv_format.specs.Version.{entry_total};
 ghost use Rattle.tv_format.specs.WriteVersion.{written_version};
 
 use crate::deep::{has_encoding_deep, write_value_deep};
 use crate::encoding::has_encoding;
-use crate::error::SerializeError;
 use crate::value_writer::{write_child_key, write_value};
-use std::alloc::Global;
+use std::alloc::{AllocFailed, Global};
+use std::io;
+use thiserror::Error;
 use tv_base::write::write_vint;
 use tv_base::{ByteSink, WriteError};
 use tv_format::version::WriteVersion;
 use tv_value::nesting::{MAX_DEPTH, nests_within};
 use tv_value::value::Value;
+
+/// Why a value or a document couldn't be written.
+#[derive(Clone, Copy, Debug, PartialEq, Eq, Error)]
+pub enum SerializeError {
+    /// The sink failed.
+    #[error("the sink failed: {0}")]
+    Io(io::ErrorKind),
+    /// Another number of values was given than was announced.
+    #[error("another number of values was given than was announced")]
+    WrongCount,
+    /// An object announces a number above 2^64 - 1, or a value has an array, an object, a text or bytes that are too long for it.
+    #[error("there are too many entries")]
+    TooMany,
+    /// A value nests in more lists than the serializer writes.
+    #[error("the value nests too deep")]
+    TooDeep,
+    /// Memory was refused, for a value that nests deeper than `MAX_DEPTH` levels.
+    #[error("memory was refused")]
+    Memory,
+}
+
+impl From<WriteError> for SerializeError {
+    ghost from_gives = { λ failed told. told ≡ write_error failed };
+
+    fn from(failed: WriteError) -> SerializeError {
+        SerializeError::Io(failed.0)
+    }
+}
+
+impl<T: Drop> From<AllocFailed<T>> for SerializeError {
+    ghost use Rattle.tv_writer.specs.declared.serializers.SerializeError.TheVariants.{Memory};
+
+    ghost from_gives = { λ _ told. told ≡ Memory };
+
+    fn from(_error: AllocFailed<T>) -> SerializeError {
+        SerializeError::Memory
+    }
+}
 
 // How deep the values nest that a serializer writes.
 #[derive(Clone, Copy)]

@@ -11,8 +11,7 @@ ghost use Rattle.tv_format.specs.Version.{entry_total};
 ghost use Rattle.tv_format.specs.WriteVersion.{written_version};
 ghost use Rattle.tv_value.specs.Children.{IsListOf, children_left};
 ghost use Rattle.tv_value.specs.Lent.{nested_tree};
-ghost use Rattle.tv_writer.specs.Children.{AreValues, IsSingle, child_count, short_children};
-ghost use Rattle.tv_writer.specs.Children.{short_head, short_key_of};
+ghost use Rattle.tv_writer.specs.Children.{AreValues, IsSingle, child_count, short_children, short_head, short_key_of};
 
 use crate::leaf_writer::{write_coded_count, write_coded_text, write_leaf};
 use std::convert::AsStr;

@@ -4,12 +4,12 @@ ghost use Rattle.std.specs.Prelude.{◌≡◌, length};
 ghost use Rattle.tv_builder.specs.Builder.{Builds, TakesBytes, heap_so_far, state_of};
 ghost use Rattle.tv_builder.specs.Fits.{KeyFits, ListFits};
 ghost use Rattle.tv_builder.specs.State.{and_bytes, and_key, and_list, awaited};
-ghost use Rattle.tv_builder.specs.declared.awaits.Awaits.TheVariants.{Key, Value};
-ghost use Rattle.tv_builder.specs.declared.list_kind.ListKind.TheVariants.{Array};
+ghost use Rattle.tv_builder.specs.declared.kinds.Awaits.TheVariants.{Key, Value};
+ghost use Rattle.tv_builder.specs.declared.kinds.ListKind.TheVariants.{Array};
 
-use tv_builder::awaits::Awaits;
-use tv_builder::build_error::BuildError;
-use tv_builder::list_kind::ListKind;
+use tv_builder::kinds::Awaits;
+use tv_builder::errors::BuildError;
+use tv_builder::kinds::ListKind;
 use tv_builder::pair_builder::PairBuilder;
 
 /// Bytes stand in the heap as soon as they have come, whether or not they are also kept for later.

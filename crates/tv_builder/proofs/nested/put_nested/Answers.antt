@@ -7,7 +7,7 @@ use Rattle.tv_value.proofs.ListChildren.{list_size}
 use Rattle.tv_base.proofs.Growing.{grows_then}
 use Rattle.tv_builder.specs.Nested.{flat, ChildPut}
 use Rattle.tv_builder.specs.Whole.{PutNot}
-use Rattle.tv_builder.specs.declared.add_error.AddError.TheVariants.{Memory}
+use Rattle.tv_builder.specs.declared.errors.AddError.TheVariants.{Memory}
 use Rattle.tv_builder.proofs.Giving.{prefix_same}
 use Rattle.tv_builder.proofs.NestedLists.{Around, around_refused, opens, goes_on, child_next, pushed, outer_goes_on, outermost_closes, left_size}
 use Rattle.tv_builder.proofs.Putting.{first_within, grows_same, key_refused, list_closes, list_refused, memory_not, own_refused, put_grows, refused}

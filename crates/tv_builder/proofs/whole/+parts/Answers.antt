@@ -3,7 +3,7 @@ use Rattle.tv_base.proofs.Growing.{grows_then}
 use Rattle.tv_value.specs.Lent.{nested_tree}
 use Rattle.tv_builder.specs.Nested.{flat_entries}
 use Rattle.tv_builder.specs.Whole.{Puts}
-use Rattle.tv_builder.specs.declared.list_kind.ListKind.TheVariants.{Array, Object}
+use Rattle.tv_builder.specs.declared.kinds.ListKind.TheVariants.{Array, Object}
 use Rattle.tv_format.specs.Tree.{array, object, elements, entries}
 use Rattle.tv_format.specs.Size.{size, elements_size, entries_size}
 use Rattle.tv_builder.specs.Given.{place_bytes}

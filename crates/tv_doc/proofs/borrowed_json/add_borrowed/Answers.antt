@@ -7,7 +7,7 @@ use Rattle.tv_json.specs.BorrowedData.{data_of, items_data}
 use Rattle.tv_json.specs.declared.borrowed.BorrowedJson.{BorrowedJson}
 use Rattle.tv_schema.specs.Schema.{field_named}
 use Rattle.tv_doc.specs.JsonObject.{FieldJson, items_for, value_for}
-use Rattle.tv_doc.specs.declared.named_field.NamedField.{NamedField}
+use Rattle.tv_doc.specs.declared.json_object.NamedField.{NamedField}
 use Rattle.tv_doc.proofs.PlainValues.{values_of_items}
 use Rattle.tv_doc.proofs.JsonDocuments.{SoFar, none_so_far, more_so_far, all_so_far, told_later}
 use Rattle.tv_doc.proofs.borrowed_json.add_borrowed.Goals as goal

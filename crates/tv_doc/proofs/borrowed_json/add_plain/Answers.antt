@@ -3,7 +3,7 @@ use Rattle.std.specs.Prelude.{OnSome}
 use Rattle.std.specs.Result.{result_ok}
 use Rattle.serde_json.specs.Data.{Data}
 use Rattle.tv_json.specs.BorrowedData.{data_of}
-use Rattle.tv_builder.specs.declared.add_error.AddError.{AddError}
+use Rattle.tv_builder.specs.declared.errors.AddError.{AddError}
 use Rattle.tv_field.specs.JsonTable.{Table}
 use Rattle.tv_field.specs.declared.field_type.FieldType.{FieldType}
 use Rattle.tv_format.specs.Tree.{Tree}

@@ -1,6 +1,6 @@
 use Rattle.std.proofs.Common.{◌≡◌, Some, sym, ◌∙◌, ap, subst, arith}
 use Rattle.std.proofs.Math.Logic.{∥∥₁_map}
-use Rattle.tv_heap.specs.declared.place.Place.{Place}
+use Rattle.tv_heap.specs.declared.value_type.Place.{Place}
 use Rattle.tv_heap.specs.Reads.{ReadsTree}
 use Rattle.tv_heap.specs.TypeCode.{type_code}
 use Rattle.tv_builder.specs.Given.{Given}

@@ -4,9 +4,9 @@ use Rattle.tv_doc.specs.Belongs.{Belongs}
 use Rattle.tv_doc.specs.Document.{document_of}
 use Rattle.tv_doc.specs.FieldValues.{values_of}
 use Rattle.tv_doc.specs.NamedPairs.{IsBackError}
-use Rattle.tv_doc.specs.declared.doc_parsing_error.DocParsingError.{DocParsingError}
-use Rattle.tv_doc.specs.declared.named_back_error.NamedBackError.{NamedBackError}
-use Rattle.tv_doc.specs.declared.named_back_error.NamedBackError.TheVariants.{Converted}
+use Rattle.tv_doc.specs.declared.errors.DocParsingError.{DocParsingError}
+use Rattle.tv_doc.specs.declared.errors.NamedBackError.{NamedBackError}
+use Rattle.tv_doc.specs.declared.errors.NamedBackError.TheVariants.{Converted}
 use Rattle.tv_doc.proofs.NamedBack.{names_keep_values, names_keep_all, names_keep_some, named_pairs_belong}
 use Rattle.tv_doc.proofs.NamedErrors.{convert_error}
 use Rattle.tv_doc.proofs.laws.named_documents_are_converted_back.Goals as goal

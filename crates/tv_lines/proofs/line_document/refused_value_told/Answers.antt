@@ -1,7 +1,7 @@
 use Rattle.std.proofs.Common.{Err, subst}
 use Rattle.tv_lines.proofs.Told.{value_told}
 use Rattle.tv_doc.specs.JsonObject.{Parses}
-use Rattle.tv_doc.specs.declared.doc_parsing_error.DocParsingError.TheVariants.{ValueError}
+use Rattle.tv_doc.specs.declared.errors.DocParsingError.TheVariants.{ValueError}
 use Rattle.tv_lines.proofs.line_document.refused_value_told.Goals as goal
 
 pub refused_number-requires : goal.refused_number-requires

@@ -2,7 +2,7 @@ use Rattle.std.proofs.Common.{◌<◌, ◌^◌, List, subst, sym, arith}
 use Rattle.tv_builder.specs.Prefix.{Encoded}
 use Rattle.tv_builder.specs.Parts.{Part}
 use Rattle.tv_builder.specs.HeldPairs.{document_of}
-use Rattle.tv_legacy.specs.Legacy.{Legacy}
+use Rattle.tv_reader.specs.Legacy.{Legacy}
 use Rattle.tv_reader.specs.Version.{version_of}
 use Rattle.tv_reading.specs.PairValue.{FindsValue, FindsNoValue}
 use Rattle.tv_reading.proofs.PairValues.{value_added, value_refused, value_too_large, reads_map}

@@ -1,7 +1,7 @@
 use Rattle.std.proofs.Common.{[], ◌∷◌, refl, inl, inr, sym, subst}
 use Rattle.std.proofs.lemmas.Result.{err_from_is_err_and}
 use Rattle.tv_format.specs.InputError.{ErrorInDocument}
-use Rattle.tv_legacy.specs.Legacy.{Legacy, ErrorInLegacy}
+use Rattle.tv_reader.specs.Legacy.{Legacy, ErrorInLegacy}
 use Rattle.tv_base.specs.Number.{VNum}
 use Rattle.tv_reader.specs.Version.{version_of}
 use Rattle.tv_reader.proofs.Finding.{finds_any, finds_fails}

@@ -3,7 +3,7 @@ use Rattle.tv_builder.specs.declared.heap_pairs.HeapPairs.{HeapPairs}
 use Rattle.tv_builder.specs.HeldPairs.{document_of as pairs_of}
 use Rattle.tv_doc.specs.Document.{document_of}
 use Rattle.tv_format.specs.Encoding.{EncodesDocument}
-use Rattle.tv_legacy.specs.Legacy.{Legacy}
+use Rattle.tv_reader.specs.Legacy.{Legacy}
 use Rattle.tv_reader.specs.Error.{StoreMayStop}
 use Rattle.tv_reader.specs.Version.{version_of}
 use Rattle.tv_reader.proofs.Finding.{finds_as, finds_fails}

@@ -1,5 +1,5 @@
-use Rattle.tv_legacy.specs.Legacy.{Legacy, ErrorInLegacy}
-use Rattle.tv_legacy.proofs.Unique.{one_legacy, legacy_excludes, single_legacy}
+use Rattle.tv_reader.specs.Legacy.{Legacy, ErrorInLegacy}
+use Rattle.tv_reader.proofs.UniqueLegacy.{one_legacy, legacy_excludes, single_legacy}
 use Rattle.tv_format.proofs.SingleTrees.{single_document}
 use Rattle.tv_store.proofs.laws.refusals_are_unique.Goals as goal
 

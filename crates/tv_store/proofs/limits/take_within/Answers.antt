@@ -2,7 +2,7 @@ use Rattle.std.proofs.Common.{Err, arith, rules, ap, refl, subst, ◌∙◌}
 use Rattle.std.proofs.lemmas.Result.{err_from_is_err_and}
 use Rattle.tv_reading.specs.Prefix.{IsMalformedNext, NoRoomBehind}
 use Rattle.tv_reading.specs.Steps.{Advances}
-use Rattle.tv_legacy.specs.Legacy.{Legacy}
+use Rattle.tv_reader.specs.Legacy.{Legacy}
 use Rattle.tv_reader.specs.Version.{version_of}
 use Rattle.tv_reader.specs.declared.error.DeserializeError.TheVariants.{HeapFull}
 use Rattle.tv_reader.proofs.Finding.{finds_as}

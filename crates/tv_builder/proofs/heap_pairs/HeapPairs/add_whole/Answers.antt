@@ -1,8 +1,8 @@
 use Rattle.std.proofs.Common.{◌≡◌, length, arith}
 use Rattle.tv_builder.specs.HeldPairs.{heap_of, RefusesAddition}
 use Rattle.tv_builder.specs.Whole.{WhyNotWithin}
-use Rattle.tv_builder.specs.declared.add_error.AddError.{AddError}
-use Rattle.tv_builder.specs.declared.add_error.AddError.TheVariants.{HeapFull, Memory}
+use Rattle.tv_builder.specs.declared.errors.AddError.{AddError}
+use Rattle.tv_builder.specs.declared.errors.AddError.TheVariants.{HeapFull, Memory}
 use Rattle.tv_builder.specs.declared.heap_pairs.HeapPairs.{HeapPairs}
 use Rattle.tv_format.specs.Tree.{Tree}
 use Rattle.tv_builder.proofs.Kept.{Written, kept_fields, kept_adds, kept_memory, cut_fields, cut_memory, cut_unchanged}

@@ -2,7 +2,7 @@ use Rattle.std.proofs.Common.{false, refl, inl, arith, [], ◌∷◌}
 use Rattle.std.proofs.lemmas.Result.{err_from_is_err_and}
 use Rattle.tv_base.proofs.Numbers.{length-fixed}
 use Rattle.tv_builder.specs.Parts.{field}
-use Rattle.tv_legacy.specs.Legacy.{Legacy}
+use Rattle.tv_reader.specs.Legacy.{Legacy}
 use Rattle.tv_reader.proofs.AgreeField.{field_agrees}
 use Rattle.tv_reader.proofs.Finding.{finds_as, finds_read, finds_read_fails}
 use Rattle.tv_format.specs.Encoding.{NoLegacy}

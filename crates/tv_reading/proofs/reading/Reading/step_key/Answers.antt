@@ -1,7 +1,7 @@
 use Rattle.std.proofs.Common.{[], ◌∷◌, false}
 use Rattle.std.proofs.lemmas.Result.{err_from_is_err_and}
 use Rattle.tv_builder.specs.Parts.{bytes_head}
-use Rattle.tv_builder.specs.declared.bytes_kind.BytesKind.TheVariants.{Key}
+use Rattle.tv_builder.specs.declared.kinds.BytesKind.TheVariants.{Key}
 use Rattle.tv_reader.proofs.Finding.{finds_any, finds_fails}
 use Rattle.tv_reader.specs.Version.{version_of}
 use Rattle.tv_reading.specs.Prefix.{IsMalformedNext}

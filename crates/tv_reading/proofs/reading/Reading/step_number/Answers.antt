@@ -1,7 +1,7 @@
 use Rattle.std.proofs.Common.{false, refl, inl, arith, [], ◌∷◌}
 use Rattle.std.proofs.lemmas.Result.{err_from_is_err_and}
 use Rattle.tv_builder.specs.Parts.{number}
-use Rattle.tv_legacy.specs.Legacy.{Legacy}
+use Rattle.tv_reader.specs.Legacy.{Legacy}
 use Rattle.tv_reader.proofs.Finding.{finds_as, finds_fails}
 use Rattle.tv_format.specs.Encoding.{NoLegacy}
 use Rattle.tv_reading.specs.Prefix.{IsMalformedNext}

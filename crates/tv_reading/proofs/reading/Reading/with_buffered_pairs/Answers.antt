@@ -1,6 +1,6 @@
 use Rattle.std.proofs.Common.{sym, subst, append-nil}
 use Rattle.tv_builder.specs.Prefix.{Encoded}
-use Rattle.tv_legacy.specs.Legacy.{Legacy}
+use Rattle.tv_reader.specs.Legacy.{Legacy}
 use Rattle.tv_reader.proofs.Finding.{finds_as}
 use Rattle.tv_reader.specs.Version.{version_of}
 use Rattle.tv_reading.specs.Prefix.{parts_read}

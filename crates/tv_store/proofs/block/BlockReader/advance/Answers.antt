@@ -1,7 +1,7 @@
 use Rattle.std.proofs.Common.{ℕ, List}
 use Rattle.tv_doc.specs.Document.{document_of}
 use Rattle.tv_format.specs.Encoding.{EncodesDocument}
-use Rattle.tv_legacy.specs.Legacy.{Legacy}
+use Rattle.tv_reader.specs.Legacy.{Legacy}
 use Rattle.tv_reader.specs.Version.{version_of}
 use Rattle.tv_store.specs.Reading.{documents}
 use Rattle.tv_store.proofs.Blocks.{never_full, reads_placed}

@@ -1,5 +1,0 @@
-use Rattle.tv_legacy.proofs.Unique.{begins_or_malformed}
-use Rattle.tv_legacy.proofs.laws.bytes_begin_a_legacy_object_or_are_malformed.Goals as goal
-
-pub returns : goal.returns
-returns c = begins_or_malformed

@@ -1,5 +1,0 @@
-use Rattle.tv_legacy.proofs.Deciding.{value_or_error}
-use Rattle.tv_legacy.proofs.laws.bytes_begin_a_value_or_are_malformed.Goals as goal
-
-pub returns : goal.returns
-returns c = value_or_error

@@ -1,7 +1,0 @@
-use Rattle.tv_legacy.specs.Legacy.{Legacy, ErrorInLegacy}
-use Rattle.tv_legacy.proofs.Unique.{one_legacy, legacy_excludes, single_legacy}
-use Rattle.tv_legacy.proofs.laws.errors_of_documents_are_unique.Goals as goal
-use Rattle.tv_format.proofs.SingleTrees.{single_document}
-
-pub returns : goal.returns
-returns c = λ v bytes r s f g. (single_document Legacy ErrorInLegacy v one_legacy legacy_excludes single_legacy).single bytes r s f g

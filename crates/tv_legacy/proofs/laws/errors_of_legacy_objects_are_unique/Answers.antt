@@ -1,5 +1,0 @@
-use Rattle.tv_legacy.proofs.Unique.{single_legacy}
-use Rattle.tv_legacy.proofs.laws.errors_of_legacy_objects_are_unique.Goals as goal
-
-pub returns : goal.returns
-returns c = λ bytes a b f g. single_legacy.single bytes a b f g

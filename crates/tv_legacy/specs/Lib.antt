@@ -1,4 +1,0 @@
-pub mod Legacy
-pub mod LegacyReading
-pub mod LegacyScan
-pub mod LegacyLaws

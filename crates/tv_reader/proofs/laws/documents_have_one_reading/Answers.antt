@@ -1,0 +1,7 @@
+use Rattle.tv_reader.specs.Legacy.{Legacy}
+use Rattle.tv_reader.proofs.UniqueLegacy.{one_legacy}
+use Rattle.tv_reader.proofs.laws.documents_have_one_reading.Goals as goal
+use Rattle.tv_format.proofs.Trees.{one_document}
+
+pub returns : goal.returns
+returns c = λ v. one_document Legacy v one_legacy
