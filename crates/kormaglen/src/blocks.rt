@@ -1,7 +1,6 @@
 //! `export` and `check`.
 
-use crate::ending::{Ending, Failure, failed, write_failed, wrong_use};
-use crate::escaped::escaped;
+use crate::ending::{Ending, Failure, escaped, failed, write_failed, wrong_use};
 use crate::files::{Output, OutputSink, create, finish, print_lines};
 use crate::inputs::{BlockSource, limits, schema_given, source, text, version};
 use crate::progress::Progress;
@@ -11,8 +10,8 @@ use tantivy_schema::schema::document::DeserializeError;
 use tantivy_schema::schema::{Field, Schema};
 use tantivy_schema::store::{LimitedReadError, Projection, RefusedDocument};
 use tv_lines::check::check_block;
+use tv_lines::errors::WorkError;
 use tv_lines::export::{JsonLayout, export_block};
-use tv_lines::work_error::WorkError;
 
 /// What broke the work on a block off, of which the results go to the output of this name.
 pub(crate) fn broken(

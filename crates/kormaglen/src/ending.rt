@@ -1,7 +1,6 @@
 //! How the command ends.
 
 use crate::arguments::command;
-use crate::escaped::escaped;
 use crate::files::{create, finish};
 use crate::names::refuse_twice;
 use crate::{blocks, facets, find, get, imports, migrations, schemas, stat, terms};
@@ -182,4 +181,19 @@ pub(crate) fn refuse_words(rt: &HostRuntime, kind: io::ErrorKind) -> u8 {
         return 2;
     }
     status(rt, Err(Failure::Memory))
+}
+
+/// A text in which each control character is written as an escape, as `\n` or `\u{1b}`. All other characters stay as they are, a backslash too.
+pub(crate) fn escaped(alloc: Global, text: &str) -> Result<String, AllocError> {
+    let mut escaped = String::with_capacity(alloc, text.len())?;
+    for character in text.chars() {
+        if character.is_control() {
+            for part in character.escape_debug() {
+                escaped.push(part)?;
+            }
+        } else {
+            escaped.push(character)?;
+        }
+    }
+    Ok(escaped)
 }

@@ -1,8 +1,7 @@
 //! `facets`.
 
 use crate::bars::print_table;
-use crate::ending::{Ending, Failure, wrong_use};
-use crate::escaped::escaped;
+use crate::ending::{Ending, Failure, escaped, wrong_use};
 use crate::faults::refuse_unstored;
 use crate::files::{Output, create, finish};
 use crate::inputs::{schema_given, text};

@@ -1,7 +1,6 @@
 //! Documents that can't be searched, and fields that can't.
 
-use crate::ending::{Ending, Failure, wrong_use};
-use crate::escaped::escaped;
+use crate::ending::{Ending, Failure, escaped, wrong_use};
 use crate::progress::ERASING;
 use std::alloc::{AllocError, Global};
 use std::io::Eprint;

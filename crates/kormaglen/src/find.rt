@@ -4,8 +4,7 @@ ghost use Rattle.std.specs.Prelude.{[]};
 
 use crate::bars::push_times;
 use crate::blocks::broken;
-use crate::ending::{Ending, Failure, say};
-use crate::escaped::escaped;
+use crate::ending::{Ending, Failure, escaped, say};
 use crate::faults::{Faults, refuse_unstored};
 use crate::files::{create, finish, print_lines};
 use crate::inputs::{BlockSource, limits, schema_given, source, text, version};

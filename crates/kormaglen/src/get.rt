@@ -1,8 +1,8 @@
 //! `get`.
 
+use crate::blocks::layout;
 use crate::ending::{Ending, Failure, failed, of_file, say};
 use crate::files::{Output, create, finish};
-use crate::blocks::layout;
 use crate::inputs::{BlockSource, limits, schema_given, source, source_at, text, version};
 use crate::starts::Offsets;
 use clap::ArgMatches;

@@ -2,8 +2,7 @@
 
 ghost use Rattle.std.specs.Prelude.{[]};
 
-use crate::ending::{Ending, Failure, failed, write_failed};
-use crate::escaped::escaped;
+use crate::ending::{Ending, Failure, escaped, failed, write_failed};
 use crate::faults::why_faulty;
 use crate::files::{Output, create, create_optional, finish_all};
 use crate::inputs::{schema_given, source, text, written_version};

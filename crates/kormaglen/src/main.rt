@@ -6,7 +6,6 @@ mod bars;
 mod blocks;
 mod depth;
 mod ending;
-mod escaped;
 mod facets;
 mod faults;
 mod files;

@@ -8,7 +8,7 @@ use crate::progress::Progress;
 use clap::ArgMatches;
 use tantivy_schema::schema::document::SerializeError;
 use tantivy_schema::store::{MigrateBlockError, migrate_block};
-use tv_lines::work_error::WorkError;
+use tv_lines::errors::WorkError;
 
 // The same, as the work on a block says it.
 fn told(error: MigrateBlockError) -> WorkError {

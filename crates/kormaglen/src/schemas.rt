@@ -1,7 +1,6 @@
 //! `schema show` and `schema new`.
 
-use crate::ending::{Ending, Failure, wrong_use};
-use crate::escaped::escaped;
+use crate::ending::{Ending, Failure, escaped, wrong_use};
 use crate::files::{create, finish, print_lines};
 use crate::inputs::{schema_of, text};
 use crate::schema_words::entry_of;

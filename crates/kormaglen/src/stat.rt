@@ -1,8 +1,7 @@
 //! `stat`.
 
 use crate::depth::deepest_of;
-use crate::ending::{Ending, Failure};
-use crate::escaped::escaped;
+use crate::ending::{Ending, Failure, escaped};
 use crate::files::{Output, create, finish};
 use crate::inputs::{limits, schema_given};
 use crate::visits::{Visit, visit_block};

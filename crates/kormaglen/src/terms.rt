@@ -2,8 +2,7 @@
 
 ghost use Rattle.std.specs.Prelude.{◌≤◌, length, OnOk};
 
-use crate::ending::{Ending, Failure, failed, wrong_use};
-use crate::escaped::escaped;
+use crate::ending::{Ending, Failure, escaped, failed, wrong_use};
 use crate::faults::{Faults, refuse_unstored};
 use crate::files::{Output, create, finish};
 use crate::inputs::{schema_given, text};

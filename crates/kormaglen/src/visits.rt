@@ -6,8 +6,7 @@ use crate::progress::Progress;
 use clap::ArgMatches;
 use std::alloc::{AllocError, Global};
 use tantivy_schema::schema::{Field, TantivyDocument};
-use tantivy_schema::store::{BlockReader, Projection};
-use tantivy_schema::store::Watch;
+use tantivy_schema::store::{BlockReader, Projection, Watch};
 
 /// What is done with each document of a block.
 pub(crate) trait Visit {

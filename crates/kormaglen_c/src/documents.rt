@@ -18,7 +18,7 @@ use std::alloc::{AllocError, Global};
 use tv_blocks::BlockError;
 use tv_blocks::document_handle::DocumentHandle;
 use tv_blocks::schema_handle::SchemaHandle;
-use tv_blocks::schema_memory::SchemaMemory;
+use tv_blocks::schema_handle::SchemaMemory;
 use tv_blocks::status::{Answer, written_answer, wrong_version};
 use tv_doc::document::CompactDoc;
 use tv_doc::parse_buffers::ParseBuffers;

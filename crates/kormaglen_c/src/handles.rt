@@ -16,7 +16,7 @@ ghost use Rattle.tv_reader.specs.Version.{version_of_number, version_of};
 use crate::{NOTHING_FOUND, found_answer};
 use std::alloc::Global;
 use tv_blocks::schema_handle::SchemaHandle;
-use tv_blocks::schema_memory::SchemaMemory;
+use tv_blocks::schema_handle::SchemaMemory;
 use tv_blocks::status::{Answer, import_answer, written_answer, wrong_version};
 use tv_blocks::{BlockError, FoundField, LineAnswer};
 use tv_schema::Schema;

@@ -43,7 +43,7 @@ pub use Rattle.tv_format.specs.declared.version.WriteVersion
 pub use Rattle.tv_reader.specs.declared.value_type.ValueType
 pub use Rattle.tv_indexing.specs.declared.term_list.TermIter
 pub use Rattle.tv_indexing.specs.declared.term_list.TermList
-pub use Rattle.tv_indexing.specs.declared.term_values_error.TermValuesError
+pub use Rattle.tv_indexing.specs.declared.document.TermValuesError
 pub use Rattle.tv_indexing.specs.declared.json_ranges.JsonKind
 pub use Rattle.tv_indexing.specs.declared.text_terms_error.TextTermsError
 pub use Rattle.tv_facets.specs.declared.document_counts.DocumentFacet
@@ -98,5 +98,5 @@ pub use Rattle.tv_typed.specs.declared.array.BinaryArrayDeserializer
 pub use Rattle.tv_typed.specs.declared.object.BinaryObjectDeserializer
 pub use Rattle.tv_typed.specs.declared.document.BinaryDocumentDeserializer
 -- how a run over lines ends
-pub use Rattle.tv_lines.specs.declared.halt.Halt
+pub use Rattle.tv_lines.specs.declared.errors.Halt
 pub use Rattle.tv_lines.specs.declared.runs.RunEnd

@@ -68,12 +68,12 @@ pub use tv_schema::laws::{
     comparisons_of_schemas_agree, names_are_of_one_field, record_options_agree,
     the_last_dot_counts, whole_paths_come_first,
 };
+pub use tv_store::direct_decoder::stepped_decoders_are_paid_for;
 pub use tv_store::laws::{
     refusals_are_unique, stored_pairs_are_valid, stored_pairs_need_no_more_room,
 };
 pub use tv_store::migration_trip::{MigrationTrip, migrations_are_read_back};
 pub use tv_store::round_trip::{RoundTrip, RoundTripError, additions_are_stored_and_read_back};
-pub use tv_store::direct_decoder::stepped_decoders_are_paid_for;
 use tv_store::{
     BinaryDocumentSerializer, DeserializeError, DocStoreVersion, SerializeError, read_document,
 };

@@ -16,14 +16,13 @@
 pub mod document;
 
 pub use tv_base::{FACET_SEP_BYTE, FACET_SEP_CHAR, Facet, FacetParseError};
-pub use tv_doc::errors::DocParsingError;
 pub use tv_doc::document::{CompactDoc, CompactDoc as TantivyDocument};
 pub use tv_doc::document_trait::Document;
+pub use tv_doc::errors::{DocParsingError, StrictParsingError};
 pub use tv_doc::json_expected::{JsonExpected, JsonWord, LowSurrogatePart};
 pub use tv_doc::json_fault::{JsonFault, JsonFaultKind};
-pub use tv_doc::named::NamedFieldDocument;
-pub use tv_doc::errors::StrictParsingError;
 pub use tv_doc::json_object::text_fault;
+pub use tv_doc::named::NamedFieldDocument;
 pub use tv_facets::{
     DocumentFacet, FacetCount, FacetCountsError, count_child_documents, count_child_facets,
     greatest_counts,

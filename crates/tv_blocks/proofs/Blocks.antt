@@ -4,8 +4,8 @@ use Rattle.tv_blocks.specs.Blocks.{IsPrintedBlock, IsRefusedBlock}
 use Rattle.tv_lines.specs.Exporting.{BreaksOff, ExportsAll}
 use Rattle.tv_lines.specs.Printing.{ArePrinted}
 use Rattle.tv_lines.specs.declared.export.JsonLayout.TheVariants.{Compact}
-use Rattle.tv_lines.specs.declared.work_error.WorkError.{WorkError}
-use Rattle.tv_lines.specs.declared.work_error.WorkError.TheVariants as work
+use Rattle.tv_lines.specs.declared.errors.WorkError.{WorkError}
+use Rattle.tv_lines.specs.declared.errors.WorkError.TheVariants as work
 use Rattle.tv_blocks.specs.Refusals.{document_refusal, export_refusal, migration_refusal, refusal_within}
 use Rattle.tv_field.specs.Entry.{Entry}
 use Rattle.tv_format.specs.Encoding.{EncodesDocument}

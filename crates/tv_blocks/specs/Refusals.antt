@@ -11,8 +11,8 @@ use Rattle.tv_format.specs.InputError.{corrupted, no_text_key}
 use Rattle.tv_format.specs.Tree.{Document}
 use Rattle.tv_format.specs.Version.{Version}
 use Rattle.tv_lines.specs.Answers.{IsJson, ReadsSchema}
-use Rattle.tv_lines.specs.declared.work_error.WorkError.{WorkError}
-use Rattle.tv_lines.specs.declared.work_error.WorkError.TheVariants as work
+use Rattle.tv_lines.specs.declared.errors.WorkError.{WorkError}
+use Rattle.tv_lines.specs.declared.errors.WorkError.TheVariants as work
 use Rattle.tv_reader.specs.declared.error.DeserializeError.{DeserializeError}
 use Rattle.tv_reader.specs.declared.error.DeserializeError.TheVariants as reads
 use Rattle.tv_schema.specs.Path.{find}

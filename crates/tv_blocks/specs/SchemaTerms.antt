@@ -16,7 +16,7 @@ use Rattle.tv_field.specs.Entry.{Entry}
 use Rattle.tv_format.specs.Tree.{Document}
 use Rattle.tv_format.specs.Version.{Version}
 use Rattle.tv_indexing.specs.DocumentTerms.{Terms, document_terms}
-use Rattle.tv_indexing.specs.declared.term_values_error.TermValuesError.{TermValuesError}
+use Rattle.tv_indexing.specs.declared.document.TermValuesError.{TermValuesError}
 use Rattle.tv_store.specs.BlockMigration.{EncodesBlock}
 use Rattle.tv_store.specs.Documents.{BeginsWithDocument}
 use Rattle.tv_value.specs.declared.field.Field.{Field}

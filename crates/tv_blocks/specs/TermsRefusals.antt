@@ -4,8 +4,8 @@ use Rattle.tv_blocks.specs.declared.block_error.BlockError.{BlockError}
 use Rattle.tv_blocks.specs.declared.block_error.BlockError.TheVariants as errors
 use Rattle.tv_blocks.specs.declared.terms_refusal.TermsRefusal.{TermsRefusal}
 use Rattle.tv_blocks.specs.declared.terms_refusal.TermsRefusal.TheVariants as refusals
-use Rattle.tv_indexing.specs.declared.term_values_error.TermValuesError.{TermValuesError}
-use Rattle.tv_indexing.specs.declared.term_values_error.TermValuesError.TheVariants as values
+use Rattle.tv_indexing.specs.declared.document.TermValuesError.{TermValuesError}
+use Rattle.tv_indexing.specs.declared.document.TermValuesError.TheVariants as values
 use Rattle.tv_value.specs.declared.field.Field.{Field}
 
 -- why a document has no terms, and the field whose value has none

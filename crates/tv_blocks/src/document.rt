@@ -1,9 +1,9 @@
 //! One document: read, printed, and written.
 
-ghost use Rattle.std.specs.Prelude.{◌≡◌, [], IfErr, IfOk, MatchOption, OnErr};
+ghost use Rattle.std.specs.Prelude.{◌≡◌, [], IfErr, IfOk, MatchOption, OnErr, false, OnOk};
 ghost use Rattle.tv_blocks.specs.Buffer.{FillsBuffer};
-ghost use Rattle.tv_blocks.specs.Documents.{IsForeign, IsForeignRefusal, IsPrintedBy};
-ghost use Rattle.tv_blocks.specs.Documents.{IsUnread, IsStoredDocument, ReadsFirst};
+ghost use Rattle.tv_blocks.specs.Documents.{IsForeign, IsForeignRefusal, IsPrintedBy, IsUnread, IsStoredDocument, ReadsFirst};
+ghost use Rattle.tv_blocks.specs.LineRefusals.{IsLineDocument, IsUnparsed};
 ghost use Rattle.tv_doc.specs.Belongs.{Belongs};
 ghost use Rattle.tv_doc.specs.Document.{document_of};
 ghost use Rattle.tv_format.specs.WriteVersion.{written_version};
@@ -11,10 +11,12 @@ ghost use Rattle.tv_reader.specs.Version.{version_of};
 
 use crate::block_error::{BlockError, unread};
 use crate::buffer::put_whole;
+use crate::line_refusal::LineRefusal;
 use std::alloc::Global;
 use tv_base::{SliceSource, VecSink};
 use tv_doc::document::CompactDoc;
 use tv_doc::document_trait::Document;
+use tv_doc::parse_buffers::ParseBuffers;
 use tv_format::version::WriteVersion;
 use tv_schema::Schema;
 use tv_store::{BinaryDocumentSerializer, DocStoreVersion, read_document_into};
@@ -95,5 +97,26 @@ pub fn write_document(
     ) {
         Ok(()) => put_whole(sink.as_slice(), bytes),
         Err(_) => Err(BlockError::Memory),
+    }
+}
+
+/// Puts the document of a line of JSON in place of one that is there and in its memory, by a schema, see `tv_lines::line_document::parse_line`.
+///
+/// Errors: `BadLine` where the line is no JSON object, for the first value that the type of its field refuses, and where the values have no
+/// room; `Memory`. The document then has no pairs.
+pub fn parse_line(
+    schema: &Schema,
+    line: &[u8],
+    document: &mut CompactDoc,
+    buffers: &mut ParseBuffers,
+) -> Result<(), BlockError>
+    ensures ok { OnOk result (IsLineDocument schema.now line.now (document_of document.new)) }
+    ensures err { IfErr result (IsUnparsed schema.now line.now) }
+    ensures belongs { OnOk result (Belongs schema.now (document_of document.new)) }
+    ensures none { OnErr result (document_of document.new ≡ []) }
+{
+    match tv_lines::line_document::parse_line(schema, line, false, document, buffers)? {
+        None => Ok(()),
+        Some(error) => Err(BlockError::BadLine(LineRefusal::of(schema, &error))),
     }
 }

@@ -11,8 +11,8 @@ use crate::buffer::put_whole;
 use crate::schema_text::read_schema;
 use std::alloc::Global;
 use tv_base::{SliceSource, VecSink};
+use tv_lines::errors::WorkError;
 use tv_lines::export::JsonLayout;
-use tv_lines::work_error::WorkError;
 use tv_schema::Schema;
 use tv_store::{DocStoreVersion, Projection, ReadLimits, Unwatched};
 

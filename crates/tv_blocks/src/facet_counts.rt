@@ -9,8 +9,7 @@ ghost use Rattle.tv_facets.specs.DocumentCounting.{facet_of};
 ghost use Rattle.tv_facets.specs.FacetCounting.{entry_of};
 
 use crate::block_error::BlockError;
-use crate::buffer::put_whole;
-use crate::numbered::append_record;
+use crate::buffer::{append_record, put_whole};
 use std::alloc::{AllocError, Global};
 use tv_facets::{DocumentFacet, FacetCount, count_child_documents};
 

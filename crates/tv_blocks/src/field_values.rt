@@ -10,8 +10,7 @@ ghost use Rattle.tv_doc.specs.Document.{document_of};
 ghost use Rattle.tv_reader.specs.Version.{version_of};
 
 use crate::block_error::{BlockError, unread};
-use crate::buffer::put_whole;
-use crate::numbered::append_numbered;
+use crate::buffer::{append_numbered, put_whole};
 use std::alloc::{AllocError, Global};
 use tv_base::SliceSource;
 use tv_doc::document::CompactDoc;

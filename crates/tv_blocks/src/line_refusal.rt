@@ -7,8 +7,7 @@ ghost use Rattle.tv_schema.specs.Schema.{field_named};
 
 use std::fmt;
 use thiserror::Error;
-use tv_doc::errors::DocParsingError;
-use tv_doc::errors::StrictParsingError;
+use tv_doc::errors::{DocParsingError, StrictParsingError};
 use tv_field::ValueParsingError;
 use tv_lines::line_document::LineError;
 use tv_schema::Schema;

@@ -1,14 +1,13 @@
 //! Schemas behind a pointer that C holds.
 
-ghost use Rattle.std.specs.Option.{option_map};
 ghost use Rattle.std.specs.Coded.{coded_option};
+ghost use Rattle.std.specs.Option.{option_map};
 ghost use Rattle.std.specs.Prelude.{◌≡◌, None, Option, Some, OnErr, OnOk};
 ghost use Rattle.tv_blocks.specs.Kept.{keeps};
 ghost use Rattle.tv_blocks.specs.contracts.schema_memory.SchemaMemory.{the_row as schema_row};
-ghost use Rattle.tv_blocks.specs.declared.schema_memory.SchemaMemory.{SchemaMemory};
+ghost use Rattle.tv_blocks.specs.declared.schema_handle.SchemaMemory.{SchemaMemory};
 
 use crate::kept::Kept;
-use crate::schema_memory::SchemaMemory;
 use std::alloc::{AllocError, Global};
 use std::marker::Model;
 use std::mem::replace;
@@ -95,4 +94,13 @@ impl SchemaHandle {
         self.keep(alloc, boxed);
         Ok(())
     }
+}
+
+/// A schema, and memory that reading its documents' JSON needs, which serves one after the other. (Not in tantivy.)
+#[derive(Drop)]
+pub struct SchemaMemory {
+    /// The schema.
+    pub schema: Schema,
+    /// The memory.
+    pub buffers: ParseBuffers,
 }

@@ -8,12 +8,11 @@ ghost use Rattle.tv_blocks.specs.SchemaTerms.{AppendsDocument, AreSchemaTerms, I
 ghost use Rattle.tv_blocks.specs.SchemaTerms.{IsTermsBlockRefusal, IsWithoutTerms};
 ghost use Rattle.tv_blocks.specs.SchemaTerms.{common_len, fault_record, shared_record};
 ghost use Rattle.tv_doc.specs.Document.{document_of};
-ghost use Rattle.tv_indexing.specs.declared.term_values_error.TermValuesError.TheVariants.{Memory};
+ghost use Rattle.tv_indexing.specs.declared.document.TermValuesError.TheVariants.{Memory};
 ghost use Rattle.tv_reader.specs.Version.{version_of};
 
 use crate::block_error::{BlockError, unread};
-use crate::buffer::put_whole;
-use crate::numbered::append_numbered;
+use crate::buffer::{append_numbered, put_whole};
 use crate::terms_refusal::{refusal_of, terms_error};
 use std::alloc::{AllocError, Global};
 use tv_base::SliceSource;

@@ -12,8 +12,7 @@ ghost use Rattle.tv_indexing.specs.LeafTerms.{tree_value};
 ghost use Rattle.tv_reader.specs.Version.{version_of};
 
 use crate::block_error::{BlockError, unread};
-use crate::buffer::put_whole;
-use crate::numbered::append_record;
+use crate::buffer::{append_record, put_whole};
 use std::alloc::{AllocError, Global};
 use tv_base::SliceSource;
 use tv_doc::document::CompactDoc;

@@ -9,7 +9,7 @@ use Rattle.tv_format.specs.Tree.{Leaf, null, text, unsigned, signed, boolean, da
 use Rattle.tv_indexing.specs.DocumentTerms.{Terms, followed_by, json_leaf_terms, plain_terms}
 use Rattle.tv_indexing.specs.LeafTerms.{json_value}
 use Rattle.tv_indexing.specs.TextTerms.{leaves_terms}
-use Rattle.tv_indexing.specs.declared.term_values_error.TermValuesError.TheVariants.{WrongType}
+use Rattle.tv_indexing.specs.declared.document.TermValuesError.TheVariants.{WrongType}
 use Rattle.tv_options.specs.Types.{code}
 use Rattle.tv_options.specs.declared.types.TypeTag.{TypeTag}
 use Rattle.tv_term.specs.Key.{Date, Fits, HasNoZero, Json, Signed, TermValue, Text, Truth, json_number, term, value_code}

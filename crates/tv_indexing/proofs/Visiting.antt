@@ -4,7 +4,7 @@ use Rattle.tv_indexing.proofs.Following.{nothing_before, regrouped}
 use Rattle.tv_indexing.specs.DocumentTerms.{AreAppended, Terms, followed_by}
 use Rattle.tv_indexing.specs.JsonWalk.{Extends}
 use Rattle.tv_indexing.specs.Visits.{Takes, TakesAll, TakesSome}
-use Rattle.tv_indexing.specs.declared.term_values_error.TermValuesError.{TermValuesError}
+use Rattle.tv_indexing.specs.declared.document.TermValuesError.{TermValuesError}
 
 module _ {V : Type 0} (HasTaken : V → V → List (List ℕ) → Type 0) where
   pub takes_none : (old new : V) → new ≡ old → Takes HasTaken old new []

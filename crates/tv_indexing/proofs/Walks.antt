@@ -5,7 +5,7 @@ use Rattle.tv_base.specs.JsonPath.{expanded, joined}
 use Rattle.tv_format.specs.Tree.{Tree, leaf, array, object, Elements, no_elements, element, Entries, no_entries, entry, element_list, entry_list}
 use Rattle.tv_indexing.specs.DocumentTerms.{Terms, followed_by, has_zero, json_leaf_terms, json_terms, json_elements_terms, json_entries_terms}
 use Rattle.tv_indexing.specs.JsonWalk.{separated, separated_keys, terms_at, elements_at, entries_at, child_terms, children_terms}
-use Rattle.tv_indexing.specs.declared.term_values_error.TermValuesError.TheVariants.{NulInPath}
+use Rattle.tv_indexing.specs.declared.document.TermValuesError.TheVariants.{NulInPath}
 use Rattle.tv_value.specs.Children.{Child, IsListOf, with_key, without_key}
 use Rattle.tv_value.specs.declared.field.Field.{Field}
 

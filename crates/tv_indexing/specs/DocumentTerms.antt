@@ -8,8 +8,8 @@ use Rattle.tv_field.specs.declared.field_type.FieldType.{FieldType}
 use Rattle.tv_field.specs.declared.field_type.FieldType.TheVariants as types
 use Rattle.tv_format.specs.Tree.{Tree, leaf, array, object, Elements, no_elements, element, Entries, no_entries, entry, Leaf, null, Document}
 use Rattle.tv_indexing.specs.LeafTerms.{json_value, tree_value}
-use Rattle.tv_indexing.specs.declared.term_values_error.TermValuesError.{TermValuesError}
-use Rattle.tv_indexing.specs.declared.term_values_error.TermValuesError.TheVariants.{UnknownField, WrongType, NulInPath, NoJsonTerm}
+use Rattle.tv_indexing.specs.declared.document.TermValuesError.{TermValuesError}
+use Rattle.tv_indexing.specs.declared.document.TermValuesError.TheVariants.{UnknownField, WrongType, NulInPath, NoJsonTerm}
 use Rattle.tv_options.specs.Types.{code}
 use Rattle.tv_options.specs.declared.types.TypeTag.{TypeTag}
 use Rattle.tv_term.specs.Key.{TermValue, Json, term, value_code}

@@ -8,7 +8,7 @@ use Rattle.tv_heap.specs.Value.{HeldList, held_children}
 use Rattle.tv_indexing.specs.DocumentTerms.{Terms, followed_by, has_zero, json_leaf_terms}
 use Rattle.tv_indexing.specs.Visits.{TakesAll}
 use Rattle.tv_indexing.specs.declared.json.OpenList.{OpenList}
-use Rattle.tv_indexing.specs.declared.term_values_error.TermValuesError.TheVariants.{NulInPath}
+use Rattle.tv_indexing.specs.declared.document.TermValuesError.TheVariants.{NulInPath}
 use Rattle.tv_value.specs.Children.{Child, children_size}
 use Rattle.tv_value.specs.declared.field.Field.{Field}
 

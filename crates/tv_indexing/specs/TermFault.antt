@@ -3,7 +3,7 @@ use Rattle.std.specs.Prelude.{List, Option, Some, None, Ok, Err}
 use Rattle.tv_field.specs.Entry.{Entry}
 use Rattle.tv_format.specs.Tree.{Document}
 use Rattle.tv_indexing.specs.DocumentTerms.{Terms, document_terms}
-use Rattle.tv_indexing.specs.declared.term_values_error.TermValuesError.{TermValuesError}
+use Rattle.tv_indexing.specs.declared.document.TermValuesError.{TermValuesError}
 
 -- why there are none, if there are none
 abbrev pub fault_of : Terms → Option TermValuesError

@@ -3,19 +3,17 @@
 ghost use Rattle.std.specs.Prelude.{◌≡◌, ◌≢◌, ◌∷◌, ◌≤◌, [], ℕ, List, length, Err, IfErr, IfOk, OnErr, OnOk};
 ghost use Rattle.tv_doc.specs.Document.{document_of};
 ghost use Rattle.tv_heap.specs.Value.{tree_of};
-ghost use Rattle.tv_indexing.specs.DocumentTerms.{AreAppended, document_terms, fields_terms};
-ghost use Rattle.tv_indexing.specs.DocumentTerms.{is_among, is_wanted, pair_terms};
-ghost use Rattle.tv_indexing.specs.DocumentTerms.{wanted_pair_terms, wanted_terms};
+ghost use Rattle.tv_indexing.specs.DocumentTerms.{AreAppended, document_terms, fields_terms, is_among, is_wanted, pair_terms, wanted_pair_terms, wanted_terms};
 ghost use Rattle.tv_indexing.specs.TermFault.{document_fault};
 ghost use Rattle.tv_indexing.specs.Visits.{Takes, TakesAll, TakesSome};
-ghost use Rattle.tv_indexing.specs.declared.term_values_error.TermValuesError.TheVariants.{Memory};
+ghost use Rattle.tv_indexing.specs.declared.document.TermValuesError.TheVariants.{Memory};
 
 use crate::json::{JsonField, OpenList, visit_json};
 use crate::plain::visit_value;
 use crate::term_buffer::TermBuffer;
 use crate::term_list::TermList;
-use crate::term_values_error::TermValuesError;
 use std::alloc::{AllocError, Global};
+use thiserror::Error;
 use tv_doc::document::CompactDoc;
 use tv_field::field_type::FieldType;
 use tv_heap::value::CompactDocValue;
@@ -281,5 +279,36 @@ pub fn term_fault(
         Ok(()) => Ok(None),
         Err(TermValuesError::Memory) => Err(AllocError),
         Err(fault) => Ok(Some(fault)),
+    }
+}
+
+/// Why a document's values have no terms. (Not in tantivy.)
+#[derive(Clone, Copy, Debug, PartialEq, Eq, Error)]
+pub enum TermValuesError {
+    /// The schema has no such field.
+    #[error("the schema has no such field")]
+    UnknownField(Field),
+    /// A value isn't of its field's type. (A field of JSON objects takes every value.)
+    #[error("a value isn't of its field's type")]
+    WrongType(Field),
+    /// A key in a value of a field of JSON objects has U+0000, which ends the path in a term.
+    #[error("a key has U+0000")]
+    NulInPath(Field),
+    /// In a value of a field of JSON objects stands a facet, bytes, an IP address or a text with tokens. There are no terms for these there.
+    /// (tantivy panics.)
+    #[error("a value that has no term stands in a JSON value")]
+    NoJsonTerm(Field),
+    /// Memory was refused.
+    #[error("memory was refused")]
+    Memory,
+}
+
+impl From<AllocError> for TermValuesError {
+    ghost use Rattle.tv_indexing.specs.declared.document.TermValuesError.TheVariants.{Memory};
+
+    ghost from_gives = { λ _ error. error ≡ Memory };
+
+    fn from(_: AllocError) -> TermValuesError {
+        TermValuesError::Memory
     }
 }

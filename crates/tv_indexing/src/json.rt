@@ -8,12 +8,11 @@ ghost use Rattle.tv_format.specs.Tree.{Tree};
 ghost use Rattle.tv_indexing.specs.JsonWalk.{IsBegun, child_terms};
 ghost use Rattle.tv_indexing.specs.JsonWalk.{children_terms, separated, terms_at};
 ghost use Rattle.tv_indexing.specs.Visits.{Takes, TakesAll, TakesSome};
-ghost use Rattle.tv_indexing.specs.declared.term_values_error.TermValuesError.TheVariants.{Memory, NulInPath};
+ghost use Rattle.tv_indexing.specs.declared.document.TermValuesError.TheVariants.{Memory, NulInPath};
 
-use crate::document::TermVisitor;
+use crate::document::{TermValuesError, TermVisitor};
 use crate::json_leaf::visit_json_leaf;
 use crate::term_buffer::TermBuffer;
-use crate::term_values_error::TermValuesError;
 use std::alloc::AllocError;
 use tv_heap::value::CompactDocValue;
 use tv_value::children::Children;

@@ -5,14 +5,13 @@ ghost use Rattle.std.specs.Prelude.{[]};
 ghost use Rattle.tv_indexing.specs.DocumentTerms.{json_leaf_terms, value_terms};
 ghost use Rattle.tv_indexing.specs.LeafTerms.{json_value, leaf_value};
 ghost use Rattle.tv_indexing.specs.Visits.{Takes, TakesAll};
-ghost use Rattle.tv_indexing.specs.declared.term_values_error.TermValuesError.TheVariants.{Memory};
+ghost use Rattle.tv_indexing.specs.declared.document.TermValuesError.TheVariants.{Memory};
 ghost use Rattle.tv_term.specs.Key.{Fits};
 ghost use Rattle.tv_value.specs.Lent.{leaf_of};
 
-use crate::document::TermVisitor;
+use crate::document::{TermValuesError, TermVisitor};
 use crate::leaf::payload_of;
 use crate::term_buffer::TermBuffer;
-use crate::term_values_error::TermValuesError;
 use tv_value::field::Field;
 use tv_value::leaf::ReferenceValueLeaf;
 

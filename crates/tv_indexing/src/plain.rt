@@ -6,14 +6,13 @@ ghost use Rattle.tv_heap.specs.Value.{tree_of};
 ghost use Rattle.tv_indexing.specs.DocumentTerms.{plain_terms};
 ghost use Rattle.tv_indexing.specs.LeafTerms.{leaf_value, tree_value};
 ghost use Rattle.tv_indexing.specs.Visits.{Takes, TakesAll};
-ghost use Rattle.tv_indexing.specs.declared.term_values_error.TermValuesError.TheVariants.{Memory};
+ghost use Rattle.tv_indexing.specs.declared.document.TermValuesError.TheVariants.{Memory};
 ghost use Rattle.tv_term.specs.Key.{Fits};
 ghost use Rattle.tv_value.specs.Lent.{leaf_of};
 
-use crate::document::TermVisitor;
+use crate::document::{TermValuesError, TermVisitor};
 use crate::leaf::{Payload, payload_of};
 use crate::term_buffer::TermBuffer;
-use crate::term_values_error::TermValuesError;
 use tv_heap::value::CompactDocValue;
 use tv_options::Type;
 use tv_value::field::Field;

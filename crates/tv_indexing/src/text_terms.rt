@@ -13,18 +13,18 @@ ghost use Rattle.tv_indexing.specs.TextTerms.{TermsBelow, TermOfText, AnswersTex
 ghost use Rattle.tv_indexing.specs.TextTerms.{AppendsAnswer, WritesLeaves, WritesNumber};
 ghost use Rattle.tv_indexing.specs.TextTerms.{date_written_in, leaves_terms, listed};
 ghost use Rattle.tv_indexing.specs.Unless.{Unless};
-ghost use Rattle.tv_indexing.specs.declared.term_values_error.TermValuesError.TheVariants as values;
+ghost use Rattle.tv_indexing.specs.declared.document.TermValuesError.TheVariants as values;
 ghost use Rattle.tv_indexing.specs.declared.text_terms_error.TextTermsError.TheVariants.{Memory};
 ghost use Rattle.tv_term.specs.Key.{Fits};
 ghost use Rattle.tv_value.specs.Lent.{leaf_of};
 
+use crate::document::TermValuesError;
 use crate::indexed_field::IndexedField;
 use crate::json::JsonField;
 use crate::json_leaf::visit_json_leaf;
 use crate::plain::visit_leaf;
 use crate::term_buffer::TermBuffer;
 use crate::term_list::TermList;
-use crate::term_values_error::TermValuesError;
 use crate::text_terms_error::{TextTermsError, wrong_text};
 use std::alloc::Global;
 use tv_base::push_joined_json_path;

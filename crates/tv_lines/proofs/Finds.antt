@@ -12,8 +12,8 @@ use Rattle.tv_lines.specs.declared.find.DocumentOutcome.TheVariants as outcome
 use Rattle.tv_lines.specs.declared.find.FindError.TheVariants as finding
 use Rattle.tv_lines.specs.declared.find.Found.{Found}
 use Rattle.tv_lines.specs.declared.report.DocumentReport.{DocumentReport}
-use Rattle.tv_lines.specs.declared.work_error.WorkError.{WorkError}
-use Rattle.tv_lines.specs.declared.work_error.WorkError.TheVariants as errors
+use Rattle.tv_lines.specs.declared.errors.WorkError.{WorkError}
+use Rattle.tv_lines.specs.declared.errors.WorkError.TheVariants as errors
 use Rattle.tv_field.specs.Entry.{Entry}
 use Rattle.tv_format.specs.Tree.{Document}
 use Rattle.tv_format.specs.Version.{Version}

@@ -8,8 +8,8 @@ use Rattle.tv_lines.specs.Halts.{IsOfWriting, sink_stop, source_stop}
 use Rattle.tv_lines.specs.Lines.{FirstLine}
 use Rattle.tv_lines.specs.Reader.{TakesLine}
 use Rattle.tv_lines.specs.Run.{IsWhole}
-use Rattle.tv_lines.specs.declared.halt.Halt.{Halt}
-use Rattle.tv_lines.specs.declared.halt.Halt.TheVariants as halts
+use Rattle.tv_lines.specs.declared.errors.Halt.{Halt}
+use Rattle.tv_lines.specs.declared.errors.Halt.TheVariants as halts
 use Rattle.tv_lines.specs.declared.runs.RunEnd.{RunEnd}
 use Rattle.tv_lines.specs.declared.runs.RunEnd.TheVariants.{Done, BadSchema, Broken}
 

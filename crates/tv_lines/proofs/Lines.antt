@@ -11,14 +11,14 @@ use Rattle.tv_field.specs.Entry.{Entry}
 use Rattle.tv_format.specs.Short.{short_document}
 use Rattle.tv_format.specs.WriteVersion.{written_version}
 use Rattle.tv_indexing.specs.TermFault.{document_fault}
-use Rattle.tv_indexing.specs.declared.term_values_error.TermValuesError.{TermValuesError}
+use Rattle.tv_indexing.specs.declared.document.TermValuesError.{TermValuesError}
 use Rattle.tv_lines.specs.Halts.{IsOfWriting, sink_stop, source_stop}
 use Rattle.tv_lines.specs.Importing.{Imports, IsJudged, IsLineError, LeavesBegun, RefusesFault, TellsUnsearchable}
 use Rattle.tv_lines.specs.LineDocuments.{MakesDocument}
 use Rattle.tv_lines.specs.Reader.{TakesLine}
 use Rattle.tv_lines.specs.Terms.{faulty_name}
-use Rattle.tv_lines.specs.declared.halt.Halt.{Halt}
-use Rattle.tv_lines.specs.declared.halt.Halt.TheVariants as halts
+use Rattle.tv_lines.specs.declared.errors.Halt.{Halt}
+use Rattle.tv_lines.specs.declared.errors.Halt.TheVariants as halts
 use Rattle.tv_lines.specs.declared.import.ImportRules.{ImportRules}
 use Rattle.tv_lines.specs.declared.import.LineOutcome.TheVariants as outcome
 use Rattle.tv_lines.specs.declared.line_document.LineError.{LineError}

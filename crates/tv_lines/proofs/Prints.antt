@@ -8,8 +8,8 @@ use Rattle.tv_lines.specs.Printing.ArePrinted.{none_printed, next_printed}
 use Rattle.tv_lines.specs.Exporting.{AppendsBegun, BreaksOff, ExportsAll, LeavesNext}
 use Rattle.tv_lines.specs.WorkErrors.{IsOfWriting, sink_stop, source_stop}
 use Rattle.tv_lines.specs.declared.export.JsonLayout.{JsonLayout}
-use Rattle.tv_lines.specs.declared.work_error.WorkError.{WorkError}
-use Rattle.tv_lines.specs.declared.work_error.WorkError.TheVariants as errors
+use Rattle.tv_lines.specs.declared.errors.WorkError.{WorkError}
+use Rattle.tv_lines.specs.declared.errors.WorkError.TheVariants as errors
 use Rattle.tv_field.specs.Entry.{Entry}
 use Rattle.tv_format.specs.Tree.{Document}
 use Rattle.tv_format.specs.Version.{Version}

@@ -6,7 +6,7 @@ use Rattle.tv_lines.specs.Importing.{Imports, IsOutcome, LeavesBegun}
 use Rattle.tv_lines.specs.WholeImports.{CountsOutcome, FirstLines, ImportsAll, ImportsEach, Outcomes, StopsImport, is_refused, is_stored, is_unsearchable, numbered}
 use Rattle.tv_lines.specs.WholeImports.FirstLines.{none_first, one_first}
 use Rattle.tv_lines.specs.WholeImports.Outcomes.{next_outcome, no_outcomes}
-use Rattle.tv_lines.specs.declared.halt.Halt.{Halt}
+use Rattle.tv_lines.specs.declared.errors.Halt.{Halt}
 use Rattle.tv_lines.specs.declared.import.ImportRules.{ImportRules}
 use Rattle.tv_lines.specs.declared.import.LineOutcome.{LineOutcome}
 use Rattle.tv_lines.specs.declared.import.LineOutcome.TheVariants.{Refused, Stored}

@@ -3,8 +3,8 @@ use Rattle.std.specs.Prelude.{◌≡◌, ◌⊎◌, ◌-◌, ◌^◌, ℕ, List,
 use Rattle.tv_base.specs.Sink.{AppendsPrefix}
 use Rattle.tv_lines.specs.Printing.{AppendsJson, ArePrinted}
 use Rattle.tv_lines.specs.declared.export.JsonLayout.{JsonLayout}
-use Rattle.tv_lines.specs.declared.work_error.WorkError.{WorkError}
-use Rattle.tv_lines.specs.declared.work_error.WorkError.TheVariants as errors
+use Rattle.tv_lines.specs.declared.errors.WorkError.{WorkError}
+use Rattle.tv_lines.specs.declared.errors.WorkError.TheVariants as errors
 use Rattle.tv_field.specs.Entry.{Entry}
 use Rattle.tv_format.specs.Tree.{Document}
 use Rattle.tv_format.specs.Version.{Version}

@@ -13,14 +13,14 @@ use Rattle.tv_lines.specs.declared.find.FindError.{FindError}
 use Rattle.tv_lines.specs.declared.find.FindError.TheVariants as finding
 use Rattle.tv_lines.specs.declared.find.Found.{Found}
 use Rattle.tv_lines.specs.declared.report.DocumentReport.{DocumentReport}
-use Rattle.tv_lines.specs.declared.work_error.WorkError.{WorkError}
-use Rattle.tv_lines.specs.declared.work_error.WorkError.TheVariants as errors
+use Rattle.tv_lines.specs.declared.errors.WorkError.{WorkError}
+use Rattle.tv_lines.specs.declared.errors.WorkError.TheVariants as errors
 use Rattle.tv_field.specs.Entry.{Entry}
 use Rattle.tv_format.specs.InputError.{Refusal}
 use Rattle.tv_format.specs.Tree.{Document}
 use Rattle.tv_format.specs.Version.{Version}
 use Rattle.tv_indexing.specs.DocumentTerms.{Terms, document_terms}
-use Rattle.tv_indexing.specs.declared.term_values_error.TermValuesError.{TermValuesError}
+use Rattle.tv_indexing.specs.declared.document.TermValuesError.{TermValuesError}
 use Rattle.tv_query.specs.Fields.{names_field}
 use Rattle.tv_query.specs.Grammar.{Tree, steps_of}
 use Rattle.tv_query.specs.Matching.{Matches}

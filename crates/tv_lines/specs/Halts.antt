@@ -1,8 +1,8 @@
 -- Why a run over lines broke off, seen from the source and from the sink: a read or a write failed with this kind, or none did.
 use Rattle.tv_base.specs.Stop.{Stop}
 use Rattle.tv_base.specs.Stop.Stop.{Failed, Short}
-use Rattle.tv_lines.specs.declared.halt.Halt.{Halt}
-use Rattle.tv_lines.specs.declared.halt.Halt.TheVariants.{Read, Write}
+use Rattle.tv_lines.specs.declared.errors.Halt.{Halt}
+use Rattle.tv_lines.specs.declared.errors.Halt.TheVariants.{Read, Write}
 
 abbrev pub source_stop : Halt → Stop ⊥
 source_stop (Read kind) = Failed kind

@@ -8,7 +8,7 @@ use Rattle.tv_field.specs.Entry.{Entry}
 use Rattle.tv_format.specs.Short.{short_document}
 use Rattle.tv_format.specs.WriteVersion.{written_version}
 use Rattle.tv_indexing.specs.TermFault.{document_fault}
-use Rattle.tv_indexing.specs.declared.term_values_error.TermValuesError.{TermValuesError}
+use Rattle.tv_indexing.specs.declared.document.TermValuesError.{TermValuesError}
 use Rattle.tv_lines.specs.LineDocuments.{MakesDocument, MakesNone}
 use Rattle.tv_lines.specs.Lines.{FirstLine}
 use Rattle.tv_lines.specs.Reader.{most_left, unread}

@@ -7,8 +7,8 @@ use Rattle.tv_base.specs.Stop.{CountsStop}
 use Rattle.tv_lines.specs.Answers.{ReadsSchema, SchemaRefusal, AreAnswers}
 use Rattle.tv_lines.specs.Halts.{sink_stop, source_stop}
 use Rattle.tv_lines.specs.Lines.{FirstLine, Lines}
-use Rattle.tv_lines.specs.declared.halt.Halt.{Halt}
-use Rattle.tv_lines.specs.declared.halt.Halt.TheVariants.{TooLong}
+use Rattle.tv_lines.specs.declared.errors.Halt.{Halt}
+use Rattle.tv_lines.specs.declared.errors.Halt.TheVariants.{TooLong}
 use Rattle.tv_lines.specs.declared.runs.RunEnd.{RunEnd}
 use Rattle.tv_lines.specs.declared.runs.RunEnd.TheVariants.{Done, BadSchema, Broken}
 use Rattle.tv_field.specs.Entry.{Entry}

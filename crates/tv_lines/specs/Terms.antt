@@ -1,8 +1,8 @@
 -- The fields of documents that can't be searched.
 use Rattle.std.specs.Prelude.{List, ℕ, [], Option, Some, None, slice_get}
 use Rattle.tv_field.specs.Entry.{Entry}
-use Rattle.tv_indexing.specs.declared.term_values_error.TermValuesError.{TermValuesError}
-use Rattle.tv_indexing.specs.declared.term_values_error.TermValuesError.TheVariants.{UnknownField, WrongType, NulInPath, NoJsonTerm, Memory}
+use Rattle.tv_indexing.specs.declared.document.TermValuesError.{TermValuesError}
+use Rattle.tv_indexing.specs.declared.document.TermValuesError.TheVariants.{UnknownField, WrongType, NulInPath, NoJsonTerm, Memory}
 use Rattle.tv_value.specs.declared.field.Field.{Field}
 
 abbrev pub name_in : Option Entry → List ℕ

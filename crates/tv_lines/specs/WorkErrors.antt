@@ -1,8 +1,8 @@
 -- Why the work on the documents of a block breaks off.
 use Rattle.tv_base.specs.Stop.{Stop}
 use Rattle.tv_base.specs.Stop.Stop.{Failed, Short}
-use Rattle.tv_lines.specs.declared.work_error.WorkError.{WorkError}
-use Rattle.tv_lines.specs.declared.work_error.WorkError.TheVariants as errors
+use Rattle.tv_lines.specs.declared.errors.WorkError.{WorkError}
+use Rattle.tv_lines.specs.declared.errors.WorkError.TheVariants as errors
 use Rattle.tv_format.specs.InputError.{Refusal}
 use Rattle.tv_store.specs.Projections.{refused_stop}
 

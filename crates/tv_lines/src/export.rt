@@ -9,7 +9,7 @@ ghost use Rattle.tv_lines.specs.WorkErrors.{IsOfWriting, sink_stop, source_stop}
 ghost use Rattle.tv_lines.specs.declared.export.JsonLayout.TheVariants as layouts;
 ghost use Rattle.tv_reader.specs.Version.{version_of};
 
-use crate::work_error::WorkError;
+use crate::errors::WorkError;
 use json::{Pretty, Reader, Scratch, Token};
 use std::alloc::{AllocError, Global};
 use tv_base::write::write_all;

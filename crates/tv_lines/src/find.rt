@@ -9,9 +9,9 @@ ghost use Rattle.tv_doc.specs.Document.{document_of};
 ghost use Rattle.tv_query.specs.Grammar.{Tree, steps_of};
 ghost use Rattle.tv_reader.specs.Version.{version_of};
 
+use crate::errors::WorkError;
 use crate::export::{JsonLayout, write_json};
 use crate::report::{DocumentReport, Report};
-use crate::work_error::WorkError;
 use std::alloc::{AllocError, Global};
 use std::fmt::Display;
 use thiserror::Error;

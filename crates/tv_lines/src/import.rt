@@ -11,7 +11,7 @@ ghost use Rattle.tv_lines.specs.Importing.{CountsTaken, Imports, IsJudged, Leave
 ghost use Rattle.tv_lines.specs.Importing.{TellsUnsearchable, left_to, most_to};
 ghost use Rattle.tv_store.specs.Stored.{stored};
 
-use crate::halt::{Halt, append};
+use crate::errors::{Halt, append};
 use crate::line_document::{LineError, parse_line};
 use crate::line_reader::LineReader;
 use crate::terms::name_of_faulty;

@@ -6,7 +6,7 @@ ghost use Rattle.tv_lines.specs.Importing.{left_to};
 ghost use Rattle.tv_lines.specs.WholeImports.{CountsOutcome, ImportsAll, StopsImport};
 ghost use Rattle.tv_lines.specs.WholeImports.{lines_sink_stop, lines_source_stop};
 
-use crate::halt::Halt;
+use crate::errors::Halt;
 use crate::import::{LineImporter, LineOutcome};
 use crate::report::{LineReport, Report};
 use std::fmt::Display;

@@ -5,21 +5,18 @@
 
 pub mod check;
 mod document_line;
+pub mod errors;
 pub mod export;
 pub mod find;
-pub mod halt;
 pub mod import;
 pub mod imports;
 pub mod line_document;
 pub mod line_reader;
-pub mod program;
 mod refused_value;
 pub mod report;
 pub mod runs;
 pub mod term_runs;
 pub mod terms;
-pub mod work_error;
 
-pub use halt::Halt;
-pub use program::answer_lines;
-pub use runs::{RunEnd, run, try_run};
+pub use errors::Halt;
+pub use runs::{RunEnd, answer_lines, run, try_run};

@@ -4,7 +4,7 @@ ghost use Rattle.std.specs.Prelude.{◌≡◌, ◌<◌, ◌≤◌, ◌++◌, [],
 ghost use Rattle.tv_base.specs.Source.{CountsFailure};
 ghost use Rattle.tv_lines.specs.Lines.{CutsPiece};
 
-use crate::halt::Halt;
+use crate::errors::Halt;
 use memchr::memchr;
 use std::alloc::{AllocError, Global};
 use std::io;
@@ -78,7 +78,7 @@ impl LineReader {
     ghost use Rattle.std.specs.declared.io.ErrorKind.{ErrorKind};
     ghost use Rattle.tv_base.specs.Stop.{Counts, Taken};
     ghost use Rattle.tv_lines.specs.Halts.{source_stop};
-    ghost use Rattle.tv_lines.specs.declared.halt.Halt.TheVariants.{TooLong};
+    ghost use Rattle.tv_lines.specs.declared.errors.Halt.TheVariants.{TooLong};
     ghost use Rattle.tv_lines.specs.Reader.{unread, most_left, MovesLine, ReadsSome, TakesLine};
 
     /// A reader that has taken nothing. It takes no memory.

@@ -3,25 +3,28 @@
 ghost use Rattle.std.specs.Prelude.{◌≡◌, ◌-◌, ◌^◌, ◌++◌, [], IfOk, IsErrOf, OnErr, OnOk, ◌∷◌, codes, IfErr};
 ghost use Rattle.tv_base.specs.ReadsAs.{TakesMost};
 ghost use Rattle.tv_base.specs.Stop.{Counts, Taken};
-ghost use Rattle.tv_lines.specs.Run.{AnswersOf, BadSchemaText, BrokenText, DoneText, EndsWith, Halted, PrefixOf, WritesText, IsWhole, IsEnded};
-ghost use Rattle.tv_lines.specs.Halts.{source_stop, sink_stop};
-ghost use Rattle.tv_lines.specs.declared.halt.Halt.TheVariants.{TooLong};
-ghost use Rattle.tv_lines.specs.Reader.{unread};
-ghost use Rattle.tv_lines.specs.declared.runs.RunEnd.TheVariants.{Done, BadSchema, Broken};
-ghost use Rattle.tv_lines.specs.Status.{status_of};
 ghost use Rattle.tv_lines.specs.Answers.{ReadsSchema, SchemaRefusal, schema_error_name};
+ghost use Rattle.tv_lines.specs.Halts.{source_stop, sink_stop};
+ghost use Rattle.tv_lines.specs.Reader.{unread};
+ghost use Rattle.tv_lines.specs.Run.{AnswersOf, BadSchemaText, BrokenText, DoneText, EndsWith, Halted, PrefixOf, WritesText, IsWhole, IsEnded};
+ghost use Rattle.tv_lines.specs.Status.{status_of};
+ghost use Rattle.tv_lines.specs.declared.errors.Halt.TheVariants.{TooLong};
+ghost use Rattle.tv_lines.specs.declared.runs.RunEnd.TheVariants.{Done, BadSchema, Broken};
 
 use crate::document_line::{LineMemory, answer_line};
-use crate::halt::{Halt, append};
+use crate::errors::{Halt, append};
 use crate::line_reader::LineReader;
 use serde_json::Value;
 use std::alloc::Global;
+use std::io;
+use std::io::{BufWriter, Read, Write};
 use tv_base::{ByteSink, ByteSource};
 use tv_field::SchemaError;
+use tv_io::{ReadSource, WriteSink};
 use tv_schema::Schema;
 
 // Answers each line that the reader has left.
-fn answer_lines<S: ByteSource, K: ByteSink>(
+fn answer_each<S: ByteSource, K: ByteSink>(
     alloc: Global,
     source: &mut S,
     sink: &mut K,
@@ -89,7 +92,7 @@ pub fn try_run<S: ByteSource, K: ByteSink>(
     let _ = reader.take_line(source, &mut line)?;
     match schema_of_line(alloc, line.as_slice()) {
         Ok(schema) => {
-            answer_lines(alloc, source, sink, &mut reader, &schema)?;
+            answer_each(alloc, source, sink, &mut reader, &schema)?;
             Ok(RunEnd::Done)
         }
         Err(text) => {
@@ -195,4 +198,29 @@ pub(crate) fn schema_of_line(alloc: Global, line: &[u8]) -> Result<Schema, &'sta
             Err("error InvalidJson\n")
         }
     }
+}
+
+// This many bytes of answers are collected before they are written.
+const BUFFERED: usize = 65536;
+
+/// Answers the lines of a reader on a writer, and gives the exit status of a program that does only that: `RunEnd::status` of how the
+/// run ended, or that of `Broken` where the last answers can't be written.
+pub fn answer_lines(alloc: Global, reader: impl Read + Drop, writer: impl Write + Drop) -> u8 {
+    match answer(alloc, reader, writer) {
+        Ok(end) => end.status(),
+        Err(_) => RunEnd::Broken.status(),
+    }
+}
+
+// Answers the lines of a reader, and writes out what was collected.
+fn answer(
+    alloc: Global,
+    reader: impl Read + Drop,
+    writer: impl Write + Drop,
+) -> io::Result<RunEnd> {
+    let mut source = ReadSource::new(reader);
+    let mut sink = WriteSink::new(BufWriter::with_capacity(alloc, BUFFERED, writer)?);
+    let end = run(alloc, &mut source, &mut sink);
+    sink.into_inner().flush()?;
+    Ok(end)
 }

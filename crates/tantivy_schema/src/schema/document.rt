@@ -42,17 +42,15 @@ pub mod default_document {
 
 pub use tv_doc::add_error::AddError;
 pub use tv_doc::builder::{Awaits, BuildError, BytesKind, TreeBuilder};
-pub use tv_doc::errors::DocParsingError;
 pub use tv_doc::document::{CompactDoc, CompactDoc as TantivyDocument};
 pub use tv_doc::document_trait::Document;
+pub use tv_doc::errors::{DocParsingError, NamedBackError, StrictParsingError};
 pub use tv_doc::field_values::{FieldValueIterRef, GetAllIter};
 pub use tv_doc::json_expected::{JsonExpected, JsonWord, LowSurrogatePart};
 pub use tv_doc::json_fault::{JsonFault, JsonFaultKind};
-pub use tv_doc::named::{FieldNames, NamedFieldDocument};
-pub use tv_doc::errors::NamedBackError;
-pub use tv_doc::parse_buffers::ParseBuffers;
-pub use tv_doc::errors::StrictParsingError;
 pub use tv_doc::json_object::text_fault;
+pub use tv_doc::named::{FieldNames, NamedFieldDocument};
+pub use tv_doc::parse_buffers::ParseBuffers;
 pub use tv_format::leaf_type::LeafType;
 pub use tv_heap::value::{CompactDocArrayIter, CompactDocObjectIter, CompactDocValue};
 pub use tv_json::compact::push_json;

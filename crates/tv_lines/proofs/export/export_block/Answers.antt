@@ -3,7 +3,7 @@ use Rattle.tv_lines.specs.Printing.{AppendsJson}
 use Rattle.tv_lines.specs.Exporting.{AppendsBegun}
 use Rattle.tv_lines.proofs.Checks.{counts_source}
 use Rattle.tv_lines.proofs.Prints.{counts_sink, not_source, printed_all, printed_begun, printed_next, printed_none, printed_stops}
-use Rattle.tv_lines.specs.declared.work_error.WorkError.TheVariants as errors
+use Rattle.tv_lines.specs.declared.errors.WorkError.TheVariants as errors
 use Rattle.tv_doc.specs.Document.{document_of}
 use Rattle.tv_reader.specs.Version.{version_of}
 use Rattle.tv_store.proofs.BlocksSoFar.{one_read, refused_next, refused_number}

@@ -3,7 +3,7 @@ use Rattle.tv_lines.specs.Finding.{Finds, LeavesDocument}
 use Rattle.tv_lines.proofs.Checks.{counts_source}
 use Rattle.tv_lines.proofs.Prints.{counts_sink, not_source}
 use Rattle.tv_lines.proofs.Finds.{few_more, found_all, found_left, found_next, found_none, found_stops, found_untold, one_counted}
-use Rattle.tv_lines.specs.declared.work_error.WorkError.TheVariants as errors
+use Rattle.tv_lines.specs.declared.errors.WorkError.TheVariants as errors
 use Rattle.tv_doc.specs.Document.{document_of}
 use Rattle.tv_query.specs.declared.query.Query.{Query}
 use Rattle.tv_reader.specs.Version.{version_of}

@@ -1,6 +1,6 @@
 use Rattle.std.proofs.Common.{ap}
 use Rattle.std.specs.Prelude.{Err}
-use Rattle.tv_lines.specs.declared.halt.Halt.{Halt}
+use Rattle.tv_lines.specs.declared.errors.Halt.{Halt}
 use Rattle.tv_lines.proofs.Halting.{not_broken}
 use Rattle.tv_lines.proofs.runs.run.Goals as goal
 

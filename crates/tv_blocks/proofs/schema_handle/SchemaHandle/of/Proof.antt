@@ -1,5 +1,5 @@
 -- The pointer goes into the handle with what is kept after it.
-use Rattle.tv_blocks.proofs.schema_memory.SchemaMemory.TheLaws as schema_laws
+use Rattle.tv_blocks.proofs.schema_handle.SchemaMemory.TheLaws as schema_laws
 use Rattle.std.proofs.Common.{refl}
 use Rattle.tv_blocks.proofs.Pointers.{passes}
 use Rattle.tv_blocks.proofs.schema_handle.SchemaHandle.of.Code as code

@@ -1,7 +1,7 @@
 use Rattle.std.proofs.Common.{◌++◌, ap, ◌∙◌}
 use Rattle.tv_lines.proofs.Taking.{taken_more}
 use Rattle.tv_lines.proofs.Progress.{Answered-step, Answered-ends, Answered-breaks, Answered-cut, on_err}
-use Rattle.tv_lines.proofs.runs.answer_lines.Goals as goal
+use Rattle.tv_lines.proofs.runs.answer_each.Goals as goal
 
 pub returns-in_err-take_line-clause-err : goal.returns-in_err-take_line-clause-err
 returns-in_err-take_line-clause-err g c = λ s k. on_err _ (Answered-breaks (c.lines.invariant.so_far s k))

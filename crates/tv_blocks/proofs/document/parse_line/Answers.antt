@@ -1,5 +1,5 @@
 use Rattle.std.proofs.Common.{refl}
-use Rattle.tv_blocks.proofs.line_document.parse_line.Goals as goal
+use Rattle.tv_blocks.proofs.document.parse_line.Goals as goal
 
 pub returns-in-None-clause-ok : goal.returns-in-None-clause-ok
 returns-in-None-clause-ok c =

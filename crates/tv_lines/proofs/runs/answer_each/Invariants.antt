@@ -2,7 +2,7 @@ use Rattle.std.proofs.Common.{◌≡◌, ◌++◌}
 use Rattle.tv_lines.specs.Reader.{unread, most_left}
 use Rattle.tv_base.specs.Stop.{Taken}
 use Rattle.tv_lines.proofs.Progress.{Answered}
-use Rattle.tv_lines.proofs.runs.answer_lines.Given as goal
+use Rattle.tv_lines.proofs.runs.answer_each.Given as goal
 
 abbrev pub invariant-lines : goal.invariant-lines
 invariant-lines g l =

@@ -1,6 +1,6 @@
 use Rattle.std.proofs.Common.{refl}
 use Rattle.tv_blocks.proofs.Records.{record_added}
-use Rattle.tv_blocks.proofs.numbered.append_record.Goals as goal
+use Rattle.tv_blocks.proofs.buffer.append_record.Goals as goal
 
 pub returns-clause-appended : goal.returns-clause-appended
 returns-clause-appended c =

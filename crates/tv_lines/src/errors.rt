@@ -1,16 +1,17 @@
-//! Why work on lines breaks off, and bytes that are appended to a sink.
+//! Why the work on lines and blocks ends early.
 
 ghost use Rattle.std.specs.Prelude.{◌≡◌, ◌++◌, OnErr, OnOk, IfErr};
-ghost use Rattle.tv_lines.specs.declared.halt.Halt.TheVariants.{Memory};
 ghost use Rattle.tv_base.specs.Sink.{AppendsPrefix};
 ghost use Rattle.tv_base.specs.Stop.{Counts};
 ghost use Rattle.tv_lines.specs.Halts.{IsOfWriting, sink_stop};
+ghost use Rattle.tv_lines.specs.declared.errors.Halt.TheVariants.{Memory};
 
 use std::alloc::AllocError;
 use std::io;
 use thiserror::Error;
 use tv_base::ByteSink;
 use tv_base::write::write_all;
+use tv_store::RefusedDocument;
 
 /// Why work on the lines of a source breaks off.
 #[derive(Clone, Copy, Debug, PartialEq, Eq, Drop, Error)]
@@ -49,5 +50,32 @@ pub(crate) fn append<K: ByteSink>(sink: &mut K, bytes: &[u8]) -> Result<(), Halt
     match write_all(sink, bytes) {
         Ok(()) => Ok(()),
         Err(failed) => Err(Halt::Write(failed.0)),
+    }
+}
+
+/// Why an export, a search or a migration breaks off. (Not in tantivy.)
+#[derive(Debug, Drop, Error)]
+pub enum WorkError {
+    /// The next document can't be read, or passes a limit.
+    #[error("{0}")]
+    Read(RefusedDocument),
+    /// A write failed, with this kind.
+    #[error("writing failed: {0}")]
+    Write(io::ErrorKind),
+    /// Memory was refused.
+    #[error("memory was refused")]
+    Memory,
+    /// 2^64 - 1 documents were gone over, and no more are counted.
+    #[error("there are more documents than are counted")]
+    TooMany,
+}
+
+impl From<AllocError> for WorkError {
+    ghost use Rattle.tv_lines.specs.declared.errors.WorkError.TheVariants.{Memory};
+
+    ghost from_gives = { λ _ error. error ≡ Memory };
+
+    fn from(_error: AllocError) -> WorkError {
+        WorkError::Memory
     }
 }

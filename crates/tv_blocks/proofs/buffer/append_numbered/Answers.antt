@@ -2,7 +2,7 @@ use Rattle.std.proofs.Common.{◌++◌, append_assoc, ap, ◌∙◌}
 use Rattle.std.proofs.lemmas.Result.{on_ok_weaker}
 use Rattle.std.specs.Int.{to_le_bytes, w64}
 use Rattle.tv_blocks.specs.Records.{record_of}
-use Rattle.tv_blocks.proofs.numbered.append_numbered.Goals as goal
+use Rattle.tv_blocks.proofs.buffer.append_numbered.Goals as goal
 
 pub returns-clause-appended : goal.returns-clause-appended
 returns-clause-appended c =
