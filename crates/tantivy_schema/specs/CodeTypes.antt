@@ -2,7 +2,7 @@
 
 -- why something is refused
 pub use Rattle.tv_base.specs.declared.cause.Cause
-pub use Rattle.tv_base.specs.declared.facet_parse_error.FacetParseError
+pub use Rattle.tv_base.specs.declared.facet.FacetParseError
 pub use Rattle.tv_base.specs.declared.read_error.ReadError
 pub use Rattle.tv_base.specs.declared.write_error.WriteError
 pub use Rattle.tv_date.specs.declared.date_error.DateError
@@ -46,9 +46,9 @@ pub use Rattle.tv_indexing.specs.declared.term_list.TermList
 pub use Rattle.tv_indexing.specs.declared.term_values_error.TermValuesError
 pub use Rattle.tv_indexing.specs.declared.json_ranges.JsonKind
 pub use Rattle.tv_indexing.specs.declared.text_terms_error.TextTermsError
-pub use Rattle.tv_facets.specs.declared.document_counts.DocumentFacet
-pub use Rattle.tv_facets.specs.declared.facet_counts.FacetCount
-pub use Rattle.tv_facets.specs.declared.facet_counts.FacetCountsError
+pub use Rattle.tv_base.specs.declared.facet_counts.DocumentFacet
+pub use Rattle.tv_base.specs.declared.facet_counts.FacetCount
+pub use Rattle.tv_base.specs.declared.facet_counts.FacetCountsError
 pub use Rattle.tv_term.specs.declared.range.TermRange
 pub use Rattle.tv_term.specs.declared.term_error.TermError
 pub use Rattle.tv_value.specs.declared.json_error.JsonError

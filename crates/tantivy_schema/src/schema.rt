@@ -15,7 +15,10 @@
 
 pub mod document;
 
-pub use tv_base::{FACET_SEP_BYTE, FACET_SEP_CHAR, Facet, FacetParseError};
+pub use tv_base::{
+    DocumentFacet, FACET_SEP_BYTE, FACET_SEP_CHAR, Facet, FacetCount, FacetCountsError,
+    FacetParseError, count_child_documents, count_child_facets, greatest_counts,
+};
 pub use tv_doc::doc_parsing_error::DocParsingError;
 pub use tv_doc::document::{CompactDoc, CompactDoc as TantivyDocument};
 pub use tv_doc::document_trait::Document;
@@ -24,10 +27,6 @@ pub use tv_doc::json_fault::{JsonFault, JsonFaultKind};
 pub use tv_doc::named::NamedFieldDocument;
 pub use tv_doc::strict_parsing_error::StrictParsingError;
 pub use tv_doc::text_refusal::text_fault;
-pub use tv_facets::{
-    DocumentFacet, FacetCount, FacetCountsError, count_child_documents, count_child_facets,
-    greatest_counts,
-};
 pub use tv_field::json_value::JsonRefusal;
 pub use tv_field::{
     FieldEntry, FieldType, NotWhole, ParseCause, SchemaError, ValueParsingError,

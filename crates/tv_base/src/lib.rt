@@ -1,4 +1,4 @@
-//! Bytes: where they come from and go to, and the numbers and texts that they encode.
+//! Bytes: where they come from and go to, and the numbers and texts that they encode; facets, and how they are counted.
 #![tactic(auto)]
 
 mod buffered;
@@ -6,7 +6,7 @@ pub mod byte_buffer;
 pub mod cause;
 pub mod escapes;
 pub mod facet;
-pub mod facet_parse_error;
+pub mod facet_counts;
 mod fixed_copy;
 pub mod json_path;
 pub mod laws;
@@ -25,8 +25,11 @@ pub mod write_error;
 
 pub use byte_buffer::ByteBuffer;
 pub use cause::Cause;
-pub use facet::{FACET_SEP_BYTE, FACET_SEP_CHAR, Facet};
-pub use facet_parse_error::FacetParseError;
+pub use facet::{FACET_SEP_BYTE, FACET_SEP_CHAR, Facet, FacetParseError};
+pub use facet_counts::{
+    DocumentFacet, FacetCount, FacetCountsError, count_child_documents, count_child_facets,
+    greatest_counts,
+};
 pub use json_path::{join_json_path, joined_json_path, push_joined_json_path, split_json_path};
 pub use read_error::ReadError;
 pub use serializable::BinarySerializable;

@@ -34,16 +34,13 @@ pub use owned_value::OwnedValue;
 pub use pre_tokenized::{PreTokenizedStr, TokenRef};
 pub use tokenizer::{PreTokenizedString, Token};
 pub use tv_base::{
-    BinarySerializable, ByteSink, ByteSource, Cause, FACET_SEP_BYTE, FACET_SEP_CHAR, Facet,
-    FacetParseError, ReadError, SliceSource, VInt, VecSink, WriteError, join_json_path,
+    BinarySerializable, ByteSink, ByteSource, Cause, DocumentFacet, FACET_SEP_BYTE, FACET_SEP_CHAR,
+    Facet, FacetCount, FacetCountsError, FacetParseError, ReadError, SliceSource, VInt, VecSink,
+    WriteError, count_child_documents, count_child_facets, greatest_counts, join_json_path,
     joined_json_path, push_joined_json_path, split_json_path,
 };
 pub use tv_date::{
     DATE_TIME_PRECISION_INDEXED, DateError, DateTime, DateTimePrecision, date_error, date_time,
-};
-pub use tv_facets::{
-    DocumentFacet, FacetCount, FacetCountsError, count_child_documents, count_child_facets,
-    greatest_counts,
 };
 pub use tv_io::{BufferedSource, FaultSink, FaultSource, LimitedSource, ReadSource, WriteSink};
 pub use value::{ReferenceValue, Value};

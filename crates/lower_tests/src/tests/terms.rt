@@ -5,9 +5,8 @@ ghost use Rattle.std.specs.Prelude.{[], ◌≢◌, IsTrue};
 use std::alloc::Global;
 use std::net::Ipv6Addr;
 use std::test::Fail;
-use tv_base::Facet;
-use tv_facets::{
-    DocumentFacet, FacetCount, FacetCountsError, count_child_documents, count_child_facets,
+use tv_base::{
+    DocumentFacet, Facet, FacetCount, FacetCountsError, count_child_documents, count_child_facets,
     greatest_counts,
 };
 use tv_options::Type;
