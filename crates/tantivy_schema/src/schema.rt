@@ -22,8 +22,6 @@ pub use tv_base::{
 pub use tv_doc::doc_parsing_error::DocParsingError;
 pub use tv_doc::document::{CompactDoc, CompactDoc as TantivyDocument};
 pub use tv_doc::document_trait::Document;
-pub use tv_doc::json_expected::{JsonExpected, JsonWord, LowSurrogatePart};
-pub use tv_doc::json_fault::{JsonFault, JsonFaultKind};
 pub use tv_doc::named::NamedFieldDocument;
 pub use tv_doc::strict_parsing_error::StrictParsingError;
 pub use tv_doc::text_refusal::text_fault;
@@ -37,6 +35,8 @@ pub use tv_indexing::{
     is_among, range_between_texts, range_of_text, ranges_between_texts, ranges_of_text, term_fault,
     term_values, term_values_of_fields, terms_of_text, text_of_term, visit_terms,
 };
+pub use tv_json::json_expected::{JsonExpected, JsonWord, LowSurrogatePart};
+pub use tv_json::json_fault::{JsonFault, JsonFaultKind};
 pub use tv_options::{
     BytesOptions, COERCE, CoerceFlag, Coercion, DATE_TIME_PRECISION_INDEXED, DateOptions,
     DateTimePrecision, DotExpansion, FAST, FacetOptions, FastFieldTextOptions, FastFlag,

@@ -4,10 +4,10 @@ ghost use Rattle.std.specs.Prelude.{◌<◌, ◌≤◌, ◌+◌, OnOk};
 ghost use Rattle.tv_base.specs.Take.{TakesLean};
 ghost use Rattle.tv_reader.specs.Kinds.{extension_at, kind_at};
 
-use crate::type_codes::{EXT_CODE, F64_CODE, TOK_STR_EXT_CODE};
 use crate::value_type::ValueType;
 use tv_base::take::take_u8;
 use tv_base::{ByteSource, Cause, ReadError};
+use tv_format::type_codes::{EXT_CODE, F64_CODE, TOK_STR_EXT_CODE};
 
 #[tactic(auto, unfolding(crate::specs::Kinds::extension_at))]
 fn take_extension<S: ByteSource>(source: &mut S, count: &mut u64) -> Result<ValueType, ReadError>

@@ -11,7 +11,6 @@ ghost use Rattle.tv_value.specs.Owned.{owned_tree};
 use crate::heads::Head;
 use crate::leaves::{take_date, take_ip_address, take_tokenized};
 use crate::trees::take_entry_count;
-use crate::type_codes::{ARRAY_CODE, JSON_OBJ_CODE, OBJECT_CODE};
 use crate::version::DocStoreVersion;
 use std::alloc::Global;
 use tv_base::take::{
@@ -19,6 +18,7 @@ use tv_base::take::{
 };
 use tv_base::{ByteSource, ReadError};
 use tv_format::leaf_type::LeafType;
+use tv_format::type_codes::{ARRAY_CODE, JSON_OBJ_CODE, OBJECT_CODE};
 use tv_value::leaf::ReferenceValueLeaf;
 use tv_value::owned_value::OwnedValue;
 

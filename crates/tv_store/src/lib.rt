@@ -38,7 +38,7 @@ pub use se::{
     BinaryArraySerializer, BinaryDocumentSerializer, BinaryObjectSerializer, BinaryValueSerializer,
 };
 pub use skip::{skip_document, skip_value};
-pub use tv_reader::type_codes;
+pub use tv_format::type_codes;
 pub use tv_typed::{
     BinaryArrayDeserializer, BinaryDocumentDeserializer, BinaryObjectDeserializer,
     BinaryValueDeserializer, DocumentDeserializer, StoreReader, ValueDeserialize, ValueVisitor,

@@ -22,11 +22,11 @@ ghost use Rattle.tv_value.specs.Nesting.{AllNestWithin, NestsWithin};
 
 use crate::encoded_writer::write_encoded;
 use crate::error::SerializeError;
-use crate::type_codes::TEXT_CODE;
 use std::alloc::Global;
 use tv_base::write::{write_all, write_u32, write_vint};
 use tv_base::{ByteSink, WriteError};
 use tv_doc::document::CompactDoc;
+use tv_format::type_codes::TEXT_CODE;
 use tv_format::version::WriteVersion;
 use tv_heap::encoded::Encoded;
 use tv_heap::value::CompactDocValue;

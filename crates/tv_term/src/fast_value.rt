@@ -12,8 +12,8 @@ ghost use Rattle.tv_term.specs.Key.{TermValue, Unsigned, Signed, Truth, Date, Fi
 ghost use Rattle.tv_term.specs.Key.{truth_number};
 ghost use Rattle.tv_term.specs.Reading.{signed_at, is_true};
 
+use tv_date::date_time::DateTime;
 use tv_options::Type;
-use tv_value::date_time::DateTime;
 
 /// A value that stands in a term as a number of eight bytes, whose order is the order of the values.
 ///

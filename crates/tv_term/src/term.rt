@@ -28,9 +28,9 @@ use std::marker::Model;
 use std::net::Ipv6Addr;
 use tv_base::Facet;
 use tv_base::json_path::joined_json_path;
+use tv_date::date_time::DateTime;
 use tv_options::{DATE_TIME_PRECISION_INDEXED, Type};
 use tv_schema::Schema;
-use tv_value::date_time::DateTime;
 use tv_value::field::Field;
 
 // The least number that fits no signed one of 64 bits.

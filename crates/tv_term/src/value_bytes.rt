@@ -16,8 +16,8 @@ use crate::term_error::TermError;
 use std::alloc::{AllocError, Global};
 use std::net::Ipv6Addr;
 use tv_base::Facet;
+use tv_date::date_time::DateTime;
 use tv_options::Type;
-use tv_value::date_time::DateTime;
 
 /// The bytes of a term's value, at least one: the code of its type, and then its payload. In a term of a JSON field the payload
 /// is a path, U+0000, and then the bytes of the value there.

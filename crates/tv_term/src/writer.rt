@@ -17,8 +17,8 @@ use std::marker::Model;
 use std::net::Ipv6Addr;
 use tv_base::Facet;
 use tv_base::json_path::push_joined_json_path;
+use tv_date::date_time::DateTime;
 use tv_options::{DATE_TIME_PRECISION_INDEXED, Type};
-use tv_value::date_time::DateTime;
 use tv_value::field::Field;
 
 /// Makes terms one after another in one buffer. (Not in tantivy.) A call takes memory only where the buffer is shorter than its term; so

@@ -39,8 +39,6 @@ pub use tv_base::{
     WriteError, count_child_documents, count_child_facets, greatest_counts, join_json_path,
     joined_json_path, push_joined_json_path, split_json_path,
 };
-pub use tv_date::{
-    DATE_TIME_PRECISION_INDEXED, DateError, DateTime, DateTimePrecision, date_error, date_time,
-};
+pub use tv_date::{DATE_TIME_PRECISION_INDEXED, DateError, DateTime, DateTimePrecision};
 pub use tv_io::{BufferedSource, FaultSink, FaultSource, LimitedSource, ReadSource, WriteSink};
 pub use value::{ReferenceValue, Value};

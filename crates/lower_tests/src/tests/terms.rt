@@ -9,9 +9,9 @@ use tv_base::{
     DocumentFacet, Facet, FacetCount, FacetCountsError, count_child_documents, count_child_facets,
     greatest_counts,
 };
+use tv_date::date_time::DateTime;
 use tv_options::Type;
 use tv_term::{Term, TermError, TermRange, TermWriter};
-use tv_value::date_time::DateTime;
 use tv_value::field::Field;
 
 // Whether a call has put a term into the writer, and the same one as the other, which is dropped.

@@ -40,25 +40,26 @@ pub mod default_document {
     pub use tv_heap::value_type::ValueType;
 }
 
-pub use tv_doc::add_error::AddError;
+pub use tv_builder::add_error::AddError;
 pub use tv_doc::builder::{Awaits, BuildError, BytesKind, TreeBuilder};
 pub use tv_doc::doc_parsing_error::DocParsingError;
 pub use tv_doc::document::{CompactDoc, CompactDoc as TantivyDocument};
 pub use tv_doc::document_trait::Document;
 pub use tv_doc::field_values::{FieldValueIterRef, GetAllIter};
-pub use tv_doc::json_expected::{JsonExpected, JsonWord, LowSurrogatePart};
-pub use tv_doc::json_fault::{JsonFault, JsonFaultKind};
 pub use tv_doc::named::{FieldNames, NamedFieldDocument};
 pub use tv_doc::named_back_error::NamedBackError;
 pub use tv_doc::parse_buffers::ParseBuffers;
 pub use tv_doc::strict_parsing_error::StrictParsingError;
 pub use tv_doc::text_refusal::text_fault;
 pub use tv_format::leaf_type::LeafType;
+pub use tv_format::type_codes;
 pub use tv_heap::value::{CompactDocArrayIter, CompactDocObjectIter, CompactDocValue};
 pub use tv_json::compact::push_json;
+pub use tv_json::json_expected::{JsonExpected, JsonWord, LowSurrogatePart};
+pub use tv_json::json_fault::{JsonFault, JsonFaultKind};
 pub use tv_store::{
     BinaryArraySerializer, BinaryDocumentSerializer, BinaryObjectSerializer, BinaryValueSerializer,
-    DeserializeError, DocumentDeserialize, SerializeError, ValueType, type_codes,
+    DeserializeError, DocumentDeserialize, SerializeError, ValueType,
 };
 pub use tv_typed::{
     BinaryArrayDeserializer, BinaryDocumentDeserializer, BinaryObjectDeserializer,
