@@ -3,9 +3,9 @@
 ghost use Rattle.std.specs.Prelude.{◌≡◌};
 ghost use Rattle.tv_doc.specs.declared.doc_parsing_error.DocParsingError.TheVariants.{Memory};
 
-use crate::add_error::AddError;
 use std::alloc::AllocError;
 use thiserror::Error;
+use tv_builder::add_error::AddError;
 use tv_field::ValueParsingError;
 
 /// Why there is no document of a JSON object.

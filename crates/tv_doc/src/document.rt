@@ -10,7 +10,6 @@ ghost use Rattle.tv_format.specs.Tree.{bytes as bytes_leaf};
 ghost use Rattle.tv_format.specs.Tree.{ip_address, tokenized};
 ghost use Rattle.tv_value.specs.Lent.{leaf_of};
 
-use crate::add_error::AddError;
 use crate::document_trait::Document;
 use crate::field_values::{FieldValueIterRef, GetAllIter};
 use crate::map_value::MapValue;
@@ -18,6 +17,7 @@ use std::alloc::{AllocError, Global};
 use std::collections::BTreeMap;
 use std::net::Ipv6Addr;
 use tv_base::Facet;
+use tv_builder::add_error::AddError;
 use tv_builder::heap_pairs::HeapPairs;
 use tv_date::date_time::DateTime;
 use tv_format::version::WriteVersion;

@@ -9,7 +9,6 @@ ghost use Rattle.tv_doc.specs.JsonObject.{MakesFromObject, Parses, ParsesDocumen
 ghost use Rattle.tv_doc.specs.Document.{Adds};
 ghost use Rattle.tv_doc.specs.InPlace.{in_place};
 
-use crate::add_error::AddError;
 use crate::doc_parsing_error::DocParsingError;
 use crate::document::CompactDoc;
 use crate::named_field::NamedField;
@@ -17,6 +16,7 @@ use crate::parse_buffers::{Adding, ParseBuffers};
 use serde_json::{Map, Value};
 use std::alloc::Global;
 use tv_base::text_start::text_start;
+use tv_builder::add_error::AddError;
 use tv_field::json_value::{JsonRefusal, JsonScratch, LentFieldValue};
 use tv_schema::Schema;
 use tv_value::field::Field;

@@ -11,11 +11,11 @@ ghost use Rattle.tv_value.specs.PreTokenized.{text_of, tokens_of, tokenized_leaf
 ghost use Rattle.tv_format.specs.Tree.{text, unsigned, signed, boolean, date, bytes, ip_address};
 
 use crate::content::LeafContent;
-use crate::date_time::DateTime;
 use crate::ip_addr::address_of;
 use crate::pre_tokenized::PreTokenizedStr;
 use crate::same::same_leaf;
 use std::net::Ipv6Addr;
+use tv_date::date_time::DateTime;
 use tv_format::leaf_type::LeafType;
 
 /// A value without children. Texts and bytes are borrowed.

@@ -5,7 +5,6 @@ ghost use Rattle.std.specs.Iterator.{YieldsFirstRef, YieldsFirstBy, item_count};
 
 use crate::copy::copy_of;
 use crate::copy_error::CopyError;
-use crate::date_time::DateTime;
 use crate::json::has_float;
 use crate::json_error::JsonError;
 use crate::leaf::ReferenceValueLeaf;
@@ -19,6 +18,7 @@ use serde_json::Value as JsonValue;
 use std::alloc::{AllocError, Global};
 use std::net::Ipv6Addr;
 use tv_base::Facet;
+use tv_date::date_time::DateTime;
 
 /// A value that owns what it holds.
 #[derive(Debug, Drop)]

@@ -11,10 +11,10 @@ ghost use Rattle.tv_value.specs.Lent.{leaf_of, tree_of, entry_of};
 ghost use Rattle.tv_value.specs.PreTokenized.{text_of, tokens_of};
 ghost use Rattle.tv_format.specs.Tree.{Tree, leaf, elements, entries};
 
-use crate::date_time::DateTime;
 use crate::leaf::ReferenceValueLeaf;
 use crate::pre_tokenized::PreTokenizedStr;
 use std::net::Ipv6Addr;
+use tv_date::date_time::DateTime;
 
 /// What a value is: a leaf, or an iterator over its children.
 #[derive(Drop)]
