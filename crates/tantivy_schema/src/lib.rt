@@ -113,7 +113,7 @@ pub use tokenizer::PreTokenizedStr;
 pub use tokenizer::PreTokenizedString;
 pub use tokenizer::Token;
 pub use tokenizer::TokenRef;
-pub use tv_date::date_error::DateError;
+pub use tv_date::DateError;
 pub use tv_date::date_time::DateTime;
 pub use tv_lines::Halt;
 pub use tv_lines::RunEnd;

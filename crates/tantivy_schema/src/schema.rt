@@ -47,7 +47,6 @@ pub use tv_options::{
 pub use tv_schema::{FieldIter, Schema, SchemaBuilder, SchemaJsonError, SchemaKey};
 pub use tv_term::{OwnedValueBytes, Term, TermError, TermRange, TermWriter, ValueBytes, successor};
 pub use tv_value::field::Field;
-pub use tv_value::ip_addr::IntoIpv6Addr;
-pub use tv_value::json_error::JsonError;
-pub use tv_value::owned_value::OwnedValue;
+pub use tv_value::leaf::IntoIpv6Addr;
+pub use tv_value::owned_value::{JsonError, OwnedValue};
 pub use tv_value::value::Value;

@@ -15,7 +15,7 @@ use std::alloc::Global;
 use tv_base::{SliceSource, VecSink};
 use tv_doc::document::CompactDoc;
 use tv_doc::document_trait::Document;
-use tv_format::version::WriteVersion;
+use tv_format::WriteVersion;
 use tv_schema::Schema;
 use tv_store::{BinaryDocumentSerializer, DocStoreVersion, read_document_into};
 use tv_value::field::Field;

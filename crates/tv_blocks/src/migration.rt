@@ -12,7 +12,7 @@ use crate::block_error::{BlockError, unread};
 use crate::buffer::put_whole;
 use std::alloc::Global;
 use tv_base::{SliceSource, VecSink};
-use tv_format::version::WriteVersion;
+use tv_format::WriteVersion;
 use tv_store::{DocStoreVersion, LimitedReadError, MigrateBlockError, RefusedDocument, Unwatched};
 
 // What is said of a document that can't be read. No limit is set.

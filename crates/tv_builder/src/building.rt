@@ -19,8 +19,7 @@ use tv_heap::room::MAX_HEAP_LEN;
 use tv_heap::write::push_place;
 use tv_value::encode::push_number;
 use tv_value::leaf::ReferenceValueLeaf;
-use tv_value::nested::lend;
-use tv_value::nesting::MAX_DEPTH;
+use tv_value::nested::{MAX_DEPTH, lend};
 use tv_value::value::Value;
 
 // The bytes of an open value.
@@ -61,10 +60,8 @@ impl Building {
     ghost use Rattle.tv_builder.specs.Moves.{CanGive, GivesPlace, GivesNot, Does, InState, last_bytes};
     ghost use Rattle.tv_builder.specs.Fits.{LeafFits, ListFits, KeyFits, HeadFits};
     ghost use Rattle.tv_builder.specs.Shows.{HoldsSomeState, awaited_by};
-    ghost use Rattle.tv_builder.specs.State.{and_value, and_list, and_key, and_head, and_bytes};
-    ghost use Rattle.tv_builder.specs.State.{and_end, head_awaits};
-    ghost use Rattle.tv_builder.specs.declared.awaits.Awaits.TheVariants.{Value as ValueNext};
-    ghost use Rattle.tv_builder.specs.declared.awaits.Awaits.TheVariants.{Key as KeyNext};
+    ghost use Rattle.tv_builder.specs.State.{and_value, and_list, and_key, and_head, and_bytes, and_end, head_awaits};
+    ghost use Rattle.tv_builder.specs.declared.awaits.Awaits.TheVariants.{Value as ValueNext, Key as KeyNext};
 
     // After this heap, where a value is awaited. It takes no memory.
     pub(crate) fn new(alloc: Global, heap: ByteBuffer) -> Building

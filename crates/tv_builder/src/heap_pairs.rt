@@ -16,12 +16,12 @@ use crate::heap_pair::HeapPair;
 use crate::whole::put_within;
 use std::alloc::{AllocError, Global};
 use tv_base::byte_buffer::ByteBuffer;
-use tv_format::version::WriteVersion;
+use tv_format::WriteVersion;
 use tv_heap::place::Place;
 use tv_heap::room::{MAX_HEAP_LEN, leaf_room};
 use tv_heap::write::write_leaf;
 use tv_value::leaf::ReferenceValueLeaf;
-use tv_value::nesting::MAX_DEPTH;
+use tv_value::nested::MAX_DEPTH;
 use tv_value::value::{ReferenceValue, Value};
 
 // The first pair makes room for this many.

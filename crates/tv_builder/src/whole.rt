@@ -18,15 +18,13 @@ use crate::nested::put_nested;
 use std::alloc::Global;
 use std::convert::AsStr;
 use tv_base::byte_buffer::ByteBuffer;
-use tv_format::leaf_type::LeafType;
+use tv_format::LeafType;
 use tv_heap::len::{content_len, leaf_len};
 use tv_heap::place::Place;
 use tv_heap::room::MAX_HEAP_LEN;
 use tv_heap::write::{push_place, write_content, write_leaf, write_list};
-use tv_value::content::LeafContent;
-use tv_value::leaf::ReferenceValueLeaf;
-use tv_value::nested::{Nested, NestedValue, lend};
-use tv_value::nesting::MAX_DEPTH;
+use tv_value::leaf::{LeafContent, ReferenceValueLeaf};
+use tv_value::nested::{MAX_DEPTH, Nested, NestedValue, lend};
 use tv_value::value::Value;
 
 // Writes a value without children, where the heap is then at most `most` bytes long, and returns its place. After an error the old heap is still

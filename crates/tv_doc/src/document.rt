@@ -20,7 +20,7 @@ use tv_base::Facet;
 use tv_builder::add_error::AddError;
 use tv_builder::heap_pairs::HeapPairs;
 use tv_date::date_time::DateTime;
-use tv_format::version::WriteVersion;
+use tv_format::WriteVersion;
 use tv_heap::value::CompactDocValue;
 use tv_schema::Schema;
 use tv_value::field::Field;

@@ -15,7 +15,7 @@ use crate::named_field::NamedField;
 use crate::parse_buffers::{Adding, ParseBuffers};
 use serde_json::{Map, Value};
 use std::alloc::Global;
-use tv_base::text_start::text_start;
+use tv_base::cause::text_start;
 use tv_builder::add_error::AddError;
 use tv_field::json_value::{JsonRefusal, JsonScratch, LentFieldValue};
 use tv_schema::Schema;

@@ -5,7 +5,7 @@ ghost use Rattle.tv_doc.specs.declared.named_back_error.NamedBackError.TheVarian
 
 use crate::doc_parsing_error::DocParsingError;
 use thiserror::Error;
-use tv_value::copy_error::CopyError;
+use tv_value::copy::CopyError;
 
 /// Why a document isn't made by the names of its fields and converted back. (Not in tantivy.)
 #[derive(Debug, PartialEq, Drop, Error)]

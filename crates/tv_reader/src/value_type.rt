@@ -17,7 +17,7 @@ use tv_base::take::{
     take_bool, take_bytes, take_facet, take_i64, take_string, take_u64, take_vint,
 };
 use tv_base::{ByteSource, ReadError};
-use tv_format::leaf_type::LeafType;
+use tv_format::LeafType;
 use tv_format::type_codes::{ARRAY_CODE, JSON_OBJ_CODE, OBJECT_CODE};
 use tv_value::leaf::ReferenceValueLeaf;
 use tv_value::owned_value::OwnedValue;

@@ -11,10 +11,10 @@ use crate::encoded::behind_value;
 use crate::wanted::WantedFields;
 use tv_base::ByteSource;
 use tv_builder::heap_pairs::HeapPairs;
-use tv_format::version::WriteVersion;
+use tv_format::WriteVersion;
 use tv_reader::DocStoreVersion;
 use tv_value::field::Field;
-use tv_value::nesting::MAX_DEPTH;
+use tv_value::nested::MAX_DEPTH;
 
 // What follows the pair at the start, which is added if its field is among these. None where there is no pair, or it can't be added or passed over where it
 // stands.

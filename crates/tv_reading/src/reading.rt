@@ -37,7 +37,7 @@ use tv_builder::bytes_kind::BytesKind;
 use tv_builder::heap_pairs::HeapPairs;
 use tv_builder::list_kind::ListKind;
 use tv_builder::pair_builder::PairBuilder;
-use tv_format::leaf_type::LeafType;
+use tv_format::LeafType;
 use tv_reader::encoded_tokens::take_gathered;
 use tv_reader::fields::take_field;
 use tv_reader::heads::{Head, take_document_head, take_head, take_key_head};

@@ -17,7 +17,7 @@ use std::alloc::Global;
 use thiserror::Error;
 use tv_base::{ByteSink, ByteSource};
 use tv_doc::laws::documents_are_valid;
-use tv_format::version::WriteVersion;
+use tv_format::WriteVersion;
 
 /// Which document of a block wasn't migrated, and why. (Not in tantivy.)
 #[derive(Debug, PartialEq, Drop, Error)]

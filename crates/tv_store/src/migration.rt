@@ -14,7 +14,7 @@ use std::alloc::Global;
 use thiserror::Error;
 use tv_base::{ByteSink, ByteSource, WriteError};
 use tv_doc::laws::documents_are_valid;
-use tv_format::version::WriteVersion;
+use tv_format::WriteVersion;
 
 /// Why a document wasn't migrated. (Not in tantivy.)
 #[derive(Debug, PartialEq, Drop, Error)]

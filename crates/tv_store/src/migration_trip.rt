@@ -17,7 +17,7 @@ use crate::round_trip::{RoundTripError, read_back};
 use std::alloc::Global;
 use tv_base::{SliceSource, VecSink};
 use tv_doc::document::CompactDoc;
-use tv_format::version::WriteVersion;
+use tv_format::WriteVersion;
 use tv_legacy::laws::documents_have_one_reading;
 
 /// What was written of a document in a new version, and what was read back of that. (Not in tantivy.)

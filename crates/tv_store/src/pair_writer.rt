@@ -26,13 +26,13 @@ use std::alloc::Global;
 use tv_base::write::{write_all, write_u32, write_vint};
 use tv_base::{ByteSink, WriteError};
 use tv_doc::document::CompactDoc;
+use tv_format::WriteVersion;
 use tv_format::type_codes::TEXT_CODE;
-use tv_format::version::WriteVersion;
 use tv_heap::encoded::Encoded;
 use tv_heap::value::CompactDocValue;
 use tv_value::field::Field;
 use tv_value::leaf::ReferenceValueLeaf;
-use tv_value::nesting::MAX_DEPTH;
+use tv_value::nested::MAX_DEPTH;
 use tv_value::value::{ReferenceValue, Value};
 use tv_writer::leaf_writer::{write_coded_text, write_leaf};
 

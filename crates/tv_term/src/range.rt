@@ -1,21 +1,17 @@
 //! Ranges of terms, as a term dictionary goes over them.
 
-ghost use Rattle.std.specs.Prelude.{◌≡◌, ◌↔◌, ◌≤◌, ◌<◌, ◌+◌, ◌++◌, ◌∷◌, [], ℕ, IsTrue, IfOk, length, option_map};
-ghost use Rattle.std.specs.Prelude.{false, slice_index, true};
+ghost use Rattle.std.specs.Prelude.{◌≡◌, ◌↔◌, ◌≤◌, ◌<◌, ◌+◌, ◌++◌, ◌∷◌, [], ℕ, IsTrue, IfOk, length, option_map, false, slice_index, true};
 ghost use Rattle.std.specs.List.Sorted.{IsPartitionPoint};
-ghost use Rattle.tv_term.specs.Making.{GivesPathRange, GivesRange, GivesRangeIf};
+ghost use Rattle.tv_term.specs.Making.{GivesPathRange, GivesRange, GivesRangeIf, date_value, second_within};
 ghost use Rattle.tv_term.specs.Within.{HasJust, IsRising, ends_below, is_below};
-ghost use Rattle.tv_term.specs.Range.{EndsPrefix, HasPrefixed, HasTerms, IsIn, HasPayloadPrefix};
-ghost use Rattle.tv_term.specs.Range.{IsOfField, IsOfType, HasTextPrefix, IsBelowFacet, HasLonger};
+ghost use Rattle.tv_term.specs.Range.{EndsPrefix, HasPrefixed, HasTerms, IsIn, HasPayloadPrefix, IsOfField, IsOfType, HasTextPrefix, IsBelowFacet, HasLonger};
 ghost use Rattle.tv_term.specs.Range.{AreTermsOf, IsBetween, LeavesBetween, LeavesFrom, LeavesTo};
 ghost use Rattle.std.specs.Range.Bound.{bound_map};
 ghost use Rattle.std.specs.declared.ops.Bound.TheVariants.{Excluded, Included};
 ghost use Rattle.tv_options.specs.declared.types.TypeTag.TheVariants.{Date as DateTag};
-ghost use Rattle.tv_term.specs.Making.{date_value, second_within};
 
 use crate::fast_value::FastValue;
-use crate::term::Term;
-use crate::term_error::TermError;
+use crate::term::{Term, TermError};
 use std::alloc::{AllocError, Global};
 use std::convert::AsSlice;
 use std::fmt;

@@ -4,14 +4,11 @@ ghost use Rattle.std.specs.Prelude.{◌≡◌, ◌≢◌, ◌<◌, ◌^◌, ◌+
 ghost use Rattle.std.specs.Int.{to_be_bytes, w32};
 ghost use Rattle.std.specs.Net.Addr.{ipv6_bits};
 ghost use Rattle.tv_options.specs.Types.{code};
-ghost use Rattle.tv_term.specs.Key.{Text, Unsigned, Signed, Truth};
-ghost use Rattle.tv_term.specs.Key.{Date, Facet as FacetValue, Bytes, Address};
-ghost use Rattle.tv_term.specs.Making.{Makes, MakesTerm, MakesPathTerm, MakesSegmentsTerm};
-ghost use Rattle.tv_term.specs.Making.{AppendsValue, OnlyMemory, indexed_date};
+ghost use Rattle.tv_term.specs.Key.{Text, Unsigned, Signed, Truth, Date, Facet as FacetValue, Bytes, Address};
+ghost use Rattle.tv_term.specs.Making.{Makes, MakesTerm, MakesPathTerm, MakesSegmentsTerm, AppendsValue, OnlyMemory, indexed_date};
 
 use crate::fast_value::FastValue;
-use crate::term::{Term, has_nul, has_nul_among, push_segments};
-use crate::term_error::TermError;
+use crate::term::{Term, TermError, has_nul, has_nul_among, push_segments};
 use std::alloc::{AllocError, Global};
 use std::marker::Model;
 use std::net::Ipv6Addr;

@@ -2,23 +2,16 @@
 #![tactic(auto)]
 
 pub mod children;
-pub mod content;
 pub mod copy;
-pub mod copy_error;
 pub mod encode;
-pub mod encoded_tokens;
 pub mod field;
 pub mod in_place;
-pub mod ip_addr;
 pub mod json;
-pub mod json_error;
 pub mod json_value;
 pub mod laws;
 pub mod leaf;
-pub mod leaf_text;
 mod moved;
 pub mod nested;
-pub mod nesting;
 pub mod owned_value;
 pub mod pre_tokenized;
 pub mod same;
@@ -27,10 +20,8 @@ mod utf8;
 pub mod value;
 
 pub use field::Field;
-pub use ip_addr::IntoIpv6Addr;
-pub use json_error::JsonError;
-pub use leaf::ReferenceValueLeaf;
-pub use owned_value::OwnedValue;
+pub use leaf::{IntoIpv6Addr, ReferenceValueLeaf};
+pub use owned_value::{JsonError, OwnedValue};
 pub use pre_tokenized::{PreTokenizedStr, TokenRef};
 pub use tokenizer::{PreTokenizedString, Token};
 pub use tv_base::{

@@ -19,8 +19,8 @@ use crate::value_writer::{write_child_key, write_value};
 use std::alloc::Global;
 use tv_base::write::write_vint;
 use tv_base::{ByteSink, WriteError};
-use tv_format::version::WriteVersion;
-use tv_value::nesting::{MAX_DEPTH, nests_within};
+use tv_format::WriteVersion;
+use tv_value::nested::{MAX_DEPTH, nests_within};
 use tv_value::value::Value;
 
 // How deep the values nest that a serializer writes.

@@ -51,8 +51,7 @@ pub use tv_doc::named_back_error::NamedBackError;
 pub use tv_doc::parse_buffers::ParseBuffers;
 pub use tv_doc::strict_parsing_error::StrictParsingError;
 pub use tv_doc::text_refusal::text_fault;
-pub use tv_format::leaf_type::LeafType;
-pub use tv_format::type_codes;
+pub use tv_format::{LeafType, type_codes};
 pub use tv_heap::value::{CompactDocArrayIter, CompactDocObjectIter, CompactDocValue};
 pub use tv_json::compact::push_json;
 pub use tv_json::json_expected::{JsonExpected, JsonWord, LowSurrogatePart};
@@ -65,11 +64,10 @@ pub use tv_typed::{
     BinaryArrayDeserializer, BinaryDocumentDeserializer, BinaryObjectDeserializer,
     BinaryValueDeserializer, DocumentDeserializer, StoreReader, ValueDeserialize, ValueVisitor,
 };
-pub use tv_value::copy_error::CopyError;
+pub use tv_value::copy::CopyError;
 pub use tv_value::json_value::{to_json_value, to_json_value_within};
 pub use tv_value::leaf::ReferenceValueLeaf;
-pub use tv_value::nested::{Lent, Nested, NestedValue, lend};
-pub use tv_value::nesting::{MAX_DEPTH, TooDeep, nests_within};
+pub use tv_value::nested::{Lent, MAX_DEPTH, Nested, NestedValue, TooDeep, lend, nests_within};
 pub use tv_value::owned_value::{OwnedArrayIter, OwnedObjectIter, OwnedValue};
 pub use tv_value::same::is_same;
 pub use tv_value::value::{ReferenceValue, Value};
