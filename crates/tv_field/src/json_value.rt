@@ -22,9 +22,7 @@ use tv_date::{DateError, DateTime};
 use tv_options::Type;
 use tv_value::copy::copy_of;
 use tv_value::json::{LentJson, has_float};
-use tv_value::leaf::{IntoIpv6Addr, ReferenceValueLeaf};
-use tv_value::owned_value::OwnedValue;
-use tv_value::pre_tokenized::PreTokenizedStr;
+use tv_value::{IntoIpv6Addr, OwnedValue, PreTokenizedStr, ReferenceValueLeaf};
 
 /// Where texts and bytes are written that a field's value has and its JSON value hasn't. (Not in tantivy.) One serves any number of values,
 /// one after the other.

@@ -15,9 +15,10 @@ ghost use Rattle.tv_format.specs.Tree.{elements, entries};
 use json::Writer;
 use std::alloc::{AllocError, Global};
 use tv_value::json_value::{push_address, push_base64, push_date, push_facet};
-use tv_value::leaf::{LeafContent, ReferenceValueLeaf, address_of};
+use tv_value::leaf::{LeafContent, address_of};
 use tv_value::nested::{Nested, NestedValue};
-use tv_value::pre_tokenized::{PreTokenizedStr, TokenIter, TokenRef};
+use tv_value::pre_tokenized::TokenIter;
+use tv_value::{PreTokenizedStr, ReferenceValueLeaf, TokenRef};
 
 // Where JSON is written, and room for the text of a leaf, which is used for each anew.
 #[derive(Drop)]

@@ -36,7 +36,7 @@ use crate::textual_options::TextualOptions;
 use crate::tokenizer_name::TokenizerName;
 use crate::types::TypeTag;
 use std::hash::Hash;
-use tv_date::date_time::{DATE_TIME_PRECISION_INDEXED, DateTimePrecision};
+use tv_date::{DATE_TIME_PRECISION_INDEXED, DateTimePrecision};
 
 /// `|` on options of flags doesn't depend on how it is grouped.
 pub fn flag_options_join_associatively<Part: OwnPart>()

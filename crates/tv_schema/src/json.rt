@@ -25,8 +25,7 @@ use crate::json::words::type_of_word;
 use crate::schema::{Schema, SchemaBuilder};
 use serde_json::Value;
 use std::alloc::{AllocError, Global};
-use tv_field::field_entry::{FieldEntry, SchemaError};
-use tv_field::field_type::FieldType;
+use tv_field::{FieldEntry, FieldType, SchemaError};
 use tv_options::Type;
 
 impl Schema {

@@ -11,8 +11,7 @@ ghost use Rattle.tv_field.specs.declared.field_entry.SchemaError.TheVariants.{Me
 
 use crate::schema::Schema;
 use std::alloc::Global;
-use tv_field::field_entry::{FieldEntry, SchemaError};
-use tv_field::field_type::FieldType;
+use tv_field::{FieldEntry, FieldType, SchemaError};
 use tv_options::laws::{
     comparisons_of_facet_options_agree, comparisons_of_flag_options_agree,
     comparisons_of_textual_options_agree,

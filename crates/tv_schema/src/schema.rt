@@ -12,13 +12,12 @@ use crate::table::FieldTable;
 use std::alloc::{AllocError, Global};
 use std::marker::Model;
 use std::rc::Rc;
-use tv_field::field_entry::{FieldEntry, SchemaError, is_valid_field_name};
-use tv_field::field_type::FieldType;
+use tv_field::{FieldEntry, FieldType, SchemaError, is_valid_field_name};
 use tv_options::{
     BytesOptions, DateOptions, FacetOptions, IpAddrOptions, JsonObjectOptions, NumericOptions,
     TextOptions,
 };
-use tv_value::field::Field;
+use tv_value::Field;
 
 // The most fields of a schema, so that 32 bits hold the number of each.
 const MAX_FIELDS: usize = 4294967295;

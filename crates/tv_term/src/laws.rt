@@ -23,7 +23,7 @@ use std::alloc::Global;
 use std::cmp::Ordering;
 use std::hash::Hash;
 use tv_options::Type;
-use tv_value::field::Field;
+use tv_value::Field;
 
 /// The type of a fast value is one of values of eight bytes.
 pub fn fast_types_are_of_eight_bytes<T: FastValue>() -> Type

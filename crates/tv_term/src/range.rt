@@ -17,9 +17,9 @@ use std::convert::AsSlice;
 use std::fmt;
 use std::ops::{Bound, RangeBounds};
 use tv_base::{FACET_SEP_BYTE, Facet};
-use tv_date::date_time::DateTime;
+use tv_date::DateTime;
 use tv_options::{DATE_TIME_PRECISION_INDEXED, Type};
-use tv_value::field::Field;
+use tv_value::Field;
 
 /// The byte strings from one on, up to another one, in the order of terms. (Not in tantivy.) A term dictionary looks for the start, and
 /// goes on up to the end.

@@ -21,12 +21,11 @@ use std::hash::{Hash, Hasher};
 use std::marker::Model;
 use std::net::Ipv6Addr;
 use thiserror::Error;
-use tv_base::Facet;
-use tv_base::json_path::joined_json_path;
-use tv_date::date_time::DateTime;
+use tv_base::{Facet, joined_json_path};
+use tv_date::DateTime;
 use tv_options::{DATE_TIME_PRECISION_INDEXED, Type};
 use tv_schema::Schema;
-use tv_value::field::Field;
+use tv_value::Field;
 
 /// Why there is no term, or no value bytes.
 #[derive(Clone, Copy, Debug, PartialEq, Eq, Error)]

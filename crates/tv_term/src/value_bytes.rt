@@ -13,7 +13,7 @@ use crate::term::TermError;
 use std::alloc::{AllocError, Global};
 use std::net::Ipv6Addr;
 use tv_base::Facet;
-use tv_date::date_time::DateTime;
+use tv_date::DateTime;
 use tv_options::Type;
 
 /// The bytes of a term's value, at least one: the code of its type, and then its payload. In a term of a JSON field the payload

@@ -12,11 +12,10 @@ use crate::term::{Term, TermError, has_nul, has_nul_among, push_segments};
 use std::alloc::{AllocError, Global};
 use std::marker::Model;
 use std::net::Ipv6Addr;
-use tv_base::Facet;
-use tv_base::json_path::push_joined_json_path;
-use tv_date::date_time::DateTime;
+use tv_base::{Facet, push_joined_json_path};
+use tv_date::DateTime;
 use tv_options::{DATE_TIME_PRECISION_INDEXED, Type};
-use tv_value::field::Field;
+use tv_value::Field;
 
 /// Makes terms one after another in one buffer. (Not in tantivy.) A call takes memory only where the buffer is shorter than its term; so
 /// once it has held the longest one, no call takes any.

@@ -17,7 +17,7 @@ ghost use Rattle.tv_format.specs.declared.leaf_type.WriteVersion.{WriteVersion};
 use crate::leaf::LeafContent;
 use crate::pre_tokenized::{PreTokenizedStr, TokenRef};
 use crate::utf8::is_utf8_prefix;
-use tv_base::vint::VInt;
+use tv_base::VInt;
 use tv_format::type_codes::{TEXT_CODE, TOK_STR_EXT_CODE};
 use tv_format::{Form, WriteVersion};
 

@@ -12,7 +12,7 @@ ghost use Rattle.tv_format.specs.Tree.{text, unsigned, signed, boolean, date, by
 use crate::pre_tokenized::PreTokenizedStr;
 use crate::same::same_leaf;
 use std::net::{IpAddr, Ipv6Addr};
-use tv_date::date_time::DateTime;
+use tv_date::DateTime;
 use tv_format::LeafType;
 
 /// What a value without children holds. Texts and bytes are borrowed. (Not in tantivy.)

@@ -18,7 +18,7 @@ use std::alloc::{AllocError, Global};
 use std::net::Ipv6Addr;
 use thiserror::Error;
 use tv_base::Facet;
-use tv_date::date_time::DateTime;
+use tv_date::DateTime;
 
 /// Why a JSON value is no value of a document.
 #[derive(Clone, Copy, Debug, PartialEq, Eq, Drop, Error)]

@@ -13,7 +13,7 @@ use crate::in_place::{behind_tokens, number_at, text_at, token_at};
 use crate::tokenizer::{PreTokenizedString, Token};
 use std::alloc::{AllocError, Global};
 use std::fmt;
-use tv_base::byte_buffer::ByteBuffer;
+use tv_base::ByteBuffer;
 
 /// A token that is lent (not in tantivy). Offsets are in bytes of the text that it is a token of.
 #[derive(Clone, Copy, Debug, PartialEq, Eq)]

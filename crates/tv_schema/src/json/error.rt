@@ -11,7 +11,7 @@ use std::alloc::AllocError;
 use std::error::Error;
 use std::fmt;
 use std::fmt::{Display, Formatter, Write};
-use tv_field::field_entry::SchemaError;
+use tv_field::SchemaError;
 
 /// Why a JSON value describes no schema, with the key that is at fault. (Not in tantivy.)
 #[derive(Clone, Copy, Debug, PartialEq, Eq)]
