@@ -10,8 +10,7 @@ use std::alloc::Global;
 use std::fmt::Write;
 use tv_field::{FieldEntry, FieldType, SchemaError, is_valid_field_name};
 use tv_options::TEXT;
-use tv_schema::json::laws::printed_schema_is_read_back;
-use tv_schema::laws::record_options_agree;
+use tv_schema::laws::{printed_schema_is_read_back, record_options_agree};
 use tv_schema::{Schema, SchemaBuilder};
 use tv_value::field::Field;
 

@@ -9,7 +9,7 @@ use std::alloc::Global;
 use std::collections::BTreeMap;
 use std::fmt::{Debug, Write};
 use std::mem;
-use tv_doc::add_error::AddError;
+use tv_builder::errors::AddError;
 use tv_doc::builder::{BuildError, BytesKind, TreeBuilder};
 use tv_doc::document::CompactDoc;
 use tv_value::field::Field;

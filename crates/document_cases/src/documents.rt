@@ -17,7 +17,7 @@ use tv_field::ValueParsingError;
 use tv_heap::value::CompactDocValue;
 use tv_json::compact::push_json;
 use tv_schema::Schema;
-use tv_value::copy_error::CopyError;
+use tv_value::copy::CopyError;
 use tv_value::json_value::to_json_value;
 use tv_value::owned_value::OwnedValue;
 

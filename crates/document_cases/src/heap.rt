@@ -8,7 +8,7 @@ use tv_base::{BinarySerializable, ByteBuffer, SliceSource, VecSink};
 use tv_builder::encoded::put_encoded;
 use tv_builder::heap_pairs::HeapPairs;
 use tv_doc::lent_borrowed::LentBorrowed;
-use tv_format::version::WriteVersion;
+use tv_format::WriteVersion;
 use tv_heap::len::leaf_len;
 use tv_heap::value_type::Place;
 use tv_heap::value_type::ValueType;

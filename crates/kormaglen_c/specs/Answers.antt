@@ -6,8 +6,8 @@ use Rattle.tv_blocks.specs.declared.block_error.BlockError.{BlockError}
 use Rattle.tv_blocks.specs.declared.field_path.FoundField.{FoundField}
 use Rattle.tv_blocks.specs.declared.import.Imported.{Imported}
 use Rattle.tv_blocks.specs.declared.status.Answer.{Answer}
-use Rattle.tv_format.specs.declared.version.WriteVersion.{WriteVersion}
-use Rattle.tv_format.specs.declared.version.WriteVersion.TheVariants as versions
+use Rattle.tv_format.specs.declared.leaf_type.WriteVersion.{WriteVersion}
+use Rattle.tv_format.specs.declared.leaf_type.WriteVersion.TheVariants as versions
 
 -- the answer tells what a call did that writes into a buffer
 abbrev pub AnswersFill : (List ℕ → Type 0) → (BlockError → Type 0) → List ℕ → List ℕ → Answer → Type 0

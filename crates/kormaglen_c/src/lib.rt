@@ -27,7 +27,7 @@ pub mod queries;
 use std::alloc::Global;
 use tv_blocks::status::{Answer, error_answer, import_answer, written_answer, wrong_version};
 use tv_blocks::{BlockError, FoundField, LineAnswer};
-use tv_format::version::WriteVersion;
+use tv_format::WriteVersion;
 use tv_store::DocStoreVersion;
 
 // What is found of a path, or nothing.

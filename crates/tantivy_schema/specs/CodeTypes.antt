@@ -2,10 +2,10 @@
 
 -- why something is refused
 pub use Rattle.tv_base.specs.declared.cause.Cause
-pub use Rattle.tv_base.specs.declared.facet_parse_error.FacetParseError
-pub use Rattle.tv_base.specs.declared.read_error.ReadError
-pub use Rattle.tv_base.specs.declared.write_error.WriteError
-pub use Rattle.tv_date.specs.declared.date_error.DateError
+pub use Rattle.tv_base.specs.declared.facet.FacetParseError
+pub use Rattle.tv_base.specs.declared.cause.ReadError
+pub use Rattle.tv_base.specs.declared.cause.WriteError
+pub use Rattle.tv_date.specs.declared.rfc3339.DateError
 pub use Rattle.tv_builder.specs.declared.kinds.Awaits
 pub use Rattle.tv_builder.specs.declared.errors.BuildError
 pub use Rattle.tv_builder.specs.declared.heap_pairs.HeapPair
@@ -24,7 +24,7 @@ pub use Rattle.tv_json.specs.declared.json_fault.JsonFault
 pub use Rattle.tv_json.specs.declared.json_fault.JsonFaultKind
 pub use Rattle.tv_doc.specs.declared.errors.StrictParsingError
 pub use Rattle.tv_field.specs.declared.json_value.JsonRefusal
-pub use Rattle.tv_field.specs.declared.schema_error.SchemaError
+pub use Rattle.tv_field.specs.declared.field_entry.SchemaError
 pub use Rattle.tv_reader.specs.declared.error.DeserializeError
 pub use Rattle.tv_field.specs.declared.value_parsing_error.ParseCause
 pub use Rattle.tv_field.specs.declared.value_parsing_error.ValueParsingError
@@ -39,25 +39,25 @@ pub use Rattle.tv_store.specs.declared.limits.LimitedReadError
 pub use Rattle.tv_store.specs.declared.limits.ReadLimit
 pub use Rattle.tv_store.specs.declared.limits.ReadLimits
 pub use Rattle.tv_store.specs.declared.migration_trip.MigrationTrip
-pub use Rattle.tv_format.specs.declared.version.WriteVersion
+pub use Rattle.tv_format.specs.declared.leaf_type.WriteVersion
 pub use Rattle.tv_reader.specs.declared.value_type.ValueType
 pub use Rattle.tv_indexing.specs.declared.term_list.TermIter
 pub use Rattle.tv_indexing.specs.declared.term_list.TermList
 pub use Rattle.tv_indexing.specs.declared.document.TermValuesError
 pub use Rattle.tv_indexing.specs.declared.json_ranges.JsonKind
 pub use Rattle.tv_indexing.specs.declared.text_terms_error.TextTermsError
-pub use Rattle.tv_facets.specs.declared.document_counts.DocumentFacet
-pub use Rattle.tv_facets.specs.declared.facet_counts.FacetCount
-pub use Rattle.tv_facets.specs.declared.facet_counts.FacetCountsError
+pub use Rattle.tv_base.specs.declared.facet_counts.DocumentFacet
+pub use Rattle.tv_base.specs.declared.facet_counts.FacetCount
+pub use Rattle.tv_base.specs.declared.facet_counts.FacetCountsError
 pub use Rattle.tv_term.specs.declared.range.TermRange
-pub use Rattle.tv_term.specs.declared.term_error.TermError
-pub use Rattle.tv_value.specs.declared.json_error.JsonError
-pub use Rattle.tv_value.specs.declared.copy_error.CopyError
-pub use Rattle.tv_value.specs.declared.nesting.TooDeep
+pub use Rattle.tv_term.specs.declared.term.TermError
+pub use Rattle.tv_value.specs.declared.owned_value.JsonError
+pub use Rattle.tv_value.specs.declared.copy.CopyError
+pub use Rattle.tv_value.specs.declared.nested.TooDeep
 pub use Rattle.tv_doc.specs.declared.errors.NamedBackError
 -- calls that fail, and those that are to fail
 pub use Rattle.tv_io.specs.declared.failures.CountedFailures
-pub use Rattle.tv_io.specs.declared.planned_failure.PlannedFailure
+pub use Rattle.tv_io.specs.declared.faulty.PlannedFailure
 -- what schemas are made of
 pub use Rattle.tv_options.specs.declared.facet_options.FacetOptions
 pub use Rattle.tv_options.specs.declared.flag_options.FlagOptions
@@ -65,7 +65,7 @@ pub use Rattle.tv_options.specs.declared.flags.CoerceFlag
 pub use Rattle.tv_options.specs.declared.flags.FastFlag
 pub use Rattle.tv_options.specs.declared.flags.IndexedFlag
 pub use Rattle.tv_options.specs.declared.flags.StoredFlag
-pub use Rattle.tv_options.specs.declared.index_record_option.IndexRecordOption
+pub use Rattle.tv_options.specs.declared.text_options.IndexRecordOption
 pub use Rattle.tv_options.specs.declared.own_part.Coercion
 pub use Rattle.tv_options.specs.declared.own_part.DotExpansion
 pub use Rattle.tv_options.specs.declared.text_options.FastFieldTextOptions

@@ -101,11 +101,11 @@ pub use Rattle.tv_indexing.specs.JsonBounds
 pub use Rattle.tv_indexing.specs.JsonRanges
 pub use Rattle.tv_indexing.specs.TermText
 -- facets that are counted
-pub use Rattle.tv_facets.specs.FacetCounting
-pub use Rattle.tv_facets.specs.ChildPlaces
-pub use Rattle.tv_facets.specs.DocumentCounting
-pub use Rattle.tv_facets.specs.Greatest as GreatestCounts
-pub use Rattle.tv_facets.specs.Printed as CountPrinted
+pub use Rattle.tv_base.specs.FacetCounting
+pub use Rattle.tv_base.specs.ChildPlaces
+pub use Rattle.tv_base.specs.DocumentCounting
+pub use Rattle.tv_base.specs.Greatest as GreatestCounts
+pub use Rattle.tv_base.specs.Printed as CountPrinted
 -- documents
 pub use Rattle.tv_doc.specs.AdditionError
 pub use Rattle.tv_doc.specs.Additions

@@ -61,12 +61,10 @@ pub use tv_reader::laws::{
     values_within_a_depth_nest,
 };
 use tv_schema::Schema;
-pub use tv_schema::json::laws::{
-    printed_schema_is_read_back, written_schemas_are_read_back, written_schemas_tell_all,
-};
 pub use tv_schema::laws::{
-    comparisons_of_schemas_agree, names_are_of_one_field, record_options_agree,
-    the_last_dot_counts, whole_paths_come_first,
+    comparisons_of_schemas_agree, names_are_of_one_field, printed_schema_is_read_back,
+    record_options_agree, the_last_dot_counts, whole_paths_come_first,
+    written_schemas_are_read_back, written_schemas_tell_all,
 };
 pub use tv_store::direct_decoder::stepped_decoders_are_paid_for;
 pub use tv_store::laws::{

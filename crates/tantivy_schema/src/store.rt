@@ -1,6 +1,6 @@
 //! The document store.
 
-pub use tv_format::version::WriteVersion;
+pub use tv_format::WriteVersion;
 pub use tv_store::{
     BlockReader, DirectDecoder, DocStoreVersion, LimitedReadError, MigrateBlockError, MigrateError,
     Projection, ReadLimit, ReadLimits, RefusedDocument, Step, Unwatched, Watch, migrate,

@@ -1,8 +1,7 @@
 -- Two kinds of bytes agree where none of one begins one of the other, but the same bytes, and then C holds.
 use Rattle.std.proofs.Common.{◌≡◌, ℕ, List, [], ◌∷◌, ◌++◌, length, refl, sym, ◌∙◌, ap, arith, append_assoc, ◌⊎◌, inl, inr}
 use Rattle.std.proofs.lemmas.List.{append_cancel_left}
-use Rattle.tv_base.specs.Parts.{OneReading}
-use Rattle.tv_base.specs.Parts.{Then, Behind, Each}
+use Rattle.tv_base.specs.Parts.{OneReading, Then, Behind, Each}
 
 pub record Agree (P Q : List ℕ → Type 0) (C : Type 0) : Type 0 where
   pub agree : (a b x y : List ℕ) → P a → Q b → a ++ x ≡ b ++ y → (a ≡ b) × C

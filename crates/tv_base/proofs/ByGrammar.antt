@@ -4,8 +4,8 @@ use Rattle.std.specs.Prelude.{IfOk, IfErr, IsErrOf}
 use Rattle.std.proofs.lemmas.Result.{IfErr-at_err}
 use Rattle.tv_base.specs.declared.cause.Cause.{Cause}
 use Rattle.tv_base.specs.declared.cause.Cause.TheVariants.{UnexpectedEnd, TooLong}
-use Rattle.tv_base.specs.declared.read_error.ReadError.{ReadError}
-use Rattle.tv_base.specs.declared.read_error.ReadError.TheVariants.{Corrupted, Io, Memory}
+use Rattle.tv_base.specs.declared.cause.ReadError.{ReadError}
+use Rattle.tv_base.specs.declared.cause.ReadError.TheVariants.{Corrupted, Io, Memory}
 use Rattle.tv_base.specs.Source.{AllBytes}
 use Rattle.tv_base.specs.Stop.{Stop, Stops, Gives, Taken}
 use Rattle.tv_base.specs.Stop.Stop.{InputError, Uncounted}

@@ -4,9 +4,8 @@ use Rattle.std.specs.List.{AllByRecursion}
 use Rattle.std.proofs.lemmas.List.{append_cancel_left}
 use Rattle.std.proofs.Math.Nat.{pow-suc}
 use Rattle.tv_base.specs.declared.cause.Cause.{Cause}
-use Rattle.tv_base.specs.Parts.{OneReading}
+use Rattle.tv_base.specs.Parts.{OneReading, Then, Each}
 use Rattle.tv_base.specs.Number.{Groups, last, more, VNum}
-use Rattle.tv_base.specs.Parts.{Then, Each}
 use Rattle.tv_base.specs.ErrorInPart.{InThen, InEach, ErrorInNumber, number_ends, number_large}
 
 pub record Excludes {C : Type 0} (F : List ℕ → C → Type 0) (P : List ℕ → Type 0) : Type 0 where

@@ -32,4 +32,7 @@ pub mod Printing
 pub mod Steps
 pub mod JsonPaths
 pub mod Growing
+pub mod FacetCounts
+pub mod Documents
+pub mod Prints
 mod Overlaps

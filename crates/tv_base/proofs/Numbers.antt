@@ -4,9 +4,8 @@ use Rattle.std.proofs.lemmas.Bool.{cases_lt, cond-true, cond-false, lt-ltb, le-l
 use Rattle.std.proofs.lemmas.Nat.{div_below}
 use Rattle.std.proofs.Math.Nat.{pow-suc}
 use Rattle.tv_base.specs.Number.{Groups, last, more, VNum, groups_of, vnum, Fixed, no_bytes, low_byte, low_bytes}
-use Rattle.tv_base.specs.Parts.{Counted}
+use Rattle.tv_base.specs.Parts.{Counted, OneReading}
 use Rattle.tv_base.proofs.Agreement.{Agree, agree_from, agree_map, agree_then, agree_each}
-use Rattle.tv_base.specs.Parts.{OneReading}
 
 -- groups never begin other groups, and have one value
 pub one_groups : {a b : List ℕ} {m n : ℕ} (x y : List ℕ) → Groups a m → Groups b n → a ++ x ≡ b ++ y → (a ≡ b) × (m ≡ n)

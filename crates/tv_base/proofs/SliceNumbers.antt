@@ -3,8 +3,8 @@ use Rattle.std.proofs.Common.{◌≡◌, ℕ, ◌-◌, ◌^◌, ◌<◌, ◌≤�
 use Rattle.std.proofs.lemmas.List.{append_cancel_right}
 use Rattle.tv_base.specs.declared.cause.Cause.{Cause}
 use Rattle.tv_base.specs.declared.cause.Cause.TheVariants.{TooLong}
-use Rattle.tv_base.specs.declared.read_error.ReadError.{ReadError}
-use Rattle.tv_base.specs.declared.read_error.ReadError.TheVariants.{Corrupted, Io, Memory}
+use Rattle.tv_base.specs.declared.cause.ReadError.{ReadError}
+use Rattle.tv_base.specs.declared.cause.ReadError.TheVariants.{Corrupted, Io, Memory}
 use Rattle.tv_base.specs.Number.{VNum}
 use Rattle.tv_base.specs.ErrorInPart.{ErrorInNumber}
 use Rattle.tv_base.specs.Reading.{vint_at}

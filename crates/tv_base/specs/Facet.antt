@@ -4,8 +4,8 @@ use lib.Chars.{codes}
 use Rattle.std.specs.List.{AllByRecursion, flat_map, slice_split}
 use Rattle.std.specs.String.{string_bytes}
 use Rattle.tv_base.specs.Escapes.{rewritten}
-use Rattle.tv_base.specs.declared.facet_parse_error.FacetParseError.{FacetParseError}
-use Rattle.tv_base.specs.declared.facet_parse_error.FacetParseError.TheVariants as parse_error
+use Rattle.tv_base.specs.declared.facet.FacetParseError.{FacetParseError}
+use Rattle.tv_base.specs.declared.facet.FacetParseError.TheVariants as parse_error
 
 -- an unescaped backslash goes, an unescaped slash separates
 abbrev pub decoded_byte : Bool → ℕ → List ℕ

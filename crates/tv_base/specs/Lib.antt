@@ -15,3 +15,9 @@ pub mod Facet
 pub mod JsonPath
 pub mod Rewriting
 pub mod Buffer
+pub mod FacetCounting
+pub mod ChildPlaces
+pub mod DocumentCounting
+pub mod DocumentPairs
+pub mod Greatest
+pub mod Printed

@@ -7,7 +7,7 @@
 --   counts       It says that the sink failed exactly where the sink did, with the kind that the sink returned.
 use Rattle.std.specs.Prelude.{ℕ, List, Result, Ok}
 use Rattle.tv_base.specs.declared.sink.ByteSink.{Ghosts}
-use Rattle.tv_base.specs.declared.write_error.WriteError.{WriteError}
+use Rattle.tv_base.specs.declared.cause.WriteError.{WriteError}
 use Rattle.tv_base.specs.Sink.{WritesBy}
 use Rattle.tv_base.specs.Stop.{Stop}
 use Rattle.tv_base.specs.Stop.Stop.{Failed}

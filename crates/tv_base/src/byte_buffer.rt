@@ -1,7 +1,6 @@
 //! A buffer of bytes to which short parts are appended.
 
-ghost use Rattle.std.specs.Prelude.{◌≡◌, ◌+◌, ◌≤◌, ◌<◌, ◌^◌, ◌∷◌, ◌++◌, [], length, take, IfOk, OnOk, OnErr, IsTrue, ◌↔◌};
-ghost use Rattle.std.specs.Prelude.{vec_capacity, vec_len};
+ghost use Rattle.std.specs.Prelude.{◌≡◌, ◌+◌, ◌≤◌, ◌<◌, ◌^◌, ◌∷◌, ◌++◌, [], length, take, IfOk, OnOk, OnErr, IsTrue, ◌↔◌, vec_capacity, vec_len};
 ghost use Rattle.tv_base.specs.Buffer.{Extends, Grows, Puts, capacity, grown};
 
 use crate::fixed_copy::{copy_first, copy_part};

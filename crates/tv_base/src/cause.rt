@@ -1,8 +1,13 @@
-//! Why bytes are refused.
+//! Why bytes are refused, and why something could not be read or written.
 
-use std::error::Error;
-use std::fmt;
+ghost use Rattle.std.specs.Prelude.{◌≡◌, IfOk, string_bytes};
+ghost use Rattle.tv_base.specs.declared.cause.ReadError.TheVariants.{Memory};
+ghost use Rattle.std.specs.Fmt.{take_chars};
+
+use std::alloc::{AllocError, AllocFailed, Global};
 use std::fmt::{Display, Formatter, Write};
+use std::{error, fmt, io};
+use thiserror::Error;
 
 /// What is wrong with bytes that encode no value: the first error, from left to right.
 #[derive(Clone, Copy, Debug, PartialEq, Eq)]
@@ -71,4 +76,58 @@ impl Display for Cause {
     }
 }
 
-impl Error for Cause {}
+impl error::Error for Cause {}
+
+/// Why a value could not be read from a source.
+#[derive(Debug, PartialEq, Drop, Error)]
+pub enum ReadError {
+    /// The bytes of the source encode no value. The cause is the first error in them, from left to right.
+    #[error("{0}")]
+    Corrupted(Cause),
+    /// A read of the source failed, with this kind of error.
+    #[error("the source failed: {0}")]
+    Io(io::ErrorKind),
+    /// Memory was refused.
+    #[error("memory was refused")]
+    Memory,
+}
+
+impl From<AllocError> for ReadError {
+    ghost from_gives = { λ _ error. error ≡ Memory };
+
+    fn from(_error: AllocError) -> ReadError {
+        ReadError::Memory
+    }
+}
+
+impl<T: Drop> From<AllocFailed<T>> for ReadError {
+    ghost from_gives = { λ _ error. error ≡ Memory };
+
+    fn from(_error: AllocFailed<T>) -> ReadError {
+        ReadError::Memory
+    }
+}
+
+/// A write to a sink failed, with this kind of error. (Not in tantivy, which returns `io::Error`.) As an error type it goes through `?` into
+/// `anyhow::Error`, which a bare `io::ErrorKind` doesn't.
+#[derive(Clone, Copy, Debug, PartialEq, Eq, Drop, Error)]
+#[error("the sink failed: {0}")]
+pub struct WriteError(pub io::ErrorKind);
+
+impl From<io::ErrorKind> for WriteError {
+    ghost use Rattle.std.specs.Prelude.{◌≡◌};
+
+    ghost from_gives = { λ kind error. error.0 ≡ kind };
+
+    fn from(kind: io::ErrorKind) -> WriteError {
+        WriteError(kind)
+    }
+}
+
+/// The first `most` characters of a text, or all where it has no more: what an error keeps of a text that it refuses. (Not in tantivy.)
+pub fn text_start(alloc: Global, text: &str, most: u8) -> Result<String, AllocError>
+    ensures { IfOk result (λ start. string_bytes start ≡ take_chars most text.now) }
+{
+    let most = most as usize;
+    format!(in alloc; "{text:.most$}")
+}

@@ -1,7 +1,6 @@
 //! Places in a hierarchy.
 
-ghost use Rattle.std.specs.Prelude.{◌≡◌, ◌≢◌, ◌↔◌, ℕ, List, [], ◌∷◌, ◌++◌, map, refl, Some, IfOk};
-ghost use Rattle.std.specs.Prelude.{IfErr, IsOk, IsTrue, MatchOption, OnErr, OnOk, IsUtf8};
+ghost use Rattle.std.specs.Prelude.{◌≡◌, ◌≢◌, ◌↔◌, ℕ, List, [], ◌∷◌, ◌++◌, map, refl, Some, IfOk, IfErr, IsOk, IsTrue, MatchOption, OnErr, OnOk, IsUtf8};
 ghost use Rattle.std.specs.Prelude.{string_bytes, bytes_eq};
 ghost use Rattle.std.specs.List.{join_with_byte};
 ghost use Rattle.std.specs.Ordering.{nat_cmp};
@@ -11,13 +10,11 @@ ghost use Rattle.std.proofs.lemmas.Slice.Eq.{bytes_eq-Decides};
 ghost use Rattle.std.specs.String.{from_utf8_error_vec};
 ghost use Rattle.std.specs.Fmt.{DisplaysOnOk};
 ghost use Rattle.std.specs.Cmp.{partial_equiv_from_equiv};
-ghost use Rattle.std.specs.Cmp.Lexicographic.{slice_cmp, nat_list_eq_equiv, nat_list_cmp_total};
-ghost use Rattle.std.specs.Cmp.Lexicographic.{texts_ties, texts_po};
-ghost use Rattle.tv_base.specs.Facet.{parse, path, printed, debug_printed, IsParseError, WritesFacet};
-ghost use Rattle.tv_base.specs.Facet.{Descends};
+ghost use Rattle.std.specs.Cmp.Lexicographic.{slice_cmp, nat_list_eq_equiv, nat_list_cmp_total, texts_ties, texts_po};
+ghost use Rattle.tv_base.specs.Facet.{parse, path, printed, debug_printed, IsParseError, WritesFacet, Descends};
 ghost use Rattle.tv_base.specs.Sink.{AppendsPrefix};
+ghost use Rattle.tv_base.specs.declared.facet.FacetParseError.TheVariants.{Memory};
 
-use crate::facet_parse_error::FacetParseError;
 use crate::text_rules::{Rule, printed_text, push_printed, rewrite};
 use std::alloc::{AllocError, Global};
 use std::cmp::Ordering;
@@ -25,6 +22,26 @@ use std::fmt;
 use std::hash::{Hash, Hasher};
 use std::marker::Model;
 use std::string::FromUtf8Error;
+use thiserror::Error;
+
+/// Why there is no facet of a text.
+#[derive(Debug, PartialEq, Drop, Error)]
+pub enum FacetParseError {
+    /// The text doesn't begin with `/`. This is a copy of it.
+    #[error("a facet begins with a slash: {0}")]
+    FacetParseError(String),
+    /// Memory was refused.
+    #[error("memory was refused")]
+    Memory,
+}
+
+impl From<AllocError> for FacetParseError {
+    ghost from_gives = { λ _ error. error ≡ Memory };
+
+    fn from(_error: AllocError) -> FacetParseError {
+        FacetParseError::Memory
+    }
+}
 
 /// What separates the steps of an encoded facet, as a byte.
 pub const FACET_SEP_BYTE: u8 = 0;

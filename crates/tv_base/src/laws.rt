@@ -1,13 +1,11 @@
 //! Laws of the encodings of numbers and texts, of escapes, and of facets, each the contract of a function that does nothing.
 
-ghost use Rattle.std.specs.Prelude.{◌≡◌, ◌≢◌, ◌↔◌, ℕ, ℤ, FitsSigned, ◌<◌, ◌≤◌, ◌^◌, List, [], ◌∷◌};
-ghost use Rattle.std.specs.Prelude.{◌++◌, ◌==◌, false, length, Some, IsTrue, IsUtf8};
+ghost use Rattle.std.specs.Prelude.{◌≡◌, ◌≢◌, ◌↔◌, ℕ, ℤ, FitsSigned, ◌<◌, ◌≤◌, ◌^◌, List, [], ◌∷◌, ◌++◌, ◌==◌, false, length, Some, IsTrue, IsUtf8};
 ghost use Rattle.std.specs.Int.{w64};
 ghost use Rattle.std.specs.List.{AllByRecursion, join_with_byte, list_any};
 ghost use Rattle.std.specs.Ordering.{nat_cmp, is_eq, is_le, is_lt};
 ghost use Rattle.std.specs.Cmp.Lexicographic.{slice_cmp};
-ghost use Rattle.tv_base.specs.Number.{VNum, vnum, Fixed, one_byte, four_bytes, eight_bytes};
-ghost use Rattle.tv_base.specs.Number.{sixteen_bytes, Signed, signed_bytes, Truth};
+ghost use Rattle.tv_base.specs.Number.{VNum, vnum, Fixed, one_byte, four_bytes, eight_bytes, sixteen_bytes, Signed, signed_bytes, Truth};
 ghost use Rattle.tv_base.specs.Parts.{OneReading, Sized, Text, short_sized};
 ghost use Rattle.tv_base.specs.Escapes.{without_escapes};
 ghost use Rattle.tv_base.specs.Facet.{parse, path, printed, IsStep, Descends};

@@ -2,18 +2,16 @@
 
 ghost use Rattle.std.specs.Prelude.{ℕ, ℤ, Bool, List, string_bytes};
 ghost use Rattle.tv_base.specs.declared.cause.Cause.{Cause};
-ghost use Rattle.tv_base.specs.Number.{VNum, vnum, Fixed, one_byte, four_bytes, eight_bytes};
-ghost use Rattle.tv_base.specs.Number.{sixteen_bytes, Signed, signed_bytes, Truth, truth_byte};
+ghost use Rattle.tv_base.specs.Number.{VNum, vnum, Fixed, one_byte, four_bytes, eight_bytes, sixteen_bytes, Signed, signed_bytes, Truth, truth_byte};
 ghost use Rattle.tv_base.specs.Parts.{Sized, Text, short_sized};
-ghost use Rattle.tv_base.specs.ErrorInPart.{ErrorInNumber, ErrorInBytes, ErrorInTruth};
-ghost use Rattle.tv_base.specs.ErrorInPart.{ErrorInSized, ErrorInText};
+ghost use Rattle.tv_base.specs.ErrorInPart.{ErrorInNumber, ErrorInBytes, ErrorInTruth, ErrorInSized, ErrorInText};
 ghost use Rattle.tv_base.specs.ReadsAs.{ReadsAs, ReadsLean};
 ghost use Rattle.tv_base.specs.Reading.{vint_at};
 ghost use Rattle.tv_base.specs.Writing.{Writes};
 ghost use Rattle.tv_base.specs.Take.{TakesLean};
 
+use crate::cause::{ReadError, WriteError};
 use crate::facet::Facet;
-use crate::read_error::ReadError;
 use crate::sink::ByteSink;
 use crate::source::ByteSource;
 use crate::take::{
@@ -25,7 +23,6 @@ use crate::write::{
     write_bool, write_i64, write_sized, write_text, write_u8, write_u32, write_u64, write_u128,
     write_vint,
 };
-use crate::write_error::WriteError;
 use std::alloc::Global;
 
 /// A value that has an encoding in bytes: the shortest is written, and each is read.

@@ -1,14 +1,14 @@
 //! A source over a slice.
 
 ghost use Rattle.std.specs.Prelude.{◌≡◌, ◌≤◌, ◌+◌, ◌↔◌, None, Ok, IsOk, IfOk, IfErr, IsTrue, length, min};
-ghost use Rattle.tv_base.specs.declared.read_error.ReadError.TheVariants.{Memory};
+ghost use Rattle.tv_base.specs.declared.cause.ReadError.TheVariants.{Memory};
 ghost use Rattle.tv_base.specs.Append.{AppendsNext, append_stop};
 ghost use Rattle.tv_base.specs.Lend.{Passes};
 ghost use Rattle.tv_base.specs.Sink.{IsPrefix};
 ghost use Rattle.tv_base.specs.Source.{AllBytes, GivesSome, GivesFirst, CountsFailure};
 ghost use Rattle.tv_base.specs.Stop.{Counts};
 
-use crate::read_error::ReadError;
+use crate::cause::ReadError;
 use crate::source::ByteSource;
 use std::io;
 

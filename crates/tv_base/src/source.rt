@@ -7,7 +7,7 @@ ghost use Rattle.tv_base.specs.Sink.{IsPrefix};
 ghost use Rattle.tv_base.specs.Stop.{Counts};
 ghost use Rattle.tv_base.specs.Source.{AllBytes, GivesSome, GivesFirst, Failures, CountsFailure};
 
-use crate::read_error::ReadError;
+use crate::cause::ReadError;
 use std::io;
 
 /// A place from which bytes are read, one after the other.

@@ -4,22 +4,18 @@
 //! 2^64 - 1 it returns `Corrupted(TooLong)`: the bytes that were taken end too early. Every other error is what the bytes show, also
 //! where as many were taken. After an error `count` has risen by the number of the bytes that were taken up to there.
 
-ghost use Rattle.std.specs.Prelude.{◌<◌, ◌≡◌, ◌⊎◌, ◌≤◌, ◌+◌, [], length, true, false, IfOk};
-ghost use Rattle.std.specs.Prelude.{IfErr, IsErrOf, OnOk, OnErr, string_bytes};
+ghost use Rattle.std.specs.Prelude.{◌<◌, ◌≡◌, ◌⊎◌, ◌≤◌, ◌+◌, [], length, true, false, IfOk, IfErr, IsErrOf, OnOk, OnErr, string_bytes};
 ghost use Rattle.std.specs.Str.{is_utf8};
 ghost use Rattle.tv_base.specs.declared.cause.Cause.{Cause};
-ghost use Rattle.tv_base.specs.declared.cause.Cause.TheVariants.{UnexpectedEnd, BadNumber, BadBool};
-ghost use Rattle.tv_base.specs.declared.cause.Cause.TheVariants.{NotUtf8, TooLong};
-ghost use Rattle.tv_base.specs.declared.read_error.ReadError.TheVariants.{Corrupted};
+ghost use Rattle.tv_base.specs.declared.cause.Cause.TheVariants.{UnexpectedEnd, BadNumber, BadBool, NotUtf8, TooLong};
+ghost use Rattle.tv_base.specs.declared.cause.ReadError.TheVariants.{Corrupted};
 ghost use Rattle.tv_base.specs.Take.{TakesBy, TakesLean};
-ghost use Rattle.tv_base.specs.Reading.{bytes_at, more_at, u8_at, u32_at, u64_at, u128_at, i64_at};
-ghost use Rattle.tv_base.specs.Reading.{truth_at, vint_at, sized_at, text_at};
+ghost use Rattle.tv_base.specs.Reading.{bytes_at, more_at, u8_at, u32_at, u64_at, u128_at, i64_at, truth_at, vint_at, sized_at, text_at};
 
-use crate::buffered::{fill, pass_number};
-use crate::cause::Cause;
+use crate::cause::{Cause, ReadError};
 use crate::facet::Facet;
-use crate::read_error::ReadError;
 use crate::source::ByteSource;
+use crate::vint::{fill, pass_number};
 use std::alloc::Global;
 use std::mem;
 

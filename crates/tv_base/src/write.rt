@@ -4,14 +4,13 @@
 //! to be written.
 
 ghost use Rattle.std.specs.Prelude.{◌≡◌};
-ghost use Rattle.tv_base.specs.Number.{vnum, one_byte, four_bytes, eight_bytes, sixteen_bytes};
-ghost use Rattle.tv_base.specs.Number.{signed_bytes, truth_byte};
+ghost use Rattle.tv_base.specs.Number.{vnum, one_byte, four_bytes, eight_bytes, sixteen_bytes, signed_bytes, truth_byte};
 ghost use Rattle.tv_base.specs.Parts.{short_sized};
 ghost use Rattle.tv_base.specs.Writing.{Writes};
 
+use crate::cause::WriteError;
 use crate::sink::ByteSink;
 use crate::vint::VInt;
-use crate::write_error::WriteError;
 
 /// Writes all of the bytes, in as many writes as it takes.
 #[inline]

@@ -9,8 +9,8 @@ use Rattle.std.specs.Prelude.{IsUtf8, MatchResult}
 use Rattle.std.specs.Result.{is_err, is_ok}
 use Rattle.tv_blocks.specs.FacetCounts.{ArePairs, BeginsWithNoPair, IsPair, PairsSoFar, facet_record}
 use Rattle.tv_blocks.specs.Records.{record_of}
-use Rattle.tv_facets.specs.FacetCounting.{entry_of}
-use Rattle.tv_facets.specs.declared.facet_counts.FacetCount.{FacetCount}
+use Rattle.tv_base.specs.FacetCounting.{entry_of}
+use Rattle.tv_base.specs.declared.facet_counts.FacetCount.{FacetCount}
 
 -- ---- one record
 

@@ -6,8 +6,8 @@ use Rattle.tv_blocks.specs.Records.{record_of}
 use Rattle.tv_blocks.specs.Refusals.{StopsAt}
 use Rattle.tv_blocks.specs.declared.block_error.BlockError.{BlockError}
 use Rattle.tv_blocks.specs.declared.block_error.BlockError.TheVariants as errors
-use Rattle.tv_facets.specs.DocumentCounting.{AreDocumentCounts, facet_of}
-use Rattle.tv_facets.specs.declared.document_counts.DocumentFacet.{DocumentFacet}
+use Rattle.tv_base.specs.DocumentCounting.{AreDocumentCounts, facet_of}
+use Rattle.tv_base.specs.declared.facet_counts.DocumentFacet.{DocumentFacet}
 
 -- ---- records
 

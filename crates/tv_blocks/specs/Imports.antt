@@ -8,7 +8,7 @@ use Rattle.tv_blocks.specs.declared.import.Imported.{Imported}
 use Rattle.tv_blocks.specs.declared.import.LineAnswer.{LineAnswer}
 use Rattle.tv_field.specs.Entry.{Entry}
 use Rattle.tv_lines.specs.Answers.{ReadsSchema}
-use Rattle.tv_format.specs.declared.version.WriteVersion.TheVariants.{V2}
+use Rattle.tv_format.specs.declared.leaf_type.WriteVersion.TheVariants.{V2}
 use Rattle.tv_lines.specs.Lines.{Lines}
 use Rattle.tv_lines.specs.WholeImports.{Outcomes}
 use Rattle.tv_lines.specs.declared.import.FaultRule.TheVariants.{Ignore}

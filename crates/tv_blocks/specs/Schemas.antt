@@ -5,7 +5,7 @@ use Rattle.tv_blocks.specs.Refusals.{IsSchemaRefusal}
 use Rattle.tv_blocks.specs.declared.block_error.BlockError.{BlockError}
 use Rattle.tv_blocks.specs.declared.block_error.BlockError.TheVariants as errors
 use Rattle.tv_field.specs.Entry.{Entry}
-use Rattle.tv_field.specs.declared.schema_error.SchemaError.TheVariants.{Memory}
+use Rattle.tv_field.specs.declared.field_entry.SchemaError.TheVariants.{Memory}
 use Rattle.tv_schema.specs.SchemaJson.{schema_json}
 use Rattle.tv_schema.specs.declared.json.error.SchemaJsonError.{SchemaJsonError}
 use Rattle.tv_schema.specs.declared.json.error.SchemaJsonError.TheVariants.{BadKey, Refused, Other}

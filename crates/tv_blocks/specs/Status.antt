@@ -11,8 +11,8 @@ use Rattle.tv_blocks.specs.declared.block_error.DocumentRefusal.{DocumentRefusal
 use Rattle.tv_blocks.specs.declared.block_error.DocumentRefusal.TheVariants as documents
 use Rattle.tv_blocks.specs.declared.import.Imported.{Imported}
 use Rattle.tv_blocks.specs.declared.status.Answer.{Answer}
-use Rattle.tv_field.specs.declared.schema_error.SchemaError.{SchemaError}
-use Rattle.tv_field.specs.declared.schema_error.SchemaError.TheVariants as schemas
+use Rattle.tv_field.specs.declared.field_entry.SchemaError.{SchemaError}
+use Rattle.tv_field.specs.declared.field_entry.SchemaError.TheVariants as schemas
 use Rattle.tv_schema.specs.declared.json.key.SchemaKey.{SchemaKey}
 use Rattle.tv_schema.specs.declared.json.key.SchemaKey.TheVariants as keys
 

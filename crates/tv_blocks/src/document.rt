@@ -17,7 +17,7 @@ use tv_base::{SliceSource, VecSink};
 use tv_doc::document::CompactDoc;
 use tv_doc::document_trait::Document;
 use tv_doc::parse_buffers::ParseBuffers;
-use tv_format::version::WriteVersion;
+use tv_format::WriteVersion;
 use tv_schema::Schema;
 use tv_store::{BinaryDocumentSerializer, DocStoreVersion, read_document_into};
 use tv_value::field::Field;

@@ -5,13 +5,13 @@ ghost use Rattle.std.specs.List.{flat_map};
 ghost use Rattle.tv_blocks.specs.Buffer.{FillsBuffer};
 ghost use Rattle.tv_blocks.specs.FacetCounts.{AreFacetCounts, BeginsWithNoPair, IsCountsRefusal};
 ghost use Rattle.tv_blocks.specs.FacetCounts.{IsPair, ReadsPairs, facet_record};
-ghost use Rattle.tv_facets.specs.DocumentCounting.{facet_of};
-ghost use Rattle.tv_facets.specs.FacetCounting.{entry_of};
+ghost use Rattle.tv_base.specs.DocumentCounting.{facet_of};
+ghost use Rattle.tv_base.specs.FacetCounting.{entry_of};
 
 use crate::block_error::BlockError;
 use crate::buffer::{append_record, put_whole};
 use std::alloc::{AllocError, Global};
-use tv_facets::{DocumentFacet, FacetCount, count_child_documents};
+use tv_base::{DocumentFacet, FacetCount, count_child_documents};
 
 // The pair with whose record the bytes begin, and what follows it.
 fn first_pair<'a>(bytes: &'a [u8]) -> Option<(DocumentFacet<'a>, &'a [u8])>
@@ -64,7 +64,7 @@ fn append_counts(content: &mut Vec<u8>, counts: &[FacetCount<'_>]) -> Result<(),
     Ok(())
 }
 
-/// Counts documents by the children of a facet, see `tv_facets::count_child_documents`, and returns how many bytes the counts take. The pairs are
+/// Counts documents by the children of a facet, see `tv_base::count_child_documents`, and returns how many bytes the counts take. The pairs are
 /// records in any order: the number of a document and the length of a facet, both in eight bytes, the lowest first, and the encoded facet. What
 /// is written is such a record for each child at or below which a document has a facet, in the order of facets: how many documents do, and
 /// the encoded child.

@@ -11,7 +11,7 @@ use crate::schema_text::read_schema;
 use std::alloc::{AllocError, Global};
 use tv_base::{SliceSource, VecSink};
 use tv_doc::parse_buffers::ParseBuffers;
-use tv_format::version::WriteVersion;
+use tv_format::WriteVersion;
 use tv_lines::import::{FaultRule, ImportRules, LineImporter, LineOutcome};
 use tv_schema::Schema;
 

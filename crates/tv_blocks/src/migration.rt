@@ -12,7 +12,7 @@ use crate::block_error::{BlockError, refused};
 use crate::buffer::put_whole;
 use std::alloc::Global;
 use tv_base::{SliceSource, VecSink};
-use tv_format::version::WriteVersion;
+use tv_format::WriteVersion;
 use tv_store::{DocStoreVersion, MigrateBlockError, Unwatched};
 
 // What is said of a document that wasn't migrated. A sink in memory fails where memory is refused, and a slice has fewer documents than are counted.

@@ -9,7 +9,7 @@ use Rattle.tv_format.specs.Encoding.{NoLegacy, Key, ContentBody, Encodes, Encode
 use Rattle.tv_format.specs.Tree.{text, Tree, leaf, array, object, elements, entries, element_count, entry_count}
 use Rattle.tv_format.specs.Version.{Version, plain, entry_total}
 use Rattle.tv_format.specs.WriteVersion.{written_version}
-use Rattle.tv_format.specs.declared.version.WriteVersion.{WriteVersion}
+use Rattle.tv_format.specs.declared.leaf_type.WriteVersion.{WriteVersion}
 use Rattle.tv_format.proofs.Prefixes.{begins_behind, begins_then, begins_nothing, begins_item}
 use Rattle.tv_builder.specs.declared.kinds.ListKind.TheVariants.{Array, Object}
 use Rattle.tv_heap.specs.declared.value_type.Place.{Place}

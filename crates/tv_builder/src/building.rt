@@ -14,8 +14,7 @@ use tv_heap::value_type::Place;
 use tv_heap::write::push_place;
 use tv_value::encode::push_number;
 use tv_value::leaf::ReferenceValueLeaf;
-use tv_value::nested::lend;
-use tv_value::nesting::MAX_DEPTH;
+use tv_value::nested::{MAX_DEPTH, lend};
 use tv_value::value::Value;
 
 // A list of which children are still awaited.

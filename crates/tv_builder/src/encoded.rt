@@ -4,22 +4,21 @@ ghost use Rattle.std.specs.Prelude.{◌≡◌, ◌≤◌, ◌∷◌, length, IfS
 ghost use Rattle.tv_base.specs.Sink.{IsPrefix};
 ghost use Rattle.tv_builder.specs.EncodedPut.{EncodedPut};
 ghost use Rattle.tv_format.specs.WriteVersion.{written_version};
-ghost use Rattle.tv_format.specs.declared.version.WriteVersion.{WriteVersion};
+ghost use Rattle.tv_format.specs.declared.leaf_type.WriteVersion.{WriteVersion};
 
 use crate::kinds::ListKind;
 use crate::whole::{put_content, put_list};
 use tv_base::byte_buffer::ByteBuffer;
-use tv_format::leaf_type::{Form, LeafType};
 use tv_format::type_codes::{ARRAY_CODE, OBJECT_CODE};
-use tv_format::version::WriteVersion;
+use tv_format::{Form, LeafType, WriteVersion};
 use tv_heap::room::MAX_HEAP_LEN;
 use tv_heap::value_type::Place;
 use tv_heap::write::push_place;
-use tv_value::content::LeafContent;
 use tv_value::in_place::{
     eight_at, entry_count_at, key_at, number_at, signed_at, sixteen_at, sized_at, text_at,
     tokenized_at, truth_at,
 };
+use tv_value::leaf::LeafContent;
 
 // Writes the value without children that stands after this code. It is encoded alike in all versions that are written.
 #[inline(always)]

@@ -13,12 +13,12 @@ use crate::errors::AddError;
 use crate::whole::{has_value_room, put_within};
 use std::alloc::{AllocError, Global};
 use tv_base::byte_buffer::ByteBuffer;
-use tv_format::version::WriteVersion;
+use tv_format::WriteVersion;
 use tv_heap::room::{MAX_HEAP_LEN, leaf_room};
 use tv_heap::value_type::Place;
 use tv_heap::write::write_leaf;
 use tv_value::leaf::ReferenceValueLeaf;
-use tv_value::nesting::MAX_DEPTH;
+use tv_value::nested::MAX_DEPTH;
 use tv_value::value::{ReferenceValue, Value};
 
 /// A field, and where its value stands in the heap. (Not in tantivy.)

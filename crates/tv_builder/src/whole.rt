@@ -19,15 +19,13 @@ use crate::nested::put_nested;
 use std::alloc::Global;
 use std::convert::AsStr;
 use tv_base::byte_buffer::ByteBuffer;
-use tv_format::leaf_type::LeafType;
+use tv_format::LeafType;
 use tv_heap::len::{content_len, leaf_len, number_len};
 use tv_heap::room::{MAX_HEAP_LEN, room};
 use tv_heap::value_type::Place;
 use tv_heap::write::{push_place, write_content, write_leaf, write_list};
-use tv_value::content::LeafContent;
-use tv_value::leaf::ReferenceValueLeaf;
-use tv_value::nested::{Nested, NestedValue, lend};
-use tv_value::nesting::MAX_DEPTH;
+use tv_value::leaf::{LeafContent, ReferenceValueLeaf};
+use tv_value::nested::{MAX_DEPTH, Nested, NestedValue, lend};
 use tv_value::value::Value;
 
 // At most this many bytes are written of a value before its room is counted.

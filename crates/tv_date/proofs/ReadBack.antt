@@ -15,7 +15,7 @@ use Rattle.jiff_core.proofs.SignedLemmas.{signed_arith}
 use Rattle.jiff_fmt.specs.Text.{pad2, pad4, places, trailing_zeros, fraction_part}
 use Rattle.jiff_fmt.proofs.TextLemmas.{places-read, trailing_zeros-le, trailing_zeros-mod}
 use Rattle.tv_date.specs.declared.rfc3339.DateFields.{DateFields}
-use Rattle.tv_date.specs.declared.date_error.DateError.TheVariants.{Field, OutOfRange}
+use Rattle.tv_date.specs.declared.rfc3339.DateError.TheVariants.{Field, OutOfRange}
 use Rattle.tv_date.specs.Rfc3339.{is_valid, instant, fits, in_range, moment, rfc}
 use Rattle.tv_date.specs.Printed.{year_index, month_index, count_of, clock_of, civil_text, in_year, date_text_of, clock_text_of, moment_text}
 use Rattle.tv_date.specs.Shape.{HasShape, IsFraction}

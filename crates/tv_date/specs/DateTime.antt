@@ -1,6 +1,5 @@
 -- Dates as nanoseconds since 1970-01-01T00:00:00Z, and how they are cut.
-use Rattle.std.specs.Prelude.{ℕ, ℤ, pos, ◌*ℤ◌}
-use Rattle.std.specs.Prelude.{int_div}
+use Rattle.std.specs.Prelude.{ℕ, ℤ, pos, ◌*ℤ◌, int_div}
 use Rattle.tv_date.specs.declared.date_time.DateTimePrecision.{DateTimePrecision}
 use Rattle.tv_date.specs.declared.date_time.DateTimePrecision.TheVariants.{Seconds, Milliseconds, Microseconds, Nanoseconds}
 

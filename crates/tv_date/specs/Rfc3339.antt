@@ -6,8 +6,8 @@ use Rattle.std.specs.Char.{is_ascii_digit}
 use Rattle.jiff_core.specs.Calendar.{days_from_civil, days_in_month}
 use Rattle.jiff_fmt.specs.Reader.{fraction_value}
 use Rattle.tv_date.specs.declared.rfc3339.DateFields.{DateFields}
-use Rattle.tv_date.specs.declared.date_error.DateError.{DateError}
-use Rattle.tv_date.specs.declared.date_error.DateError.TheVariants.{Shape, Field, OutOfRange}
+use Rattle.tv_date.specs.declared.rfc3339.DateError.{DateError}
+use Rattle.tv_date.specs.declared.rfc3339.DateError.TheVariants.{Shape, Field, OutOfRange}
 
 infixl 10 ◌>>=◌
 abbrev pub ◌>>=◌ : {A B : Type 0} → Option A → (A → Option B) → Option B

@@ -1,15 +1,13 @@
 //! Dates, and to which part of a second they are kept.
 
-ghost use Rattle.std.specs.Prelude.{◌≡◌, ◌++◌, pos, ◌*ℤ◌, FitsSigned, IsSome, MatchOption, IfOk, Some};
-ghost use Rattle.std.specs.Prelude.{OnErr, OnOk, string_bytes};
+ghost use Rattle.std.specs.Prelude.{◌≡◌, ◌++◌, pos, ◌*ℤ◌, FitsSigned, IsSome, MatchOption, IfOk, Some, OnErr, OnOk, string_bytes};
 ghost use Rattle.std.specs.Int.{w64};
 ghost use Rattle.std.specs.Result.{result_map_both};
 ghost use Rattle.tv_date.specs.DateTime.{unit_of, truncated};
 ghost use Rattle.tv_date.specs.Rfc3339.{rfc};
 ghost use Rattle.tv_date.specs.Printed.{IsPrinted, moment_text};
 
-use crate::date_error::DateError;
-use crate::rfc3339::read_fields;
+use crate::rfc3339::{DateError, read_fields};
 use jiff_core::Timestamp;
 use jiff_fmt::temporal::DateTimePrinter;
 use std::alloc::{AllocError, Global};

@@ -1,19 +1,16 @@
 //! Texts of dates by RFC 3339, read step by step: the numbers that a text writes, whether each is in its range, and the moment that
 //! they make.
 
-ghost use Rattle.std.specs.Prelude.{◌≡◌, ◌<◌, ◌≤◌, ◌+◌, ◌*◌, ◌+ℤ◌, ◌-ℤ◌, ◌*ℤ◌, ℕ, slice_index, pos};
-ghost use Rattle.std.specs.Prelude.{true, option_map, option_copied, length, IfSome};
+ghost use Rattle.std.specs.Prelude.{◌≡◌, ◌<◌, ◌≤◌, ◌+◌, ◌*◌, ◌+ℤ◌, ◌-ℤ◌, ◌*ℤ◌, ℕ, slice_index, pos, true, option_map, option_copied, length, IfSome};
 ghost use Rattle.std.specs.List.{prefix_len};
 ghost use Rattle.std.specs.Char.{is_ascii_digit, IsAsciiDigit};
 ghost use Rattle.jiff_core.specs.Calendar.{IsWithin};
-ghost use Rattle.tv_date.specs.Rfc3339.{two_digits as two_digits_of, four_digits as four_digits_of};
-ghost use Rattle.tv_date.specs.Rfc3339.{after as after_byte, after_t as after_t_of};
-ghost use Rattle.tv_date.specs.Rfc3339.{fraction as fraction_of, nanoseconds as nanoseconds_of};
-ghost use Rattle.tv_date.specs.Rfc3339.{hours_and_minutes as hours_and_minutes_of};
-ghost use Rattle.tv_date.specs.Rfc3339.{offset as offset_of, date as date_of, time as time_of};
-ghost use Rattle.tv_date.specs.Rfc3339.{fields as fields_of};
+ghost use Rattle.tv_date.specs.Rfc3339.{two_digits as two_digits_of, four_digits as four_digits_of, after as after_byte, after_t as after_t_of};
+ghost use Rattle.tv_date.specs.Rfc3339.{fraction as fraction_of, nanoseconds as nanoseconds_of, hours_and_minutes as hours_and_minutes_of, offset as offset_of};
+ghost use Rattle.tv_date.specs.Rfc3339.{date as date_of, time as time_of, fields as fields_of};
 
 use jiff_core::civil::Date;
+use thiserror::Error;
 
 /// The numbers that a text of a date writes, whatever they are.
 #[derive(Clone, Copy)]
@@ -141,10 +138,8 @@ fn offset(text: &[u8]) -> Option<(bool, u8, u8)>
 
 impl DateFields {
     ghost use Rattle.jiff_core.specs.Calendar.{days_from_civil, IsEpochDay, IsWithin};
-    ghost use Rattle.tv_date.specs.Rfc3339.{offset_seconds as offset_seconds_of};
-    ghost use Rattle.tv_date.specs.Rfc3339.{is_date as is_date_of, is_time as is_time_of};
-    ghost use Rattle.tv_date.specs.Rfc3339.{is_offset as is_offset_of, is_valid as is_valid_of};
-    ghost use Rattle.tv_date.specs.Rfc3339.{instant as instant_of};
+    ghost use Rattle.tv_date.specs.Rfc3339.{offset_seconds as offset_seconds_of, is_date as is_date_of, is_time as is_time_of, is_offset as is_offset_of};
+    ghost use Rattle.tv_date.specs.Rfc3339.{is_valid as is_valid_of, instant as instant_of};
 
     // Whether the month has the day.
     fn is_date(&self) -> bool
@@ -309,4 +304,18 @@ pub fn read_fields(text: &[u8]) -> Option<DateFields>
         offset_hour,
         offset_minute,
     })
+}
+
+/// Why a text is no date.
+#[derive(Clone, Copy, Debug, PartialEq, Eq, Drop, Error)]
+pub enum DateError {
+    /// It isn't of the shape of a date and time by RFC 3339.
+    #[error("not of the shape of a date and time")]
+    Shape,
+    /// A number in it is out of its range.
+    #[error("a number is out of its range")]
+    Field,
+    /// The nanoseconds since 1970-01-01T00:00:00Z don't fit 64 bits.
+    #[error("the date is out of range")]
+    OutOfRange,
 }

@@ -1,8 +1,8 @@
 -- What a borrowed JSON value is lent as, child by child.
 use Rattle.std.proofs.Common.{◌≡◌, ℕ, List, [], ◌∷◌, map, Bor, Vec, Global, refl, sym, ap, ◌∙◌}
 use Rattle.tv_json.specs.BorrowedData.{data_of, items_data, members_data}
-use Rattle.tv_json.specs.declared.borrowed.BorrowedJson as borrowed
-use Rattle.tv_json.specs.declared.borrowed.BorrowedJson.{BorrowedJson}
+use Rattle.tv_json.specs.declared.value.BorrowedJson as borrowed
+use Rattle.tv_json.specs.declared.value.BorrowedJson.{BorrowedJson}
 use Rattle.tv_json.proofs.Levels.{data_of-Array, data_of-Object}
 use Rattle.tv_value.specs.JsonTree.{whole_tree, whole_elements, whole_entries}
 use Rattle.tv_format.specs.Tree.{Tree, array, object, elements, element, entries, entry}

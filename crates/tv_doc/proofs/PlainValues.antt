@@ -4,8 +4,8 @@ use Rattle.serde_json.specs.Data.{Data, Items, Members, array, object}
 use Rattle.serde_json.specs.Written.{has_float}
 use Rattle.tv_json.proofs.Levels.{data_of-Object}
 use Rattle.tv_json.specs.BorrowedData.{data_of}
-use Rattle.tv_json.specs.declared.borrowed.BorrowedJson.{BorrowedJson}
-use Rattle.tv_json.specs.declared.borrowed.BorrowedJson.TheVariants as borrowed
+use Rattle.tv_json.specs.declared.value.BorrowedJson.{BorrowedJson}
+use Rattle.tv_json.specs.declared.value.BorrowedJson.TheVariants as borrowed
 use Rattle.tv_field.specs.JsonTable.{Table, json_row}
 use Rattle.tv_field.specs.declared.field_type.FieldType.{FieldType}
 use Rattle.tv_field.specs.declared.field_type.FieldType.TheVariants as types

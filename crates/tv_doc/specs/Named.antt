@@ -13,8 +13,8 @@ use Rattle.serde_json.specs.Data.{object}
 use Rattle.serde_json.specs.Written.{compact_text}
 use Rattle.tv_value.specs.Nesting.{NestsWithin}
 use Rattle.tv_value.specs.Owned.{owned_tree}
-use Rattle.tv_value.specs.declared.copy_error.CopyError.{CopyError}
-use Rattle.tv_value.specs.declared.copy_error.CopyError.TheVariants.{TooDeep}
+use Rattle.tv_value.specs.declared.copy.CopyError.{CopyError}
+use Rattle.tv_value.specs.declared.copy.CopyError.TheVariants.{TooDeep}
 use Rattle.tv_format.specs.Tree.{Tree, Document}
 use Rattle.tv_field.specs.Entry.{Entry}
 use Rattle.tv_json.specs.Named.{named_json}

@@ -27,8 +27,8 @@ use Rattle.tv_doc.specs.declared.errors.DocParsingError.TheVariants as errors
 use Rattle.tv_doc.specs.declared.document.CompactDoc.{CompactDoc}
 use Rattle.tv_doc.specs.declared.errors.NamedBackError.{NamedBackError}
 use Rattle.tv_doc.specs.declared.errors.NamedBackError.TheVariants as back
-use Rattle.tv_value.specs.declared.copy_error.CopyError.TheVariants as copying
-use Rattle.tv_value.specs.declared.nesting.TheConstants.{MAX_DEPTH}
+use Rattle.tv_value.specs.declared.copy.CopyError.TheVariants as copying
+use Rattle.tv_value.specs.declared.nested.TheConstants.{MAX_DEPTH}
 
 -- a name that is no field's is skipped
 abbrev pub pairs_of_field : Option ℕ → List Tree → Document

@@ -20,8 +20,8 @@ use tv_field::FieldType;
 use tv_field::json_value::{
     JsonRefusal, JsonScratch, lend_bytes_text, lend_date_text, lend_facet_text, lend_ip_addr_text,
 };
-use tv_json::borrowed::BorrowedJson;
 use tv_json::read::read_noting_floats;
+use tv_json::value::BorrowedJson;
 use tv_schema::Schema;
 use tv_value::field::Field;
 use tv_value::leaf::ReferenceValueLeaf;

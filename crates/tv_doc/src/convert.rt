@@ -6,11 +6,11 @@ ghost use Rattle.tv_schema.specs.Schema.{field_named};
 ghost use Rattle.tv_doc.specs.Named.{named_of};
 ghost use Rattle.tv_doc.specs.NamedPairs.{AddsNamedPairs, ConvertsNamed, pairs_of_field};
 
-use crate::add_error::AddError;
 use crate::document::CompactDoc;
 use crate::errors::DocParsingError;
 use crate::named::NamedFieldDocument;
 use std::alloc::Global;
+use tv_builder::errors::AddError;
 use tv_schema::Schema;
 use tv_schema::laws::names_are_of_one_field;
 use tv_value::field::Field;

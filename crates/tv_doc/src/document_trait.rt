@@ -13,9 +13,9 @@ use crate::lent_names::{by_name, rising_by_name};
 use crate::named::{FieldNames, NamedFieldDocument, owned_by_name};
 use std::alloc::{AllocError, Global};
 use tv_json::named::push_named_json;
-use tv_value::copy_error::CopyError;
+use tv_value::copy::CopyError;
 use tv_value::field::Field;
-use tv_value::nesting::{MAX_DEPTH, nests_within};
+use tv_value::nested::{MAX_DEPTH, nests_within};
 use tv_value::value::Value;
 
 // This many pairs are gathered in memory that is taken once.

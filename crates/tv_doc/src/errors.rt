@@ -5,11 +5,11 @@ ghost use Rattle.tv_doc.specs.declared.errors.DocParsingError.TheVariants.{Memor
 ghost use Rattle.tv_doc.specs.declared.errors.StrictParsingError.TheVariants.{Parsing};
 ghost use Rattle.tv_doc.specs.declared.errors.NamedBackError.TheVariants.{Named, Converted};
 
-use crate::add_error::AddError;
+use tv_builder::errors::AddError;
 use std::alloc::AllocError;
 use thiserror::Error;
 use tv_field::ValueParsingError;
-use tv_value::copy_error::CopyError;
+use tv_value::copy::CopyError;
 
 /// Why there is no document of a JSON object.
 #[derive(Debug, PartialEq, Drop, Error)]

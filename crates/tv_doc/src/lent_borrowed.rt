@@ -9,7 +9,7 @@ ghost use Rattle.tv_value.specs.JsonTree.{number_leaf as number_leaf_of, whole_t
 ghost use Rattle.tv_value.specs.Lent.{leaf_of};
 
 use std::slice;
-use tv_json::borrowed::BorrowedJson;
+use tv_json::value::BorrowedJson;
 use tv_value::leaf::ReferenceValueLeaf;
 use tv_value::value::{ReferenceValue, Value};
 

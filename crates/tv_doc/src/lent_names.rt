@@ -14,7 +14,7 @@ use crate::named::FieldNames;
 use std::alloc::{AllocError, Global};
 use std::cmp::Ordering;
 use std::collections::BTreeMap;
-use tv_json::order::compare;
+use tv_json::member_order::compare;
 use tv_value::field::Field;
 use tv_value::value::Value;
 

@@ -11,7 +11,7 @@ use crate::errors::{DocParsingError, StrictParsingError};
 use crate::parse_buffers::ParseBuffers;
 use json::Reader;
 use std::alloc::{AllocError, Global};
-use tv_base::text_start::text_start;
+use tv_base::cause::text_start;
 use tv_schema::Schema;
 
 // How deep arrays and objects nest at most in a member of an object, as in the JSON library's values.

@@ -1,15 +1,15 @@
 -- An entry of a schema: a name, and a type with its options.
 use Rattle.std.specs.Prelude.{ℕ, Bool, true, false, not, ◌&&◌, ◌==◌, ◌≡◌, List, [], ◌∷◌, IsTrue, Option, None, Some, is_some, if◌then◌else◌, Result, Ok, Err}
 use Rattle.tv_options.specs.FastFieldTextOptions.{is_fast_field}
-use Rattle.tv_options.specs.declared.index_record_option.IndexRecordOption.{IndexRecordOption}
-use Rattle.tv_options.specs.declared.index_record_option.IndexRecordOption.TheVariants.{Basic}
+use Rattle.tv_options.specs.declared.text_options.IndexRecordOption.{IndexRecordOption}
+use Rattle.tv_options.specs.declared.text_options.IndexRecordOption.TheVariants.{Basic}
 use Rattle.tv_options.specs.declared.text_options.TextFieldIndexing.{TextFieldIndexing}
 use Rattle.tv_options.specs.declared.types.TypeTag.{TypeTag}
 use Rattle.tv_options.specs.declared.types.TypeTag.TheVariants as tags
 use Rattle.tv_field.specs.declared.field_type.FieldType.{FieldType}
 use Rattle.tv_field.specs.declared.field_type.FieldType.TheVariants as types
-use Rattle.tv_field.specs.declared.schema_error.SchemaError.{SchemaError}
-use Rattle.tv_field.specs.declared.schema_error.SchemaError.TheVariants.{InvalidName}
+use Rattle.tv_field.specs.declared.field_entry.SchemaError.{SchemaError}
+use Rattle.tv_field.specs.declared.field_entry.SchemaError.TheVariants.{InvalidName}
 
 pub record Entry : Type 0 where
   pub name : List ℕ

@@ -13,8 +13,8 @@ use Rattle.serde_json.specs.Data.{Num, Data}
 use Rattle.serde_json.specs.Find.{as_u64, as_i64}
 use Rattle.tv_base.specs.Facet.{parse}
 use Rattle.tv_date.specs.Rfc3339.{rfc}
-use Rattle.tv_date.specs.declared.date_error.DateError.{DateError}
-use Rattle.tv_date.specs.declared.date_error.DateError.TheVariants as date_error
+use Rattle.tv_date.specs.declared.rfc3339.DateError.{DateError}
+use Rattle.tv_date.specs.declared.rfc3339.DateError.TheVariants as date_error
 use Rattle.tv_options.specs.Types.{type_name}
 use Rattle.tv_options.specs.declared.types.TypeTag.TheVariants as tags
 use Rattle.tv_value.specs.IpAddress.{address_number}

@@ -1,16 +1,59 @@
-//! A field of a schema: its name, its type and its options.
+//! A field of a schema: its name, its type and its options; why a schema refuses one.
 
 ghost use Rattle.std.specs.Prelude.{◌≡◌};
 ghost use Rattle.tv_field.specs.Entry.{is_valid_name};
 
 use crate::field_type::FieldType;
-use crate::schema_error::SchemaError;
 use std::alloc::AllocError;
 use std::marker::Model;
+use thiserror::Error;
 use tv_options::{
     BytesOptions, DateOptions, FacetOptions, IpAddrOptions, JsonObjectOptions, NumericOptions,
     TextOptions,
 };
+
+/// Why a schema refuses what is asked.
+#[derive(Clone, Copy, Debug, PartialEq, Eq, Error)]
+pub enum SchemaError {
+    /// A field's name is empty or begins with `-`.
+    #[error("a field name is empty or begins with `-`")]
+    InvalidName,
+    /// A field has the name already.
+    #[error("a field has this name already")]
+    DuplicateName,
+    /// There are 4294967295 fields, and no number is left for one more.
+    #[error("there are 4294967295 fields already")]
+    TooManyFields,
+    /// Memory was refused.
+    #[error("memory was refused")]
+    Memory,
+    /// No field has the name.
+    #[error("no field has this name")]
+    FieldNotFound,
+    /// The JSON description is not one of a schema: in the entry of this place, from 0, or as a whole.
+    #[error("the JSON description is not one of a schema, at entry {entry:?}")]
+    BadJson {
+        /// The place of the entry, or `None` where the whole isn't an array.
+        entry: Option<usize>,
+    },
+    /// The entry of this place, from 0, has the type `f64`, which this library doesn't have.
+    #[error("entry {entry} has the type `f64`")]
+    FloatField {
+        /// The place of the entry.
+        entry: usize,
+    },
+}
+
+impl From<AllocError> for SchemaError {
+    ghost use Rattle.std.specs.Prelude.{◌≡◌};
+    ghost use Rattle.tv_field.specs.declared.field_entry.SchemaError.TheVariants.{Memory};
+
+    ghost from_gives = { λ _ error. error ≡ Memory };
+
+    fn from(_: AllocError) -> SchemaError {
+        SchemaError::Memory
+    }
+}
 
 /// Whether the text can be a field's name: it isn't empty and doesn't begin with `-` (tantivy's rule).
 pub fn is_valid_field_name(name: &str) -> bool
@@ -56,9 +99,7 @@ impl Model for FieldEntry {
 impl FieldEntry {
     ghost use Rattle.std.specs.String.{string_bytes};
     ghost use Rattle.std.specs.Prelude.{◌≡◌, IfOk};
-    ghost use Rattle.tv_field.specs.Entry.{IsValidName, MakesEntry, is_stored_type};
-    ghost use Rattle.tv_field.specs.Entry.{is_indexed_type, is_fast_type, has_fieldnorms_type};
-    ghost use Rattle.tv_field.specs.Entry.{expands_dots};
+    ghost use Rattle.tv_field.specs.Entry.{IsValidName, MakesEntry, is_stored_type, is_indexed_type, is_fast_type, has_fieldnorms_type, expands_dots};
     ghost use Rattle.tv_field.specs.declared.field_type.FieldType.TheVariants as types;
 
     /// An entry of this name and type. A name that is empty or begins with `-` is refused as `InvalidName`, and that is

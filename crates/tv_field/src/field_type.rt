@@ -3,8 +3,7 @@
 ghost use Rattle.std.specs.Prelude.{◌≡◌, ◌↔◌, IsTrue, IfOk};
 ghost use Rattle.std.specs.Option.{option_copied};
 ghost use Rattle.tv_options.specs.declared.types.TypeTag.TheVariants as tags;
-ghost use Rattle.tv_field.specs.Entry.{is_stored_type, value_type, is_indexed_type, is_fast_type};
-ghost use Rattle.tv_field.specs.Entry.{has_fieldnorms_type, record_option, record_of, basic_where};
+ghost use Rattle.tv_field.specs.Entry.{is_stored_type, value_type, is_indexed_type, is_fast_type, has_fieldnorms_type, record_option, record_of, basic_where};
 
 use std::alloc::{AllocError, Global};
 use tv_options::{

@@ -4,15 +4,13 @@ ghost use Rattle.std.specs.Prelude.{◌≡◌, option_map, option_and_then};
 ghost use Rattle.serde_json.specs.View.{view as data_of, items_view};
 ghost use Rattle.serde_json.specs.Find.{as_array, get};
 ghost use Rattle.tv_value.specs.TokenRef.{ref_of};
-ghost use Rattle.tv_field.specs.JsonTokens.{number_at as number_at_key, text_at as text_at_key};
-ghost use Rattle.tv_field.specs.JsonTokens.{token_in, IsTokenEncoded, AreTokensEncoded};
-ghost use Rattle.tv_field.specs.JsonTokens.{IsTokenizedEncoded};
+ghost use Rattle.tv_field.specs.JsonTokens.{number_at as number_at_key, text_at as text_at_key, token_in, IsTokenEncoded, AreTokensEncoded, IsTokenizedEncoded};
 
 use serde_json::Value;
 use std::alloc::AllocError;
 use tv_base::ByteBuffer;
+use tv_value::TokenRef;
 use tv_value::encode::{push_number, push_text, push_token};
-use tv_value::pre_tokenized::TokenRef;
 
 // The whole number at a key.
 fn number_at(json: &Value, key: &str) -> Option<u64>

@@ -3,13 +3,10 @@
 ghost use Rattle.std.specs.Prelude.{◌≡◌, true, codes, string_bytes, IfSome, IfErr, IsErrOf, OnOk, OnErr};
 ghost use Rattle.serde_json.specs.View.{view as data_of, number_view};
 ghost use Rattle.serde_json.specs.Data.{string, number};
-ghost use Rattle.tv_field.specs.JsonTable.{Table, str_row, decimal_text, U64Row, I64Row};
-ghost use Rattle.tv_field.specs.JsonTable.{SignedText, UnsignedText, signed_number, bool_row};
-ghost use Rattle.tv_field.specs.JsonTable.{boolean_text, date_row, date_text, facet_row, bytes_row};
-ghost use Rattle.tv_field.specs.JsonTable.{json_row, IpRow, IpText, leaf_or, mismatch, TextRow};
+ghost use Rattle.tv_field.specs.JsonTable.{Table, str_row, decimal_text, U64Row, I64Row, SignedText, UnsignedText, signed_number, bool_row, boolean_text};
+ghost use Rattle.tv_field.specs.JsonTable.{date_row, date_text, facet_row, bytes_row, json_row, IpRow, IpText, leaf_or, mismatch, TextRow};
 ghost use Rattle.tv_field.specs.JsonTokens.{tokenized_in};
-ghost use Rattle.tv_field.specs.JsonAnswer.{Lends, LendsLeaf, AnswersOwned, TakesMemory, IsJsonString};
-ghost use Rattle.tv_field.specs.JsonAnswer.{IsNumberOrObject};
+ghost use Rattle.tv_field.specs.JsonAnswer.{Lends, LendsLeaf, AnswersOwned, TakesMemory, IsJsonString, IsNumberOrObject};
 
 use crate::field_type::FieldType;
 use crate::json_tokens::encode_tokenized;
@@ -24,11 +21,8 @@ use tv_base::{ByteBuffer, Facet};
 use tv_date::{DateError, DateTime};
 use tv_options::Type;
 use tv_value::copy::copy_of;
-use tv_value::ip_addr::IntoIpv6Addr;
 use tv_value::json::{LentJson, has_float};
-use tv_value::leaf::ReferenceValueLeaf;
-use tv_value::owned_value::OwnedValue;
-use tv_value::pre_tokenized::PreTokenizedStr;
+use tv_value::{IntoIpv6Addr, OwnedValue, PreTokenizedStr, ReferenceValueLeaf};
 
 /// Where texts and bytes are written that a field's value has and its JSON value hasn't. (Not in tantivy.) One serves any number of values,
 /// one after the other.

@@ -5,10 +5,8 @@ pub mod field_entry;
 pub mod field_type;
 mod json_tokens;
 pub mod json_value;
-pub mod schema_error;
 pub mod value_parsing_error;
 
-pub use field_entry::{FieldEntry, is_valid_field_name};
+pub use field_entry::{FieldEntry, SchemaError, is_valid_field_name};
 pub use field_type::FieldType;
-pub use schema_error::SchemaError;
 pub use value_parsing_error::{NotWhole, ParseCause, ValueParsingError};

@@ -8,7 +8,7 @@ use Rattle.tv_format.specs.Content.{Content, no_content, truth_content, unsigned
 use Rattle.tv_format.specs.Leaves.{type_of, content, scale}
 use Rattle.tv_format.specs.LeavesLaws.{one_code, form_of_content, IsLeafCode, leaf_coded}
 use Rattle.tv_format.specs.Tree.{Token, Leaf}
-use Rattle.tv_base.specs.Number.{VNum, Fixed, Truth}
+use Rattle.tv_base.specs.Number.{VNum, Fixed, Truth, Signed}
 use Rattle.tv_format.specs.Version.{Version, V1, V2, V3, Scale, plain, thousands, Scaled, Microseconds}
 use Rattle.tv_format.specs.Encoding.{TokenEncoding, Tokenized, leaf_code, ContentBody, LeafBody, Key}
 use Rattle.tv_format.specs.InputError.{ErrorInToken, ErrorInTokenized, IsOutside, ErrorInMicroseconds, date_ends, date_range, ErrorInScaled, ErrorInExtension, no_extension, other_extension, in_tokenized, ErrorInContent, ErrorInBody, ErrorInLeaf, Refusal, Corrupt, corrupt, ErrorInCodedKey, ErrorInKey, key_ends, key_unknown, key_float, key_other, key_no_extension, key_tokenized, key_other_extension, in_key}
@@ -18,7 +18,6 @@ use Rattle.tv_format.specs.TokensLaws.{one_token}
 use Rattle.tv_base.proofs.Texts.{one_text, same_signed}
 use Rattle.tv_base.proofs.ExcludingParts.{excludes_bytes, excludes_sized, excludes_text, behind_head, behind_some}
 use Rattle.tv_base.proofs.Excluding.{Excludes, excludes_then, excludes_each, excludes_number}
-use Rattle.tv_base.specs.Number.{Signed}
 use Rattle.tv_base.specs.Parts.{Behind, Text}
 use Rattle.tv_base.specs.ErrorInPart.{InEach, ErrorInNumber, ErrorInBytes, ErrorInText, ErrorInTruth, truth_ends, truth_large}
 

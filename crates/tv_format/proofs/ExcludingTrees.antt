@@ -1,7 +1,7 @@
 -- Where a value or a document is malformed, no prefix of the bytes encodes one.
 use Rattle.std.proofs.Common.{subst, ◌≡◌, ◌≢◌, ℕ, ◌<◌, ◌≤◌, List, [], ◌∷◌, ◌++◌, length, refl, sym, ◌∙◌, ap, arith, append_assoc, inl, inr}
 use Rattle.tv_base.specs.declared.cause.Cause.{Cause}
-use Rattle.tv_base.specs.Parts.{OneReading}
+use Rattle.tv_base.specs.Parts.{OneReading, Then}
 use Rattle.tv_format.specs.Tree.{Tree, leaf, array, object, Elements, no_elements, element, Entries, no_entries, entry, element_count, entry_count, Document}
 use Rattle.tv_base.specs.Number.{VNum, Fixed}
 use Rattle.tv_format.specs.Version.{Version, entry_total}
@@ -15,7 +15,6 @@ use Rattle.tv_format.proofs.Trees.{agree_tree, one_pair}
 use Rattle.tv_base.proofs.Excluding.{Excludes, rests, excludes_then, excludes_each, excludes_number}
 use Rattle.tv_base.proofs.ExcludingParts.{behind_head, excludes_bytes}
 use Rattle.tv_format.proofs.ExcludingLeaves.{leaf_excludes, leaf_error_code, excludes_corrupt, key_excludes}
-use Rattle.tv_base.specs.Parts.{Then}
 use Rattle.tv_base.specs.ErrorInPart.{InEach, ErrorInNumber, ErrorInBytes}
 
 module _ (Legacy : List ℕ → Entries → Type 0) (ErrorInLegacy : List ℕ → Cause → Type 0) (v : Version)

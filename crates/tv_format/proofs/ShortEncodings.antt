@@ -3,7 +3,7 @@ use Rattle.std.proofs.Common.{◌≡◌, ℕ, ◌^◌, ◌<◌, Bool, true, fals
 use Rattle.std.specs.Prelude.{ℤ, pos, negsuc, FitsSigned}
 use Rattle.std.specs.Int.{w64, cast_unsigned}
 use Rattle.std.specs.List.{AllByRecursion, flat_map}
-use Rattle.tv_base.specs.Number.{vnum, Truth, eight_bytes, truth_byte}
+use Rattle.tv_base.specs.Number.{vnum, Truth, eight_bytes, truth_byte, Signed}
 use Rattle.tv_format.specs.Content.{Content, no_content, truth_content, unsigned_content, signed_content, wide_content, text_content, bytes_content, tokens_content}
 use Rattle.tv_format.specs.Leaves.{type_of, content, scale}
 use Rattle.tv_format.specs.Tree.{Token, Leaf, Tree, leaf, array, object, Elements, no_elements, element, Entries, no_entries, entry, element_count, entry_count, Document}
@@ -13,7 +13,6 @@ use Rattle.tv_format.specs.Short.{short_token, short_tokenized, short_content, s
 use Rattle.tv_format.specs.declared.leaf_type.LeafType.{LeafType}
 use Rattle.tv_format.specs.declared.leaf_type.LeafType.TheVariants as types
 use Rattle.tv_base.proofs.Numbers.{vnum_encodes}
-use Rattle.tv_base.specs.Number.{Signed}
 use Rattle.tv_base.specs.Parts.{Then, Behind, Sized, Text, Each, short_sized}
 use Rattle.tv_base.proofs.Shortest.{four_bytes_encode, eight_bytes_encode, sixteen_bytes_encode}
 

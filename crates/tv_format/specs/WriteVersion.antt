@@ -1,8 +1,8 @@
 -- The versions that are written, among all.
 use Rattle.std.specs.Prelude.{ℕ}
 use Rattle.tv_format.specs.Version.{Version, V2, V3}
-use Rattle.tv_format.specs.declared.version.WriteVersion.{WriteVersion}
-use Rattle.tv_format.specs.declared.version.WriteVersion.TheVariants as versions
+use Rattle.tv_format.specs.declared.leaf_type.WriteVersion.{WriteVersion}
+use Rattle.tv_format.specs.declared.leaf_type.WriteVersion.TheVariants as versions
 
 abbrev pub written_version : WriteVersion → Version
 written_version versions.V2 = V2

@@ -2,8 +2,7 @@
 
 ghost use Rattle.std.specs.Prelude.{◌≡◌, ◌≤◌, ℕ, ◌++◌, List, length};
 ghost use Rattle.tv_base.specs.Parts.{OneReading};
-ghost use Rattle.tv_format.specs.InputError.{Refusal, ErrorInValue, ErrorInDocument};
-ghost use Rattle.tv_format.specs.InputError.{NoErrorInLegacy};
+ghost use Rattle.tv_format.specs.InputError.{Refusal, ErrorInValue, ErrorInDocument, NoErrorInLegacy};
 ghost use Rattle.tv_format.specs.Short.{short, short_document, IsValue, IsDocument};
 ghost use Rattle.tv_format.specs.Encoding.{Encodes, EncodesDocument, Derives, NoLegacy};
 ghost use Rattle.tv_format.specs.Tree.{Tree, Document};

@@ -5,4 +5,5 @@
 pub mod laws;
 pub mod leaf_type;
 pub mod type_codes;
-pub mod version;
+
+pub use leaf_type::{Form, LeafType, WriteVersion};

@@ -11,8 +11,7 @@ ghost use Rattle.tv_format.specs.Short.{short_token, short_tokenized};
 ghost use Rattle.tv_value.specs.TokenRef.{ref_of};
 
 use tv_base::vint::VInt;
-use tv_value::content::LeafContent;
-use tv_value::leaf::ReferenceValueLeaf;
+use tv_value::leaf::{LeafContent, ReferenceValueLeaf};
 use tv_value::pre_tokenized::{PreTokenizedStr, TokenIter, TokenRef};
 
 /// The length of the shortest encoding of a number. (Not in tantivy.)

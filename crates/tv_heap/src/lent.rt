@@ -22,9 +22,8 @@ use crate::room::MAX_HEAP_LEN;
 use crate::value::Encoded;
 use crate::value_type::ValueType;
 use tv_base::vint::VInt;
-use tv_format::leaf_type::{Form, LeafType};
-use tv_value::content::LeafContent;
-use tv_value::leaf::ReferenceValueLeaf;
+use tv_format::{Form, LeafType};
+use tv_value::leaf::{LeafContent, ReferenceValueLeaf};
 use tv_value::pre_tokenized::PreTokenizedStr;
 
 // The number whose shortest encoding stands at the start, and what follows it. Most are lengths and addresses of one or two

@@ -11,10 +11,8 @@ ghost use Rattle.tv_value.specs.PreTokenized.{tokens_left};
 use std::alloc::Global;
 use std::convert::AsStr;
 use tv_value::children::Children;
-use tv_value::content::LeafContent;
-use tv_value::leaf::ReferenceValueLeaf;
-use tv_value::nested::{Nested, NestedValue, lend};
-use tv_value::nesting::MAX_DEPTH;
+use tv_value::leaf::{LeafContent, ReferenceValueLeaf};
+use tv_value::nested::{MAX_DEPTH, Nested, NestedValue, lend};
 use tv_value::pre_tokenized::TokenIter;
 use tv_value::value::Value;
 

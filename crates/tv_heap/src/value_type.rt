@@ -9,7 +9,7 @@ ghost use Rattle.tv_heap.specs.Reads.{leaf_type_byte, tree_type};
 use std::alloc::Global;
 use tv_base::write::write_u8;
 use tv_base::{BinarySerializable, ByteSink, ByteSource, Cause, ReadError, WriteError};
-use tv_format::leaf_type::LeafType;
+use tv_format::LeafType;
 use tv_value::leaf::ReferenceValueLeaf;
 use tv_value::value::{ReferenceValue, Value};
 

@@ -19,11 +19,10 @@ ghost use Rattle.tv_heap.specs.Wrote.{Wrote};
 use crate::value_type::{Place, ValueType};
 use std::alloc::AllocError;
 use tv_base::byte_buffer::ByteBuffer;
-use tv_format::leaf_type::LeafType;
-use tv_value::content::LeafContent;
+use tv_format::LeafType;
 use tv_value::encode::{push_number, push_sized, push_token};
 use tv_value::laws::pre_tokenized_texts_encode;
-use tv_value::leaf::ReferenceValueLeaf;
+use tv_value::leaf::{LeafContent, ReferenceValueLeaf};
 use tv_value::pre_tokenized::PreTokenizedStr;
 
 // Adds the eight bytes of a number, the lowest first.

@@ -15,8 +15,8 @@ use Rattle.std.specs.declared.ops.Bound.{Bound}
 use Rattle.std.specs.declared.ops.Bound.TheVariants.{Included, Excluded, Unbounded}
 use Rattle.tv_base.specs.Facet.{Descends, parse}
 use Rattle.tv_date.specs.Rfc3339.{rfc}
-use Rattle.tv_date.specs.declared.date_error.DateError.{DateError}
-use Rattle.tv_date.specs.declared.date_error.DateError.TheVariants as dates
+use Rattle.tv_date.specs.declared.rfc3339.DateError.{DateError}
+use Rattle.tv_date.specs.declared.rfc3339.DateError.TheVariants as dates
 use Rattle.tv_field.specs.JsonTable.{Chooses, IpText, TableRefusal, TextRow, base64_text, date_text, leaf_or}
 use Rattle.tv_field.specs.declared.field_type.FieldType.{FieldType}
 use Rattle.tv_field.specs.declared.field_type.FieldType.TheVariants as types

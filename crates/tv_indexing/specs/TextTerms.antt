@@ -10,7 +10,7 @@ use Rattle.std.specs.List.{AllByRecursion}
 use Rattle.std.specs.Str.Parse.{digits_value, signed_digits_value, without_leading_plus}
 use Rattle.tv_base.specs.JsonPath.{joined_path}
 use Rattle.tv_date.specs.Rfc3339.{rfc}
-use Rattle.tv_date.specs.declared.date_error.DateError.{DateError}
+use Rattle.tv_date.specs.declared.rfc3339.DateError.{DateError}
 use Rattle.tv_field.specs.Entry.{Entry, value_type}
 use Rattle.tv_field.specs.JsonAnswer.{RefusesText, WritesValue}
 use Rattle.tv_field.specs.JsonTable.{IsSignedText, IsUnsignedText, truth_in}

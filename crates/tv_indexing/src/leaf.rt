@@ -5,7 +5,7 @@ ghost use Rattle.std.specs.Int.{to_be_bytes, w64};
 ghost use Rattle.tv_indexing.specs.LeafTerms.{HasTerm, leaf_value};
 ghost use Rattle.tv_indexing.specs.Payloads.{part_seen, payload_bytes, value_parts};
 ghost use Rattle.tv_term.specs.Key.{Fits};
-ghost use Rattle.tv_term.specs.declared.term_error.TermError.TheVariants.{Memory};
+ghost use Rattle.tv_term.specs.declared.term.TermError.TheVariants.{Memory};
 ghost use Rattle.tv_value.specs.Lent.{leaf_of};
 
 use tv_options::{DATE_TIME_PRECISION_INDEXED, Type};

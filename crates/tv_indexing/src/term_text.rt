@@ -19,8 +19,7 @@ use std::net::{IpAddr, Ipv6Addr};
 use tv_base::Facet;
 use tv_options::Type;
 use tv_term::ValueBytes;
-use tv_value::ip_addr::address_of;
-use tv_value::leaf::ReferenceValueLeaf;
+use tv_value::leaf::{ReferenceValueLeaf, address_of};
 
 // What follows the type's code.
 fn payload(value: ValueBytes<'_>) -> &[u8]

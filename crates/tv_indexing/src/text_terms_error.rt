@@ -8,7 +8,7 @@ ghost use Rattle.tv_indexing.specs.declared.text_terms_error.TextTermsError.TheV
 
 use std::alloc::{AllocError, Global};
 use std::fmt;
-use tv_base::text_start::text_start;
+use tv_base::cause::text_start;
 use tv_field::json_value::JsonRefusal;
 use tv_options::Type;
 use tv_value::field::Field;

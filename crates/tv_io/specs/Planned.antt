@@ -1,6 +1,6 @@
 -- Which call of a source or a sink is the one that fails, and what each call does to the count of calls.
 use Rattle.std.specs.Prelude.{◌≡◌, ℕ, ◌+◌, ◌-◌, ◌^◌, ◌<◌, zero, suc, min, Some, None}
-use Rattle.tv_io.specs.declared.planned_failure.PlannedFailure.{PlannedFailure}
+use Rattle.tv_io.specs.declared.faulty.PlannedFailure.{PlannedFailure}
 
 -- the call with a buffer of this length is the one that fails
 abbrev pub IsFailing : ℕ → PlannedFailure → Type 0

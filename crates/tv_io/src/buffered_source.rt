@@ -1,9 +1,9 @@
 //! A source over a reader of std, with a buffer.
 
-ghost use Rattle.std.specs.Prelude.{◌≡◌, ◌<◌, ◌≤◌, ◌+◌, ◌↔◌, ℕ, [], ◌∷◌, length, min, max, take, drop};
-ghost use Rattle.std.specs.Prelude.{None, Some, Ok, IsSome, IfOk, IfErr, OnOk, OnErr, IsTrue, false, unwrap_or};
+ghost use Rattle.std.specs.Prelude.{◌≡◌, ◌<◌, ◌≤◌, ◌+◌, ◌↔◌, ℕ, [], ◌∷◌, length, min, max, take, drop, None, Some, Ok, IsSome, IfOk, IfErr, OnOk, OnErr};
+ghost use Rattle.std.specs.Prelude.{IsTrue, false, unwrap_or};
 ghost use Rattle.std.specs.Io.Buffered.{reader_buffer, reader_capacity, reader_inner, reader_remaining};
-ghost use Rattle.tv_base.specs.declared.read_error.ReadError.TheVariants.{Memory};
+ghost use Rattle.tv_base.specs.declared.cause.ReadError.TheVariants.{Memory};
 ghost use Rattle.tv_base.specs.Append.{AppendsNext, append_stop};
 ghost use Rattle.tv_base.specs.Lend.{Passes};
 ghost use Rattle.tv_base.specs.Sink.{IsPrefix};

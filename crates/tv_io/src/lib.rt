@@ -3,18 +3,11 @@
 
 pub mod buffered_source;
 mod failures;
-pub mod fault_sink;
-pub mod fault_source;
-mod faulty;
+pub mod faulty;
 pub mod limited_source;
-mod planned_failure;
-pub mod read_source;
-pub mod write_sink;
+pub mod std_io;
 
 pub use buffered_source::BufferedSource;
-pub use fault_sink::FaultSink;
-pub use fault_source::FaultSource;
-pub use faulty::Faulty;
+pub use faulty::{FaultSink, FaultSource, Faulty};
 pub use limited_source::LimitedSource;
-pub use read_source::ReadSource;
-pub use write_sink::WriteSink;
+pub use std_io::{ReadSource, WriteSink};

@@ -2,8 +2,8 @@
 use Rattle.std.proofs.Common.{◌≡◌, ℕ, List, Bool, Bor, Vec, Global, rules}
 use Rattle.serde_json.specs.Data.{null, boolean, string, array, object}
 use Rattle.tv_json.specs.BorrowedData.{data_of, items_data, members_data}
-use Rattle.tv_json.specs.declared.borrowed.BorrowedJson as borrowed
-use Rattle.tv_json.specs.declared.borrowed.BorrowedJson.{BorrowedJson, the_lemmas}
+use Rattle.tv_json.specs.declared.value.BorrowedJson as borrowed
+use Rattle.tv_json.specs.declared.value.BorrowedJson.{BorrowedJson, the_lemmas}
 
 pub data_of-Null : data_of borrowed.Null ≡ null
 data_of-Null = search (rules, the_lemmas)

@@ -7,7 +7,7 @@ use Rattle.std.specs.Result.{result_ok}
 use Rattle.serde_json.specs.Data.{member, put}
 use Rattle.tv_json.specs.BorrowedData.{data_of, members_data}
 use Rattle.tv_json.specs.RisingMembers.{AreAbove, Rise}
-use Rattle.tv_json.specs.declared.borrowed.BorrowedJson.{BorrowedJson}
+use Rattle.tv_json.specs.declared.value.BorrowedJson.{BorrowedJson}
 use Rattle.tv_json.proofs.Copies.{turned}
 use Rattle.tv_json.proofs.Places.{Entry}
 

@@ -6,7 +6,7 @@ use Rattle.std.specs.FinMap.{nat_cmp-IsAntisymmetric, slice_cmp-IsAntisymmetric}
 use Rattle.std.specs.Result.{result_ok}
 use Rattle.serde_json.specs.Data.{Items, no_items, item, Members, member, put}
 use Rattle.tv_json.specs.BorrowedData.{data_of, items_data, members_data}
-use Rattle.tv_json.specs.declared.borrowed.BorrowedJson.{BorrowedJson}
+use Rattle.tv_json.specs.declared.value.BorrowedJson.{BorrowedJson}
 
 abbrev pub Entry : Type 0
 Entry = Bor (List ℕ) × BorrowedJson

@@ -8,7 +8,7 @@ use Rattle.serde_json.specs.Data.{Data, Members, no_members, member, put}
 use Rattle.tv_json.specs.BorrowedData.{data_of, members_data}
 use Rattle.tv_json.specs.RisingMembers.{AreAbove, Rise, EndsBelow}
 use Rattle.tv_json.proofs.Copies.{turned, turned_back}
-use Rattle.tv_json.specs.declared.borrowed.BorrowedJson.{BorrowedJson}
+use Rattle.tv_json.specs.declared.value.BorrowedJson.{BorrowedJson}
 use Rattle.tv_json.proofs.Places.{Entry, put_before, put_before-append, from_here}
 
 -- ---- the keys still rise

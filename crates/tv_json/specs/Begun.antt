@@ -5,8 +5,8 @@ use Rattle.json.specs.Token.{Token}
 use Rattle.serde_json.specs.Read.{of_json, converted}
 use Rattle.serde_json.specs.Written.{has_float}
 use Rattle.tv_json.specs.BorrowedData.{data_of}
-use Rattle.tv_json.specs.declared.begun.Begun.{Begun}
-use Rattle.tv_json.specs.declared.begun.Begun.TheVariants.{Leaf, Array, Object}
+use Rattle.tv_json.specs.declared.read.Begun.{Begun}
+use Rattle.tv_json.specs.declared.read.Begun.TheVariants.{Leaf, Array, Object}
 
 -- the first of these tokens is a value, however deep values may nest, or the bracket of an array or of an object; the others are left
 abbrev pub BeginsJson : Begun → List Token → List Token → Type 0

@@ -3,8 +3,8 @@ use Rattle.std.specs.Prelude.{ℕ, List, [], ◌∷◌, map}
 use Rattle.std.specs.Borrow.{Bor}
 use Rattle.serde_json.specs.Data.{Data, null, boolean, number, unsigned, negative, float, string, array, object, Items, Members, no_members, member}
 use Rattle.serde_json.specs.View.{items_of}
-use Rattle.tv_json.specs.declared.borrowed.BorrowedJson.{BorrowedJson, fold-BorrowedJson}
-use Rattle.tv_json.specs.declared.borrowed.BorrowedJson.TheOpen.{BorrowedJson-F}
+use Rattle.tv_json.specs.declared.value.BorrowedJson.{BorrowedJson, fold-BorrowedJson}
+use Rattle.tv_json.specs.declared.value.BorrowedJson.TheOpen.{BorrowedJson-F}
 
 -- members with these keys and data, in the order in which they stand
 abbrev pub members_of : List (Bor (List ℕ) × Data) → Members

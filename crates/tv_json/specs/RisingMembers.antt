@@ -5,7 +5,7 @@ use Rattle.std.specs.Cmp.Lexicographic.{slice_cmp}
 use Rattle.std.specs.Ordering.{nat_cmp}
 use Rattle.std.specs.declared.cmp.Ordering.TheVariants.{Less, Greater}
 use Rattle.serde_json.specs.Data.{Members, no_members, member}
-use Rattle.tv_json.specs.declared.borrowed.BorrowedJson.{BorrowedJson}
+use Rattle.tv_json.specs.declared.value.BorrowedJson.{BorrowedJson}
 
 -- each of these keys is above this one
 abbrev pub AreAbove : List ℕ → Members → Type 0

@@ -13,9 +13,8 @@ use crate::write::{JsonWriter, write_leaf};
 use std::alloc::{AllocError, Global};
 use std::convert::AsStr;
 use std::mem::replace;
-use tv_value::nested::{Lent, Nested, NestedValue, lend};
-use tv_value::nesting::MAX_DEPTH;
-use tv_value::value::Value;
+use tv_value::Value;
+use tv_value::nested::{Lent, MAX_DEPTH, Nested, NestedValue, lend};
 
 // Writes a value. Lists within fewer than `levels` others are written by recursion, which is faster, and those further in by a loop.
 #[cycle(write_value)]

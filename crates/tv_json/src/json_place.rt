@@ -1,9 +1,8 @@
 //! The places in a text of JSON, and which bytes lead from one to the next, see RFC 8259.
 
 ghost use Rattle.std.specs.Prelude.{◌≡◌};
-ghost use Rattle.tv_json.specs.Syntax.{first_place, expected, expected_after, may_end, step_at, value_begins, key_begins};
-ghost use Rattle.tv_json.specs.Syntax.{value_ends, in_string, in_escape, after_digit, after_backslash, after_first_digit};
-ghost use Rattle.tv_json.specs.Syntax.{after_digit_d, is_letter_d, after_low, escape_expected, in_word};
+ghost use Rattle.tv_json.specs.Syntax.{first_place, expected, expected_after, may_end, step_at, value_begins, key_begins, value_ends, in_string, in_escape};
+ghost use Rattle.tv_json.specs.Syntax.{after_digit, after_backslash, after_first_digit, after_digit_d, is_letter_d, after_low, escape_expected, in_word};
 ghost use Rattle.tv_json.specs.Syntax.{number_goes_on, in_number, is_whole_number, number_expected, spaced};
 ghost use Rattle.tv_json.specs.LargeNumber.{value_comes};
 ghost use Rattle.json.specs.Word.{is_space};

@@ -1,8 +1,6 @@
 //! Values as JSON: as JSON values, and as texts without spaces; and JSON values that borrow their texts from the text that they were read from.
 #![tactic(auto)]
 
-mod begun;
-pub mod borrowed;
 pub mod compact;
 pub mod json_expected;
 pub mod json_fault;
@@ -11,12 +9,11 @@ pub mod json_scan;
 pub mod large_number;
 pub mod laws;
 mod list_stack;
-mod member_order;
+pub mod member_order;
 mod members;
 pub mod named;
 mod number;
 mod open_lists;
-pub mod order;
 pub mod read;
 pub mod value;
 mod write;

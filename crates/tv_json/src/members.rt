@@ -6,8 +6,8 @@ ghost use Rattle.tv_json.specs.BorrowedData.{data_of, members_data};
 ghost use Rattle.tv_json.specs.Found.{found_data};
 ghost use Rattle.tv_json.specs.RisingMembers.{Rise, EndsBelow};
 
-use crate::borrowed::BorrowedJson;
-use crate::order::compare;
+use crate::member_order::compare;
+use crate::value::BorrowedJson;
 use std::alloc::Global;
 use std::cmp::Ordering;
 use std::collections::BTreeMap;

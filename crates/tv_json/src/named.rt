@@ -13,8 +13,7 @@ use crate::write::{JsonWriter, begin_list};
 use std::alloc::{AllocError, Global};
 use std::convert::AsStr;
 use std::mem::replace;
-use tv_value::field::Field;
-use tv_value::value::Value;
+use tv_value::{Field, Value};
 
 // Writes a name and the array of the values.
 fn write_list<'a, V: Value<'a>>(

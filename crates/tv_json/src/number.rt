@@ -7,7 +7,7 @@ ghost use Rattle.serde_json.specs.Written.{has_float};
 ghost use Rattle.tv_json.specs.BorrowedData.{data_of};
 ghost use Rattle.tv_json.specs.Notes.{Notes};
 
-use crate::borrowed::BorrowedJson;
+use crate::value::BorrowedJson;
 use fast_float::Numeral;
 
 // The number that a token of JSON writes, and a note where it is a float. `None` where it is too large for a float.

@@ -3,8 +3,7 @@
 ghost use Rattle.std.specs.Prelude.{◌≡◌, ◌∷◌, ◌++◌, OnOk, IfOk};
 ghost use Rattle.json.specs.Token as Token;
 ghost use Rattle.tv_value.specs.JsonOf.{json_of};
-ghost use Rattle.tv_json.specs.Open.{rest_left, children_tokens, list_left, open_left};
-ghost use Rattle.tv_json.specs.Open.{LeavesToWrite, TakesNext};
+ghost use Rattle.tv_json.specs.Open.{rest_left, children_tokens, list_left, open_left, LeavesToWrite, TakesNext};
 ghost use Rattle.tv_json.specs.Rising.{data_tokens};
 ghost use Rattle.tv_format.specs.Tree.{object, entries};
 

@@ -1,19 +1,50 @@
-//! Reading of JSON values that borrow their texts.
+//! Reading of JSON values that borrow their texts: what a token begins, and then the whole value.
 
 ghost use Rattle.std.specs.Prelude.{◌≡◌, ◌<◌, length, Some, IfSome, OnSome};
 ghost use Rattle.json.specs.Json.{value, items, members};
 ghost use Rattle.serde_json.specs.Data.{no_members};
-ghost use Rattle.serde_json.specs.Read.{of_json, of_items, of_members, converted};
-ghost use Rattle.serde_json.specs.Read.{read as read_text};
+ghost use Rattle.serde_json.specs.Read.{of_json, of_items, of_members, converted, read as read_text};
 ghost use Rattle.serde_json.specs.Written.{has_float, items_have_float, members_have_float};
 ghost use Rattle.tv_json.specs.BorrowedData.{data_of, items_data, members_data};
 ghost use Rattle.tv_json.specs.Notes.{Notes};
+ghost use Rattle.tv_json.specs.Begun.{BeginsJson, begun_floats};
 
-use crate::begun::{Begun, begin};
-use crate::borrowed::BorrowedJson;
 use crate::members::{FoundMembers, Members};
-use json::{Reader, Scratch};
+use crate::number::read_number;
+use crate::value::BorrowedJson;
+use json::{Reader, Scratch, Token};
 use std::alloc::Global;
+
+// What a token begins.
+#[derive(Drop)]
+pub(crate) enum Begun<'a> {
+    // A value without children, which it is.
+    Leaf(BorrowedJson<'a>),
+    // An array, whose items follow.
+    Array,
+    // An object, whose members follow.
+    Object,
+}
+
+// What the next token begins, and a note where it is a float. `None` where it begins no value, and where it is a number too large for a float.
+// It isn't inlined, so that a level of a nested value takes little stack.
+#[inline(never)]
+pub(crate) fn begin<'a>(reader: &mut Reader<'a>, met_float: &mut bool) -> Option<Begun<'a>>
+    ensures begins { IfSome result (λ begun. BeginsJson begun reader.old reader.new) }
+    ensures shorter { OnSome result (length reader.new < length reader.old) }
+    ensures floats { IfSome result
+        (λ begun. Notes met_float.old met_float.new (begun_floats begun)) }
+{
+    match reader.next()? {
+        Token::String(text) => Some(Begun::Leaf(BorrowedJson::String(text))),
+        Token::Number(text) => Some(Begun::Leaf(read_number(text, met_float)?)),
+        Token::Bool(truth) => Some(Begun::Leaf(BorrowedJson::Bool(truth))),
+        Token::Null => Some(Begun::Leaf(BorrowedJson::Null)),
+        Token::BeginArray => Some(Begun::Array),
+        Token::BeginObject => Some(Begun::Object),
+        _ => None,
+    }
+}
 
 // How deep arrays and objects nest at most, as in the JSON library's values.
 const MAX_DEPTH: usize = 127;

@@ -1,4 +1,4 @@
-//! Copies of borrowed values.
+//! JSON values that borrow their texts, and copies of them.
 
 ghost use Rattle.std.specs.Prelude.{◌≡◌, ◌↔◌, IsTrue, IfSome, OnSome};
 ghost use Rattle.std.specs.Cmp.Lexicographic.{slice_cmp};
@@ -9,11 +9,32 @@ ghost use Rattle.serde_json.specs.View.{view, members_view};
 ghost use Rattle.serde_json.specs.Written.{has_float, items_have_float, members_have_float};
 ghost use Rattle.tv_json.specs.BorrowedData.{data_of, items_data, members_data};
 
-use crate::borrowed::BorrowedJson;
-use crate::order::compare;
+use crate::member_order::compare;
 use serde_json::{Map, Number, Value};
 use std::alloc::Global;
 use std::cmp::Ordering;
+
+/// A JSON value whose texts and keys stand in the text that it was read from, or in the scratch memory of its reading where an escape had
+/// to be replaced. (Not in tantivy.)
+#[derive(Drop)]
+pub enum BorrowedJson<'a> {
+    /// `null`.
+    Null,
+    /// A truth value.
+    Bool(bool),
+    /// A whole number from 0 to 2^64 - 1.
+    Unsigned(u64),
+    /// A whole number below 0, from -2^63 on.
+    Negative(i64),
+    /// Any other number, as the nearest float: one with a point or an exponent, one that doesn't fit these, and `-0`. What is read is finite.
+    Float(f64),
+    /// A text.
+    String(&'a str),
+    /// An array's items.
+    Array(Vec<BorrowedJson<'a>>),
+    /// An object's members, in byte order of their keys, each key once.
+    Object(Vec<(&'a str, BorrowedJson<'a>)>),
+}
 
 impl BorrowedJson<'_> {
     /// The JSON library's value that is the same, with copies of its texts. (Not in tantivy.) `None` where memory is refused; and of what wasn't read from a

@@ -1,14 +1,11 @@
 //! The tokens of values, written one after the other.
 
-ghost use Rattle.std.specs.Prelude.{◌≡◌, ◌++◌, ◌∷◌, [], OnOk, IsTrue, string_bytes, decimal};
-ghost use Rattle.std.specs.Prelude.{length, IsUtf8};
+ghost use Rattle.std.specs.Prelude.{◌≡◌, ◌++◌, ◌∷◌, [], OnOk, IsTrue, string_bytes, decimal, length, IsUtf8};
 ghost use Rattle.json.specs.Print.{print};
 ghost use Rattle.json.specs.Token as Token;
 ghost use Rattle.serde_json.specs.Data.{no_members};
-ghost use Rattle.tv_value.specs.JsonOf.{json_of, content_json, leaf_json, token_json, tokens_json};
-ghost use Rattle.tv_value.specs.JsonOf.{tokenized_json, elements_json, entries_json};
-ghost use Rattle.tv_json.specs.Rising.{KeysRise, counts_tokens, data_tokens, rest_of_array};
-ghost use Rattle.tv_json.specs.Rising.{rest_of_object, listed_json};
+ghost use Rattle.tv_value.specs.JsonOf.{json_of, content_json, leaf_json, token_json, tokens_json, tokenized_json, elements_json, entries_json};
+ghost use Rattle.tv_json.specs.Rising.{KeysRise, counts_tokens, data_tokens, rest_of_array, rest_of_object, listed_json};
 ghost use Rattle.tv_value.specs.LeafParts.{content_of};
 ghost use Rattle.tv_value.specs.Lent.{leaf_of};
 ghost use Rattle.tv_value.specs.PreTokenized.{text_of, tokens_of, tokens_left};
@@ -17,12 +14,11 @@ ghost use Rattle.tv_format.specs.Tree.{elements, entries};
 
 use json::Writer;
 use std::alloc::{AllocError, Global};
-use tv_value::content::LeafContent;
-use tv_value::ip_addr::address_of;
-use tv_value::leaf::ReferenceValueLeaf;
-use tv_value::leaf_text::{push_address, push_base64, push_date, push_facet};
+use tv_value::json_value::{push_address, push_base64, push_date, push_facet};
+use tv_value::leaf::{LeafContent, address_of};
 use tv_value::nested::{Nested, NestedValue};
-use tv_value::pre_tokenized::{PreTokenizedStr, TokenIter, TokenRef};
+use tv_value::pre_tokenized::TokenIter;
+use tv_value::{PreTokenizedStr, ReferenceValueLeaf, TokenRef};
 
 // Where JSON is written, and room for the text of a leaf, which is used for each anew.
 #[derive(Drop)]

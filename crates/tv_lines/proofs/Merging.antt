@@ -13,8 +13,8 @@ use Rattle.std.specs.declared.cmp.Ordering.{Ordering}
 use Rattle.std.specs.declared.cmp.Ordering.TheVariants.{Less, Equal, Greater}
 use Rattle.tv_base.specs.declared.cause.Cause.{Cause}
 use Rattle.tv_base.specs.declared.cause.Cause.TheVariants.{UnexpectedEnd, TooLong}
-use Rattle.tv_base.specs.declared.read_error.ReadError.{ReadError}
-use Rattle.tv_base.specs.declared.read_error.ReadError.TheVariants.{Corrupted, Io, Memory}
+use Rattle.tv_base.specs.declared.cause.ReadError.{ReadError}
+use Rattle.tv_base.specs.declared.cause.ReadError.TheVariants.{Corrupted, Io, Memory}
 use Rattle.tv_base.specs.declared.source.ByteSource.{Ghosts}
 use Rattle.tv_lines.proofs.RunPairs.{one_pair, some_bytes}
 use Rattle.tv_lines.specs.TermRuns.{BeginsWith, BeginsWithNoneBefore, Fits, HasLeft, HaveLeft, IsAfter, IsAtMost, IsLeast, IsLeastRead, IsLesser, IsOfReading, IsRising, IsRun, NoneFails, Pair, RefusesPair, RisesOn, TakesFrom, TakesFromEach, TakesPair, count_of, is_of, pair_of, run_bytes, without}

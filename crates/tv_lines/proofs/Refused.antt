@@ -8,8 +8,8 @@ use Rattle.tv_lines.specs.Answers.{IsJson, schema_error_name, SchemaRefusal}
 use Rattle.tv_lines.specs.Answers.SchemaRefusal.{no_json, no_schema, no_memory}
 use Rattle.tv_lines.specs.Run.{IsEnded}
 use Rattle.tv_schema.specs.SchemaJsonReading.{schema_of}
-use Rattle.tv_field.specs.declared.schema_error.SchemaError.{SchemaError}
-use Rattle.tv_field.specs.declared.schema_error.SchemaError.TheVariants as errors
+use Rattle.tv_field.specs.declared.field_entry.SchemaError.{SchemaError}
+use Rattle.tv_field.specs.declared.field_entry.SchemaError.TheVariants as errors
 
 pub no_text : (line : List ℕ) → ¬ IsUtf8 line → IsEnded (SchemaRefusal line) (codes "error InvalidJson" ++ 10 ∷ [])
 no_text line none = (codes "error InvalidJson", no_json (λ value is. none is.0) refl, refl)

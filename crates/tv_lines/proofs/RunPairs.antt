@@ -10,8 +10,8 @@ use Rattle.tv_base.specs.Stop.Stop.{InputError}
 use Rattle.tv_base.specs.Take.{MayStop, MayStopLean, TakesBy, read_stop}
 use Rattle.tv_base.specs.declared.cause.Cause.{Cause}
 use Rattle.tv_base.specs.declared.cause.Cause.TheVariants.{UnexpectedEnd, TooLong}
-use Rattle.tv_base.specs.declared.read_error.ReadError.{ReadError}
-use Rattle.tv_base.specs.declared.read_error.ReadError.TheVariants.{Corrupted, Io, Memory}
+use Rattle.tv_base.specs.declared.cause.ReadError.{ReadError}
+use Rattle.tv_base.specs.declared.cause.ReadError.TheVariants.{Corrupted, Io, Memory}
 use Rattle.tv_base.specs.declared.source.ByteSource.{Ghosts}
 use Rattle.tv_base.proofs.Agrees.{Agrees, InTurn, agrees_too, in_turn, made, no_ok, one_encoding}
 use Rattle.tv_base.proofs.AgreeWidths.{AreBytes, bytes_agree, bytes_error, u64_agrees}

@@ -11,8 +11,8 @@ use Rattle.tv_doc.specs.declared.errors.DocParsingError.{DocParsingError}
 use Rattle.tv_doc.specs.declared.errors.DocParsingError.TheVariants as errors
 use Rattle.tv_doc.specs.declared.document.CompactDoc.{CompactDoc}
 use Rattle.tv_field.specs.Entry.{Entry}
-use Rattle.tv_field.specs.declared.schema_error.SchemaError.{SchemaError}
-use Rattle.tv_field.specs.declared.schema_error.SchemaError.TheVariants as schema_error
+use Rattle.tv_field.specs.declared.field_entry.SchemaError.{SchemaError}
+use Rattle.tv_field.specs.declared.field_entry.SchemaError.TheVariants as schema_error
 use Rattle.tv_field.specs.declared.value_parsing_error.ValueParsingError.{ValueParsingError}
 use Rattle.tv_field.specs.declared.value_parsing_error.ValueParsingError.TheVariants as values
 use Rattle.tv_format.specs.Short.{short_document}

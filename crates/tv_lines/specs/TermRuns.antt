@@ -9,8 +9,8 @@ use Rattle.tv_base.specs.Stop.{CountsStop, ◌>>=◌}
 use Rattle.tv_base.specs.Take.{read_stop}
 use Rattle.tv_base.specs.declared.cause.Cause.{Cause}
 use Rattle.tv_base.specs.declared.cause.Cause.TheVariants.{UnexpectedEnd, TooLong}
-use Rattle.tv_base.specs.declared.read_error.ReadError.{ReadError}
-use Rattle.tv_base.specs.declared.read_error.ReadError.TheVariants.{Corrupted, Io, Memory}
+use Rattle.tv_base.specs.declared.cause.ReadError.{ReadError}
+use Rattle.tv_base.specs.declared.cause.ReadError.TheVariants.{Corrupted, Io, Memory}
 use Rattle.tv_base.specs.declared.source.ByteSource.{Ghosts}
 use Rattle.tv_lines.specs.declared.term_runs.MergeError.{MergeError}
 use Rattle.tv_lines.specs.declared.term_runs.MergeError.TheVariants as merging

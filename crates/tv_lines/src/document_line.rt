@@ -22,7 +22,7 @@ use tv_doc::errors::DocParsingError;
 use tv_doc::laws::documents_are_valid;
 use tv_doc::parse_buffers::ParseBuffers;
 use tv_field::ValueParsingError;
-use tv_format::version::WriteVersion;
+use tv_format::WriteVersion;
 use tv_reader::laws::{
     documents_have_one_reading, malformed_documents_derive_none, short_documents_encode,
 };

@@ -19,7 +19,7 @@ use std::alloc::{AllocError, Global};
 use tv_base::{ByteSink, ByteSource, VecSink};
 use tv_doc::document::CompactDoc;
 use tv_doc::parse_buffers::ParseBuffers;
-use tv_format::version::WriteVersion;
+use tv_format::WriteVersion;
 use tv_indexing::{TermValuesError, term_fault};
 use tv_schema::Schema;
 use tv_store::BinaryDocumentSerializer;

@@ -1,7 +1,7 @@
 -- How much an index keeps of a term's occurrences.
 use Rattle.std.specs.Prelude.{ℕ}
-use Rattle.tv_options.specs.declared.index_record_option.IndexRecordOption.{IndexRecordOption}
-use Rattle.tv_options.specs.declared.index_record_option.IndexRecordOption.TheVariants.{Basic, WithFreqs, WithFreqsAndPositions}
+use Rattle.tv_options.specs.declared.text_options.IndexRecordOption.{IndexRecordOption}
+use Rattle.tv_options.specs.declared.text_options.IndexRecordOption.TheVariants.{Basic, WithFreqs, WithFreqsAndPositions}
 
 -- from the least to the most
 abbrev pub rank : IndexRecordOption → ℕ

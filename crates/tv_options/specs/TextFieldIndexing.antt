@@ -1,6 +1,6 @@
 -- How texts are indexed.
 use Rattle.std.specs.Prelude.{true, codes}
-use Rattle.tv_options.specs.declared.index_record_option.IndexRecordOption.TheVariants.{Basic, WithFreqsAndPositions}
+use Rattle.tv_options.specs.declared.text_options.IndexRecordOption.TheVariants.{Basic, WithFreqsAndPositions}
 use Rattle.tv_options.specs.declared.text_options.TextFieldIndexing.{TextFieldIndexing}
 
 abbrev pub default_indexing : TextFieldIndexing

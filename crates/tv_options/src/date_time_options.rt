@@ -4,7 +4,7 @@ ghost use Rattle.std.specs.Prelude.{◌≡◌, ◌&&◌, true};
 
 pub use crate::flag_options::DateOptions;
 use crate::flag_options::FlagOptions;
-use tv_date::date_time::DateTimePrecision;
+use tv_date::DateTimePrecision;
 
 impl DateOptions {
     /// Options of these parts (not in tantivy).

@@ -7,7 +7,7 @@ ghost use Rattle.tv_options.specs.FlagOptions.{join, none, only_stored, only_ind
 use crate::flags::{FastFlag, IndexedFlag, SchemaFlagList, StoredFlag};
 use crate::own_part::{Coercion, OfBytes, OfIpAddrs, OwnPart, PlainPart};
 use std::ops::BitOr;
-use tv_date::date_time::DateTimePrecision;
+use tv_date::DateTimePrecision;
 
 /// How the values of a field are kept: four flags, and the part that is the type's own. By default no flag is set.
 ///

@@ -9,8 +9,8 @@ ghost use Rattle.tv_options.specs.declared.flags.FastFlag.{FastFlag};
 ghost use Rattle.tv_options.specs.declared.flags.IndexedFlag.{IndexedFlag};
 ghost use Rattle.tv_options.specs.declared.flags.SchemaFlagList.{SchemaFlagList};
 ghost use Rattle.tv_options.specs.declared.flags.StoredFlag.{StoredFlag};
-ghost use Rattle.tv_options.specs.declared.index_record_option.IndexRecordOption.TheVariants.{Basic};
-ghost use Rattle.tv_options.specs.declared.index_record_option.IndexRecordOption.{IndexRecordOption};
+ghost use Rattle.tv_options.specs.declared.text_options.IndexRecordOption.TheVariants.{Basic};
+ghost use Rattle.tv_options.specs.declared.text_options.IndexRecordOption.{IndexRecordOption};
 ghost use Rattle.tv_options.specs.declared.text_options.FastFieldTextOptions.{FastFieldTextOptions};
 ghost use Rattle.tv_options.specs.declared.text_options.TextFieldIndexing.{TextFieldIndexing};
 ghost use Rattle.tv_options.specs.declared.textual_options.TextualOptions.{TextualOptions};
@@ -28,14 +28,15 @@ ghost use Rattle.tv_options.specs.Types.{all_types, code, type_of_code};
 use crate::facet_options::FacetOptions;
 use crate::flag_options::FlagOptions;
 use crate::flags::{CoerceFlag, FastFlag, IndexedFlag, SchemaFlagList, StoredFlag};
-use crate::index_record_option::IndexRecordOption;
 use crate::own_part::OwnPart;
-use crate::text_options::{FastFieldTextOptions, STRING, TEXT, TextFieldIndexing, TextOptions};
+use crate::text_options::{
+    FastFieldTextOptions, IndexRecordOption, STRING, TEXT, TextFieldIndexing, TextOptions,
+};
 use crate::textual_options::TextualOptions;
 use crate::tokenizer_name::TokenizerName;
 use crate::types::TypeTag;
 use std::hash::Hash;
-use tv_date::date_time::{DATE_TIME_PRECISION_INDEXED, DateTimePrecision};
+use tv_date::{DATE_TIME_PRECISION_INDEXED, DateTimePrecision};
 
 /// `|` on options of flags doesn't depend on how it is grouped.
 pub fn flag_options_join_associatively<Part: OwnPart>()

@@ -5,7 +5,6 @@ pub mod date_time_options;
 pub mod facet_options;
 pub mod flag_options;
 pub mod flags;
-pub mod index_record_option;
 pub mod json_object_options;
 pub mod laws;
 pub mod numeric_options;
@@ -21,11 +20,12 @@ pub use flag_options::{BytesOptions, FlagOptions, IpAddrOptions};
 pub use flags::{
     COERCE, CoerceFlag, FAST, FastFlag, INDEXED, IndexedFlag, STORED, SchemaFlagList, StoredFlag,
 };
-pub use index_record_option::IndexRecordOption;
 pub use json_object_options::JsonObjectOptions;
 pub use numeric_options::NumericOptions;
 pub use own_part::{Coercion, DotExpansion, OfBytes, OfIpAddrs, PlainPart};
-pub use text_options::{FastFieldTextOptions, STRING, TEXT, TextFieldIndexing, TextOptions};
+pub use text_options::{
+    FastFieldTextOptions, IndexRecordOption, STRING, TEXT, TextFieldIndexing, TextOptions,
+};
 pub use textual_options::TextualOptions;
 pub use tokenizer_name::TokenizerName;
 pub use tv_date::date_time::{DATE_TIME_PRECISION_INDEXED, DateTimePrecision};

@@ -2,7 +2,7 @@
 
 ghost use Rattle.std.specs.Prelude.{◌≡◌, ◌↔◌, ◌||◌, IsTrue, false, refl};
 
-use tv_date::date_time::DateTimePrecision;
+use tv_date::DateTimePrecision;
 
 /// The part of a field's options that is its type's own: what it is where nothing is set, and how two are joined by `|`.
 ///

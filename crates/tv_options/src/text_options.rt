@@ -1,15 +1,14 @@
-//! Options of a field of texts.
+//! Options of a field of texts, and how much an index keeps of a term's occurrences.
 
-ghost use Rattle.std.specs.Prelude.{◌≡◌, true, IfOk, IsOk, None};
+ghost use Rattle.std.specs.Prelude.{◌≡◌, true, IfOk, IsOk, None, nat_le, min};
 ghost use Rattle.std.specs.Option.{option_copied};
 ghost use Rattle.tv_options.specs.declared.text_options.FastFieldTextOptions.TheVariants as fast_field;
-ghost use Rattle.tv_options.specs.FastFieldTextOptions.{join_fast, is_fast_field, tokenizer_of};
-ghost use Rattle.tv_options.specs.FastFieldTextOptions.{fast_by};
+ghost use Rattle.tv_options.specs.FastFieldTextOptions.{join_fast, is_fast_field, tokenizer_of, fast_by};
 ghost use Rattle.tv_options.specs.TextFieldIndexing.{default_indexing};
 ghost use Rattle.tv_options.specs.TextOptions.{only_coerce};
+ghost use Rattle.tv_options.specs.IndexRecordOption.{rank};
 
 use crate::flags::CoerceFlag;
-use crate::index_record_option::IndexRecordOption;
 use crate::own_part::Coercion;
 pub use crate::textual_options::TextOptions;
 use crate::textual_options::TextualOptions;
@@ -17,6 +16,55 @@ use crate::tokenizer_name::TokenizerName;
 use std::alloc::{AllocError, Global};
 use std::borrow::CowStr;
 use std::ops::BitOr;
+
+/// What an index keeps of each term, from the least to the most.
+#[derive(Clone, Copy, Debug, Default, PartialEq, Eq, PartialOrd, Ord, Hash)]
+pub enum IndexRecordOption {
+    /// The documents alone.
+    #[default]
+    Basic,
+    /// The documents, and how often the term stands in each.
+    WithFreqs,
+    /// The documents, and how often and where the term stands in each.
+    WithFreqsAndPositions,
+}
+
+impl IndexRecordOption {
+    /// Whether it is kept how often the term stands in a document.
+    pub fn has_freq(self) -> bool
+        ensures { result ≡ nat_le 1 (rank self) }
+    {
+        match self {
+            IndexRecordOption::Basic => false,
+            IndexRecordOption::WithFreqs | IndexRecordOption::WithFreqsAndPositions => true,
+        }
+    }
+
+    /// Whether it is kept where the term stands in a document.
+    pub fn has_positions(self) -> bool
+        ensures { result ≡ nat_le 2 (rank self) }
+    {
+        match self {
+            IndexRecordOption::Basic | IndexRecordOption::WithFreqs => false,
+            IndexRecordOption::WithFreqsAndPositions => true,
+        }
+    }
+
+    /// The lesser of the two.
+    #[must_use]
+    pub fn downgrade(&self, other: IndexRecordOption) -> IndexRecordOption
+        ensures { rank result ≡ min (rank self.now) (rank other) }
+    {
+        match (*self, other) {
+            (IndexRecordOption::WithFreqsAndPositions, other) => other,
+            (own, IndexRecordOption::WithFreqsAndPositions) => own,
+            (IndexRecordOption::WithFreqs, IndexRecordOption::WithFreqs) => {
+                IndexRecordOption::WithFreqs
+            }
+            _ => IndexRecordOption::Basic,
+        }
+    }
+}
 
 /// Whether texts have a fast field, and by which tokenizer. By default they have none.
 #[derive(Debug, Drop, PartialEq, Eq)]

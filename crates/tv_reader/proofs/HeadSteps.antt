@@ -2,7 +2,7 @@
 use Rattle.std.proofs.Common.{◌≡◌, ◌≢◌, ℕ, List, [], ◌∷◌, ◌++◌, Option, Some, None, Ok, Err, refl, sym, ap, subst, inl}
 use Rattle.tv_base.specs.declared.cause.Cause.{Cause}
 use Rattle.tv_base.specs.declared.cause.Cause.TheVariants.{UnexpectedEnd}
-use Rattle.tv_base.specs.declared.read_error.ReadError.{ReadError}
+use Rattle.tv_base.specs.declared.cause.ReadError.{ReadError}
 use Rattle.tv_base.specs.Number.{VNum, Fixed, Truth}
 use Rattle.tv_base.specs.ErrorInPart.{ErrorInNumber, in_sized}
 use Rattle.tv_base.specs.Reading.{vint_at}

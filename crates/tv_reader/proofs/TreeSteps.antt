@@ -6,7 +6,7 @@ use Rattle.std.proofs.lemmas.Bool.Decides.{eqb_tells}
 use Rattle.std.proofs.lemmas.List.{append-nil, length-append, length-map, map_push}
 use Rattle.tv_base.specs.declared.cause.Cause.{Cause}
 use Rattle.tv_base.specs.declared.cause.Cause.TheVariants.{UnexpectedEnd, OddObject}
-use Rattle.tv_base.specs.declared.read_error.ReadError.{ReadError}
+use Rattle.tv_base.specs.declared.cause.ReadError.{ReadError}
 use Rattle.tv_base.specs.Number.{VNum}
 use Rattle.tv_base.specs.ErrorInPart.{InThen, ErrorInNumber, number_ends, in_sized}
 use Rattle.tv_base.specs.Reading.{text_at, vint_at}

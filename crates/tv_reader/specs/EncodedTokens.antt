@@ -8,7 +8,7 @@ use Rattle.tv_reader.specs.Legacy.{Legacy}
 use Rattle.tv_reader.specs.ValueType.{type_prefix}
 use Rattle.tv_reader.specs.declared.value_type.ValueType.TheVariants as types
 use Rattle.tv_value.specs.EncodedTokens.{gathered}
-use Rattle.tv_value.specs.declared.encoded_tokens.EncodedTokens.{EncodedTokens}
+use Rattle.tv_value.specs.declared.pre_tokenized.EncodedTokens.{EncodedTokens}
 
 -- the value that they are
 abbrev pub tokenized_tree : String Global × EncodedTokens → Tree

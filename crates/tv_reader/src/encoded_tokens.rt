@@ -18,8 +18,7 @@ use crate::version::DocStoreVersion;
 use std::alloc::{AllocError, Global};
 use tv_base::take::{take_string, take_text, take_vint};
 use tv_base::{ByteSource, ReadError};
-use tv_value::encoded_tokens::EncodedTokens;
-use tv_value::pre_tokenized::TokenRef;
+use tv_value::pre_tokenized::{EncodedTokens, TokenRef};
 use tv_value::tokenizer::Token;
 
 // What tokens are gathered in, one after the other.

@@ -17,7 +17,7 @@ use crate::value_type::{ValueType, take_head_behind, take_kind};
 use crate::version::DocStoreVersion;
 use tv_base::ByteSource;
 use tv_base::take::{take_u32, take_vint};
-use tv_format::leaf_type::LeafType;
+use tv_format::LeafType;
 use tv_value::leaf::ReferenceValueLeaf;
 
 /// What is taken of a value at once: a whole value of a known width, or what stands before the parts of another.

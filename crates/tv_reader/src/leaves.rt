@@ -14,8 +14,8 @@ use std::alloc::Global;
 use std::net::Ipv6Addr;
 use tv_base::take::{take_i64, take_u128};
 use tv_base::{ByteSource, Cause, ReadError};
-use tv_value::date_time::DateTime;
-use tv_value::ip_addr::address_of;
+use tv_date::date_time::DateTime;
+use tv_value::leaf::address_of;
 use tv_value::tokenizer::{PreTokenizedString, Token};
 
 // The least and the largest number of microseconds whose nanoseconds fit 64 bits.

@@ -12,8 +12,7 @@ use std::alloc::Global;
 use std::str;
 use tv_base::take::take_u8;
 use tv_base::{ByteSource, Cause, ReadError};
-use tv_value::json_error::JsonError;
-use tv_value::owned_value::OwnedValue;
+use tv_value::owned_value::{JsonError, OwnedValue};
 
 // Where the next byte stands.
 #[derive(Clone, Copy, Drop)]

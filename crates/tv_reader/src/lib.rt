@@ -12,5 +12,4 @@ pub mod value_type;
 pub mod version;
 
 pub use error::{DeserializeError, ValueType};
-pub use tv_format::type_codes;
 pub use version::DocStoreVersion;

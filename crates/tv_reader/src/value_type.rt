@@ -12,7 +12,7 @@ ghost use Rattle.tv_value.specs.Owned.{owned_tree};
 use crate::heads::Head;
 use crate::leaves::{take_date, take_ip_address, take_tokenized};
 use crate::trees::take_entry_count;
-use crate::type_codes::{
+use tv_format::type_codes::{
     ARRAY_CODE, EXT_CODE, F64_CODE, JSON_OBJ_CODE, OBJECT_CODE, TOK_STR_EXT_CODE,
 };
 use crate::version::DocStoreVersion;
@@ -21,7 +21,7 @@ use tv_base::take::{
     take_bool, take_bytes, take_facet, take_i64, take_string, take_u8, take_u64, take_vint,
 };
 use tv_base::{ByteSource, Cause, ReadError};
-use tv_format::leaf_type::LeafType;
+use tv_format::LeafType;
 use tv_value::leaf::ReferenceValueLeaf;
 use tv_value::owned_value::OwnedValue;
 

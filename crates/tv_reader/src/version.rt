@@ -5,7 +5,7 @@ ghost use Rattle.tv_format.specs.WriteVersion.{written_version};
 ghost use Rattle.tv_reader.specs.Version.{version_of_number, version_of};
 
 use crate::error::DeserializeError;
-use tv_format::version::WriteVersion;
+use tv_format::WriteVersion;
 
 /// A version of the store format.
 #[derive(Clone, Copy, Debug, PartialEq, Eq, PartialOrd, Ord)]

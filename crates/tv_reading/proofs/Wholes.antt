@@ -30,7 +30,7 @@ use Rattle.tv_format.specs.Encoding.{Encodes, NoLegacy}
 use Rattle.tv_value.specs.EncodedTokens.{gathered}
 use Rattle.tv_value.specs.PreTokenized.{text_of, tokens_of, tokenized_leaf}
 use Rattle.tv_format.specs.Tree.{Tree, leaf, tokenized, Document}
-use Rattle.tv_value.specs.declared.encoded_tokens.EncodedTokens.{EncodedTokens}
+use Rattle.tv_value.specs.declared.pre_tokenized.EncodedTokens.{EncodedTokens}
 use Rattle.tv_value.specs.declared.pre_tokenized.PreTokenizedStr.{PreTokenizedStr}
 use Rattle.tv_reader.specs.EncodedTokens.{tokenized_tree}
 use Rattle.std.specs.String.{string_bytes}

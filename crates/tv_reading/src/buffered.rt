@@ -12,10 +12,10 @@ use crate::encoded::behind_value;
 use crate::wanted::WantedFields;
 use tv_base::ByteSource;
 use tv_builder::heap_pairs::HeapPairs;
-use tv_format::version::WriteVersion;
+use tv_format::WriteVersion;
 use tv_reader::DocStoreVersion;
 use tv_value::field::Field;
-use tv_value::nesting::MAX_DEPTH;
+use tv_value::nested::MAX_DEPTH;
 
 /// Adds the next pairs that the source has buffered whole, at once, up to this many, and says how many they are. It may add none: where the
 /// source doesn't give the bytes that it has buffered, the pairs are taken back, so that they are read part by part.

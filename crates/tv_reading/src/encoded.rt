@@ -3,13 +3,12 @@
 ghost use Rattle.std.specs.Prelude.{◌≡◌, ◌≤◌, ◌∷◌, IfSome};
 ghost use Rattle.tv_base.specs.Parts.{Begins};
 ghost use Rattle.tv_format.specs.WriteVersion.{written_version};
-ghost use Rattle.tv_format.specs.declared.version.WriteVersion.{WriteVersion};
+ghost use Rattle.tv_format.specs.declared.leaf_type.WriteVersion.{WriteVersion};
 ghost use Rattle.tv_reading.specs.Skip.{Before, BeginsItems, IsItem, IsValueEncoding};
 
 use crate::items::ItemKind;
-use tv_format::leaf_type::LeafType;
 use tv_format::type_codes::{ARRAY_CODE, OBJECT_CODE};
-use tv_format::version::WriteVersion;
+use tv_format::{LeafType, WriteVersion};
 use tv_value::in_place::{content_at, entry_count_at, key_at, number_at};
 
 // What follows the value without children that stands after this code. It is encoded alike in all versions that are written.

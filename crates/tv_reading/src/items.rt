@@ -21,7 +21,7 @@ use tv_reader::heads::{take_document_head, take_field};
 use tv_reader::trees::{take_entry_count, take_legacy_object};
 use tv_reader::value_type::{ValueType, take_kind, take_leaf};
 use tv_reader::version::DocStoreVersion;
-use tv_value::nesting::MAX_DEPTH;
+use tv_value::nested::MAX_DEPTH;
 
 // What an open list holds: values, keys with values, or fields with values.
 #[derive(Clone, Copy)]

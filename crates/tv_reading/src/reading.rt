@@ -29,7 +29,7 @@ use tv_builder::errors::BuildError;
 use tv_builder::heap_pairs::HeapPairs;
 use tv_builder::kinds::{Awaits, BytesKind, ListKind};
 use tv_builder::pair_builder::PairBuilder;
-use tv_format::leaf_type::LeafType;
+use tv_format::LeafType;
 use tv_reader::encoded_tokens::take_gathered;
 use tv_reader::heads::{Head, take_document_head, take_field, take_head, take_key_head};
 use tv_reader::trees::take_legacy_object;

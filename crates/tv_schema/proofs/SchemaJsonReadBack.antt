@@ -7,8 +7,8 @@ use Rattle.std.proofs.lemmas.Slice.Eq.{bytes_eq-Decides}
 use Rattle.std.specs.Str.{bytes_eq}
 use Rattle.serde_json.specs.Find.{as_object}
 use Rattle.tv_options.specs.declared.flag_options.FlagOptions.{FlagOptions}
-use Rattle.tv_options.specs.declared.index_record_option.IndexRecordOption.{IndexRecordOption}
-use Rattle.tv_options.specs.declared.index_record_option.IndexRecordOption.TheVariants.{Basic, WithFreqs, WithFreqsAndPositions}
+use Rattle.tv_options.specs.declared.text_options.IndexRecordOption.{IndexRecordOption}
+use Rattle.tv_options.specs.declared.text_options.IndexRecordOption.TheVariants.{Basic, WithFreqs, WithFreqsAndPositions}
 use Rattle.tv_options.specs.declared.own_part.Coercion.{Coercion}
 use Rattle.tv_options.specs.declared.text_options.FastFieldTextOptions.{FastFieldTextOptions}
 use Rattle.tv_options.specs.declared.text_options.FastFieldTextOptions.TheVariants.{IsEnabled, EnabledWithTokenizer}

@@ -4,8 +4,8 @@ use Rattle.std.specs.Str.{bytes_eq}
 use Rattle.tv_field.specs.Entry.{Entry, IsValidName, is_valid_name}
 use Rattle.tv_value.specs.declared.field.Field.{Field}
 use Rattle.tv_field.specs.declared.field_type.FieldType.{FieldType}
-use Rattle.tv_field.specs.declared.schema_error.SchemaError.{SchemaError}
-use Rattle.tv_field.specs.declared.schema_error.SchemaError.TheVariants.{InvalidName, DuplicateName, TooManyFields, Memory}
+use Rattle.tv_field.specs.declared.field_entry.SchemaError.{SchemaError}
+use Rattle.tv_field.specs.declared.field_entry.SchemaError.TheVariants.{InvalidName, DuplicateName, TooManyFields, Memory}
 
 -- names are valid and distinct, and each has a number of 32 bits
 pub record IsSchema (schema : List Entry) : Type 0 where

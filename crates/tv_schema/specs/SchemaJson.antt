@@ -4,8 +4,8 @@ use Rattle.serde_json.specs.Data.{Data, null, boolean, string, array, object, It
 use Rattle.tv_options.specs.FastFieldTextOptions.{is_fast_field, tokenizer_of}
 use Rattle.tv_options.specs.declared.facet_options.FacetOptions.{FacetOptions}
 use Rattle.tv_options.specs.declared.flag_options.FlagOptions.{FlagOptions}
-use Rattle.tv_options.specs.declared.index_record_option.IndexRecordOption.{IndexRecordOption}
-use Rattle.tv_options.specs.declared.index_record_option.IndexRecordOption.TheVariants.{Basic, WithFreqs, WithFreqsAndPositions}
+use Rattle.tv_options.specs.declared.text_options.IndexRecordOption.{IndexRecordOption}
+use Rattle.tv_options.specs.declared.text_options.IndexRecordOption.TheVariants.{Basic, WithFreqs, WithFreqsAndPositions}
 use Rattle.tv_options.specs.declared.own_part.Coercion.{Coercion}
 use Rattle.tv_options.specs.declared.own_part.DotExpansion.{DotExpansion}
 use Rattle.tv_options.specs.declared.own_part.OfBytes.{OfBytes}

@@ -4,8 +4,8 @@ use Rattle.serde_json.specs.Data.{Data, Items, no_items, item, Members}
 use Rattle.serde_json.specs.Find.{as_array, as_object}
 use Rattle.tv_schema.specs.SchemaJsonOptions.{required_text, required_object}
 use Rattle.tv_schema.specs.SchemaJsonReading.{◌>>=◌, by_key, type_named, at_entry, plain_error}
-use Rattle.tv_field.specs.declared.schema_error.SchemaError.{SchemaError}
-use Rattle.tv_field.specs.declared.schema_error.SchemaError.TheVariants.{BadJson}
+use Rattle.tv_field.specs.declared.field_entry.SchemaError.{SchemaError}
+use Rattle.tv_field.specs.declared.field_entry.SchemaError.TheVariants.{BadJson}
 use Rattle.tv_schema.specs.declared.json.error.EntryFault.{EntryFault}
 use Rattle.tv_schema.specs.declared.json.error.EntryFault.TheVariants.{NoObject}
 use Rattle.tv_schema.specs.declared.json.error.SchemaJsonError.{SchemaJsonError}

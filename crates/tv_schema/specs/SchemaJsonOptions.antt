@@ -7,8 +7,8 @@ use Rattle.serde_json.specs.Find.{get_member, as_bool, as_str, as_object}
 use Rattle.tv_options.specs.Types.{all_types}
 use Rattle.tv_options.specs.declared.facet_options.FacetOptions.{FacetOptions}
 use Rattle.tv_options.specs.declared.flag_options.FlagOptions.{FlagOptions}
-use Rattle.tv_options.specs.declared.index_record_option.IndexRecordOption.{IndexRecordOption}
-use Rattle.tv_options.specs.declared.index_record_option.IndexRecordOption.TheVariants.{Basic, WithFreqs, WithFreqsAndPositions}
+use Rattle.tv_options.specs.declared.text_options.IndexRecordOption.{IndexRecordOption}
+use Rattle.tv_options.specs.declared.text_options.IndexRecordOption.TheVariants.{Basic, WithFreqs, WithFreqsAndPositions}
 use Rattle.tv_options.specs.declared.own_part.Coercion.{Coercion}
 use Rattle.tv_options.specs.declared.own_part.DotExpansion.{DotExpansion}
 use Rattle.tv_options.specs.declared.own_part.OfBytes.{OfBytes}

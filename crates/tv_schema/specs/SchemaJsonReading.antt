@@ -5,8 +5,8 @@ use Rattle.serde_json.specs.Data.{Data, Items, no_items, item}
 use Rattle.serde_json.specs.Find.{as_array, as_object}
 use Rattle.tv_options.specs.declared.types.TypeTag.{TypeTag}
 use Rattle.tv_field.specs.Entry.{Entry}
-use Rattle.tv_field.specs.declared.schema_error.SchemaError.{SchemaError}
-use Rattle.tv_field.specs.declared.schema_error.SchemaError.TheVariants as schemas
+use Rattle.tv_field.specs.declared.field_entry.SchemaError.{SchemaError}
+use Rattle.tv_field.specs.declared.field_entry.SchemaError.TheVariants as schemas
 use Rattle.tv_schema.specs.Schema.{refusal}
 use Rattle.tv_schema.specs.SchemaJsonOptions.{type_of_word, required_text, required_object, options_of}
 use Rattle.tv_schema.specs.declared.json.error.EntryFault.{EntryFault}

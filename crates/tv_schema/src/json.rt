@@ -1,26 +1,32 @@
 //! Schemas as JSON.
 
-ghost use Rattle.std.specs.Prelude.{◌≡◌, ◌≢◌, Ok, Err, IfOk, IfErr, IfSome};
-ghost use Rattle.serde_json.specs.View.{view};
+ghost use Rattle.std.specs.Prelude.{◌≡◌, ◌≢◌, Ok, Err, IfOk, IfErr, IfSome, ◌+◌, [], length, OnOk, string_bytes};
+ghost use Rattle.serde_json.specs.View.{view, items_view};
 ghost use Rattle.tv_schema.specs.SchemaJson.{schema_json};
-ghost use Rattle.tv_schema.specs.SchemaJsonEarly.{early_by_key, early_error};
-ghost use Rattle.tv_schema.specs.SchemaJsonReading.{schema_by_key, schema_of};
-ghost use Rattle.tv_field.specs.declared.schema_error.SchemaError.TheVariants.{Memory};
+ghost use Rattle.tv_schema.specs.SchemaJsonEarly.{early_by_key, early_error, fault_in, first_error, head_error, opened};
+ghost use Rattle.tv_schema.specs.SchemaJsonReading.{schema_by_key, schema_of, Describes, GivesSchema, accepted_entry, entry_of, with_entry, with_entries};
+ghost use Rattle.tv_schema.specs.SchemaJsonReading.{type_named};
+ghost use Rattle.tv_field.specs.declared.field_entry.SchemaError.TheVariants.{Memory};
+ghost use Rattle.tv_field.specs.Entry.{Entry};
+ghost use Rattle.tv_schema.specs.Schema.{refusal};
 
-mod entries;
 pub mod error;
 pub mod key;
-pub mod laws;
 mod members;
 mod options;
 mod words;
 mod write;
 
-use crate::json::error::SchemaJsonError;
-use crate::schema::Schema;
+use crate::json::error::{EntryFault, SchemaJsonError, refused_at};
+use crate::json::key::SchemaKey;
+use crate::json::members::{required_object, required_text};
+use crate::json::options::options_of;
+use crate::json::words::type_of_word;
+use crate::schema::{Schema, SchemaBuilder};
 use serde_json::Value;
 use std::alloc::{AllocError, Global};
-use tv_field::schema_error::SchemaError;
+use tv_field::{FieldEntry, FieldType, SchemaError};
+use tv_options::Type;
 
 impl Schema {
     /// The schema as JSON: an array of the entries in the order of their numbers, each an object of `name`, `options`
@@ -65,6 +71,87 @@ impl Schema {
     {
         let whole = SchemaJsonError::Other(SchemaError::BadJson { entry: None });
         let items = value.as_array().ok_or(whole)?;
-        Ok(entries::builder_of(alloc, items)?.build()?)
+        Ok(builder_of(alloc, items)?.build()?)
+    }
+}
+
+// A builder with the entries that the JSON values describe.
+fn builder_of(alloc: Global, items: &[Value]) -> Result<SchemaBuilder, SchemaJsonError>
+    ensures built { GivesSchema (λ builder. builder) (with_entries [] (items_view items.now)) result }
+    ensures early { IfSome (first_error (items_view items.now)) (λ error. result ≡ Err error) }
+{
+    let mut builder = SchemaBuilder::new(alloc);
+    for (place, description) in items.iter().enumerate() {
+        add_entry(alloc, &mut builder, place, description)?;
+    }
+    Ok(builder)
+}
+
+// Adds an entry. Its place is the number of the entries before it.
+fn take_entry(
+    builder: &mut SchemaBuilder,
+    place: usize,
+    entry: FieldEntry,
+) -> Result<(), SchemaJsonError>
+    requires { place ≡ length builder.old }
+    ensures added { GivesSchema (λ _. builder.new)
+        (accepted_entry builder.old entry (refusal builder.old entry.name)) result }
+    ensures one_more { OnOk result (length builder.new ≡ place + 1) }
+{
+    match builder.add_field(entry) {
+        Ok(_) => Ok(()),
+        Err(error) => Err(refused_at(place, error)),
+    }
+}
+
+// Adds the entry that the JSON value describes. Its place is the number of the entries before it.
+#[tactic(auto, unfolding(crate::specs::SchemaJsonReading::with_entry))]
+fn add_entry(
+    alloc: Global,
+    builder: &mut SchemaBuilder,
+    place: usize,
+    description: &Value,
+) -> Result<(), SchemaJsonError>
+    requires { place ≡ length builder.old }
+    ensures added { GivesSchema (λ _. builder.new) (with_entry builder.old (view description.now))
+        result }
+    ensures early { IfSome (head_error place (view description.now)) (λ error. result ≡ Err error) }
+    ensures one_more { OnOk result (length builder.new ≡ place + 1) }
+{
+    match entry_of(alloc, description) {
+        Ok((name, field_type)) => match FieldEntry::new(name, field_type) {
+            Ok(entry) => take_entry(builder, place, entry),
+            Err(error) => Err(refused_at(place, error)),
+        },
+        Err(fault) => Err(fault.at_entry(place)),
+    }
+}
+
+// The name and the type of the entry that the JSON value describes.
+#[tactic(auto, unfolding(crate::specs::SchemaJsonReading::entry_of, crate::specs::SchemaJsonEarly::opened))]
+fn entry_of(alloc: Global, description: &Value) -> Result<(String, FieldType), EntryFault>
+    ensures found { Describes
+        (λ found. record { name = string_bytes found.0; field_type = found.1 })
+        (entry_of (view description.now)) result }
+    ensures early { IfSome (fault_in (opened (view description.now))) (λ fault. result ≡ Err fault) }
+{
+    let members = description.as_object().ok_or(EntryFault::NoObject)?;
+    let name = required_text(members, SchemaKey::Name)?;
+    let word = required_text(members, SchemaKey::Type)?;
+    let value_type = type_named(word)?;
+    let options = required_object(members, SchemaKey::Options)?;
+    let field_type = options_of(alloc, value_type, options)?;
+    Ok((String::from_str(alloc, name)?, field_type))
+}
+
+// The type of the word; `f64` is a type that this library doesn't have.
+#[tactic(auto, unfolding(crate::specs::SchemaJsonReading::type_named))]
+fn type_named(word: &str) -> Result<Type, EntryFault>
+    ensures { result ≡ type_named word.now }
+{
+    if word == "f64" {
+        Err(EntryFault::FloatField)
+    } else {
+        type_of_word(word).ok_or(EntryFault::Key(SchemaKey::Type))
     }
 }

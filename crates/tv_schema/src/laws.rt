@@ -1,15 +1,17 @@
-//! Laws of schemas and paths, and over calls on the types of fields.
+//! Laws of schemas, their paths and their JSON, and over calls on the types of fields.
 
-ghost use Rattle.std.specs.Prelude.{◌≡◌, ◌↔◌, ◌<◌, ◌+◌, ℕ, List, [], length, take, drop, None};
-ghost use Rattle.std.specs.Prelude.{Some, IsTrue, IsSomeAnd, slice_get};
+ghost use Rattle.std.specs.Prelude.{◌≡◌, ◌↔◌, ◌<◌, ◌+◌, ℕ, List, [], length, take, drop, None, Some, IsTrue, IsSomeAnd, slice_get, Ok, IfOk, IfErr};
 ghost use Rattle.tv_field.specs.Entry.{Entry, record_option};
 ghost use Rattle.tv_schema.specs.Path.{is_splitting_dot, field_of_prefix, find};
 ghost use Rattle.tv_schema.specs.Schema.{IsSchema, field_named};
 ghost use Rattle.tv_field.specs.declared.field_type.FieldType.{FieldType};
+ghost use Rattle.tv_schema.specs.SchemaJson.{schema_json};
+ghost use Rattle.tv_schema.specs.SchemaJsonReading.{schema_of};
+ghost use Rattle.tv_field.specs.declared.field_entry.SchemaError.TheVariants.{Memory};
 
 use crate::schema::Schema;
-use tv_field::field_entry::FieldEntry;
-use tv_field::field_type::FieldType;
+use std::alloc::Global;
+use tv_field::{FieldEntry, FieldType, SchemaError};
 use tv_options::laws::{
     comparisons_of_facet_options_agree, comparisons_of_flag_options_agree,
     comparisons_of_textual_options_agree,
@@ -78,3 +80,24 @@ pub fn the_last_dot_counts()
         → field_of_prefix schema (take place path) ≡ None)
         → find schema path ≡ None }
 {}
+
+/// What is written of a schema is read as that schema.
+pub fn written_schemas_are_read_back()
+    ensures { (schema : List Entry) → IsSchema schema → schema_of (schema_json schema) ≡ Ok schema }
+{}
+
+/// Schemas with the same JSON are the same.
+pub fn written_schemas_tell_all()
+    ensures { (one other : List Entry) → IsSchema one → IsSchema other
+        → schema_json one ≡ schema_json other → one ≡ other }
+{}
+
+/// What a schema prints is read as that schema, and nothing but memory is refused on the way.
+pub fn printed_schema_is_read_back(alloc: Global, schema: &Schema) -> Result<Schema, SchemaError>
+    ensures ok { IfOk result (λ again. again ≡ schema.now) }
+    ensures err { IfErr result (λ error. error ≡ Memory) }
+{
+    let _fields = schema.num_fields();
+    let description = schema.to_json_value()?;
+    Schema::from_json_value(alloc, &description)
+}

@@ -8,7 +8,7 @@ ghost use Rattle.tv_schema.specs.Path.{field_of_prefix, parted_at, find};
 ghost use Rattle.tv_schema.specs.Schema.{field_named};
 
 use crate::table::FieldTable;
-use tv_base::escapes::{is_unescaped_at, unescapes_to};
+use tv_base::json_path::{is_unescaped_at, unescapes_to};
 use tv_base::laws::texts_without_backslashes_have_no_escapes;
 
 // The field that the path names, and the rest of the path.

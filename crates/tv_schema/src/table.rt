@@ -1,8 +1,6 @@
 //! The entries of a schema, and their numbers by name.
 
-ghost use Rattle.std.specs.Prelude.{◌≡◌, ◌<◌, ◌+◌, ◌^◌, ◌++◌, ◌∷◌, [], length, None, Some, IfOk};
-ghost use Rattle.std.specs.Prelude.{ℕ, List};
-ghost use Rattle.std.specs.Prelude.{IfSome, OnOk, OnErr, slice_get, vec_len};
+ghost use Rattle.std.specs.Prelude.{◌≡◌, ◌<◌, ◌+◌, ◌^◌, ◌++◌, ◌∷◌, [], length, None, Some, IfOk, ℕ, List, IfSome, OnOk, OnErr, slice_get, vec_len};
 ghost use Rattle.tv_field.specs.Entry.{IsValidName};
 ghost use Rattle.tv_schema.specs.Path.{field_of_prefix};
 ghost use Rattle.tv_schema.specs.Schema.{IsSchema, field_named};
@@ -10,7 +8,7 @@ ghost use Rattle.tv_schema.specs.Schema.{IsSchema, field_named};
 use std::alloc::{AllocError, Global};
 use std::collections::HashMap;
 use std::marker::Model;
-use tv_field::field_entry::FieldEntry;
+use tv_field::FieldEntry;
 
 // The entries, and the number of each name.
 #[derive(Debug)]

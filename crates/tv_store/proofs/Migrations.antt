@@ -14,8 +14,8 @@ use Rattle.tv_format.specs.Short.{short_document}
 use Rattle.tv_format.specs.Tree.{Document}
 use Rattle.tv_format.specs.Version.{Version, IsWritten}
 use Rattle.tv_format.specs.WriteVersion.{written_version}
-use Rattle.tv_format.specs.declared.version.WriteVersion.{WriteVersion}
-use Rattle.tv_format.specs.declared.version.WriteVersion.TheVariants as versions
+use Rattle.tv_format.specs.declared.leaf_type.WriteVersion.{WriteVersion}
+use Rattle.tv_format.specs.declared.leaf_type.WriteVersion.TheVariants as versions
 use Rattle.tv_heap.specs.Room.{document_room}
 use Rattle.tv_reader.specs.Legacy.{Legacy}
 use Rattle.tv_reader.specs.Error.{store_stop}

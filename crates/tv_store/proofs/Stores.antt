@@ -7,7 +7,7 @@ use Rattle.tv_base.specs.Number.{four_bytes}
 use Rattle.tv_base.specs.Source.{Failures}
 use Rattle.tv_base.specs.Sink.{WritesBy}
 use Rattle.tv_base.specs.Writing.{io_stop}
-use Rattle.tv_base.specs.declared.write_error.WriteError.{WriteError}
+use Rattle.tv_base.specs.declared.cause.WriteError.{WriteError}
 use Rattle.tv_field.specs.Entry.{Entry}
 use Rattle.tv_format.specs.Tree.{Tree, Document}
 use Rattle.tv_format.specs.Short.{short, short_pair}

@@ -8,8 +8,7 @@ ghost use Rattle.tv_value.specs.Nesting.{AllNestWithin, NestsWithin};
 use std::alloc::{AllocError, Global};
 use tv_doc::document::CompactDoc;
 use tv_value::children::Children;
-use tv_value::nested::{Nested, lend};
-use tv_value::nesting::{MAX_DEPTH, nests_within};
+use tv_value::nested::{MAX_DEPTH, Nested, lend, nests_within};
 use tv_value::value::Value;
 
 // Whether each child that is left of a list nests within this many lists. The open lists stand on a stack in memory.

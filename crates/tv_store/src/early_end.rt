@@ -19,7 +19,7 @@ pub trait EarlyEnd {
 
 impl EarlyEnd for ReadError {
     ghost use Rattle.tv_base.specs.declared.cause.Cause.TheVariants.{UnexpectedEnd};
-    ghost use Rattle.tv_base.specs.declared.read_error.ReadError.TheVariants.{Corrupted};
+    ghost use Rattle.tv_base.specs.declared.cause.ReadError.TheVariants.{Corrupted};
 
     ghost early_end = { Corrupted UnexpectedEnd };
 

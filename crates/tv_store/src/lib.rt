@@ -32,7 +32,8 @@ pub use projection::Projection;
 pub use se::{
     BinaryArraySerializer, BinaryDocumentSerializer, BinaryObjectSerializer, BinaryValueSerializer,
 };
-pub use tv_reader::{DeserializeError, DocStoreVersion, ValueType, type_codes};
+pub use tv_format::type_codes;
+pub use tv_reader::{DeserializeError, DocStoreVersion, ValueType};
 pub use tv_typed::{
     BinaryArrayDeserializer, BinaryDocumentDeserializer, BinaryObjectDeserializer,
     BinaryValueDeserializer, DocumentDeserializer, StoreReader, ValueDeserialize, ValueVisitor,

@@ -13,7 +13,7 @@ use std::alloc::Global;
 use thiserror::Error;
 use tv_base::{ByteSink, ByteSource, WriteError};
 use tv_doc::laws::documents_are_valid;
-use tv_format::version::WriteVersion;
+use tv_format::WriteVersion;
 use tv_reader::{DeserializeError, DocStoreVersion};
 use tv_writer::SerializeError;
 

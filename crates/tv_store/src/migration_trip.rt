@@ -15,7 +15,7 @@ use crate::round_trip::{RoundTripError, read_back};
 use std::alloc::Global;
 use tv_base::{SliceSource, VecSink};
 use tv_doc::document::CompactDoc;
-use tv_format::version::WriteVersion;
+use tv_format::WriteVersion;
 use tv_reader::laws::documents_have_one_reading;
 use tv_reader::{DeserializeError, DocStoreVersion};
 use tv_writer::SerializeError;

@@ -17,11 +17,11 @@ use tv_base::ByteSink;
 use tv_base::write::write_vint;
 use tv_doc::document::CompactDoc;
 use tv_doc::laws::documents_are_valid;
-use tv_format::version::WriteVersion;
+use tv_format::WriteVersion;
 use tv_heap::value::CompactDocValue;
 use tv_schema::Schema;
 use tv_value::field::Field;
-use tv_value::nesting::MAX_DEPTH;
+use tv_value::nested::MAX_DEPTH;
 use tv_writer::SerializeError;
 pub use tv_writer::serializers::{
     BinaryArraySerializer, BinaryObjectSerializer, BinaryValueSerializer,

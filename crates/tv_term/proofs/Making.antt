@@ -3,7 +3,7 @@ use Rattle.std.specs.Prelude.{◌≡◌, ◌≢◌, ◌++◌, ◌∷◌, [], Lis
 use Rattle.std.proofs.Common.{sym, ◌∙◌}
 use Rattle.tv_term.specs.Key.{TermValue, AppendsCoded, payload, value_code}
 use Rattle.tv_term.specs.Making.{AppendsValue, NulOrMemory, OnlyMemory}
-use Rattle.tv_term.specs.declared.term_error.TermError.{TermError}
+use Rattle.tv_term.specs.declared.term.TermError.{TermError}
 
 -- a path without U+0000 leaves no error but that memory was refused
 pub without_nul : {T HasNoNul : Type 0} (r : Result T TermError) → HasNoNul → OnlyMemory r → NulOrMemory HasNoNul r

@@ -33,8 +33,8 @@ use Rattle.tv_term.specs.Key.{TermValue, Date, Json, HasNoZero, IsTerm, IsJsonTe
 use Rattle.tv_term.specs.Range.{HasTerms, IsAtPath}
 use Rattle.tv_term.specs.Segments.{HaveNoZero, joined_segments}
 use Rattle.tv_term.specs.declared.range.TermRange.{TermRange}
-use Rattle.tv_term.specs.declared.term_error.TermError.{TermError}
-use Rattle.tv_term.specs.declared.term_error.TermError.TheVariants.{Memory, NulInPath}
+use Rattle.tv_term.specs.declared.term.TermError.{TermError}
+use Rattle.tv_term.specs.declared.term.TermError.TheVariants.{Memory, NulInPath}
 
 -- ---- errors
 

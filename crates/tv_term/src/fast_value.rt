@@ -5,15 +5,13 @@ ghost use Rattle.std.specs.Ordering.{nat_cmp};
 ghost use Rattle.tv_options.specs.declared.types.TypeTag.{TypeTag};
 ghost use Rattle.tv_options.specs.declared.types.TypeTag.TheVariants as tag;
 ghost use Rattle.tv_term.specs.FastValue.{IsFastType, StandsAs};
-ghost use Rattle.tv_term.specs.FastValueLaws.{from_least-order, from_least-fits};
-ghost use Rattle.tv_term.specs.FastValueLaws.{signed_at-from_least, truth_number-order};
-ghost use Rattle.tv_term.specs.FastValueLaws.{truth_number-fits, is_true-truth_number, date-again};
-ghost use Rattle.tv_term.specs.Key.{TermValue, Unsigned, Signed, Truth, Date, Fits, from_least};
-ghost use Rattle.tv_term.specs.Key.{truth_number};
+ghost use Rattle.tv_term.specs.FastValueLaws.{from_least-order, from_least-fits, signed_at-from_least, truth_number-order, truth_number-fits};
+ghost use Rattle.tv_term.specs.FastValueLaws.{is_true-truth_number, date-again};
+ghost use Rattle.tv_term.specs.Key.{TermValue, Unsigned, Signed, Truth, Date, Fits, from_least, truth_number};
 ghost use Rattle.tv_term.specs.Reading.{signed_at, is_true};
 
+use tv_date::DateTime;
 use tv_options::Type;
-use tv_value::date_time::DateTime;
 
 /// A value that stands in a term as a number of eight bytes, whose order is the order of the values.
 ///

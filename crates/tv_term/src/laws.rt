@@ -2,8 +2,7 @@
 //! Where a law has a `Result` and says nothing of errors, its error is `Memory`. One that is given a path into JSON objects
 //! returns `NulInPath` exactly where the path has U+0000, and else has that error.
 
-ghost use Rattle.std.specs.Prelude.{◌≡◌, ◌↔◌, ℕ, ℤ, FitsSigned, Bool, List, [], ◌<◌, ◌^◌, ◌++◌};
-ghost use Rattle.std.specs.Prelude.{◌∷◌, Some, IsTrue, IsUtf8, option_map};
+ghost use Rattle.std.specs.Prelude.{◌≡◌, ◌↔◌, ℕ, ℤ, FitsSigned, Bool, List, [], ◌<◌, ◌^◌, ◌++◌, ◌∷◌, Some, IsTrue, IsUtf8, option_map};
 ghost use Rattle.std.specs.Int.{to_be_bytes, w64, w128};
 ghost use Rattle.std.specs.Net.Addr.{IsIpv6Addr, ipv6_bits, ipv6_segments, segments_of};
 ghost use Rattle.std.specs.Option.{option_copied};
@@ -12,23 +11,19 @@ ghost use Rattle.std.specs.declared.net.ipv6_addr.Ipv6Addr.{Ipv6Addr};
 ghost use Rattle.tv_base.specs.JsonPath.{joined_path};
 ghost use Rattle.tv_options.specs.declared.types.TypeTag.TheVariants as tag;
 ghost use Rattle.tv_term.specs.FastValue.{IsFastType};
-ghost use Rattle.tv_term.specs.Key.{TermValue, Text, Unsigned, Signed, Truth, Date, Facet, Bytes};
-ghost use Rattle.tv_term.specs.Key.{Address, Json, Fits, HasNoZero, IsTerm, IsJsonTerm, AppendsCoded};
+ghost use Rattle.tv_term.specs.Key.{TermValue, Text, Unsigned, Signed, Truth, Date, Facet, Bytes, Address, Json, Fits, HasNoZero, IsTerm, IsJsonTerm};
+ghost use Rattle.tv_term.specs.Key.{AppendsCoded, tag_of, coded_value, term, value_cmp};
 ghost use Rattle.tv_term.specs.Making.{GivesExactly, GivesAtPath, GivesTermAtPath, GivesTextAtPath};
-ghost use Rattle.tv_term.specs.Key.{tag_of, coded_value, term, value_cmp};
-ghost use Rattle.tv_term.specs.Reading.{unsigned_of, signed_of, truth_of, date_of, bytes_of};
-ghost use Rattle.tv_term.specs.Reading.{address_of, payload_of};
-ghost use Rattle.tv_term.specs.Reading.{json_parts, json_type, json_path};
+ghost use Rattle.tv_term.specs.Reading.{unsigned_of, signed_of, truth_of, date_of, bytes_of, address_of, payload_of, json_parts, json_type, json_path};
 
 use crate::fast_value::FastValue;
-use crate::term::Term;
-use crate::term_error::TermError;
+use crate::term::{Term, TermError};
 use crate::value_bytes::ValueBytes;
 use std::alloc::Global;
 use std::cmp::Ordering;
 use std::hash::Hash;
 use tv_options::Type;
-use tv_value::field::Field;
+use tv_value::Field;
 
 /// The type of a fast value is one of values of eight bytes.
 pub fn fast_types_are_of_eight_bytes<T: FastValue>() -> Type

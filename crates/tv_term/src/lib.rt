@@ -6,13 +6,11 @@ pub mod laws;
 pub mod range;
 pub mod term;
 mod term_debug;
-pub mod term_error;
 pub mod value_bytes;
 pub mod writer;
 
 pub use fast_value::FastValue;
 pub use range::{TermRange, successor};
-pub use term::Term;
-pub use term_error::TermError;
+pub use term::{Term, TermError};
 pub use value_bytes::{OwnedValueBytes, ValueBytes};
 pub use writer::TermWriter;

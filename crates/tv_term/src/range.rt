@@ -1,29 +1,25 @@
 //! Ranges of terms, as a term dictionary goes over them.
 
-ghost use Rattle.std.specs.Prelude.{◌≡◌, ◌↔◌, ◌≤◌, ◌<◌, ◌+◌, ◌++◌, ◌∷◌, [], ℕ, IsTrue, IfOk, length, option_map};
-ghost use Rattle.std.specs.Prelude.{false, slice_index, true};
+ghost use Rattle.std.specs.Prelude.{◌≡◌, ◌↔◌, ◌≤◌, ◌<◌, ◌+◌, ◌++◌, ◌∷◌, [], ℕ, IsTrue, IfOk, length, option_map, false, slice_index, true};
 ghost use Rattle.std.specs.List.Sorted.{IsPartitionPoint};
-ghost use Rattle.tv_term.specs.Making.{GivesPathRange, GivesRange, GivesRangeIf};
+ghost use Rattle.tv_term.specs.Making.{GivesPathRange, GivesRange, GivesRangeIf, date_value, second_within};
 ghost use Rattle.tv_term.specs.Within.{HasJust, IsRising, ends_below, is_below};
-ghost use Rattle.tv_term.specs.Range.{EndsPrefix, HasPrefixed, HasTerms, IsIn, HasPayloadPrefix};
-ghost use Rattle.tv_term.specs.Range.{IsOfField, IsOfType, HasTextPrefix, IsBelowFacet, HasLonger};
+ghost use Rattle.tv_term.specs.Range.{EndsPrefix, HasPrefixed, HasTerms, IsIn, HasPayloadPrefix, IsOfField, IsOfType, HasTextPrefix, IsBelowFacet, HasLonger};
 ghost use Rattle.tv_term.specs.Range.{AreTermsOf, IsBetween, LeavesBetween, LeavesFrom, LeavesTo};
 ghost use Rattle.std.specs.Range.Bound.{bound_map};
 ghost use Rattle.std.specs.declared.ops.Bound.TheVariants.{Excluded, Included};
 ghost use Rattle.tv_options.specs.declared.types.TypeTag.TheVariants.{Date as DateTag};
-ghost use Rattle.tv_term.specs.Making.{date_value, second_within};
 
 use crate::fast_value::FastValue;
-use crate::term::Term;
-use crate::term_error::TermError;
+use crate::term::{Term, TermError};
 use std::alloc::{AllocError, Global};
 use std::convert::AsSlice;
 use std::fmt;
 use std::ops::{Bound, RangeBounds};
 use tv_base::{FACET_SEP_BYTE, Facet};
+use tv_date::DateTime;
 use tv_options::{DATE_TIME_PRECISION_INDEXED, Type};
-use tv_value::date_time::DateTime;
-use tv_value::field::Field;
+use tv_value::Field;
 
 /// The byte strings from one on, up to another one, in the order of terms. (Not in tantivy.) A term dictionary looks for the start, and
 /// goes on up to the end.

@@ -1,24 +1,18 @@
-//! Terms.
+//! Terms, and why there is none.
 
-ghost use Rattle.std.specs.Prelude.{◌≡◌, ◌<◌, ◌≤◌, ◌+◌, ◌^◌, ◌++◌, ◌∷◌, ◌↔◌, [], length, take};
-ghost use Rattle.std.specs.Prelude.{drop, Err, IfOk, MatchBool, OnOk, OnErr, IsTrue};
-ghost use Rattle.std.specs.Prelude.{slice_index, option_map, string_bytes, vec_capacity};
-ghost use Rattle.std.specs.Prelude.{Some};
+ghost use Rattle.std.specs.Prelude.{◌≡◌, ◌<◌, ◌≤◌, ◌+◌, ◌^◌, ◌++◌, ◌∷◌, ◌↔◌, [], length, take, drop, Err, IfOk, MatchBool, OnOk, OnErr, IsTrue, slice_index};
+ghost use Rattle.std.specs.Prelude.{option_map, string_bytes, vec_capacity, Some};
 ghost use Rattle.std.specs.Int.{to_be_bytes, w32};
 ghost use Rattle.std.specs.Net.Addr.{ipv6_bits};
 ghost use Rattle.std.specs.Option.{option_copied};
 ghost use Rattle.tv_options.specs.Types.{code, type_of_code};
-ghost use Rattle.tv_term.specs.Key.{HasNoZero};
+ghost use Rattle.tv_term.specs.Key.{HasNoZero, IsTerm, Text, Unsigned, Signed, Truth, Date, Facet as FacetValue, Bytes, Address, json_number};
 ghost use Rattle.tv_term.specs.Segments.{HaveNoZero, joined_segments};
-ghost use Rattle.tv_term.specs.Key.{IsTerm, Text, Unsigned, Signed, Truth};
-ghost use Rattle.tv_term.specs.Key.{Date, Facet as FacetValue, Bytes, Address, json_number};
-ghost use Rattle.tv_term.specs.Making.{AppendsValue, GivesExactly, GivesPathTerm};
-ghost use Rattle.tv_term.specs.Making.{GivesSegmentsTerm, GivesTerm, indexed_date};
+ghost use Rattle.tv_term.specs.Making.{AppendsValue, GivesExactly, GivesPathTerm, GivesSegmentsTerm, GivesTerm, indexed_date};
 ghost use Rattle.tv_term.specs.Reading.{field_of, value_of, ReadsPath, IsFullPathIn, dotted};
-ghost use Rattle.tv_term.specs.declared.term_error.TermError.TheVariants.{TooShort};
+ghost use Rattle.tv_term.specs.declared.term.TermError.TheVariants.{TooShort};
 
 use crate::fast_value::FastValue;
-use crate::term_error::TermError;
 use crate::value_bytes::ValueBytes;
 use std::alloc::{AllocError, Global};
 use std::cmp::Ordering;
@@ -26,12 +20,37 @@ use std::convert::AsSlice;
 use std::hash::{Hash, Hasher};
 use std::marker::Model;
 use std::net::Ipv6Addr;
-use tv_base::Facet;
-use tv_base::json_path::joined_json_path;
+use thiserror::Error;
+use tv_base::{Facet, joined_json_path};
+use tv_date::DateTime;
 use tv_options::{DATE_TIME_PRECISION_INDEXED, Type};
 use tv_schema::Schema;
-use tv_value::date_time::DateTime;
-use tv_value::field::Field;
+use tv_value::Field;
+
+/// Why there is no term, or no value bytes.
+#[derive(Clone, Copy, Debug, PartialEq, Eq, Error)]
+pub enum TermError {
+    /// A term has at least five bytes, and value bytes are at least one.
+    #[error("there are too few bytes")]
+    TooShort,
+    /// Memory was refused.
+    #[error("memory was refused")]
+    Memory,
+    /// A path into JSON objects has U+0000, which ends the path in a term.
+    #[error("the path has U+0000")]
+    NulInPath,
+}
+
+impl From<AllocError> for TermError {
+    ghost use Rattle.std.specs.Prelude.{◌≡◌};
+    ghost use Rattle.tv_term.specs.declared.term.TermError.TheVariants.{Memory};
+
+    ghost from_gives = { λ _ error. error ≡ Memory };
+
+    fn from(_: AllocError) -> TermError {
+        TermError::Memory
+    }
+}
 
 // The least number that fits no signed one of 64 bits.
 const SIGNED_END: u64 = 1 << 63;

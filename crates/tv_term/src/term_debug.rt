@@ -6,9 +6,8 @@ ghost use Rattle.std.specs.Net.Addr.{ipv6_segments};
 ghost use Rattle.std.specs.Net.Text.{ipv6_text};
 ghost use Rattle.std.specs.Option.{option_and_then, option_copied};
 ghost use Rattle.tv_base.specs.Facet.{debug_printed};
-ghost use Rattle.tv_term.specs.Printed.{content_printed, path_printed, printed_or_nothing};
-ghost use Rattle.tv_term.specs.Printed.{term_printed, text_if_utf8, type_printed};
-ghost use Rattle.tv_term.specs.Printed.{typed_printed, value_printed};
+ghost use Rattle.tv_term.specs.Printed.{content_printed, path_printed, printed_or_nothing, term_printed, text_if_utf8, type_printed, typed_printed};
+ghost use Rattle.tv_term.specs.Printed.{value_printed};
 ghost use Rattle.tv_term.specs.Reading.{json_parts, json_path, type_at, value_behind};
 
 use crate::term::Term;

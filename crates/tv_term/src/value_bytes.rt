@@ -1,23 +1,20 @@
 //! The bytes of a term's value.
 
-ghost use Rattle.std.specs.Prelude.{◌≡◌, ◌<◌, ◌==◌, [], length, position, IfOk, IfSome};
-ghost use Rattle.std.specs.Prelude.{MatchResult, slice_index};
+ghost use Rattle.std.specs.Prelude.{◌≡◌, ◌<◌, ◌==◌, [], length, position, IfOk, IfSome, MatchResult, slice_index};
 ghost use Rattle.std.specs.Int.{w128, to_be_bytes};
 ghost use Rattle.std.specs.Net.Addr.{ipv6_segments, segments_of};
 ghost use Rattle.std.specs.Option.{option_copied, option_map};
-ghost use Rattle.tv_term.specs.Reading.{type_at, payload_of, number_of, address_of, json_parts};
-ghost use Rattle.tv_term.specs.Reading.{json_path, json_type, cut_behind_zero, value_behind};
-ghost use Rattle.tv_term.specs.Reading.{unsigned_of, signed_of, truth_of, date_of, bytes_of};
-ghost use Rattle.tv_term.specs.Reading.{ReadsText, ReadsStr, ReadsFacet};
-ghost use Rattle.tv_term.specs.declared.term_error.TermError.TheVariants.{TooShort};
+ghost use Rattle.tv_term.specs.Reading.{type_at, payload_of, number_of, address_of, json_parts, json_path, json_type, cut_behind_zero, value_behind};
+ghost use Rattle.tv_term.specs.Reading.{unsigned_of, signed_of, truth_of, date_of, bytes_of, ReadsText, ReadsStr, ReadsFacet};
+ghost use Rattle.tv_term.specs.declared.term.TermError.TheVariants.{TooShort};
 
 use crate::fast_value::FastValue;
-use crate::term_error::TermError;
+use crate::term::TermError;
 use std::alloc::{AllocError, Global};
 use std::net::Ipv6Addr;
 use tv_base::Facet;
+use tv_date::DateTime;
 use tv_options::Type;
-use tv_value::date_time::DateTime;
 
 /// The bytes of a term's value, at least one: the code of its type, and then its payload. In a term of a JSON field the payload
 /// is a path, U+0000, and then the bytes of the value there.

@@ -4,22 +4,18 @@ ghost use Rattle.std.specs.Prelude.{◌≡◌, ◌≢◌, ◌<◌, ◌^◌, ◌+
 ghost use Rattle.std.specs.Int.{to_be_bytes, w32};
 ghost use Rattle.std.specs.Net.Addr.{ipv6_bits};
 ghost use Rattle.tv_options.specs.Types.{code};
-ghost use Rattle.tv_term.specs.Key.{Text, Unsigned, Signed, Truth};
-ghost use Rattle.tv_term.specs.Key.{Date, Facet as FacetValue, Bytes, Address};
-ghost use Rattle.tv_term.specs.Making.{Makes, MakesTerm, MakesPathTerm, MakesSegmentsTerm};
-ghost use Rattle.tv_term.specs.Making.{AppendsValue, OnlyMemory, indexed_date};
+ghost use Rattle.tv_term.specs.Key.{Text, Unsigned, Signed, Truth, Date, Facet as FacetValue, Bytes, Address};
+ghost use Rattle.tv_term.specs.Making.{Makes, MakesTerm, MakesPathTerm, MakesSegmentsTerm, AppendsValue, OnlyMemory, indexed_date};
 
 use crate::fast_value::FastValue;
-use crate::term::{Term, has_nul, has_nul_among, push_segments};
-use crate::term_error::TermError;
+use crate::term::{Term, TermError, has_nul, has_nul_among, push_segments};
 use std::alloc::{AllocError, Global};
 use std::marker::Model;
 use std::net::Ipv6Addr;
-use tv_base::Facet;
-use tv_base::json_path::push_joined_json_path;
+use tv_base::{Facet, push_joined_json_path};
+use tv_date::DateTime;
 use tv_options::{DATE_TIME_PRECISION_INDEXED, Type};
-use tv_value::date_time::DateTime;
-use tv_value::field::Field;
+use tv_value::Field;
 
 /// Makes terms one after another in one buffer. (Not in tantivy.) A call takes memory only where the buffer is shorter than its term; so
 /// once it has held the longest one, no call takes any.

@@ -4,7 +4,7 @@ use Rattle.std.specs.Prelude.{is_err}
 use Rattle.std.specs.declared.alloc.Global.{Global}
 use Rattle.tv_base.specs.declared.cause.Cause.{Cause}
 use Rattle.tv_base.specs.declared.cause.Cause.TheVariants.{UnexpectedEnd}
-use Rattle.tv_base.specs.declared.read_error.ReadError.{ReadError}
+use Rattle.tv_base.specs.declared.cause.ReadError.{ReadError}
 use Rattle.tv_base.specs.Reading.{vint_at}
 use Rattle.tv_base.specs.Source.{AllBytes, Failures}
 use Rattle.tv_base.specs.Take.{TakesIf, MayStop}

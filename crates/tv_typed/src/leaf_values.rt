@@ -29,9 +29,9 @@ use std::alloc::Global;
 use std::net::Ipv6Addr;
 use tv_base::take::{take_bool, take_bytes, take_facet, take_i64, take_string, take_u64};
 use tv_base::{ByteSource, Facet, ReadError};
+use tv_date::date_time::DateTime;
 use tv_reader::leaves::{take_date, take_ip_address, take_tokenized};
 use tv_reader::{DeserializeError, ValueType};
-use tv_value::date_time::DateTime;
 use tv_value::owned_value::OwnedValue;
 use tv_value::tokenizer::PreTokenizedString;
 

@@ -18,7 +18,7 @@ use crate::object::{Entries, read_coded};
 use crate::store_reader::StoreReader;
 use std::alloc::{AllocError, Global};
 use tv_base::{ByteSource, Cause, SliceSource, VecSink};
-use tv_format::version::WriteVersion;
+use tv_format::WriteVersion;
 use tv_reader::trees::take_legacy_object;
 use tv_reader::{DeserializeError, DocStoreVersion, ValueType};
 use tv_value::owned_value::OwnedValue;

@@ -17,7 +17,7 @@ use tv_base::{ByteSource, ReadError};
 use tv_reader::trees::{take_entry_count, take_key};
 use tv_reader::value_type::take_kind;
 use tv_reader::{DeserializeError, DocStoreVersion, ValueType};
-use tv_value::nesting::MAX_DEPTH;
+use tv_value::nested::MAX_DEPTH;
 
 /// A source, the version of what it holds, how many bytes were taken of it, whether a read was refused, and how deep a value of any type
 /// may nest. After a refusal every later read returns `AlreadyFailed` and takes nothing.

@@ -16,8 +16,8 @@ use Rattle.tv_format.specs.Encoding.{NoLegacy, Key, ContentBody, LeafBody, Token
 use Rattle.tv_format.specs.Tree.{Leaf, Token, leaf}
 use Rattle.tv_format.specs.Version.{plain}
 use Rattle.tv_format.specs.WriteVersion.{written_version}
-use Rattle.tv_format.specs.declared.version.WriteVersion.{WriteVersion}
-use Rattle.tv_format.specs.declared.version.WriteVersion.TheVariants as versions
+use Rattle.tv_format.specs.declared.leaf_type.WriteVersion.{WriteVersion}
+use Rattle.tv_format.specs.declared.leaf_type.WriteVersion.TheVariants as versions
 use Rattle.tv_format.proofs.Prefixes.{begins_behind, begins_cut, small_take}
 
 pub eight_found : (bytes prefix rest : List ℕ) (n : ℕ) → ((i : ℕ) → get_or bytes i 0 < 256) → prefix ≡ take 8 bytes → rest ≡ drop 8 bytes → 8 ≤ length bytes → n ≡ from_le_bytes w64 prefix → Begins (λ b. Fixed 8 b n) bytes rest

@@ -8,8 +8,8 @@ use Rattle.serde_json.specs.Written.{has_float}
 use Rattle.serde_json.specs.declared.value.Value.{Value}
 use Rattle.tv_value.specs.Owned.{owned_tree}
 use Rattle.tv_format.specs.Tree.{Leaf, null, text, unsigned, signed, boolean, Tree, leaf, array, object, Elements, no_elements, element, Entries, no_entries, entry}
-use Rattle.tv_value.specs.declared.json_error.JsonError.{JsonError}
-use Rattle.tv_value.specs.declared.json_error.JsonError.TheVariants.{FloatNumber, Memory}
+use Rattle.tv_value.specs.declared.owned_value.JsonError.{JsonError}
+use Rattle.tv_value.specs.declared.owned_value.JsonError.TheVariants.{FloatNumber, Memory}
 use Rattle.tv_value.specs.declared.owned_value.OwnedValue.{OwnedValue}
 
 -- A whole number is a signed one where it fits 64 bits, else an unsigned one. A float counts as no value here.

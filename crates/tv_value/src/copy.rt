@@ -1,15 +1,44 @@
-//! Copies of lent values, that own what they hold.
+//! Copies of lent values, that own what they hold, and why none is made.
 
 ghost use Rattle.std.specs.Prelude.{◌≡◌, IfOk};
 ghost use Rattle.tv_format.specs.Tree.{array, object, elements, entries};
 ghost use Rattle.tv_value.specs.Lent.{nested_tree};
 ghost use Rattle.tv_value.specs.Owned.{owned_tree};
+ghost use Rattle.tv_value.specs.declared.copy.CopyError.TheVariants.{Memory};
 
 use crate::nested::{Nested, NestedValue, lend};
 use crate::owned_value::OwnedValue;
 use crate::value::Value;
-use std::alloc::{AllocError, Global};
+use std::alloc::{AllocError, AllocFailed, Global};
 use std::convert::AsStr;
+use thiserror::Error;
+
+/// Why no copy of a value is made. (Not in tantivy.)
+#[derive(Clone, Copy, Debug, PartialEq, Eq, Error)]
+pub enum CopyError {
+    /// It nests too deep.
+    #[error("the value nests too deep")]
+    TooDeep,
+    /// Memory was refused.
+    #[error("memory was refused")]
+    Memory,
+}
+
+impl From<AllocError> for CopyError {
+    ghost from_gives = { λ _ error. error ≡ Memory };
+
+    fn from(_error: AllocError) -> CopyError {
+        CopyError::Memory
+    }
+}
+
+impl<T: Drop> From<AllocFailed<T>> for CopyError {
+    ghost from_gives = { λ _ error. error ≡ Memory };
+
+    fn from(_error: AllocFailed<T>) -> CopyError {
+        CopyError::Memory
+    }
+}
 
 // A copy of a value and of all below it.
 #[cycle(copies)]

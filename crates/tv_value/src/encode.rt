@@ -10,8 +10,7 @@ ghost use Rattle.tv_value.specs.TokenRef.{ref_of};
 
 use crate::pre_tokenized::TokenRef;
 use std::alloc::AllocError;
-use tv_base::byte_buffer::ByteBuffer;
-use tv_base::vint::VInt;
+use tv_base::{ByteBuffer, VInt};
 
 /// Appends the shortest encoding of `number`. (Not in tantivy.) The only error is that memory was refused; the old bytes are then still a
 /// prefix. Memory grows as for one write of all of it.

@@ -12,15 +12,14 @@ ghost use Rattle.tv_format.specs.Encoding.{ContentBody, Key, TokenEncoding, Toke
 ghost use Rattle.tv_format.specs.Tree.{Token};
 ghost use Rattle.tv_format.specs.Version.{entry_total, plain};
 ghost use Rattle.tv_format.specs.WriteVersion.{written_version};
-ghost use Rattle.tv_format.specs.declared.version.WriteVersion.{WriteVersion};
+ghost use Rattle.tv_format.specs.declared.leaf_type.WriteVersion.{WriteVersion};
 
-use crate::content::LeafContent;
+use crate::leaf::LeafContent;
 use crate::pre_tokenized::{PreTokenizedStr, TokenRef};
 use crate::utf8::is_utf8_prefix;
-use tv_base::vint::VInt;
-use tv_format::leaf_type::Form;
+use tv_base::VInt;
 use tv_format::type_codes::{TEXT_CODE, TOK_STR_EXT_CODE};
-use tv_format::version::WriteVersion;
+use tv_format::{Form, WriteVersion};
 
 /// The number of variable length at the start of the bytes, and what follows it. None where no prefix encodes a number. (Not in tantivy.)
 #[inline]

@@ -6,8 +6,7 @@ ghost use Rattle.serde_json.specs.View.{view as data_of, number_view, items_view
 ghost use Rattle.serde_json.specs.Find.{is_float};
 ghost use Rattle.tv_value.specs.JsonTree.{number_leaf as number_leaf_of};
 ghost use Rattle.tv_value.specs.Lent.{leaf_of};
-ghost use Rattle.serde_json.specs.Written.{has_float as has_float_in, items_have_float};
-ghost use Rattle.serde_json.specs.Written.{members_have_float};
+ghost use Rattle.serde_json.specs.Written.{has_float as has_float_in, items_have_float, members_have_float};
 
 use crate::leaf::ReferenceValueLeaf;
 use crate::value::{ReferenceValue, Value};

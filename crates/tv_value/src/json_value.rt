@@ -1,10 +1,10 @@
-//! Values as JSON values.
+//! Values as JSON values, and the texts of those that JSON has no kind for.
 
-ghost use Rattle.std.specs.Prelude.{◌≡◌, ◌↔◌, IfOk, IsErrOf, OnOk};
+ghost use Rattle.std.specs.Prelude.{◌≡◌, ◌↔◌, IfOk, IsErrOf, OnOk, ◌++◌, string_bytes};
 ghost use Rattle.serde_json.specs.Data.{no_members, put};
 ghost use Rattle.serde_json.specs.View.{view as data_of, items_view, members_view};
-ghost use Rattle.tv_value.specs.JsonOf.{json_of, content_json, leaf_json, count_json, token_json};
-ghost use Rattle.tv_value.specs.JsonOf.{tokens_json, tokenized_json, elements_json, entries_json};
+ghost use Rattle.tv_value.specs.JsonOf.{json_of, content_json, leaf_json, count_json, token_json, tokens_json, tokenized_json, elements_json, entries_json};
+ghost use Rattle.tv_value.specs.JsonOf.{address_text, segments_text};
 ghost use Rattle.tv_value.specs.LeafParts.{content_of};
 ghost use Rattle.tv_value.specs.Lent.{leaf_of, nested_tree};
 ghost use Rattle.tv_value.specs.Nesting.{NestsWithin};
@@ -12,20 +12,72 @@ ghost use Rattle.tv_value.specs.PreTokenized.{text_of, tokens_of, tokens_left};
 ghost use Rattle.tv_value.specs.TokenRef.{ref_of};
 ghost use Rattle.tv_value.specs.Owned.{owned_tree};
 ghost use Rattle.tv_format.specs.Tree.{elements, entries};
+ghost use Rattle.std.specs.Net.Addr.{ipv6_bits, ipv6_segments};
+ghost use Rattle.base64.specs.Engines.{standard};
+ghost use Rattle.base64.specs.GeneralPurpose.{encode_of};
+ghost use Rattle.tv_base.specs.Facet.{printed};
+ghost use Rattle.tv_date.specs.Printed.{moment_text};
 
-use crate::content::LeafContent;
-use crate::copy_error::CopyError;
-use crate::ip_addr::address_of;
-use crate::leaf::ReferenceValueLeaf;
-use crate::leaf_text::{push_address, push_base64, push_date, push_facet};
-use crate::nested::{Lent, Nested, NestedValue};
-use crate::nesting::{MAX_DEPTH, nests_within};
+use crate::copy::CopyError;
+use crate::leaf::{LeafContent, ReferenceValueLeaf, address_of};
+use crate::nested::{Lent, MAX_DEPTH, Nested, NestedValue, nests_within};
 use crate::owned_value::OwnedValue;
 use crate::pre_tokenized::{PreTokenizedStr, TokenIter, TokenRef};
 use crate::value::Value;
+use base64::engine::general_purpose::STANDARD;
 use serde_json::{Map, Value as JsonValue};
 use std::alloc::{AllocError, Global};
 use std::convert::AsStr;
+use std::net::Ipv6Addr;
+use tv_base::Facet;
+use tv_date::DateTime;
+
+/// Appends the text of the moment `date`, as it is printed by RFC 3339. (Not in tantivy.) The only error is that memory was refused.
+#[inline]
+pub fn push_date(text: &mut String, date: DateTime) -> Result<(), AllocError>
+    ensures { OnOk result
+        (string_bytes text.new ≡ string_bytes text.old ++ moment_text date.nanoseconds) }
+{
+    date.push_rfc3339(text)
+}
+
+/// Appends the text that names the facet which is encoded as `encoded`. (Not in tantivy.) The only error is that memory was refused.
+#[inline]
+pub fn push_facet(text: &mut String, encoded: &str) -> Result<(), AllocError>
+    ensures { OnOk result (string_bytes text.new ≡ string_bytes text.old ++ printed encoded.now) }
+{
+    Facet::print_encoded(encoded, text)
+}
+
+/// Appends `bytes` in base64 by the standard alphabet of RFC 4648, with padding. (Not in tantivy.) The only error is that memory was refused.
+pub fn push_base64(text: &mut String, bytes: &[u8]) -> Result<(), AllocError>
+    ensures { OnOk result
+        (string_bytes text.new ≡ string_bytes text.old ++ encode_of standard bytes.now) }
+{
+    STANDARD.encode_string(bytes, text)
+}
+
+// An address of version 4 by that, another by version 6.
+#[tactic(auto, unfolding(crate::specs::JsonOf::segments_text))]
+fn push_segments(text: &mut String, address: Ipv6Addr) -> Result<(), AllocError>
+    ensures { OnOk result
+        (string_bytes text.new ≡ string_bytes text.old ++ segments_text (ipv6_segments address)) }
+{
+    match address.to_ipv4_mapped() {
+        Some(mapped) => write!(text, "{mapped}"),
+        None => write!(text, "{address}"),
+    }
+}
+
+/// Appends the text of `address`: that of version 4 where it is one (`::ffff:a.b.c.d`), else that of version 6. (Not in tantivy.) The only
+/// error is that memory was refused.
+pub fn push_address(text: &mut String, address: Ipv6Addr) -> Result<(), AllocError>
+    ensures { OnOk result
+        (string_bytes text.new ≡ string_bytes text.old ++ address_text (ipv6_bits address)) }
+{
+    let _segments = address.segments();
+    push_segments(text, address)
+}
 
 // Puts a member in.
 fn put_member(

@@ -1,22 +1,40 @@
-//! Values without children, lent.
+//! Values without children, lent: by their types, and what they hold; IP addresses of both versions as addresses of version 6.
 
-ghost use Rattle.std.specs.Prelude.{◌≡◌, ◌↔◌, IsTrue, IfSome, option_map};
+ghost use Rattle.std.specs.Prelude.{◌≡◌, ◌↔◌, IsTrue, IfSome, option_map, ℕ};
 ghost use Rattle.std.specs.Net.Addr.{ipv6_bits};
 ghost use Rattle.tv_value.specs.LeafParts.{content_of};
-ghost use Rattle.tv_format.specs.Leaves.{type_of, content, leaf_with, is_null, text_in, unsigned_in};
-ghost use Rattle.tv_format.specs.Leaves.{signed_in, boolean_in, date_in, facet_in, bytes_in};
+ghost use Rattle.tv_format.specs.Leaves.{type_of, content, leaf_with, is_null, text_in, unsigned_in, signed_in, boolean_in, date_in, facet_in, bytes_in};
 ghost use Rattle.tv_format.specs.Leaves.{ip_address_in, tokenized_in};
 ghost use Rattle.tv_value.specs.Lent.{leaf_of};
 ghost use Rattle.tv_value.specs.PreTokenized.{text_of, tokens_of, tokenized_leaf};
 ghost use Rattle.tv_format.specs.Tree.{text, unsigned, signed, boolean, date, bytes, ip_address};
 
-use crate::content::LeafContent;
-use crate::date_time::DateTime;
-use crate::ip_addr::address_of;
 use crate::pre_tokenized::PreTokenizedStr;
 use crate::same::same_leaf;
-use std::net::Ipv6Addr;
-use tv_format::leaf_type::LeafType;
+use std::net::{IpAddr, Ipv6Addr};
+use tv_date::DateTime;
+use tv_format::LeafType;
+
+/// What a value without children holds. Texts and bytes are borrowed. (Not in tantivy.)
+#[derive(Clone, Copy, Debug)]
+pub enum LeafContent<'a> {
+    /// Nothing.
+    Nothing,
+    /// A truth value.
+    Truth(bool),
+    /// A number from 0 to 2^64 - 1.
+    Unsigned(u64),
+    /// A number from -2^63 to 2^63 - 1.
+    Signed(i64),
+    /// A number from 0 to 2^128 - 1.
+    Wide(u128),
+    /// A text.
+    Text(&'a str),
+    /// Bytes.
+    Bytes(&'a [u8]),
+    /// A text and its tokens.
+    Tokens(PreTokenizedStr<'a>),
+}
 
 /// A value without children. Texts and bytes are borrowed.
 #[derive(Clone, Copy, Debug)]
@@ -298,5 +316,37 @@ impl<'a> From<PreTokenizedStr<'a>> for ReferenceValueLeaf<'a> {
 
     fn from(content: PreTokenizedStr<'a>) -> Self {
         ReferenceValueLeaf::PreTokStr(content)
+    }
+}
+
+/// The address of version 6 whose number this is. (Not in tantivy.)
+#[inline]
+pub fn address_of(bits: u128) -> Ipv6Addr
+    ensures { ipv6_bits result ≡ bits }
+{
+    Ipv6Addr::from_bits(bits)
+}
+
+/// What can be made an address of version 6.
+pub trait IntoIpv6Addr {
+    ghost number: { Self → ℕ };
+
+    /// The address as one of version 6.
+    fn into_ipv6_addr(self) -> Ipv6Addr
+        ensures { ipv6_bits result ≡ number self };
+}
+
+impl IntoIpv6Addr for IpAddr {
+    ghost use Rattle.tv_value.specs.IpAddress.{address_number};
+
+    ghost number = { address_number };
+
+    /// The address of version 4 as `::ffff:a.b.c.d`, that of version 6 as it is.
+    #[tactic(auto, unfolding(std::specs::Net::Addr::ipv6_bits))]
+    fn into_ipv6_addr(self) -> Ipv6Addr {
+        match self {
+            IpAddr::V4(address) => address.to_ipv6_mapped(),
+            IpAddr::V6(address) => address,
+        }
     }
 }

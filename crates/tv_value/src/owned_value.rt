@@ -1,16 +1,14 @@
-//! Values that own what they hold, and how they are lent.
+//! Values that own what they hold, and how they are lent; why a JSON value is none.
 
 ghost use Rattle.std.specs.Prelude.{◌≡◌, ◌↔◌, ℕ, List, map, IfOk, IsErrOf, OnOk};
 ghost use Rattle.std.specs.Iterator.{YieldsFirstRef, YieldsFirstBy, item_count};
+ghost use Rattle.tv_value.specs.declared.owned_value.JsonError.TheVariants.{Memory};
 
-use crate::copy::copy_of;
-use crate::copy_error::CopyError;
-use crate::date_time::DateTime;
+use crate::copy::{CopyError, copy_of};
 use crate::json::has_float;
-use crate::json_error::JsonError;
 use crate::leaf::ReferenceValueLeaf;
 use crate::moved::moved;
-use crate::nesting::{MAX_DEPTH, nests_within};
+use crate::nested::{MAX_DEPTH, nests_within};
 use crate::pre_tokenized::PreTokenizedStr;
 use crate::same::same_values;
 use crate::tokenizer::PreTokenizedString;
@@ -18,7 +16,28 @@ use crate::value::{ReferenceValue, Value};
 use serde_json::Value as JsonValue;
 use std::alloc::{AllocError, Global};
 use std::net::Ipv6Addr;
+use thiserror::Error;
 use tv_base::Facet;
+use tv_date::DateTime;
+
+/// Why a JSON value is no value of a document.
+#[derive(Clone, Copy, Debug, PartialEq, Eq, Drop, Error)]
+pub enum JsonError {
+    /// A number in it isn't whole, or doesn't fit 64 bits.
+    #[error("a number that isn't a whole number of 64 bits")]
+    FloatNumber,
+    /// Memory was refused.
+    #[error("memory was refused")]
+    Memory,
+}
+
+impl From<AllocError> for JsonError {
+    ghost from_gives = { λ _ error. error ≡ Memory };
+
+    fn from(_error: AllocError) -> JsonError {
+        JsonError::Memory
+    }
+}
 
 /// A value that owns what it holds.
 #[derive(Debug, Drop)]

@@ -1,16 +1,19 @@
-//! Texts with their tokens, lent from where they are kept or encoded. A copy alone takes memory.
+//! Texts with their tokens, lent from where they are kept or encoded. A copy alone takes memory. Tokens that are gathered, each in its
+//! shortest encoding.
 
-ghost use Rattle.std.specs.Prelude.{◌≡◌, ◌↔◌, [], IfOk, IsTrue, length};
-ghost use Rattle.tv_format.specs.Short.{IsText};
+ghost use Rattle.std.specs.Prelude.{◌≡◌, ◌↔◌, [], IfOk, IsTrue, length, ◌++◌, ◌∷◌, OnOk, OnErr};
+ghost use Rattle.tv_format.specs.Short.{IsText, short_token};
 ghost use Rattle.tv_format.specs.ShortLaws.{IsText-prop};
 ghost use Rattle.tv_value.specs.HeldTokens.{HeldTokens, HeldTokens-prop, token_of};
 ghost use Rattle.tv_value.specs.TokenRef.{ref_of};
+ghost use Rattle.std.specs.List.{flat_map};
 
-use crate::encoded_tokens::EncodedTokens;
+use crate::encode::push_token;
 use crate::in_place::{behind_tokens, number_at, text_at, token_at};
 use crate::tokenizer::{PreTokenizedString, Token};
 use std::alloc::{AllocError, Global};
 use std::fmt;
+use tv_base::ByteBuffer;
 
 /// A token that is lent (not in tantivy). Offsets are in bytes of the text that it is a token of.
 #[derive(Clone, Copy, Debug, PartialEq, Eq)]
@@ -254,4 +257,54 @@ impl Eq for PreTokenizedStr<'_> {
     ghost use Rattle.tv_value.specs.SameTokensLaws.{tokenized_eq-Decides, deciding_equiv};
 
     ghost laws = { on_equiv parts_of (deciding_equiv tokenized_eq-Decides) };
+}
+
+/// Tokens in their shortest encoding, one after the other (not in tantivy).
+#[derive(Debug, Drop)]
+pub struct EncodedTokens {
+    pub(crate) bytes: ByteBuffer,
+    pub(crate) count: u64,
+    pub ghost held: { HeldTokens [] bytes.items count } by { HeldTokens-prop [] bytes.items count },
+    pub ghost short: { bytes.items ≡ flat_map short_token held.0 },
+}
+
+impl EncodedTokens {
+    ghost use Rattle.tv_value.specs.PreTokenized.{text_of, tokens_of};
+    ghost use Rattle.tv_value.specs.EncodedTokens.{gathered};
+
+    /// No tokens. It takes no memory.
+    pub fn new(alloc: Global) -> EncodedTokens
+        ensures { gathered result ≡ [] }
+    {
+        EncodedTokens {
+            bytes: ByteBuffer::new(alloc),
+            count: 0,
+        }
+    }
+
+    /// Adds a token. The only error is that memory was refused; the tokens stay what they were then.
+    pub fn push(&mut self, token: TokenRef<'_>) -> Result<(), AllocError>
+        ensures ok { OnOk result (gathered self.new ≡ gathered self.old ++ ref_of token.entry ∷ []) }
+        ensures err { OnErr result (gathered self.new ≡ gathered self.old) }
+    {
+        let len = self.bytes.len();
+        match push_token(&mut self.bytes, token) {
+            Ok(()) => {
+                self.count += 1;
+                Ok(())
+            }
+            Err(refused) => {
+                self.bytes.truncate(len);
+                Err(refused)
+            }
+        }
+    }
+
+    /// The tokens with a text, lent.
+    pub fn with_text<'a>(&'a self, text: &'a str) -> PreTokenizedStr<'a>
+        ensures text { text_of result ≡ text.now }
+        ensures tokens { tokens_of result ≡ gathered self.now }
+    {
+        PreTokenizedStr::of_encoded(text, self)
+    }
 }

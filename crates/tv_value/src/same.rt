@@ -9,10 +9,8 @@ ghost use Rattle.tv_value.specs.Same.{content_eq, leaf_eq, tree_eq};
 ghost use Rattle.tv_value.specs.SameChildren.{key_eq, children_eq};
 
 use crate::children::Children;
-use crate::content::LeafContent;
-use crate::leaf::ReferenceValueLeaf;
-use crate::nested::{Nested, NestedValue, lend};
-use crate::nesting::{MAX_DEPTH, TooDeep, nests_within};
+use crate::leaf::{LeafContent, ReferenceValueLeaf};
+use crate::nested::{MAX_DEPTH, Nested, NestedValue, TooDeep, lend, nests_within};
 use crate::value::Value;
 use std::convert::AsStr;
 

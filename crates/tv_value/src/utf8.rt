@@ -1,7 +1,6 @@
 //! Whether bytes are UTF-8, where others stand after them.
 
-ghost use Rattle.std.specs.Prelude.{◌≡◌, ℕ, ◌-◌, ◌<◌, ◌≤◌, ◌↔◌, ◌++◌, length, take, replicate};
-ghost use Rattle.std.specs.Prelude.{slice_index, IsTrue};
+ghost use Rattle.std.specs.Prelude.{◌≡◌, ℕ, ◌-◌, ◌<◌, ◌≤◌, ◌↔◌, ◌++◌, length, take, replicate, slice_index, IsTrue};
 ghost use Rattle.std.specs.Int.Bits.{bit_and};
 ghost use Rattle.std.specs.Str.{IsAscii, IsUtf8};
 

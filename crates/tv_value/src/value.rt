@@ -5,16 +5,15 @@ ghost use Rattle.std.specs.Borrow.{Bor};
 ghost use Rattle.std.specs.Iterator.{IsFinite, YieldsFirstBy};
 ghost use Rattle.std.specs.Net.Addr.{ipv6_bits};
 ghost use Rattle.tv_value.specs.Cases.{leaf_in, elements_in, entries_in, is_null_leaf, in_leaf};
-ghost use Rattle.tv_format.specs.Leaves.{text_in, unsigned_in, signed_in, boolean_in, date_in};
-ghost use Rattle.tv_format.specs.Leaves.{facet_in, bytes_in, ip_address_in, tokenized_in};
+ghost use Rattle.tv_format.specs.Leaves.{text_in, unsigned_in, signed_in, boolean_in, date_in, facet_in, bytes_in, ip_address_in, tokenized_in};
 ghost use Rattle.tv_value.specs.Lent.{leaf_of, tree_of, entry_of};
 ghost use Rattle.tv_value.specs.PreTokenized.{text_of, tokens_of};
 ghost use Rattle.tv_format.specs.Tree.{Tree, leaf, elements, entries};
 
-use crate::date_time::DateTime;
 use crate::leaf::ReferenceValueLeaf;
 use crate::pre_tokenized::PreTokenizedStr;
 use std::net::Ipv6Addr;
+use tv_date::DateTime;
 
 /// What a value is: a leaf, or an iterator over its children.
 #[derive(Drop)]

@@ -1,7 +1,7 @@
 -- Why a writer of the store stops.
 use Rattle.std.specs.Prelude.{ℕ, Result, List}
 use Rattle.tv_base.specs.declared.sink.ByteSink.{Ghosts}
-use Rattle.tv_base.specs.declared.write_error.WriteError.{WriteError}
+use Rattle.tv_base.specs.declared.cause.WriteError.{WriteError}
 use Rattle.tv_base.specs.Sink.{WritesBy}
 use Rattle.tv_base.specs.Stop.{Stop}
 use Rattle.tv_base.specs.Stop.Stop.{InputError, Failed, Short}

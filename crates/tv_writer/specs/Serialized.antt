@@ -6,7 +6,7 @@ use Rattle.tv_format.specs.Short.{short, IsValue}
 use Rattle.tv_format.specs.Tree.{Tree}
 use Rattle.tv_format.specs.Version.{Version}
 use Rattle.tv_value.specs.Nesting.{NestsWithin}
-use Rattle.tv_value.specs.declared.nesting.TheConstants.{MAX_DEPTH}
+use Rattle.tv_value.specs.declared.nested.TheConstants.{MAX_DEPTH}
 use Rattle.tv_writer.specs.Children.{short_key_of}
 use Rattle.tv_writer.specs.Error.{WritesStore, IsIo, IsIoOrMemory}
 use Rattle.tv_writer.specs.declared.serializers.SerializeError.{SerializeError}

@@ -14,7 +14,7 @@ use crate::serializers::SerializeError;
 use crate::value_writer::{child_count, write_child_key, write_head};
 use std::alloc::{AllocError, Global};
 use tv_base::ByteSink;
-use tv_format::version::WriteVersion;
+use tv_format::WriteVersion;
 use tv_value::children::Children;
 use tv_value::nested::{Nested, lend};
 use tv_value::value::Value;

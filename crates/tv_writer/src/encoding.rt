@@ -8,8 +8,8 @@ ghost use Rattle.tv_format.specs.Short.{IsContent, IsText, IsSized, IsValue};
 ghost use Rattle.tv_writer.specs.Children.{HasHead, IsKey};
 
 use std::convert::AsStr;
-use tv_value::content::LeafContent;
 use tv_value::laws::pre_tokenized_texts_encode;
+use tv_value::leaf::LeafContent;
 use tv_value::nested::{Nested, NestedValue, lend};
 use tv_value::value::Value;
 

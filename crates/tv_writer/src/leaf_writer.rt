@@ -19,8 +19,7 @@ use tv_base::write::{
 };
 use tv_base::{ByteSink, WriteError};
 use tv_format::type_codes::TOK_STR_EXT_CODE;
-use tv_value::content::LeafContent;
-use tv_value::leaf::ReferenceValueLeaf;
+use tv_value::leaf::{LeafContent, ReferenceValueLeaf};
 use tv_value::pre_tokenized::{PreTokenizedStr, TokenIter, TokenRef};
 
 /// Writes the code of a value.

@@ -18,8 +18,8 @@ use std::io;
 use thiserror::Error;
 use tv_base::write::write_vint;
 use tv_base::{ByteSink, WriteError};
-use tv_format::version::WriteVersion;
-use tv_value::nesting::{MAX_DEPTH, nests_within};
+use tv_format::WriteVersion;
+use tv_value::nested::{MAX_DEPTH, nests_within};
 use tv_value::value::Value;
 
 /// Why a value or a document couldn't be written.

@@ -9,7 +9,7 @@ use tv_blocks::{
     ValueRefusal, export_block, facet_of_text, find_field, import_lines, migrate_block,
     text_of_facet, text_of_term,
 };
-use tv_format::version::WriteVersion;
+use tv_format::WriteVersion;
 use tv_store::DocStoreVersion;
 
 // A schema with a field of each type that a line's answer is about.

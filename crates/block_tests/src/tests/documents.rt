@@ -9,7 +9,7 @@ use tv_blocks::{
     read_first_document, read_schema, write_document,
 };
 use tv_doc::parse_buffers::ParseBuffers;
-use tv_format::version::WriteVersion;
+use tv_format::WriteVersion;
 use tv_schema::Schema;
 use tv_store::DocStoreVersion;
 

@@ -2,9 +2,9 @@
 
 use std::alloc::{AllocError, Global};
 use std::test::Fail;
-use tv_value::copy_error::CopyError;
+use tv_value::copy::CopyError;
 use tv_value::leaf::ReferenceValueLeaf;
-use tv_value::nesting::{MAX_DEPTH, TooDeep, nests_within};
+use tv_value::nested::{MAX_DEPTH, TooDeep, nests_within};
 use tv_value::owned_value::OwnedValue;
 use tv_value::same::is_same;
 use tv_value::value::Value;

@@ -4,11 +4,11 @@ use std::alloc::{AllocError, Global};
 use std::test::Fail;
 use tv_doc::errors::DocParsingError;
 use tv_doc::document::CompactDoc;
-use tv_doc::json_expected::JsonExpected;
-use tv_doc::json_fault::JsonFaultKind;
 use tv_doc::parse_buffers::ParseBuffers;
 use tv_doc::json_object::text_fault;
 use tv_field::{SchemaError, ValueParsingError};
+use tv_json::json_expected::JsonExpected;
+use tv_json::json_fault::JsonFaultKind;
 use tv_options::STORED;
 use tv_schema::Schema;
 

@@ -5,14 +5,13 @@ ghost use Rattle.std.specs.Prelude.{[], ◌≢◌, IsTrue};
 use std::alloc::Global;
 use std::net::Ipv6Addr;
 use std::test::Fail;
-use tv_base::Facet;
-use tv_facets::{
-    DocumentFacet, FacetCount, FacetCountsError, count_child_documents, count_child_facets,
+use tv_base::{
+    DocumentFacet, Facet, FacetCount, FacetCountsError, count_child_documents, count_child_facets,
     greatest_counts,
 };
+use tv_date::date_time::DateTime;
 use tv_options::Type;
 use tv_term::{Term, TermError, TermRange, TermWriter};
-use tv_value::date_time::DateTime;
 use tv_value::field::Field;
 
 // Whether a call has put a term into the writer, and the same one as the other, which is dropped.

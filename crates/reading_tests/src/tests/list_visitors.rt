@@ -12,12 +12,12 @@ use std::alloc::Global;
 use std::net::Ipv6Addr;
 use std::test::Fail;
 use tv_base::{ByteSource, Cause, Facet, SliceSource};
+use tv_date::date_time::DateTime;
 use tv_reader::{DeserializeError, DocStoreVersion, ValueType};
 use tv_typed::{
     BinaryArrayDeserializer, BinaryObjectDeserializer, BinaryValueDeserializer, StoreReader,
     ValueDeserialize, ValueVisitor,
 };
-use tv_value::date_time::DateTime;
 use tv_value::tokenizer::PreTokenizedString;
 
 // Takes the numbers of an array, and no other value.

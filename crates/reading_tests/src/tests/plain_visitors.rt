@@ -8,12 +8,12 @@ ghost use Rattle.tv_typed.specs.Visits.{TellsNoFailure};
 use std::alloc::Global;
 use std::net::Ipv6Addr;
 use tv_base::{ByteSource, Facet, SliceSource};
+use tv_date::date_time::DateTime;
 use tv_reader::{DeserializeError, DocStoreVersion, ValueType};
 use tv_typed::{
     BinaryArrayDeserializer, BinaryObjectDeserializer, BinaryValueDeserializer, StoreReader,
     ValueVisitor,
 };
-use tv_value::date_time::DateTime;
 use tv_value::tokenizer::PreTokenizedString;
 
 // Takes each leaf, and says nothing of it.

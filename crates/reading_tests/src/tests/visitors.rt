@@ -6,12 +6,12 @@ ghost use Rattle.tv_typed.specs.Visits.{TellsNoFailure};
 use std::alloc::Global;
 use std::net::Ipv6Addr;
 use tv_base::{ByteSource, Cause, Facet, SliceSource};
+use tv_date::date_time::DateTime;
 use tv_reader::{DeserializeError, DocStoreVersion, ValueType};
 use tv_typed::{
     BinaryArrayDeserializer, BinaryObjectDeserializer, BinaryValueDeserializer, StoreReader,
     ValueVisitor,
 };
-use tv_value::date_time::DateTime;
 use tv_value::tokenizer::PreTokenizedString;
 
 // Tells a number for what stands there: of an array or an object how many values or entries are announced. It takes no date.

@@ -40,33 +40,32 @@ pub mod default_document {
     pub use tv_heap::value_type::ValueType;
 }
 
-pub use tv_doc::add_error::AddError;
+pub use tv_builder::errors::AddError;
 pub use tv_doc::builder::{Awaits, BuildError, BytesKind, TreeBuilder};
 pub use tv_doc::document::{CompactDoc, CompactDoc as TantivyDocument};
 pub use tv_doc::document_trait::Document;
 pub use tv_doc::errors::{DocParsingError, NamedBackError, StrictParsingError};
 pub use tv_doc::field_values::{FieldValueIterRef, GetAllIter};
-pub use tv_doc::json_expected::{JsonExpected, JsonWord, LowSurrogatePart};
-pub use tv_doc::json_fault::{JsonFault, JsonFaultKind};
 pub use tv_doc::json_object::text_fault;
 pub use tv_doc::named::{FieldNames, NamedFieldDocument};
 pub use tv_doc::parse_buffers::ParseBuffers;
-pub use tv_format::leaf_type::LeafType;
+pub use tv_format::{LeafType, type_codes};
 pub use tv_heap::value::{CompactDocArrayIter, CompactDocObjectIter, CompactDocValue};
 pub use tv_json::compact::push_json;
+pub use tv_json::json_expected::{JsonExpected, JsonWord, LowSurrogatePart};
+pub use tv_json::json_fault::{JsonFault, JsonFaultKind};
 pub use tv_store::{
     BinaryArraySerializer, BinaryDocumentSerializer, BinaryObjectSerializer, BinaryValueSerializer,
-    DeserializeError, DocumentDeserialize, SerializeError, ValueType, type_codes,
+    DeserializeError, DocumentDeserialize, SerializeError, ValueType,
 };
 pub use tv_typed::{
     BinaryArrayDeserializer, BinaryDocumentDeserializer, BinaryObjectDeserializer,
     BinaryValueDeserializer, DocumentDeserializer, StoreReader, ValueDeserialize, ValueVisitor,
 };
-pub use tv_value::copy_error::CopyError;
+pub use tv_value::copy::CopyError;
 pub use tv_value::json_value::{to_json_value, to_json_value_within};
 pub use tv_value::leaf::ReferenceValueLeaf;
-pub use tv_value::nested::{Lent, Nested, NestedValue, lend};
-pub use tv_value::nesting::{MAX_DEPTH, TooDeep, nests_within};
+pub use tv_value::nested::{Lent, MAX_DEPTH, Nested, NestedValue, TooDeep, lend, nests_within};
 pub use tv_value::owned_value::{OwnedArrayIter, OwnedObjectIter, OwnedValue};
 pub use tv_value::same::is_same;
 pub use tv_value::value::{ReferenceValue, Value};

@@ -4,14 +4,14 @@ ghost use Rattle.std.specs.Prelude.{◌≡◌};
 ghost use Rattle.tv_schema.specs.SchemaJsonReading.{at_entry, plain_error, refused_at};
 ghost use Rattle.tv_schema.specs.declared.json.error.EntryFault.TheVariants.{Key, Memory};
 ghost use Rattle.tv_schema.specs.declared.json.error.SchemaJsonError.TheVariants.{Other};
-ghost use Rattle.tv_field.specs.declared.schema_error.SchemaError.TheVariants as schemas;
+ghost use Rattle.tv_field.specs.declared.field_entry.SchemaError.TheVariants as schemas;
 
 use crate::json::key::SchemaKey;
 use std::alloc::AllocError;
 use std::error::Error;
 use std::fmt;
 use std::fmt::{Display, Formatter, Write};
-use tv_field::schema_error::SchemaError;
+use tv_field::SchemaError;
 
 /// Why a JSON value describes no schema, with the key that is at fault. (Not in tantivy.)
 #[derive(Clone, Copy, Debug, PartialEq, Eq)]

@@ -3,8 +3,7 @@
 ghost use Rattle.std.specs.Prelude.{◌≡◌, option_map};
 ghost use Rattle.std.specs.Result.{result_map_both};
 ghost use Rattle.serde_json.specs.View.{view, members_view};
-ghost use Rattle.tv_schema.specs.SchemaJsonOptions.{required_bool, required_text, required_object};
-ghost use Rattle.tv_schema.specs.SchemaJsonOptions.{bool_or, text_or, unless_null, value_at};
+ghost use Rattle.tv_schema.specs.SchemaJsonOptions.{required_bool, required_text, required_object, bool_or, text_or, unless_null, value_at};
 
 use crate::json::key::SchemaKey;
 use serde_json::{Map, Value};

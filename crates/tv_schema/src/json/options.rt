@@ -2,14 +2,9 @@
 
 ghost use Rattle.std.specs.Prelude.{◌≡◌};
 ghost use Rattle.serde_json.specs.View.{view, members_view};
-ghost use Rattle.tv_schema.specs.SchemaJsonOptions.{options_of, text_options_of};
-ghost use Rattle.tv_schema.specs.SchemaJsonOptions.{numeric_options_of, date_options_of};
-ghost use Rattle.tv_schema.specs.SchemaJsonOptions.{facet_options_of, bytes_options_of};
-ghost use Rattle.tv_schema.specs.SchemaJsonOptions.{json_object_options_of, ip_addr_options_of};
-ghost use Rattle.tv_schema.specs.SchemaJsonOptions.{optional_indexing, indexing_of, fieldnorms_or};
-ghost use Rattle.tv_schema.specs.SchemaJsonOptions.{fast_field_of, fast_field_or_none};
-ghost use Rattle.tv_schema.specs.SchemaJsonOptions.{required_fast_field, record_or_basic};
-ghost use Rattle.tv_schema.specs.SchemaJsonOptions.{precision_or_seconds};
+ghost use Rattle.tv_schema.specs.SchemaJsonOptions.{options_of, text_options_of, numeric_options_of, date_options_of, facet_options_of, bytes_options_of};
+ghost use Rattle.tv_schema.specs.SchemaJsonOptions.{json_object_options_of, ip_addr_options_of, optional_indexing, indexing_of, fieldnorms_or, fast_field_of};
+ghost use Rattle.tv_schema.specs.SchemaJsonOptions.{fast_field_or_none, required_fast_field, record_or_basic, precision_or_seconds};
 ghost use Rattle.tv_schema.specs.SchemaJsonReading.{ReadsOptions};
 
 use crate::json::error::EntryFault;
@@ -20,7 +15,7 @@ use crate::json::members::{
 use crate::json::words::{precision_of_word, record_of_word};
 use serde_json::Value;
 use std::alloc::Global;
-use tv_field::field_type::FieldType;
+use tv_field::FieldType;
 use tv_options::{
     BytesOptions, DateOptions, DateTimePrecision, FacetOptions, FastFieldTextOptions,
     IndexRecordOption, IpAddrOptions, JsonObjectOptions, NumericOptions, TextFieldIndexing,

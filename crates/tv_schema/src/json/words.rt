@@ -2,8 +2,7 @@
 
 ghost use Rattle.std.specs.Prelude.{◌≡◌};
 ghost use Rattle.tv_schema.specs.SchemaJson.{type_word, record_word, precision_word};
-ghost use Rattle.tv_schema.specs.SchemaJsonOptions.{type_of_word, record_of_word};
-ghost use Rattle.tv_schema.specs.SchemaJsonOptions.{precision_of_word};
+ghost use Rattle.tv_schema.specs.SchemaJsonOptions.{type_of_word, record_of_word, precision_of_word};
 
 use tv_options::{DateTimePrecision, IndexRecordOption, Type};
 

@@ -3,16 +3,13 @@
 ghost use Rattle.std.specs.Prelude.{◌≡◌, IfOk, OnOk, codes, option_map};
 ghost use Rattle.std.specs.Option.{option_copied};
 ghost use Rattle.serde_json.specs.View.{view, members_view};
-ghost use Rattle.tv_schema.specs.SchemaJson.{schema_json, entry_json, options_json, text_json};
-ghost use Rattle.tv_schema.specs.SchemaJson.{numeric_json, date_json, facet_json, bytes_json};
-ghost use Rattle.tv_schema.specs.SchemaJson.{json_object_json, ip_addr_json, indexing_json};
-ghost use Rattle.tv_schema.specs.SchemaJson.{fast_json, put_some, put_true};
+ghost use Rattle.tv_schema.specs.SchemaJson.{schema_json, entry_json, options_json, text_json, numeric_json, date_json, facet_json, bytes_json};
+ghost use Rattle.tv_schema.specs.SchemaJson.{json_object_json, ip_addr_json, indexing_json, fast_json, put_some, put_true};
 
 use crate::json::words::{precision_word, record_word, type_word};
 use serde_json::{Map, Value, json, put};
 use std::alloc::{AllocError, Global};
-use tv_field::field_entry::FieldEntry;
-use tv_field::field_type::FieldType;
+use tv_field::{FieldEntry, FieldType};
 use tv_options::{
     BytesOptions, DateOptions, FacetOptions, IpAddrOptions, JsonObjectOptions, NumericOptions,
     TextFieldIndexing, TextOptions,

@@ -1,5 +1,5 @@
-use Rattle.tv_facets.specs.declared.facet_counts.FacetCount.{FacetCount}
-use Rattle.tv_facets.proofs.FacetCounts.{nothing}
+use Rattle.tv_base.specs.declared.facet_counts.FacetCount.{FacetCount}
+use Rattle.tv_base.proofs.FacetCounts.{nothing}
 use Rattle.tv_blocks.proofs.FacetPairs.{counts_more}
 use Rattle.tv_blocks.proofs.facet_counts.append_counts.Goals as goal
 

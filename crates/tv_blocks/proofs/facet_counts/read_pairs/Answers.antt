@@ -1,6 +1,6 @@
 use Rattle.std.proofs.Common.{◌∷◌, [], ap, ◌∙◌, map}
 use Rattle.std.proofs.lemmas.List.{map-append}
-use Rattle.tv_facets.specs.DocumentCounting.{facet_of}
+use Rattle.tv_base.specs.DocumentCounting.{facet_of}
 use Rattle.tv_blocks.proofs.FacetPairs.{is_pushed, one_more_pair}
 use Rattle.tv_blocks.proofs.facet_counts.read_pairs.Goals as goal
 

@@ -1,6 +1,6 @@
 use Rattle.std.proofs.Common.{length, map}
 use Rattle.tv_blocks.specs.FacetCounts.{PairsSoFar}
-use Rattle.tv_facets.specs.DocumentCounting.{facet_of}
+use Rattle.tv_base.specs.DocumentCounting.{facet_of}
 use Rattle.tv_blocks.proofs.facet_counts.read_pairs.Given as goal
 
 abbrev pub invariant-loop-rest : goal.invariant-loop-rest

@@ -4,7 +4,7 @@ use Rattle.serde_json.specs.Written.{has_float, items_have_float}
 use Rattle.tv_json.proofs.Floats.{none_in_item}
 use Rattle.tv_json.proofs.Levels.{data_of-Array}
 use Rattle.tv_json.specs.BorrowedData.{data_of, items_data}
-use Rattle.tv_json.specs.declared.borrowed.BorrowedJson.{BorrowedJson}
+use Rattle.tv_json.specs.declared.value.BorrowedJson.{BorrowedJson}
 use Rattle.tv_schema.specs.Schema.{field_named}
 use Rattle.tv_doc.specs.JsonObject.{FieldJson, items_for, value_for}
 use Rattle.tv_doc.specs.declared.json_object.NamedField.{NamedField}

@@ -2,7 +2,7 @@ use Rattle.std.proofs.Common.{ℕ, ◌+◌, List, [], ◌∷◌, ◌≡◌, sym,
 use Rattle.std.proofs.lemmas.List.{drop_more, drop_all}
 use Rattle.tv_json.proofs.Floats.{none_in_member}
 use Rattle.tv_json.specs.BorrowedData.{data_of, members_data}
-use Rattle.tv_json.specs.declared.borrowed.BorrowedJson.{BorrowedJson}
+use Rattle.tv_json.specs.declared.value.BorrowedJson.{BorrowedJson}
 use Rattle.tv_schema.specs.Schema.{field_named}
 use Rattle.tv_doc.specs.JsonObject.{FieldJson, object_values, values_at}
 use Rattle.tv_doc.proofs.JsonDocuments.{more_so_far, all_so_far, told_later}

@@ -1,7 +1,7 @@
 use Rattle.std.proofs.Common.{arith, ◌-◌, ◌+◌, ◌++◌, ◌∷◌, [], refl}
 use Rattle.std.proofs.lemmas.Result.{err_from_is_err_and}
 use Rattle.tv_base.specs.Take.{read_stop}
-use Rattle.tv_base.specs.declared.read_error.ReadError.TheVariants.{Memory}
+use Rattle.tv_base.specs.declared.cause.ReadError.TheVariants.{Memory}
 use Rattle.tv_base.proofs.ItemLoop.{with_prefix, start, next, none}
 use Rattle.tv_base.proofs.TakeSteps.{SoFar-start, SoFar-step, SoFar-fails, SoFar-returns, SoFar-stops}
 use Rattle.tv_reader.specs.Leaves.{token_at, tokens_at}

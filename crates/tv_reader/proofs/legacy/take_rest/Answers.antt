@@ -3,7 +3,7 @@ use Rattle.std.proofs.lemmas.Result.{err_from_is_err_and}
 use Rattle.tv_base.specs.Take.{read_stop}
 use Rattle.tv_base.proofs.TakeSteps.{lean, SoFar-start, SoFar-is, SoFar-step, SoFar-fails, SoFar-stops}
 use Rattle.tv_reader.proofs.LegacySteps.{rest_from, rest_by_byte, is_open, first_brace, first_depth, first_place, next_depth, next_place, next_bound}
-use Rattle.tv_base.specs.declared.read_error.ReadError.TheVariants.{Memory}
+use Rattle.tv_base.specs.declared.cause.ReadError.TheVariants.{Memory}
 use Rattle.tv_reader.specs.LegacyScan.{brace_count}
 use Rattle.tv_reader.proofs.legacy.take_rest.Goals as goal
 

@@ -1,7 +1,7 @@
 use Rattle.std.proofs.Common.{◌≡◌, ◌++◌, ◌∷◌, [], Ok, ap, refl, ◌∙◌}
 use Rattle.std.proofs.lemmas.Result.{err_from_is_err_and}
 use Rattle.tv_base.specs.Take.{read_stop}
-use Rattle.tv_base.specs.declared.read_error.ReadError.TheVariants.{Memory}
+use Rattle.tv_base.specs.declared.cause.ReadError.TheVariants.{Memory}
 use Rattle.tv_base.proofs.TakeSteps.{lean, SoFar-start, SoFar-is, SoFar-step, SoFar-fails, SoFar-returns, SoFar-refuses, SoFar-stops}
 use Rattle.tv_reader.specs.LegacyReading.{braced_at}
 use Rattle.tv_reader.proofs.LegacySteps.{slice_parts, is_other, is_brace, and_nothing}

@@ -1,8 +1,8 @@
 use Rattle.std.proofs.Common.{◌≡◌, ℕ, ◌<◌, List, [], ◌∷◌, ◌++◌, length, Option, None, Some, Result, Ok, Err, sym, ◌∙◌, ap}
 use Rattle.std.specs.Prelude.{MatchResult, option_map}
 use Rattle.std.specs.Result.{result_ok}
-use Rattle.tv_term.specs.declared.term_error.TermError.{TermError}
-use Rattle.tv_term.specs.declared.term_error.TermError.TheVariants.{TooShort}
+use Rattle.tv_term.specs.declared.term.TermError.{TermError}
+use Rattle.tv_term.specs.declared.term.TermError.TheVariants.{TooShort}
 use Rattle.tv_term.specs.Key.{TermValue, coded_value}
 use Rattle.tv_term.proofs.Terms.{json_parts-term}
 use Rattle.tv_term.proofs.laws.value_behind_path.Goals as goal

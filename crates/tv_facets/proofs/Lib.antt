@@ -1,3 +1,0 @@
-pub mod FacetCounts
-pub mod Documents
-pub mod Prints
