@@ -7,7 +7,7 @@ use Rattle.std.specs.Int.{from_le_bytes, to_le_bytes, w64}
 use Rattle.std.specs.List.{AllByRecursion, flat_map}
 use Rattle.std.specs.Prelude.{IsUtf8, MatchResult}
 use Rattle.std.specs.Result.{is_err, is_ok}
-use Rattle.tv_blocks.specs.FacetCounts.{ArePairs, BeginsWithNoPair, IsPair, PairsSoFar, facet_record}
+use Rattle.tv_blocks.specs.FacetCounts.{AreDocumentFacets, BeginsWithNoPair, IsDocumentFacet, PairsSoFar, facet_record}
 use Rattle.tv_blocks.specs.Records.{record_of}
 use Rattle.tv_base.specs.FacetCounting.{entry_of}
 use Rattle.tv_base.specs.declared.facet_counts.FacetCount.{FacetCount}
@@ -109,12 +109,12 @@ all-snoc : {A : Type 0} (P : A → Type 0) (xs : List A) (x : A) → AllByRecurs
 all-snoc P [] x h p = (p, tt)
 all-snoc P (y ∷ ys) x h p = (h.0, all-snoc P ys x h.1 p)
 
-pub one_more_pair : {bytes rest : List ℕ} {pairs more : List (List ℕ × ℕ)} (pair : List ℕ × ℕ) (now : List ℕ) → PairsSoFar bytes rest pairs → IsPair pair → rest ≡ facet_record pair ++ now → more ≡ pairs ++ pair ∷ [] → PairsSoFar bytes now more
+pub one_more_pair : {bytes rest : List ℕ} {pairs more : List (List ℕ × ℕ)} (pair : List ℕ × ℕ) (now : List ℕ) → PairsSoFar bytes rest pairs → IsDocumentFacet pair → rest ≡ facet_record pair ++ now → more ≡ pairs ++ pair ∷ [] → PairsSoFar bytes now more
 one_more_pair {bytes} {rest} {pairs} {more} pair now m good is added = record {
   before = m.before ++ facet_record pair;
   joined = m.joined ∙ ap (λ (l : List ℕ). m.before ++ l) is ∙ sym (append_assoc m.before (facet_record pair) now);
-  are = subst (ArePairs (m.before ++ facet_record pair)) (sym added)
-      (all-snoc IsPair pairs pair m.are.0 good, ap (λ (l : List ℕ). l ++ facet_record pair) m.are.1 ∙ flat_map_more facet_record [] pairs pair);
+  are = subst (AreDocumentFacets (m.before ++ facet_record pair)) (sym added)
+      (all-snoc IsDocumentFacet pairs pair m.are.0 good, ap (λ (l : List ℕ). l ++ facet_record pair) m.are.1 ∙ flat_map_more facet_record [] pairs pair);
 }
 
 -- ---- the records of counts

@@ -4,7 +4,7 @@ use Rattle.std.specs.List.{filter, flat_map}
 use Rattle.std.specs.Prelude.{OnOk, nat_eq}
 use Rattle.tv_base.specs.Parts.{Begins}
 use Rattle.tv_blocks.proofs.Stops.{IsUnreadAt, RefusesBy}
-use Rattle.tv_blocks.specs.FieldValues.{IsValuesBlockRefusal, RefusesValues, ValuesSoFar, content_record, document_values, leaf_content, value_record, values_from}
+use Rattle.tv_blocks.specs.FieldValues.{IsValuesBlockRefusal, RefusesBlockValues, ValuesSoFar, content_record, document_values, leaf_content, value_record, values_from}
 use Rattle.tv_blocks.specs.declared.block_error.BlockError.{BlockError}
 use Rattle.tv_blocks.specs.declared.block_error.BlockError.TheVariants as blocks
 use Rattle.tv_blocks.specs.declared.block_error.DocumentRefusal.{DocumentRefusal}
@@ -82,7 +82,7 @@ more_values {v} {block} {rest} {now} {content} {more} {number} field pairs m b a
 
 -- ---- where they stop
 
-as_values : (v : Version) (field : Field) (bytes : List ℕ) (refusal : DocumentRefusal) → RefusesBy (HasNoRoomChosen v (field ∷ [])) v refusal bytes → RefusesValues v field.id refusal bytes
+as_values : (v : Version) (field : Field) (bytes : List ℕ) (refusal : DocumentRefusal) → RefusesBy (HasNoRoomChosen v (field ∷ [])) v refusal bytes → RefusesBlockValues v field.id refusal bytes
 as_values v field bytes (documents.Corrupted cause) h = h
 as_values v field bytes documents.KeyIsNoText h = h
 as_values v field bytes documents.HeapFull h = h

@@ -2,7 +2,7 @@
 use Rattle.std.proofs.Common.{◌≡◌, ℕ, List, [], ◌∷◌, ◌++◌, Some, None, map, append-nil, refl, sym, subst, ap, ◌∙◌}
 use Rattle.std.proofs.lemmas.List.{map-append}
 use Rattle.tv_blocks.proofs.LineDocuments.{lenient_of}
-use Rattle.tv_blocks.specs.Imports.{ImportsEach, IsLenientOutcome, lenient, line_answer}
+use Rattle.tv_blocks.specs.Imports.{ImportsLines, IsLenientOutcome, lenient, line_answer}
 use Rattle.tv_blocks.specs.declared.import.LineAnswer.{LineAnswer}
 use Rattle.tv_field.specs.Entry.{Entry}
 use Rattle.tv_lines.proofs.WholeImports.{all_lines, first-snoc, outcomes-snoc}
@@ -55,7 +55,7 @@ imported_more {schema} {block = block} said m t more = record {
 }
 
 pub imported_all : {schema : List Entry} {input rest behind block now : List ℕ} {answers : List LineAnswer} → ImportedSoFar schema input rest block answers
-    → Imports schema lenient rest behind block now None → ImportsEach schema input now answers
+    → Imports schema lenient rest behind block now None → ImportsLines schema input now answers
 imported_all {schema} {block = block} m t = record {
   lines = m.lines;
   all = all_lines m.first t.1.0;

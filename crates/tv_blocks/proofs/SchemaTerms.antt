@@ -4,7 +4,7 @@ use Rattle.std.proofs.Math.Seq.{take-append_seam}
 use Rattle.std.proofs.lemmas.List.{length-map, map-append}
 use Rattle.std.proofs.lemmas.List.Elements.{All-nil, All-push}
 use Rattle.tv_blocks.specs.Refusals.{RefusesDocument}
-use Rattle.tv_blocks.specs.SchemaTerms.{AppendsDocument, HasTerms, IsTermsBlockRefusal, SchemaTermsSoFar, document_records, last_term, records_from, shared_record, term_records}
+use Rattle.tv_blocks.specs.SchemaTerms.{AppendsDocument, HasTermRecords, IsTermsBlockRefusal, SchemaTermsSoFar, document_records, last_term, records_from, shared_record, term_records}
 use Rattle.tv_blocks.specs.declared.block_error.BlockError.{BlockError}
 use Rattle.tv_blocks.specs.declared.block_error.BlockError.TheVariants as blocks
 use Rattle.tv_blocks.specs.declared.block_error.DocumentRefusal.{DocumentRefusal}
@@ -16,7 +16,7 @@ use Rattle.tv_format.specs.Encoding.{EncodesDocument}
 use Rattle.tv_format.specs.Tree.{Document}
 use Rattle.tv_format.specs.Version.{Version}
 use Rattle.tv_indexing.specs.DocumentTerms.{Terms, document_terms}
-use Rattle.tv_indexing.specs.Visits.{Takes, TakesAll, TakesSome}
+use Rattle.tv_indexing.specs.Visits.{TakesTerms, TakesAll, TakesSome}
 use Rattle.tv_reader.specs.Legacy.{Legacy}
 use Rattle.tv_store.proofs.BlocksSoFar.{each-snoc, joined_more, start_at}
 use Rattle.tv_store.specs.Documents.{BeginsWithDocument, HasNoRoom}
@@ -41,7 +41,7 @@ HaveTaken start now terms =
     × (now.content.items ≡ start.content.items ++ term_records start.document start.last.items terms)
 
 pub takes_one : (old new : TermRecords) (term : List ℕ) → new.document ≡ old.document → new.last.items ≡ term
-    → new.content.items ≡ old.content.items ++ shared_record old.document old.last.items term → Takes HaveTaken old new (term ∷ [])
+    → new.content.items ≡ old.content.items ++ shared_record old.document old.last.items term → TakesTerms HaveTaken old new (term ∷ [])
 takes_one old new term document last content start terms before = (
   document ∙ before.0,
   last ∙ sym (last_term-snoc start.last.items terms term),
@@ -52,17 +52,17 @@ takes_one old new term document last content start terms before = (
       ∙ ap (λ (l : List ℕ). start.content.items ++ l) (sym (term_records-snoc start.document start.last.items terms term)),
 )
 
-pub takes_none : (old new : TermRecords) → new.document ≡ old.document → new.last.items ≡ old.last.items → new.content.items ≡ old.content.items → Takes HaveTaken old new []
+pub takes_none : (old new : TermRecords) → new.document ≡ old.document → new.last.items ≡ old.last.items → new.content.items ≡ old.content.items → TakesTerms HaveTaken old new []
 takes_none old new document last content start terms before =
     subst (HaveTaken start new) (sym (append-nil terms)) (document ∙ before.0, last ∙ before.1, content ∙ before.2)
 
 -- after these, from the beginning
-taken : (old new : TermRecords) (terms : List (List ℕ)) → Takes HaveTaken old new terms → HaveTaken old new terms
+taken : (old new : TermRecords) (terms : List (List ℕ)) → TakesTerms HaveTaken old new terms → HaveTaken old new terms
 taken old new terms takes = takes old [] (refl, refl, sym (append-nil old.content.items))
 
 -- all terms of a document
 pub all_taken : (schema : List Entry) (d : Document) (old new : TermRecords) → old.last.items ≡ [] → TakesAll HaveTaken old new (document_terms schema d)
-    → HasTerms schema d × (new.document ≡ old.document) × (new.content.items ≡ old.content.items ++ document_records old.document (document_terms schema d))
+    → HasTermRecords schema d × (new.document ≡ old.document) × (new.content.items ≡ old.content.items ++ document_records old.document (document_terms schema d))
 all_taken schema d old new none takes = cases (document_terms schema d) takes where
   cases : (t : Terms) → TakesAll HaveTaken old new t → ((terms : List (List ℕ)) × (t ≡ Ok terms)) × (new.document ≡ old.document) × (new.content.items ≡ old.content.items ++ document_records old.document t)
   cases (Ok terms) all =
@@ -80,7 +80,7 @@ some_taken old new takes =
 
 pub no_terms_yet : (with_faults : Bool) (schema : List Entry) (v : Version) (block content : List ℕ) → content ≡ [] → SchemaTermsSoFar with_faults schema v block block content 0
 no_terms_yet with_faults schema v block content none =
-    record { before = []; joined = refl; are = record { documents = []; encoded = refl; listed = none; have_terms = λ _. All-nil (HasTerms schema) }; counted = refl }
+    record { before = []; joined = refl; are = record { documents = []; encoded = refl; listed = none; have_terms = λ _. All-nil (HasTermRecords schema) }; counted = refl }
 
 records-snoc : (first : ℕ) (documents : List Terms) (last : Terms) → records_from first (documents ++ last ∷ []) ≡ records_from first documents ++ document_records (first + length documents) last
 records-snoc first [] last =
@@ -107,7 +107,7 @@ more_terms {with_faults} {schema} {v} {block} {rest} {now} {content} {more} {num
         encoded = each-snoc (EncodesDocument Legacy v) m.before b.prefix documents d m.are.encoded b.encoded;
         listed = added.1 ∙ ap (λ (l : List ℕ). l ++ document_records number last) m.are.listed ∙ ap (λ (n : ℕ). records_from 0 outcomes ++ document_records n last) at
             ∙ sym (records-snoc 0 outcomes last) ∙ ap (records_from 0) (sym (map-append (document_terms schema) documents (d ∷ [])));
-        have_terms = λ without. All-push (HasTerms schema) documents d (m.are.have_terms without) (added.0 without);
+        have_terms = λ without. All-push (HasTermRecords schema) documents d (m.are.have_terms without) (added.0 without);
       };
       counted = let sum = length-append documents (d ∷ []) in omega (arith, sum, m.counted);
     }

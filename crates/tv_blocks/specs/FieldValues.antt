@@ -4,7 +4,7 @@ use Rattle.std.specs.Int.{cast_unsigned, to_be_bytes, to_le_bytes, w64, w128}
 use Rattle.std.specs.List.{flat_map}
 use Rattle.serde_json.specs.Written.{compact_text}
 use Rattle.tv_blocks.specs.Records.{numbered_record}
-use Rattle.tv_blocks.specs.Refusals.{RefusesDocument, StopsAt}
+use Rattle.tv_blocks.specs.Refusals.{RefusesDocument, BreaksAt}
 use Rattle.tv_blocks.specs.declared.block_error.BlockError.{BlockError}
 use Rattle.tv_blocks.specs.declared.block_error.BlockError.TheVariants as errors
 use Rattle.tv_blocks.specs.declared.block_error.DocumentRefusal.{DocumentRefusal}
@@ -84,16 +84,16 @@ AreNamedValues schema name v block content = IsUtf8 name × (field : ℕ) × (fi
 -- ---- why there are none
 
 -- the bytes begin with no document, or the field's values need too much room in the one with which they begin
-abbrev pub RefusesValues : Version → ℕ → DocumentRefusal → List ℕ → Type 0
-RefusesValues v field documents.HeapFull whole = HasNoRoomChosen v (field_of field ∷ []) whole
-RefusesValues v field refusal whole = RefusesDocument v whole refusal
+abbrev pub RefusesBlockValues : Version → ℕ → DocumentRefusal → List ℕ → Type 0
+RefusesBlockValues v field documents.HeapFull whole = HasNoRoomChosen v (field_of field ∷ []) whole
+RefusesBlockValues v field refusal whole = RefusesDocument v whole refusal
 
 abbrev pub EncodeDocuments : Version → List ℕ → Type 0
 EncodeDocuments v whole = (documents : List Document) × EncodesBlock v whole documents
 
 -- the document that begins there is the first that is refused
 abbrev pub IsValueListRefusal : Version → ℕ → List ℕ → BlockError → Type 0
-IsValueListRefusal v field block (errors.BadDocument start refusal) = StopsAt (EncodeDocuments v) (RefusesValues v field refusal) block start
+IsValueListRefusal v field block (errors.BadDocument start refusal) = BreaksAt (EncodeDocuments v) (RefusesBlockValues v field refusal) block start
 IsValueListRefusal v field block e = ⊥
 
 -- the name is no UTF-8, or no field's; or it is, and a document is refused

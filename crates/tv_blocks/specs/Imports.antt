@@ -28,7 +28,7 @@ line_answer schema (outcome.Stored size fault) = record { status = 0; field = 0;
 line_answer schema (outcome.Refused why) = record { status = line_number (refusal_of schema why); field = line_field (refusal_of schema why); bytes = 0 }
 
 -- What became of each line of the input: what all put into the block, and the answers that say it.
-pub record ImportsEach (schema : List Entry) (input block : List ℕ) (answers : List LineAnswer) : Type 0 where
+pub record ImportsLines (schema : List Entry) (input block : List ℕ) (answers : List LineAnswer) : Type 0 where
   pub lines : List (List ℕ)
   pub all : Lines input lines
   pub outcomes : List LineOutcome
@@ -36,8 +36,8 @@ pub record ImportsEach (schema : List Entry) (input block : List ℕ) (answers :
   pub answered : answers ≡ map (line_answer schema) outcomes
 
 -- the schema's text describes a schema, by which the lines make this block and these answers
-abbrev pub Imports : List ℕ → List ℕ → List ℕ → List LineAnswer → Type 0
-Imports schema input block answers = (entries : List Entry) × ReadsSchema schema entries × ImportsEach entries input block answers
+abbrev pub ImportsText : List ℕ → List ℕ → List ℕ → List LineAnswer → Type 0
+ImportsText schema input block answers = (entries : List Entry) × ReadsSchema schema entries × ImportsLines entries input block answers
 
 -- ---- what is written
 
@@ -70,10 +70,10 @@ FillsBoth P R old_bytes new_bytes old_answers new_answers (Err e) = R e × (new_
 
 -- what a call returns that imports lines by these entries, and by the schema that a text describes
 abbrev pub ImportsBy : List Entry → List ℕ → List ℕ → List ℕ → List LineAnswer → List LineAnswer → Result Imported BlockError → Type 0
-ImportsBy entries input = FillsBoth (ImportsEach entries input) (λ e. ⊥)
+ImportsBy entries input = FillsBoth (ImportsLines entries input) (λ e. ⊥)
 
 abbrev pub ImportsInto : List ℕ → List ℕ → List ℕ → List ℕ → List LineAnswer → List LineAnswer → Result Imported BlockError → Type 0
-ImportsInto schema input = FillsBoth (Imports schema input) (IsSchemaRefusal schema)
+ImportsInto schema input = FillsBoth (ImportsText schema input) (IsSchemaRefusal schema)
 
 -- ---- for private clauses
 

@@ -14,14 +14,14 @@ use Rattle.tv_field.specs.Entry.{Entry}
 use Rattle.tv_field.specs.declared.value_parsing_error.ValueParsingError.{ValueParsingError}
 use Rattle.tv_field.specs.declared.value_parsing_error.ValueParsingError.TheVariants as values
 use Rattle.tv_format.specs.Tree.{Document}
-use Rattle.tv_lines.specs.LineDocuments.{MakesDocument, MakesNone}
+use Rattle.tv_lines.specs.LineDocuments.{MakesLineDocument, MakesNone}
 use Rattle.tv_lines.specs.declared.line_document.LineError.{LineError}
 use Rattle.tv_lines.specs.declared.line_document.LineError.TheVariants.{Float, NoObject, NotUtf8, Refused}
 use Rattle.tv_schema.specs.Schema.{field_named}
 
 -- the line makes a document, which has these pairs
 abbrev pub IsLineDocument : List Entry → List ℕ → Document → Type 0
-IsLineDocument schema line pairs = (made : CompactDoc) × MakesDocument schema false line made × (pairs ≡ document_of made)
+IsLineDocument schema line pairs = (made : CompactDoc) × MakesLineDocument schema false line made × (pairs ≡ document_of made)
 
 -- what is said where the type of a field refuses a value
 abbrev pub value_refusal : ValueParsingError → ValueRefusal

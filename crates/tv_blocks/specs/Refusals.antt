@@ -50,7 +50,7 @@ IsSchemaRefusal text e = ⊥
 -- ---- bytes that are read from the front
 
 -- This many bytes are good, and after them stand others that are refused.
-pub record StopsAt (IsGood IsRefused : List ℕ → Type 0) (bytes : List ℕ) (start : ℕ) : Type 0 where
+pub record BreaksAt (IsGood IsRefused : List ℕ → Type 0) (bytes : List ℕ) (start : ℕ) : Type 0 where
   pub before : List ℕ
   pub behind : List ℕ
   pub joined : bytes ≡ before ++ behind

@@ -7,7 +7,7 @@ use Rattle.std.specs.Prelude.{◌≡◌, ℕ, suc, ◌-◌, ◌^◌, Bool, false
 use Rattle.std.specs.Int.{to_le_bytes, w64}
 use Rattle.std.specs.List.{All, common_prefix_len}
 use Rattle.tv_blocks.specs.Records.{numbered_record}
-use Rattle.tv_blocks.specs.Refusals.{RefusesDocument, StopsAt}
+use Rattle.tv_blocks.specs.Refusals.{RefusesDocument, BreaksAt}
 use Rattle.tv_blocks.specs.TermsRefusals.{refusal_of, terms_error, terms_number}
 use Rattle.tv_blocks.specs.declared.block_error.BlockError.{BlockError}
 use Rattle.tv_blocks.specs.declared.block_error.BlockError.TheVariants as errors
@@ -58,15 +58,15 @@ records_from first (terms ∷ others) = document_records first terms ++ records_
 -- ---- documents
 
 -- each of its values has its terms
-abbrev pub HasTerms : List Entry → Document → Type 0
-HasTerms schema d = (terms : List (List ℕ)) × (document_terms schema d ≡ Ok terms)
+abbrev pub HasTermRecords : List Entry → Document → Type 0
+HasTermRecords schema d = (terms : List (List ℕ)) × (document_terms schema d ≡ Ok terms)
 
 -- The block encodes documents, and these are their records, the documents counted from 0. Without faults each has terms.
 pub record AreSchemaTerms (with_faults : Bool) (schema : List Entry) (v : Version) (block content : List ℕ) : Type 0 where
   pub documents : List Document
   pub encoded : EncodesBlock v block documents
   pub listed : content ≡ records_from 0 (map (document_terms schema) documents)
-  pub have_terms : with_faults ≡ false → All (HasTerms schema) documents
+  pub have_terms : with_faults ≡ false → All (HasTermRecords schema) documents
 
 -- ---- why there are none
 
@@ -86,9 +86,9 @@ HaveRecords with_faults schema v bytes = (content : List ℕ) × AreSchemaTerms 
 -- The document that begins there is the first that can't be read or, without faults, has no terms.
 abbrev pub IsSchemaTermsRefusal : Bool → List Entry → Version → List ℕ → BlockError → Type 0
 IsSchemaTermsRefusal with_faults schema v block (errors.BadDocument start refusal) =
-    StopsAt (HaveRecords with_faults schema v) (λ bytes. RefusesDocument v bytes refusal) block start
+    BreaksAt (HaveRecords with_faults schema v) (λ bytes. RefusesDocument v bytes refusal) block start
 IsSchemaTermsRefusal with_faults schema v block (errors.NoTerms start refusal) =
-    (with_faults ≡ false) × StopsAt (HaveRecords with_faults schema v) (BeginsWithoutTerms schema v start refusal) block start
+    (with_faults ≡ false) × BreaksAt (HaveRecords with_faults schema v) (BeginsWithoutTerms schema v start refusal) block start
 IsSchemaTermsRefusal with_faults schema v block e = ⊥
 
 -- ---- for private clauses
@@ -100,7 +100,7 @@ last_term before (term ∷ terms) = last_term term terms
 
 -- the records of the document are appended, and without faults it has terms
 abbrev pub AppendsDocument : Bool → List Entry → ℕ → Document → List ℕ → List ℕ → Type 0
-AppendsDocument with_faults schema number d old new = (with_faults ≡ false → HasTerms schema d) × (new ≡ old ++ document_records number (document_terms schema d))
+AppendsDocument with_faults schema number d old new = (with_faults ≡ false → HasTermRecords schema d) × (new ≡ old ++ document_records number (document_terms schema d))
 
 -- without faults it has none, or memory was refused
 abbrev pub IsWithoutTerms : Bool → List Entry → ℕ → Document → BlockError → Type 0

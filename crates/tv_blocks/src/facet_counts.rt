@@ -4,7 +4,7 @@ ghost use Rattle.std.specs.Prelude.{◌≡◌, ◌++◌, map, MatchOption, OnOk}
 ghost use Rattle.std.specs.List.{flat_map};
 ghost use Rattle.tv_blocks.specs.Buffer.{FillsBuffer};
 ghost use Rattle.tv_blocks.specs.FacetCounts.{AreFacetCounts, BeginsWithNoPair, IsCountsRefusal};
-ghost use Rattle.tv_blocks.specs.FacetCounts.{IsPair, ReadsPairs, facet_record};
+ghost use Rattle.tv_blocks.specs.FacetCounts.{IsDocumentFacet, ReadsDocumentFacets, facet_record};
 ghost use Rattle.tv_base.specs.DocumentCounting.{facet_of};
 ghost use Rattle.tv_base.specs.FacetCounting.{entry_of};
 
@@ -16,7 +16,7 @@ use tv_base::{DocumentFacet, FacetCount, count_child_documents};
 // The pair with whose record the bytes begin, and what follows it.
 fn first_pair<'a>(bytes: &'a [u8]) -> Option<(DocumentFacet<'a>, &'a [u8])>
     ensures { MatchOption result (BeginsWithNoPair bytes.now)
-        (λ found. IsPair (facet_of found.0)
+        (λ found. IsDocumentFacet (facet_of found.0)
         × (bytes.now ≡ facet_record (facet_of found.0) ++ found.1.now)) }
 {
     let (document, behind) = bytes.split_first_chunk::<8>()?;
@@ -35,7 +35,7 @@ fn first_pair<'a>(bytes: &'a [u8]) -> Option<(DocumentFacet<'a>, &'a [u8])>
 
 // The pairs of the records.
 fn read_pairs<'a>(alloc: Global, bytes: &'a [u8]) -> Result<Vec<DocumentFacet<'a>>, BlockError>
-    ensures { ReadsPairs bytes.now result }
+    ensures { ReadsDocumentFacets bytes.now result }
 {
     let mut pairs = Vec::new(alloc);
     let mut rest = bytes;

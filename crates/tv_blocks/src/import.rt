@@ -1,7 +1,7 @@
 //! Lines of JSON as a block of stored documents.
 
 ghost use Rattle.std.specs.Prelude.{◌≡◌, [], OnOk};
-ghost use Rattle.tv_blocks.specs.Imports.{ImportsBy, ImportsEach, ImportsInto, IsLenientOutcome};
+ghost use Rattle.tv_blocks.specs.Imports.{ImportsBy, ImportsLines, ImportsInto, IsLenientOutcome};
 ghost use Rattle.tv_blocks.specs.Imports.{PutsBoth, lenient, line_answer};
 ghost use Rattle.tv_lines.specs.Importing.{left_to};
 
@@ -84,7 +84,7 @@ fn import_each(
     requires unread { left_to importer.old lines.now ≡ lines.now }
     requires block { block.old.bytes.items ≡ [] }
     requires answers { answers.old.items ≡ [] }
-    ensures { OnOk result (ImportsEach schema.now lines.now block.new.bytes.items answers.new.items) }
+    ensures { OnOk result (ImportsLines schema.now lines.now block.new.bytes.items answers.new.items) }
 {
     let mut source = SliceSource::new(lines);
     loop {

@@ -22,7 +22,7 @@ use Rattle.tv_field.specs.declared.field_type.FieldType.{FieldType}
 use Rattle.tv_field.specs.declared.field_type.FieldType.TheVariants as types
 use Rattle.tv_format.specs.Tree.{Leaf, Tree, leaf, null, text, unsigned, signed, boolean, date, facet, bytes, ip_address, tokenized}
 use Rattle.tv_indexing.specs.LeafTerms.{leaf_value}
-use Rattle.tv_indexing.specs.TextRange.{EndsBelow, IsBelowValue, IsOrIsBelow, WritesTerm}
+use Rattle.tv_indexing.specs.TextRange.{EndsBelowTerm, IsBelowValue, IsOrIsBelow, WritesTerm}
 use Rattle.tv_options.specs.Types.{code}
 use Rattle.tv_options.specs.declared.facet_options.FacetOptions.{FacetOptions}
 use Rattle.tv_options.specs.declared.types.TypeTag.TheVariants as tag
@@ -259,7 +259,7 @@ module _ (all left : TermRange) (id : ℕ) (s : List ℕ) (l : Leaf) (value : Te
         | inr other ↦ from_facet all left id u start of_u has (λ none. other.0 (len ∙ ap (λ v. length v + 5) none)) (subst (λ (e : Bound (List ℕ)). LeavesBetween all Unbounded e left) other.1 leaves)
       ])
 
-  pub with_below : (type : FieldType) → WritesTerm type s l value → EndsBelow type start end → HasTerms (IsOrIsBelow id value) left
+  pub with_below : (type : FieldType) → WritesTerm type s l value → EndsBelowTerm type start end → HasTerms (IsOrIsBelow id value) left
   with_below (types.Facet options) writes ends =
       let v = facet_value (parse s) l value (found_leaf (option_map facet (parse s)) _ l writes.is_value) writes.has_term in facet_ends v.0 v.1 ends
   with_below (types.Str options) writes ends = plain_ends (types.Str options) (λ o e. cc) writes ends

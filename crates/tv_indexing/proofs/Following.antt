@@ -3,7 +3,7 @@ use Rattle.std.proofs.Common.{◌≡◌, ℕ, List, [], ◌∷◌, ◌++◌, Ok,
 use Rattle.std.proofs.lemmas.List.{reverse-append}
 use Rattle.std.specs.Prelude.{reverse}
 use Rattle.tv_indexing.specs.DocumentTerms.{AreAppended, Terms, followed_by}
-use Rattle.tv_indexing.specs.JsonWalk.{Extends}
+use Rattle.tv_indexing.specs.JsonWalk.{ExtendsPath}
 
 -- ---- one after the other
 
@@ -29,14 +29,14 @@ are_appended old new (Err e) h = cc
 
 -- ---- the list begins with what it was
 
-pub extends_as : (old new : List (List ℕ)) → new ≡ old → Extends old new
+pub extends_as : (old new : List (List ℕ)) → new ≡ old → ExtendsPath old new
 extends_as old new e = ([], e ∙ sym (append-nil old))
 
-pub extends_by : (old new : List (List ℕ)) (wanted : Terms) → AreAppended old new wanted → Extends old new
+pub extends_by : (old new : List (List ℕ)) (wanted : Terms) → AreAppended old new wanted → ExtendsPath old new
 extends_by old new (Ok made) h = (made, h)
 extends_by old new (Err e) h = absurd h
 
-pub extends_on : (a b c : List (List ℕ)) → Extends a b → Extends b c → Extends a c
+pub extends_on : (a b c : List (List ℕ)) → ExtendsPath a b → ExtendsPath b c → ExtendsPath a c
 extends_on a b c h k = (h.0 ++ k.0, k.1 ∙ ap (λ l. l ++ k.0) h.1 ∙ append_assoc a h.0 k.0)
 
 -- ---- so far: the whole is what was appended, and then what is left

@@ -19,7 +19,7 @@ use Rattle.tv_field.specs.declared.field_type.FieldType.{FieldType}
 use Rattle.tv_field.specs.declared.field_type.FieldType.TheVariants as types
 use Rattle.tv_format.specs.Tree.{Leaf, text, unsigned, signed, boolean, date, facet, bytes, leaf}
 use Rattle.tv_indexing.specs.LeafTerms.{leaf_value}
-use Rattle.tv_indexing.specs.TermText.{IsOfField, leaf_text}
+use Rattle.tv_indexing.specs.TermText.{IsTermOfField, leaf_text}
 use Rattle.tv_indexing.specs.TextTerms.{TermOfText}
 use Rattle.tv_date.specs.DateTime.{truncated}
 use Rattle.tv_date.specs.declared.date_time.DateTimePrecision.TheVariants.{Seconds}
@@ -56,7 +56,7 @@ signed_back (negsuc n) fits =
     let is = decimal_is_IsNumeral (suc n) small in
     (is.0, rw is.1 refl)
 
-pub text_is_read : (type : FieldType) (l : Leaf) → ((encoded : List ℕ) → parse (printed encoded) ≡ Some encoded) → ((z : ℤ) → FitsSigned w64 z → rfc (moment_text z) ≡ Ok z) → IsOfField type l → WritesValue type (leaf_text l) l
+pub text_is_read : (type : FieldType) (l : Leaf) → ((encoded : List ℕ) → parse (printed encoded) ≡ Some encoded) → ((z : ℤ) → FitsSigned w64 z → rfc (moment_text z) ≡ Ok z) → IsTermOfField type l → WritesValue type (leaf_text l) l
 text_is_read (types.Str options) (text t) facets dates is = refl
 text_is_read (types.U64 options) (unsigned n) facets dates is = let back = unsigned_back n is in inl (back.0, ap (λ m. Ok (leaf (unsigned m))) (sym back.1))
 text_is_read (types.I64 options) (signed z) facets dates is =
@@ -71,7 +71,7 @@ text_is_read type l facets dates is = absurd is
 value_same : (a b : TermValue) → ◌≡◌ {A = Option TermValue} (Some a) (Some b) → a ≡ b
 value_same a b e = cc
 
-pub term_is_read : (field : Field) (type : FieldType) (l : Leaf) (value : TermValue) → WritesValue type (leaf_text l) l → IsOfField type l → leaf_value l ≡ Some value → Fits value → TermOfText field type (leaf_text l) (Ok (term field.id value ∷ []))
+pub term_is_read : (field : Field) (type : FieldType) (l : Leaf) (value : TermValue) → WritesValue type (leaf_text l) l → IsTermOfField type l → leaf_value l ≡ Some value → Fits value → TermOfText field type (leaf_text l) (Ok (term field.id value ∷ []))
 term_is_read field (types.Str options) (text t) value writes is e fits =
     let same = value_same (Text t) value e in (text t, writes, subst Fits (sym same) fits, ap (λ v. Ok (term field.id v ∷ [])) same)
 term_is_read field (types.U64 options) (unsigned n) value writes is e fits =

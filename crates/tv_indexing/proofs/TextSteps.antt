@@ -4,7 +4,7 @@ use Rattle.tv_date.specs.Rfc3339.{rfc}
 use Rattle.tv_field.specs.JsonTable.{truth_in}
 use Rattle.tv_format.specs.Tree.{Leaf, text}
 use Rattle.tv_indexing.specs.DocumentTerms.{AreAppended, Terms, followed_by, json_leaf_terms}
-use Rattle.tv_indexing.specs.JsonWalk.{Extends}
+use Rattle.tv_indexing.specs.JsonWalk.{ExtendsPath}
 use Rattle.tv_indexing.specs.Visits.{TakesAll}
 use Rattle.tv_indexing.specs.TextTerms.{WritesLeaves, WritesNumber, date_written_in, leaves_terms, listed}
 use Rattle.tv_indexing.proofs.Visiting.{BeginsWith, all_appended as list_appended}
@@ -64,13 +64,13 @@ all_written (Ok x) field path s number a b c d e writes fit itself numbers truth
 all_written (Err error) field path s number a b c d e writes fit itself numbers truths dates = tt
 
 pub all_kept : {E : Type 0} (result : Result (Unit {0}) E) (field : Field) (path s : List ℕ) (number : Option Leaf) (a b c d e : List (List ℕ)) → AreAppended a b (leaves_terms field path (text s ∷ [])) → AreAppended b c (leaves_terms field path (listed number))
-    → AreAppended c d (leaves_terms field path (listed (truth_in s))) → OnErr result (e ≡ d) → OnErr result (Extends a e)
+    → AreAppended c d (leaves_terms field path (listed (truth_in s))) → OnErr result (e ≡ d) → OnErr result (ExtendsPath a e)
 all_kept (Ok x) field path s number a b c d e itself numbers truths same = tt
 all_kept (Err error) field path s number a b c d e itself numbers truths same =
     let first = extends_by a b (leaves_terms field path (text s ∷ [])) itself in
     let second = extends_by b c (leaves_terms field path (listed number)) numbers in
     let third = extends_by c d (leaves_terms field path (listed (truth_in s))) truths in
-    subst (Extends a) (sym same) (extends_on a c d (extends_on a b c first second) third)
+    subst (ExtendsPath a) (sym same) (extends_on a c d (extends_on a b c first second) third)
 
 -- ---- at what a path names
 

@@ -2,16 +2,16 @@
 use Rattle.std.proofs.Common.{◌≡◌, ℕ, List, [], ◌++◌, Ok, Err, refl, sym, subst, ap, ◌∙◌, append_assoc, append-nil}
 use Rattle.tv_indexing.proofs.Following.{nothing_before, regrouped}
 use Rattle.tv_indexing.specs.DocumentTerms.{AreAppended, Terms, followed_by}
-use Rattle.tv_indexing.specs.JsonWalk.{Extends}
-use Rattle.tv_indexing.specs.Visits.{Takes, TakesAll, TakesSome}
+use Rattle.tv_indexing.specs.JsonWalk.{ExtendsPath}
+use Rattle.tv_indexing.specs.Visits.{TakesTerms, TakesAll, TakesSome}
 use Rattle.tv_indexing.specs.declared.document.TermValuesError.{TermValuesError}
 
 module _ {V : Type 0} (HasTaken : V → V → List (List ℕ) → Type 0) where
-  pub takes_none : (old new : V) → new ≡ old → Takes HasTaken old new []
+  pub takes_none : (old new : V) → new ≡ old → TakesTerms HasTaken old new []
   takes_none old new is = λ start terms before.
       subst (λ (ts : List (List ℕ)). HasTaken start new ts) (sym (append-nil terms)) (subst (λ (v : V). HasTaken start v terms) (sym is) before)
 
-  takes_on : (a b c : V) (first more : List (List ℕ)) → Takes HasTaken a b first → Takes HasTaken b c more → Takes HasTaken a c (first ++ more)
+  takes_on : (a b c : V) (first more : List (List ℕ)) → TakesTerms HasTaken a b first → TakesTerms HasTaken b c more → TakesTerms HasTaken a c (first ++ more)
   takes_on a b c first more h k = λ start terms before. subst (λ (ts : List (List ℕ)). HasTaken start c ts) (append_assoc terms first more) (k start (terms ++ first) (h start terms before))
 
   pub some_on : (a b c : V) → TakesSome HasTaken a b → TakesSome HasTaken b c → TakesSome HasTaken a c
@@ -20,7 +20,7 @@ module _ {V : Type 0} (HasTaken : V → V → List (List ℕ) → Type 0) where
   -- ---- so far: the whole is what was taken, and then what is left
 
   abbrev pub Taken : V → V → Terms → Terms → Type 0
-  Taken old now whole left = (done : List (List ℕ)) × (whole ≡ followed_by (Ok done) left) × Takes HasTaken old now done
+  Taken old now whole left = (done : List (List ℕ)) × (whole ≡ followed_by (Ok done) left) × TakesTerms HasTaken old now done
 
   pub taken_none : (now : V) (whole : Terms) → Taken now now whole whole
   taken_none now whole = ([], sym (nothing_before whole), takes_none now now refl)
@@ -50,8 +50,8 @@ pub all_appended : (old new : List (List ℕ)) (t : Terms) → TakesAll BeginsWi
 all_appended old new (Ok made) h = h old [] (sym (append-nil old))
 all_appended old new (Err e) h = absurd h
 
-pub none_appended : (old new : List (List ℕ)) → Takes BeginsWith old new [] → new ≡ old
+pub none_appended : (old new : List (List ℕ)) → TakesTerms BeginsWith old new [] → new ≡ old
 none_appended old new h = h old [] (sym (append-nil old)) ∙ append-nil old
 
-pub some_appended : (old new : List (List ℕ)) → TakesSome BeginsWith old new → Extends old new
+pub some_appended : (old new : List (List ℕ)) → TakesSome BeginsWith old new → ExtendsPath old new
 some_appended old new h = (h.0, h.1 old [] (sym (append-nil old)))

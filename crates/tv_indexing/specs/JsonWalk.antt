@@ -67,5 +67,5 @@ IsBegun HasTaken old new field expand_dots path below key tree (Some list) =
     (new ≡ old) × (child_terms field expand_dots path key tree ≡ children_terms field expand_dots below (held_children list)) × (size tree ≡ suc (children_size (held_children list)))
 
 -- the list begins with what it was
-abbrev pub Extends : List (List ℕ) → List (List ℕ) → Type 0
-Extends old new = (more : List (List ℕ)) × (new ≡ old ++ more)
+abbrev pub ExtendsPath : List (List ℕ) → List (List ℕ) → Type 0
+ExtendsPath old new = (more : List (List ℕ)) × (new ≡ old ++ more)

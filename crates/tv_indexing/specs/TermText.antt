@@ -4,7 +4,7 @@
 -- `text_of_value`: a text as it is; a number in decimal; a truth value as `true` or `false`; a date, a facet, bytes and an address as the library's
 -- JSON has them; and of a value in a JSON object the text of that value. A text and a facet that aren't UTF-8 have none,
 -- nor has a value in a JSON object that is one in a JSON object again: no constructor makes its term.
--- `IsOfField`: which values of a field are said to be read back of their texts.
+-- `IsTermOfField`: which values of a field are said to be read back of their texts.
 use Rattle.std.specs.Prelude.{◌==◌, ◌<◌, ◌^◌, ℕ, FitsSigned, List, [], Bool, true, false, Option, Some, None, if◌then◌else◌}
 use Rattle.std.specs.Fmt.{decimal, signed_decimal}
 use Rattle.std.specs.Int.{w64}
@@ -60,15 +60,15 @@ text_of_value value = option_map leaf_text (value_leaf (inner value))
 -- ---- texts that are read back
 
 -- a value of a field's type, which has a term; addresses aside
-abbrev pub IsOfField : FieldType → Leaf → Type 0
-IsOfField (types.Str options) (text t) = Unit {0}
-IsOfField (types.U64 options) (unsigned n) = n < 2 ^ 64
-IsOfField (types.I64 options) (signed z) = FitsSigned w64 z
-IsOfField (types.Bool options) (boolean b) = Unit {0}
-IsOfField (types.Date options) (date z) = FitsSigned w64 z
-IsOfField (types.Facet options) (facet encoded) = Unit {0}
-IsOfField (types.Bytes options) (bytes bs) = IsBytes bs
-IsOfField type l = ⊥
+abbrev pub IsTermOfField : FieldType → Leaf → Type 0
+IsTermOfField (types.Str options) (text t) = Unit {0}
+IsTermOfField (types.U64 options) (unsigned n) = n < 2 ^ 64
+IsTermOfField (types.I64 options) (signed z) = FitsSigned w64 z
+IsTermOfField (types.Bool options) (boolean b) = Unit {0}
+IsTermOfField (types.Date options) (date z) = FitsSigned w64 z
+IsTermOfField (types.Facet options) (facet encoded) = Unit {0}
+IsTermOfField (types.Bytes options) (bytes bs) = IsBytes bs
+IsTermOfField type l = ⊥
 
 -- ---- for private clauses: the same from the bytes of a value
 

@@ -176,6 +176,6 @@ AreTermsOfBound field type bound (Ok made) = (value : Bound TermValue) × Writes
 AreTermsOfBound field type bound (Err e) = RefusesBound field type bound e
 
 -- where the terms of a value and of those below it end, among those that begin with its term
-abbrev pub EndsBelow : FieldType → List ℕ → Bound (List ℕ) → Type 0
-EndsBelow (types.Facet options) start end = ((length start ≡ 5) × (end ≡ Unbounded)) ⊎ ((length start ≢ 5) × (end ≡ Excluded (start ++ 1 ∷ [])))
-EndsBelow type start end = end ≡ Included start
+abbrev pub EndsBelowTerm : FieldType → List ℕ → Bound (List ℕ) → Type 0
+EndsBelowTerm (types.Facet options) start end = ((length start ≡ 5) × (end ≡ Unbounded)) ⊎ ((length start ≢ 5) × (end ≡ Excluded (start ++ 1 ∷ [])))
+EndsBelowTerm type start end = end ≡ Included start

@@ -2,18 +2,18 @@
 --
 -- The words of the public contract, of a visitor that was `old` and is `new`. `HasTaken start now terms` says that it has taken these terms since it was
 -- `start`, and is `now`.
--- `Takes`: it took these, in this order, after all that it had taken before.
+-- `TakesTerms`: it took these, in this order, after all that it had taken before.
 -- `TakesAll`: it took all of these terms, and they aren't refused.
 -- `TakesSome`: it took some terms, or none.
 use Rattle.std.specs.Prelude.{ℕ, List, ◌++◌, Ok, Err}
 use Rattle.tv_indexing.specs.DocumentTerms.{Terms}
 
-abbrev pub Takes : {V : Type 0} → (V → V → List (List ℕ) → Type 0) → V → V → List (List ℕ) → Type 0
-Takes HasTaken old new more = (start : _) (terms : List (List ℕ)) → HasTaken start old terms → HasTaken start new (terms ++ more)
+abbrev pub TakesTerms : {V : Type 0} → (V → V → List (List ℕ) → Type 0) → V → V → List (List ℕ) → Type 0
+TakesTerms HasTaken old new more = (start : _) (terms : List (List ℕ)) → HasTaken start old terms → HasTaken start new (terms ++ more)
 
 abbrev pub TakesAll : {V : Type 0} → (V → V → List (List ℕ) → Type 0) → V → V → Terms → Type 0
-TakesAll HasTaken old new (Ok made) = Takes HasTaken old new made
+TakesAll HasTaken old new (Ok made) = TakesTerms HasTaken old new made
 TakesAll HasTaken old new (Err e) = ⊥
 
 abbrev pub TakesSome : {V : Type 0} → (V → V → List (List ℕ) → Type 0) → V → V → Type 0
-TakesSome HasTaken old new = (some : List (List ℕ)) × Takes HasTaken old new some
+TakesSome HasTaken old new = (some : List (List ℕ)) × TakesTerms HasTaken old new some

@@ -5,7 +5,7 @@ ghost use Rattle.tv_doc.specs.Document.{document_of};
 ghost use Rattle.tv_heap.specs.Value.{tree_of};
 ghost use Rattle.tv_indexing.specs.DocumentTerms.{AreAppended, document_terms, fields_terms, is_among, is_wanted, pair_terms, wanted_pair_terms, wanted_terms};
 ghost use Rattle.tv_indexing.specs.TermFault.{document_fault};
-ghost use Rattle.tv_indexing.specs.Visits.{Takes, TakesAll, TakesSome};
+ghost use Rattle.tv_indexing.specs.Visits.{TakesTerms, TakesAll, TakesSome};
 ghost use Rattle.tv_indexing.specs.declared.document.TermValuesError.TheVariants.{Memory};
 
 use crate::json::{JsonField, OpenList, visit_json};
@@ -31,8 +31,8 @@ pub trait TermVisitor {
     /// The only error is that memory was refused. After it the term isn't taken.
     fn visit(&mut self, term: &[u8]) -> Result<(), AllocError>
         requires { 5 ≤ length term.now }
-        ensures made { OnOk result (Takes has_taken self.old self.new (term.now ∷ [])) }
-        ensures untaken { OnErr result (Takes has_taken self.old self.new []) };
+        ensures made { OnOk result (TakesTerms has_taken self.old self.new (term.now ∷ [])) }
+        ensures untaken { OnErr result (TakesTerms has_taken self.old self.new []) };
 }
 
 // Gives the visitor the terms of a value of a field. After an error a beginning of them may be taken.

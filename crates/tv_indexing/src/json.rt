@@ -7,7 +7,7 @@ ghost use Rattle.tv_indexing.specs.DocumentTerms.{has_zero, json_terms};
 ghost use Rattle.tv_format.specs.Tree.{Tree};
 ghost use Rattle.tv_indexing.specs.JsonWalk.{IsBegun, child_terms};
 ghost use Rattle.tv_indexing.specs.JsonWalk.{children_terms, separated, terms_at};
-ghost use Rattle.tv_indexing.specs.Visits.{Takes, TakesAll, TakesSome};
+ghost use Rattle.tv_indexing.specs.Visits.{TakesTerms, TakesAll, TakesSome};
 ghost use Rattle.tv_indexing.specs.declared.document.TermValuesError.TheVariants.{Memory, NulInPath};
 
 use crate::document::{TermValuesError, TermVisitor};
@@ -82,7 +82,7 @@ fn begin<'a, V: TermVisitor>(
     ensures refused { IfErr result
         (λ e. e ≢ Memory → child_terms at.field at.expand_dots buffer.old
         (option_map (λ k. k.now) key.entry) (tree_of value.entry) ≡ Err e) }
-    ensures untaken { OnErr result (Takes V.has_taken visitor.old visitor.new []) }
+    ensures untaken { OnErr result (TakesTerms V.has_taken visitor.old visitor.new []) }
 {
     enter(buffer, at, key)?;
     match value.as_nested().into_children() {

@@ -4,7 +4,7 @@ ghost use Rattle.std.specs.Prelude.{◌≡◌, ◌≢◌, ◌^◌, ℕ, List, dr
 ghost use Rattle.std.specs.Prelude.{[]};
 ghost use Rattle.tv_indexing.specs.DocumentTerms.{json_leaf_terms, value_terms};
 ghost use Rattle.tv_indexing.specs.LeafTerms.{json_value, leaf_value};
-ghost use Rattle.tv_indexing.specs.Visits.{Takes, TakesAll};
+ghost use Rattle.tv_indexing.specs.Visits.{TakesTerms, TakesAll};
 ghost use Rattle.tv_indexing.specs.declared.document.TermValuesError.TheVariants.{Memory};
 ghost use Rattle.tv_term.specs.Key.{Fits};
 ghost use Rattle.tv_value.specs.Lent.{leaf_of};
@@ -57,7 +57,7 @@ pub(crate) fn visit_json_leaf<V: TermVisitor>(
     ensures refused { IfErr result
         (λ e. e ≢ Memory → json_leaf_terms field (drop 1 buffer.old) (leaf_of leaf.entry) ≡ Err e) }
     ensures fits { IfSome (json_value (leaf_of leaf.entry)) Fits }
-    ensures untaken { OnErr result (Takes V.has_taken visitor.old visitor.new []) }
+    ensures untaken { OnErr result (TakesTerms V.has_taken visitor.old visitor.new []) }
 {
     let Some((value_type, payload)) = payload_of(json_leaf(field, leaf)?) else {
         return Ok(());

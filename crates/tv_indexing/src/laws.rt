@@ -6,7 +6,7 @@ ghost use Rattle.tv_field.specs.JsonAnswer.{WritesValue};
 ghost use Rattle.tv_field.specs.declared.field_type.FieldType.{FieldType};
 ghost use Rattle.tv_format.specs.Tree.{Leaf};
 ghost use Rattle.tv_indexing.specs.LeafTerms.{json_value, leaf_value};
-ghost use Rattle.tv_indexing.specs.TermText.{IsOfField, leaf_text};
+ghost use Rattle.tv_indexing.specs.TermText.{IsTermOfField, leaf_text};
 ghost use Rattle.tv_indexing.specs.TextTerms.{TermOfText, WritesLeaves, WritesTerms};
 ghost use Rattle.tv_term.specs.Key.{Fits, HasNoZero, Json, TermValue, term};
 ghost use Rattle.tv_value.specs.declared.field.Field.{Field};
@@ -35,10 +35,10 @@ pub fn terms_of_texts_are_of_no_other_value()
 /// A field that isn't of JSON objects or of addresses reads the text of a value of its own as that value. So the text that `text_of_term`
 /// returns of a term has this one term, and of a date the term of its second.
 pub fn texts_of_values_are_read_back()
-    ensures value { (field_type : FieldType) (l : Leaf) → IsOfField field_type l
+    ensures value { (field_type : FieldType) (l : Leaf) → IsTermOfField field_type l
         → WritesValue field_type (leaf_text l) l }
     ensures term { (field : Field) (field_type : FieldType) (l : Leaf) (value : TermValue)
-        → IsOfField field_type l → leaf_value l ≡ Some value → Fits value
+        → IsTermOfField field_type l → leaf_value l ≡ Some value → Fits value
         → TermOfText field field_type (leaf_text l) (Ok (term field.id value ∷ [])) }
 {
     printed_facets_are_read();

@@ -5,7 +5,7 @@ ghost use Rattle.std.specs.Int.{to_be_bytes, w32};
 ghost use Rattle.tv_heap.specs.Value.{tree_of};
 ghost use Rattle.tv_indexing.specs.DocumentTerms.{plain_terms};
 ghost use Rattle.tv_indexing.specs.LeafTerms.{leaf_value, tree_value};
-ghost use Rattle.tv_indexing.specs.Visits.{Takes, TakesAll};
+ghost use Rattle.tv_indexing.specs.Visits.{TakesTerms, TakesAll};
 ghost use Rattle.tv_indexing.specs.declared.document.TermValuesError.TheVariants.{Memory};
 ghost use Rattle.tv_term.specs.Key.{Fits};
 ghost use Rattle.tv_value.specs.Lent.{leaf_of};
@@ -45,7 +45,7 @@ pub(crate) fn visit_leaf<V: TermVisitor>(
     ensures refused { IfErr result
         (λ e. e ≢ Memory → plain_terms field wanted (leaf_value (leaf_of leaf.entry)) ≡ Err e) }
     ensures fits { IfSome (leaf_value (leaf_of leaf.entry)) Fits }
-    ensures untaken { OnErr result (Takes V.has_taken visitor.old visitor.new []) }
+    ensures untaken { OnErr result (TakesTerms V.has_taken visitor.old visitor.new []) }
 {
     let Some((value_type, payload)) = payload_of(leaf) else {
         return Err(TermValuesError::WrongType(field));
@@ -73,7 +73,7 @@ pub(crate) fn visit_value<V: TermVisitor>(
         (plain_terms field wanted (tree_value (tree_of value.entry)))) }
     ensures refused { IfErr result
         (λ e. e ≢ Memory → plain_terms field wanted (tree_value (tree_of value.entry)) ≡ Err e) }
-    ensures untaken { OnErr result (Takes V.has_taken visitor.old visitor.new []) }
+    ensures untaken { OnErr result (TakesTerms V.has_taken visitor.old visitor.new []) }
 {
     match value.as_value() {
         ReferenceValue::Leaf(leaf) => visit_leaf(visitor, buffer, field, wanted, leaf),

@@ -6,7 +6,7 @@ ghost use Rattle.std.specs.Int.{to_be_bytes, w32};
 ghost use Rattle.tv_base.specs.JsonPath.{expanded};
 ghost use Rattle.tv_indexing.specs.JsonWalk.{separated};
 ghost use Rattle.tv_indexing.specs.KeyBytes.{keys_held};
-ghost use Rattle.tv_indexing.specs.Visits.{Takes};
+ghost use Rattle.tv_indexing.specs.Visits.{TakesTerms};
 ghost use Rattle.tv_options.specs.Types.{code};
 ghost use Rattle.tv_options.specs.declared.types.TypeTag.TheVariants.{Json};
 
@@ -86,10 +86,10 @@ impl TermBuffer {
         payload: &[u8],
     ) -> Result<(), AllocError>
         ensures keys { OnOk result (self.new ≡ self.old) }
-        ensures made { OnOk result (Takes V.has_taken visitor.old visitor.new
+        ensures made { OnOk result (TakesTerms V.has_taken visitor.old visitor.new
             ((to_be_bytes w32 field.id ++ code Json ∷ (drop 1 self.old
             ++ 0 ∷ code value_type ∷ payload.now)) ∷ [])) }
-        ensures untaken { OnErr result (Takes V.has_taken visitor.old visitor.new []) }
+        ensures untaken { OnErr result (TakesTerms V.has_taken visitor.old visitor.new []) }
     {
         let len = self.bytes.len();
         put_start(&mut self.bytes, start_of(field, Type::Json))?;
@@ -107,9 +107,9 @@ impl TermBuffer {
         value_type: Type,
         payload: &[u8],
     ) -> Result<(), AllocError>
-        ensures made { OnOk result (Takes V.has_taken visitor.old visitor.new
+        ensures made { OnOk result (TakesTerms V.has_taken visitor.old visitor.new
             ((to_be_bytes w32 field.id ++ code value_type ∷ payload.now) ∷ [])) }
-        ensures untaken { OnErr result (Takes V.has_taken visitor.old visitor.new []) }
+        ensures untaken { OnErr result (TakesTerms V.has_taken visitor.old visitor.new []) }
     {
         self.bytes.clear();
         self.bytes.extend_from_slice(&start_of(field, value_type))?;

@@ -4,7 +4,7 @@ ghost use Rattle.std.specs.Prelude.{◌≡◌, List, ℕ, IfOk, MatchOption};
 ghost use Rattle.std.specs.Option.{option_copied};
 ghost use Rattle.std.specs.declared.ops.Bound.{Bound};
 ghost use Rattle.tv_indexing.specs.TextRange.{AnswersBounds, AnswersRange, AreTermsOfBound};
-ghost use Rattle.tv_indexing.specs.TextRange.{BelowInField, EndsBelow, IsEndBound, IsStartBound};
+ghost use Rattle.tv_indexing.specs.TextRange.{BelowInField, EndsBelowTerm, IsEndBound, IsStartBound};
 ghost use Rattle.tv_indexing.specs.TextRange.{IsTermOfText, RangeInField, RangeOfTexts};
 ghost use Rattle.tv_indexing.specs.TextRange.{RangeWithBelow, WritesBounds, bound_of, bound_text};
 ghost use Rattle.tv_indexing.specs.TextRange.{bounding, bytes_run_backwards, outer_bound};
@@ -136,7 +136,7 @@ pub(crate) fn plain_range(
 // Where the terms end that begin with the term of a value and are of that value or of one below it. The term of a facet that is below another
 // one, which isn't the root, has a separator after the bytes of that.
 fn end_of_below(field_type: &FieldType, term: Term) -> Result<Bound<Term>, AllocError>
-    ensures { IfOk result (EndsBelow field_type.now term) }
+    ensures { IfOk result (EndsBelowTerm field_type.now term) }
 {
     if !matches!(field_type, FieldType::Facet(_)) {
         return Ok(Bound::Included(term));

@@ -7,7 +7,7 @@ ghost use Rattle.tv_date.specs.Rfc3339.{rfc};
 ghost use Rattle.tv_field.specs.JsonTable.{truth_in};
 ghost use Rattle.tv_format.specs.Tree.{Leaf};
 ghost use Rattle.tv_indexing.specs.DocumentTerms.{AreAppended, plain_terms};
-ghost use Rattle.tv_indexing.specs.JsonWalk.{Extends};
+ghost use Rattle.tv_indexing.specs.JsonWalk.{ExtendsPath};
 ghost use Rattle.tv_indexing.specs.LeafTerms.{json_value, leaf_value};
 ghost use Rattle.tv_indexing.specs.TextTerms.{TermsBelow, TermOfText, AnswersText, TermsInField};
 ghost use Rattle.tv_indexing.specs.TextTerms.{AppendsAnswer, WritesLeaves, WritesNumber};
@@ -101,7 +101,7 @@ fn push_all_written(
     ensures made { OnOk result ((leaves : List Leaf) × WritesLeaves text.now leaves
         × AllByRecursion (λ l. IfSome (json_value l) Fits) leaves
         × AreAppended terms.old terms.new (leaves_terms field (drop 1 buffer.old) leaves)) }
-    ensures kept { OnErr result (Extends terms.old terms.new) }
+    ensures kept { OnErr result (ExtendsPath terms.old terms.new) }
 {
     push_written(terms, buffer, field, Some(ReferenceValueLeaf::Str(text)))?;
     push_written(terms, buffer, field, number_written(text))?;
@@ -119,7 +119,7 @@ fn push_text_below(
 ) -> Result<(), TextTermsError>
     ensures answers { Unless Memory (AppendsAnswer
         (TermsBelow at.field at.expand_dots path.now text.now) terms.old terms.new) result }
-    ensures kept { OnErr result (Extends terms.old terms.new) }
+    ensures kept { OnErr result (ExtendsPath terms.old terms.new) }
 {
     if path.is_empty() {
         return Err(TextTermsError::PathEnds(at.field));
@@ -192,7 +192,7 @@ impl IndexedField<'_, '_> {
     ) -> Result<(), TextTermsError>
         ensures answers { Unless Memory
             (AppendsAnswer (TermsInField self.now text.now) terms.old terms.new) result }
-        ensures kept { OnErr result (Extends terms.old terms.new) }
+        ensures kept { OnErr result (ExtendsPath terms.old terms.new) }
     {
         let field = self.field;
         match self.field_type {

@@ -14,7 +14,7 @@ use Rattle.tv_indexing.specs.TermFault.{document_fault}
 use Rattle.tv_indexing.specs.declared.document.TermValuesError.{TermValuesError}
 use Rattle.tv_lines.specs.Halts.{IsOfWriting, sink_stop, source_stop}
 use Rattle.tv_lines.specs.Importing.{Imports, IsJudged, IsLineError, LeavesBegun, RefusesFault, TellsUnsearchable}
-use Rattle.tv_lines.specs.LineDocuments.{MakesDocument}
+use Rattle.tv_lines.specs.LineDocuments.{MakesLineDocument}
 use Rattle.tv_lines.specs.Reader.{TakesLine}
 use Rattle.tv_lines.specs.Terms.{faulty_name}
 use Rattle.tv_lines.specs.declared.errors.Halt.{Halt}
@@ -35,7 +35,7 @@ pub refuses : (schema : List Entry) (rules : ImportRules) (input rest line held 
 refuses schema rules input rest line held count e took is = ([], (took.0, line, took.1, (is, refl)), sym (append-nil held))
 
 -- the document can't be searched, and that is told
-pub refuses_fault : (schema : List Entry) (rules : ImportRules) (line : List ℕ) (made : CompactDoc) (why : TermValuesError) (said : LineError) → MakesDocument schema rules.strict line made
+pub refuses_fault : (schema : List Entry) (rules : ImportRules) (line : List ℕ) (made : CompactDoc) (why : TermValuesError) (said : LineError) → MakesLineDocument schema rules.strict line made
     → RefusesFault rules.faults (document_fault schema (document_of made)) why → TellsUnsearchable schema why said → IsLineError schema rules line said
 refuses_fault schema rules line made why (Unsearchable name other) makes refuses tells =
     (made, makes, rw tells.0 refuses, tells.1 ∙ ap (faulty_name schema) (sym tells.0))

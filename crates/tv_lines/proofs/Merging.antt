@@ -17,21 +17,21 @@ use Rattle.tv_base.specs.declared.cause.ReadError.{ReadError}
 use Rattle.tv_base.specs.declared.cause.ReadError.TheVariants.{Corrupted, Io, Memory}
 use Rattle.tv_base.specs.declared.source.ByteSource.{Ghosts}
 use Rattle.tv_lines.proofs.RunPairs.{one_pair, some_bytes}
-use Rattle.tv_lines.specs.TermRuns.{BeginsWith, BeginsWithNoneBefore, Fits, HasLeft, HaveLeft, IsAfter, IsAtMost, IsLeast, IsLeastRead, IsLesser, IsOfReading, IsRising, IsRun, NoneFails, Pair, RefusesPair, RisesOn, TakesFrom, TakesFromEach, TakesPair, count_of, is_of, pair_of, run_bytes, without}
+use Rattle.tv_lines.specs.TermRuns.{BeginsWith, BeginsWithNoneBefore, FitsRun, HasLeft, HaveLeft, IsAfter, IsAtMost, IsLeast, IsLeastRead, IsLesser, IsOfReading, IsSortedRun, IsRun, NoneFails, Pair, RefusesRun, RisesOn, TakesFrom, TakesFromEach, TakesPair, count_of, is_of, pair_of, run_bytes, without}
 use Rattle.tv_lines.specs.declared.term_runs.RunReader.{RunReader}
 
 -- ---- one run
 
-no_pair : (bytes : List ℕ) (pairs : List Pair) → IsRun bytes pairs → RefusesPair bytes (Corrupted UnexpectedEnd) → ⊥
+no_pair : (bytes : List ℕ) (pairs : List Pair) → IsRun bytes pairs → RefusesRun bytes (Corrupted UnexpectedEnd) → ⊥
 no_pair bytes [] run h = h.0 run.1
-no_pair bytes (p ∷ ps) run h = h.1 p (run_bytes ps) (All-head Fits p ps run.0) run.1
+no_pair bytes (p ∷ ps) run h = h.1 p (run_bytes ps) (All-head FitsRun p ps run.0) run.1
 
-cause_of_reading : (bytes : List ℕ) (pairs : List Pair) (c : Cause) → IsRun bytes pairs → RefusesPair bytes (Corrupted c) → IsOfReading (Corrupted c)
+cause_of_reading : (bytes : List ℕ) (pairs : List Pair) (c : Cause) → IsRun bytes pairs → RefusesRun bytes (Corrupted c) → IsOfReading (Corrupted c)
 cause_of_reading bytes pairs UnexpectedEnd run h = absurd (no_pair bytes pairs run h)
 cause_of_reading bytes pairs TooLong run h = tt
 cause_of_reading bytes pairs _ run h = absurd h
 
-of_reading : (bytes : List ℕ) (pairs : List Pair) (e : ReadError) → IsRun bytes pairs → RefusesPair bytes e → IsOfReading e
+of_reading : (bytes : List ℕ) (pairs : List Pair) (e : ReadError) → IsRun bytes pairs → RefusesRun bytes e → IsOfReading e
 of_reading bytes pairs (Corrupted c) run h = cause_of_reading bytes pairs c run h
 of_reading bytes pairs (Io kind) run h = tt
 of_reading bytes pairs Memory run h = tt
@@ -42,8 +42,8 @@ module _ {S : Type 0} (source : Ghosts S) where
   next_left r bytes [] true run takes has = absurd (some_bytes (pair_of r) (source.left r.source) (sym run.1 ∙ takes.1))
   next_left r bytes [] false run takes has = (has, takes.1)
   next_left r bytes (p ∷ ps) true run takes has =
-      let one = one_pair (pair_of r) p (source.left r.source) (run_bytes ps) takes.0 (All-head Fits p ps run.0) (sym takes.1 ∙ run.1) in
-      (has, one.0, (All-tail Fits p ps run.0, one.1))
+      let one = one_pair (pair_of r) p (source.left r.source) (run_bytes ps) takes.0 (All-head FitsRun p ps run.0) (sym takes.1 ∙ run.1) in
+      (has, one.0, (All-tail FitsRun p ps run.0, one.1))
   next_left r bytes (p ∷ ps) false run takes has = absurd (some_bytes p (run_bytes ps) (sym takes.0 ∙ run.1))
 
   -- the term was read, and then the next
@@ -55,7 +55,7 @@ module _ {S : Type 0} (source : Ghosts S) where
       let P : Bool → Type 0 = λ b. (old.count ≡ (if b then p.1 else 0)) × HasLeft source new (if b then ps else p ∷ ps) in
       subst P (sym is) (ap (λ (q : Pair). q.1) h.1, next_left new (source.left old.source) ps more h.2 takes now)
 
-  pub taken_error : (old : RunReader S) (pairs : List Pair) (e : ReadError) → HasLeft source old pairs → old.has_pair ≡ true → RefusesPair (source.left old.source) e → IsOfReading e
+  pub taken_error : (old : RunReader S) (pairs : List Pair) (e : ReadError) → HasLeft source old pairs → old.has_pair ≡ true → RefusesRun (source.left old.source) e → IsOfReading e
   taken_error old [] e h has refuses = absurd (cc (h.0, has))
   taken_error old (p ∷ ps) e h has refuses = of_reading (source.left old.source) ps e h.2 refuses
 
@@ -142,10 +142,10 @@ module _ {S : Type 0} (source : Ghosts S) where
 
 -- ---- the order of what is left
 
-tail_rises : (p : Pair) (ps : List Pair) → IsRising (p ∷ ps) → IsRising ps
+tail_rises : (p : Pair) (ps : List Pair) → IsSortedRun (p ∷ ps) → IsSortedRun ps
 tail_rises p ps h i j d lt within = h (suc i) (suc j) d (omega (arith, lt)) (omega (arith, within))
 
-after_head : (p : Pair) (ps : List Pair) → IsRising (p ∷ ps) → IsAfter p.0 ps
+after_head : (p : Pair) (ps : List Pair) → IsSortedRun (p ∷ ps) → IsAfter p.0 ps
 after_head p ps h k d lt = h 0 (suc k) d (omega arith) (omega (arith, lt))
 
 less_of : (a b : List ℕ) → IsAtMost a b → pointwise nat_eq b a ≡ false → slice_cmp nat_cmp a b ≡ Less
@@ -159,10 +159,10 @@ less_of a b at_most other =
       | Greater ↦ λ is below. absurd (cc (below))
     ] refl at_most
 
-after_taken : (term : List ℕ) (pairs : List Pair) → IsRising pairs → BeginsWithNoneBefore term pairs → IsRising (without term pairs) × IsAfter term (without term pairs)
+after_taken : (term : List ℕ) (pairs : List Pair) → IsSortedRun pairs → BeginsWithNoneBefore term pairs → IsSortedRun (without term pairs) × IsAfter term (without term pairs)
 after_taken term [] rises least = (rises, All-nil (λ (p : Pair). slice_cmp nat_cmp term p.0 ≡ Less))
 after_taken term (p ∷ ps) rises least =
-    elim (is_of term p) as (λ b. is_of term p ≡ b → IsRising (if b then ps else p ∷ ps) × IsAfter term (if b then ps else p ∷ ps)) [
+    elim (is_of term p) as (λ b. is_of term p ≡ b → IsSortedRun (if b then ps else p ∷ ps) × IsAfter term (if b then ps else p ∷ ps)) [
       | true ↦ λ is.
           let same : p.0 ≡ term = (bytes_decides p.0 term).0 is in
           let P : List ℕ → Type 0 = λ t. IsAfter t ps in
@@ -176,7 +176,7 @@ after_taken term (p ∷ ps) rises least =
     ] refl
 
 pub rises_on : (term : List ℕ) (runs : List (List Pair)) → All (BeginsWithNoneBefore term) runs → RisesOn term runs
-rises_on term runs least rises = All-map (λ (pairs : List Pair). IsRising pairs × IsAfter term pairs) (without term) runs (λ k d lt. after_taken term (get_or runs k d) (rises k d lt) (least k d lt))
+rises_on term runs least rises = All-map (λ (pairs : List Pair). IsSortedRun pairs × IsAfter term pairs) (without term) runs (λ k d lt. after_taken term (get_or runs k d) (rises k d lt) (least k d lt))
 
 -- ---- a term is taken from each
 

@@ -6,7 +6,7 @@ use Rattle.tv_base.specs.Stop.{CountsStop}
 use Rattle.tv_lines.specs.Printing.{AppendsJson, ArePrinted, is_bad, laid_out}
 use Rattle.tv_lines.specs.Printing.ArePrinted.{none_printed, next_printed}
 use Rattle.tv_lines.specs.Exporting.{AppendsBegun, BreaksOff, ExportsAll, LeavesNext}
-use Rattle.tv_lines.specs.WorkErrors.{IsOfWriting, sink_stop, source_stop}
+use Rattle.tv_lines.specs.WorkErrors.{IsOfPrinting, sink_stop, source_stop}
 use Rattle.tv_lines.specs.declared.export.JsonLayout.{JsonLayout}
 use Rattle.tv_lines.specs.declared.errors.WorkError.{WorkError}
 use Rattle.tv_lines.specs.declared.errors.WorkError.TheVariants as errors
@@ -14,7 +14,7 @@ use Rattle.tv_field.specs.Entry.{Entry}
 use Rattle.tv_format.specs.Tree.{Document}
 use Rattle.tv_format.specs.Version.{Version}
 use Rattle.tv_store.specs.Documents.{BeginsWithDocument}
-use Rattle.tv_store.specs.Projections.{EncodesBlockWithin, EncodesWithin, ReadsOne, kept, limits_of}
+use Rattle.tv_store.specs.Projections.{EncodesBlockWithin, EncodesWithinLimits, ReadsOne, kept, limits_of}
 use Rattle.tv_store.specs.declared.projection.Projection.{Projection}
 use Rattle.tv_store.proofs.BlocksSoFar.{ReadSoFar, read_more, read_none, whole_before}
 
@@ -30,7 +30,7 @@ map-snoc f [] x = refl
 map-snoc {B = B} f (y ∷ ys) x = ap (λ (l : List B). f y ∷ l) (map-snoc f ys x)
 
 -- what a write leaves of the next document
-pub leaves_line : (entries : List Entry) (layout : JsonLayout) (v : Version) (projection : Projection) (bytes left rest : List ℕ) (number start : ℕ) (old new : List ℕ) (d : Document) (e : WorkError) → IsOfWriting e → BeginsWithDocument v bytes rest d
+pub leaves_line : (entries : List Entry) (layout : JsonLayout) (v : Version) (projection : Projection) (bytes left rest : List ℕ) (number start : ℕ) (old new : List ℕ) (d : Document) (e : WorkError) → IsOfPrinting e → BeginsWithDocument v bytes rest d
     → AppendsBegun entries layout (kept projection d) old new → LeavesNext entries layout v projection bytes left number start old new e
 leaves_line entries layout v projection bytes left rest number start old new d (errors.Write kind) is begins leaves = (d, rest, begins, leaves)
 leaves_line entries layout v projection bytes left rest number start old new d errors.Memory is begins leaves = (d, rest, begins, leaves)
@@ -48,7 +48,7 @@ pub printed_none : (entries : List Entry) (layout : JsonLayout) (v : Version) (p
 printed_none entries layout v projection block old start is = record { read = read_none v (limits_of projection) block start is; lines = []; printed = none_printed; held = sym (append-nil old) }
 
 module _ {entries : List Entry} {layout : JsonLayout} {v : Version} {projection : Projection} {block rest old now : List ℕ} {number start : ℕ} (m : PrintedSoFar entries layout v projection block rest old now number start) where
-  pub printed_more : {left after : List ℕ} {next : ℕ} (d : Document) (h : Begins (λ b. EncodesWithin v (limits_of projection) b d) rest left) → length left < length rest → (start + length rest < 2 ^ 64 → next + length left ≡ start + length rest)
+  pub printed_more : {left after : List ℕ} {next : ℕ} (d : Document) (h : Begins (λ b. EncodesWithinLimits v (limits_of projection) b d) rest left) → length left < length rest → (start + length rest < 2 ^ 64 → next + length left ≡ start + length rest)
       → AppendsJson entries layout (kept projection d) now after → PrintedSoFar entries layout v projection block left old after (number + 1) next
   printed_more {left} {after} {next} d h fewer placed line = record {
     read = read_more m.read d h fewer placed;
@@ -65,7 +65,7 @@ module _ {entries : List Entry} {layout : JsonLayout} {v : Version} {projection 
   printed_next {after = after} one fewer placed line = printed_more one.0 one.1 fewer placed (subst (λ (d : Document). AppendsJson entries layout d now after) one.2 line)
 
   -- it was read, and its line wasn't appended, or not whole
-  pub printed_begun : {left after : List ℕ} {shown : Document} (e : WorkError) → ReadsOne v projection (λ d. shown ≡ kept projection d) rest left (Ok true) → IsOfWriting e → AppendsBegun entries layout shown now after
+  pub printed_begun : {left after : List ℕ} {shown : Document} (e : WorkError) → ReadsOne v projection (λ d. shown ≡ kept projection d) rest left (Ok true) → IsOfPrinting e → AppendsBegun entries layout shown now after
       → LeavesNext entries layout v projection rest left (length m.read.documents) (length m.read.before) now after e
   printed_begun {left} {after} e one is line =
       leaves_line entries layout v projection rest left left (length m.read.documents) (length m.read.before) now after one.0 e is (record { prefix = one.1.prefix; joined = one.1.joined; encoded = one.1.encoded.encoded })
@@ -101,7 +101,7 @@ pub counts_sink : (e : WorkError) {begun old : Failures} (new : Failures) → ol
 counts_sink e new same counts = subst (λ (f : Failures). CountsStop (sink_stop e) f new) same counts
 
 -- an error of writing says nothing of the source
-pub not_source : (e : WorkError) {begun now : Failures} → IsOfWriting e → now ≡ begun → CountsStop (source_stop e) begun now
+pub not_source : (e : WorkError) {begun now : Failures} → IsOfPrinting e → now ≡ begun → CountsStop (source_stop e) begun now
 not_source (errors.Write kind) is same = same
 not_source errors.Memory is same = same
 not_source (errors.Read e) is same = absurd is

@@ -18,7 +18,7 @@ use Rattle.tv_base.proofs.AgreeWidths.{AreBytes, bytes_agree, bytes_error, u64_a
 use Rattle.tv_base.proofs.Numbers.{fixed_fits, low_bytes_encode}
 use Rattle.tv_base.proofs.Chunks.{start}
 use Rattle.tv_base.proofs.TakeSteps.{SoFar, SoFar-fails, SoFar-returns, SoFar-start, SoFar-step, lean, read_ok}
-use Rattle.tv_lines.specs.TermRuns.{Fits, Pair, RefusesPair, TakesPair, pair_at, pair_bytes}
+use Rattle.tv_lines.specs.TermRuns.{FitsRun, Pair, RefusesRun, TakesPair, pair_at, pair_bytes}
 use Rattle.tv_store.specs.Blocks.{NextOf}
 
 -- ---- numbers
@@ -46,7 +46,7 @@ some_bytes p rest e = absurd cc
 -- ---- the grammar
 
 abbrev EncodesPair : List ℕ → Pair → Type 0
-EncodesPair bytes p = Fits p × (bytes ≡ pair_bytes p)
+EncodesPair bytes p = FitsRun p × (bytes ≡ pair_bytes p)
 
 abbrev InParts : List ℕ → Pair → Type 0
 InParts = InTurn (Fixed 8) (λ len. InTurn (AreBytes len) (λ (term : List ℕ) (bytes : List ℕ) (p : Pair). (n : ℕ) × Fixed 8 bytes n × (p ≡ (term, n))))
@@ -100,7 +100,7 @@ unfolding pair_at
 pair_agrees = agrees_too (λ bytes. refl) from_parts in_parts ends (in_turn u64_agrees (λ len. in_turn (bytes_agree len) (λ (term : List ℕ). made (λ n. (term, n)) u64_agrees)))
 
 -- bytes begin with one pair at most
-pub one_pair : (p q : Pair) (x y : List ℕ) → Fits p → Fits q → pair_bytes p ++ x ≡ pair_bytes q ++ y → (p ≡ q) × (x ≡ y)
+pub one_pair : (p q : Pair) (x y : List ℕ) → FitsRun p → FitsRun q → pair_bytes p ++ x ≡ pair_bytes q ++ y → (p ≡ q) × (x ≡ y)
 one_pair p q x y p_fits q_fits e =
     let one = one_encoding pair_agrees (pair_bytes p) (pair_bytes q) x y p q (p_fits, refl) (q_fits, refl) e in
     (one.1, append_cancel_left (pair_bytes q) x y (ap (λ (l : List ℕ). l ++ x) (sym one.0) ∙ e))
@@ -136,7 +136,7 @@ module _ {S : Type 0} (source : Ghosts S) (are_bytes : (s : S) → source.is_kno
         empty (x ∷ xs) is = absurd (omega (arith, is))
 
     -- something that is no pair
-    pub refused : (c : Cause) → e ≡ Corrupted c → (c ≡ UnexpectedEnd → 0 < taken) → RefusesPair (source.left old) (Corrupted c)
+    pub refused : (c : Cause) → e ≡ Corrupted c → (c ≡ UnexpectedEnd → 0 < taken) → RefusesRun (source.left old) (Corrupted c)
     refused UnexpectedEnd is some =
         let t = h.taken known in
         let read = reads UnexpectedEnd (ap read_stop is) in (
@@ -151,13 +151,13 @@ module _ {S : Type 0} (source : Ghosts S) (are_bytes : (s : S) → source.is_kno
         let end = pair_agrees.refused (source.left old) c (source.left new) (are_bytes old known) (reads c (ap read_stop is)) in
         absurd cc
 
-    pub pair_refused : (error : ReadError) → error ≡ e → (e ≡ Corrupted UnexpectedEnd → 0 < taken) → RefusesPair (source.left old) error
+    pub pair_refused : (error : ReadError) → error ≡ e → (e ≡ Corrupted UnexpectedEnd → 0 < taken) → RefusesRun (source.left old) error
     pair_refused (Corrupted c) is some = refused c (sym is) (λ end. some (sym is ∙ ap (λ (x : Cause). Corrupted x) end))
     pair_refused (Io kind) is some = tt
     pair_refused Memory is some = tt
 
   -- and what that says of whether there was one
-  pub more_refused : (read : Result ℕ ReadError) (error : ReadError) → TakesBy source old 0 new taken (λ (n : ℕ). (term, n)) read pair_at → NextOf (Corrupted UnexpectedEnd) read taken (Err error) → RefusesPair (source.left old) error
+  pub more_refused : (read : Result ℕ ReadError) (error : ReadError) → TakesBy source old 0 new taken (λ (n : ℕ). (term, n)) read pair_at → NextOf (Corrupted UnexpectedEnd) read taken (Err error) → RefusesRun (source.left old) error
   more_refused (Ok n) error h more = absurd (cc (more))
   more_refused (Err e) error h more = pair_refused e h error more.0 more.1
 

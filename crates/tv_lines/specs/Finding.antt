@@ -22,26 +22,26 @@ use Rattle.tv_format.specs.Version.{Version}
 use Rattle.tv_indexing.specs.DocumentTerms.{Terms, document_terms}
 use Rattle.tv_indexing.specs.declared.document.TermValuesError.{TermValuesError}
 use Rattle.tv_query.specs.Fields.{names_field}
-use Rattle.tv_query.specs.Grammar.{Tree, steps_of}
+use Rattle.tv_query.specs.Grammar.{QueryTree, steps_of}
 use Rattle.tv_query.specs.Matching.{Matches}
 use Rattle.tv_store.specs.Documents.{BeginsWithDocument}
-use Rattle.tv_store.specs.Projections.{EncodesWithin, IsRefusedAt, kept, limits_of}
+use Rattle.tv_store.specs.Projections.{EncodesWithinLimits, IsRefusedAt, kept, limits_of}
 use Rattle.tv_store.specs.declared.projection.Projection.{Projection}
 
 -- ---- a document
 
 -- the terms of the fields that the query names, or why there are none
-abbrev pub named_terms : List Entry → Tree → Document → Terms
+abbrev pub named_terms : List Entry → QueryTree → Document → Terms
 named_terms schema tree d = document_terms schema (filter (λ pair. names_field (steps_of tree) pair.0) d)
 
 -- What becomes of a document: these terms match the query, and its line is appended; or they don't, or there are none, and nothing is.
-abbrev pub Finds : List Entry → Tree → Document → List ℕ → List ℕ → DocumentOutcome → Type 0
-Finds schema tree d old new outcome.Found = (terms : List (List ℕ)) × (named_terms schema tree d ≡ Ok terms) × Matches terms tree × AppendsJson schema Compact d old new
-Finds schema tree d old new outcome.NotFound = (terms : List (List ℕ)) × (named_terms schema tree d ≡ Ok terms) × (¬ Matches terms tree) × (new ≡ old)
-Finds schema tree d old new (outcome.Faulty why) = (named_terms schema tree d ≡ Err why) × (new ≡ old)
+abbrev pub FindsDocument : List Entry → QueryTree → Document → List ℕ → List ℕ → DocumentOutcome → Type 0
+FindsDocument schema tree d old new outcome.Found = (terms : List (List ℕ)) × (named_terms schema tree d ≡ Ok terms) × Matches terms tree × AppendsJson schema Compact d old new
+FindsDocument schema tree d old new outcome.NotFound = (terms : List (List ℕ)) × (named_terms schema tree d ≡ Ok terms) × (¬ Matches terms tree) × (new ≡ old)
+FindsDocument schema tree d old new (outcome.Faulty why) = (named_terms schema tree d ≡ Err why) × (new ≡ old)
 
 -- what was appended of a document, and why no more
-abbrev pub LeavesDocument : List Entry → Tree → Document → List ℕ → List ℕ → WorkError → Type 0
+abbrev pub LeavesDocument : List Entry → QueryTree → Document → List ℕ → List ℕ → WorkError → Type 0
 LeavesDocument schema tree d old new (errors.Write kind) = (terms : List (List ℕ)) × (named_terms schema tree d ≡ Ok terms) × Matches terms tree × AppendsBegun schema Compact d old new
 LeavesDocument schema tree d old new errors.Memory = AppendsBegun schema Compact d old new
 LeavesDocument schema tree d old new e = ⊥
@@ -50,10 +50,10 @@ LeavesDocument schema tree d old new e = ⊥
 
 -- These bytes encode documents, one after the other, each within the limits, and each of these reports is true of what is kept of one, with its number and the place where it
 -- begins. They are the first of the block.
-pub data FindsEach (schema : List Entry) (v : Version) (projection : Projection) (tree : Tree) (block old : List ℕ) : List ℕ → List ℕ → List DocumentReport → Type 0 where
+pub data FindsEach (schema : List Entry) (v : Version) (projection : Projection) (tree : QueryTree) (block old : List ℕ) : List ℕ → List ℕ → List DocumentReport → Type 0 where
   none : FindsEach schema v projection tree block old [] old []
   one_more : {before middle new : List ℕ} {reports : List DocumentReport} (bytes : List ℕ) (d : Document) (report : DocumentReport) → FindsEach schema v projection tree block old before middle reports
-      → EncodesWithin v (limits_of projection) bytes d → report.document ≡ length reports → (length block < 2 ^ 64 - 1 → report.start ≡ length before) → Finds schema tree (kept projection d) middle new report.outcome
+      → EncodesWithinLimits v (limits_of projection) bytes d → report.document ≡ length reports → (length block < 2 ^ 64 - 1 → report.start ≡ length before) → FindsDocument schema tree (kept projection d) middle new report.outcome
       → FindsEach schema v projection tree block old (before ++ bytes) new (reports ++ report ∷ [])
 
 abbrev pub is_found : DocumentOutcome → Bool
@@ -67,7 +67,7 @@ is_faulty outcome.NotFound = false
 is_faulty (outcome.Faulty why) = true
 
 -- The block is documents. Where it is known what was told, that is what became of each, and of each kind there are as many as are said.
-pub record FindsAll (schema : List Entry) (v : Version) (projection : Projection) (tree : Tree) (block old new : List ℕ) (IsTold : Type 0) (begun ended : List DocumentReport) (found : Found) : Type 0 where
+pub record FindsAll (schema : List Entry) (v : Version) (projection : Projection) (tree : QueryTree) (block old new : List ℕ) (IsTold : Type 0) (begun ended : List DocumentReport) (found : Found) : Type 0 where
   pub reports : List DocumentReport
   pub each : FindsEach schema v projection tree block old block new reports
   pub told : IsTold → ended ≡ begun ++ reports
@@ -77,20 +77,20 @@ pub record FindsAll (schema : List Entry) (v : Version) (projection : Projection
 
 -- What was appended of the document with which these bytes begin, and why the search went no further: nothing where it can't be read, or isn't. Before it come
 -- this many documents, in this number of bytes.
-abbrev pub LeavesNext : List Entry → Version → Projection → Tree → List ℕ → List ℕ → ℕ → ℕ → List ℕ → List ℕ → WorkError → Type 0
-LeavesNext schema v projection tree bytes left number start old new (errors.Read e) = (new ≡ old) × (e.document ≡ number) × IsRefusedAt v projection bytes left start e
-LeavesNext schema v projection tree bytes left number start old new errors.TooMany = (new ≡ old) × (number ≡ 2 ^ 64 - 1)
-LeavesNext schema v projection tree bytes left number start old new e = (d : Document) × (rest : List ℕ) × BeginsWithDocument v bytes rest d × LeavesDocument schema tree (kept projection d) old new e
+abbrev pub LeavesUnsearched : List Entry → Version → Projection → QueryTree → List ℕ → List ℕ → ℕ → ℕ → List ℕ → List ℕ → WorkError → Type 0
+LeavesUnsearched schema v projection tree bytes left number start old new (errors.Read e) = (new ≡ old) × (e.document ≡ number) × IsRefusedAt v projection bytes left start e
+LeavesUnsearched schema v projection tree bytes left number start old new errors.TooMany = (new ≡ old) × (number ≡ 2 ^ 64 - 1)
+LeavesUnsearched schema v projection tree bytes left number start old new e = (d : Document) × (rest : List ℕ) × BeginsWithDocument v bytes rest d × LeavesDocument schema tree (kept projection d) old new e
 
 -- the same, or it was gone over and only the report failed
-abbrev pub LeavesSearch : {E : Type 0} → List Entry → Version → Projection → Tree → List ℕ → List ℕ → ℕ → ℕ → List ℕ → List ℕ → FindError E → Type 0
-LeavesSearch schema v projection tree bytes left number start old new (finding.Work e) = LeavesNext schema v projection tree bytes left number start old new e
+abbrev pub LeavesSearch : {E : Type 0} → List Entry → Version → Projection → QueryTree → List ℕ → List ℕ → ℕ → ℕ → List ℕ → List ℕ → FindError E → Type 0
+LeavesSearch schema v projection tree bytes left number start old new (finding.Work e) = LeavesUnsearched schema v projection tree bytes left number start old new e
 LeavesSearch schema v projection tree bytes left number start old new (finding.Report e) =
-    (d : Document) × (rest : List ℕ) × (said : DocumentOutcome) × BeginsWithDocument v bytes rest d × Finds schema tree (kept projection d) old new said
+    (d : Document) × (rest : List ℕ) × (said : DocumentOutcome) × BeginsWithDocument v bytes rest d × FindsDocument schema tree (kept projection d) old new said
 
 -- The documents before were gone over, and the one with which the rest of the block begins was not, or not to the end. `left` is what was left of the
 -- block.
-pub record StopsFinding {E : Type 0} (schema : List Entry) (v : Version) (projection : Projection) (tree : Tree) (block left old new : List ℕ) (IsTold : Type 0) (begun ended : List DocumentReport) (error : FindError E) : Type 0 where
+pub record StopsFinding {E : Type 0} (schema : List Entry) (v : Version) (projection : Projection) (tree : QueryTree) (block left old new : List ℕ) (IsTold : Type 0) (begun ended : List DocumentReport) (error : FindError E) : Type 0 where
   pub before : List ℕ
   pub after : List ℕ
   pub joined : block ≡ before ++ after
@@ -118,6 +118,6 @@ CountsFound old outcome.NotFound new = (new.documents ≡ old.documents + 1) × 
 CountsFound old (outcome.Faulty why) new = (new.documents ≡ old.documents + 1) × (new.found ≡ old.found) × (new.faulty ≡ old.faulty + 1)
 
 -- whether these terms match the query, or why there are none
-abbrev pub TellsMatch : Terms → Tree → Result Bool TermValuesError → Type 0
+abbrev pub TellsMatch : Terms → QueryTree → Result Bool TermValuesError → Type 0
 TellsMatch terms tree (Ok truth) = (made : List (List ℕ)) × (terms ≡ Ok made) × (IsTrue truth ↔ Matches made tree)
 TellsMatch terms tree (Err why) = terms ≡ Err why

@@ -9,7 +9,7 @@ use Rattle.tv_format.specs.Short.{short_document}
 use Rattle.tv_format.specs.WriteVersion.{written_version}
 use Rattle.tv_indexing.specs.TermFault.{document_fault}
 use Rattle.tv_indexing.specs.declared.document.TermValuesError.{TermValuesError}
-use Rattle.tv_lines.specs.LineDocuments.{MakesDocument, MakesNone}
+use Rattle.tv_lines.specs.LineDocuments.{MakesLineDocument, MakesNone}
 use Rattle.tv_lines.specs.Lines.{FirstLine}
 use Rattle.tv_lines.specs.Reader.{most_left, unread}
 use Rattle.tv_lines.specs.Terms.{faulty_name}
@@ -37,13 +37,13 @@ RefusesFault _ fault why = ⊥
 -- why a line makes no document, or one that isn't to be stored
 abbrev pub IsLineError : List Entry → ImportRules → List ℕ → LineError → Type 0
 IsLineError schema rules line (Unsearchable name why) =
-    (made : CompactDoc) × MakesDocument schema rules.strict line made × RefusesFault rules.faults (document_fault schema (document_of made)) why × (string_bytes name ≡ faulty_name schema why)
+    (made : CompactDoc) × MakesLineDocument schema rules.strict line made × RefusesFault rules.faults (document_fault schema (document_of made)) why × (string_bytes name ≡ faulty_name schema why)
 IsLineError schema rules line e = MakesNone schema rules.strict line e
 
 -- The line makes a document. This is its stored encoding, and what is said of why it can't be searched.
 abbrev pub IsStoredLine : List Entry → ImportRules → List ℕ → List ℕ → Option TermValuesError → Type 0
 IsStoredLine schema rules line text fault =
-    (made : CompactDoc) × MakesDocument schema rules.strict line made × (text ≡ short_document (written_version rules.version) (stored schema (document_of made)))
+    (made : CompactDoc) × MakesLineDocument schema rules.strict line made × (text ≡ short_document (written_version rules.version) (stored schema (document_of made)))
     × SaysFault rules.faults (document_fault schema (document_of made)) fault
 
 -- what becomes of a line, and what is appended: as many bytes as are said
@@ -81,7 +81,7 @@ CountsTaken input rest count = length input ≡ count + length rest
 
 -- the document is the line's, with what is said of why it can't be searched; or the line is refused
 abbrev pub IsJudged : List Entry → ImportRules → List ℕ → CompactDoc → Result (Option TermValuesError) LineError → Type 0
-IsJudged schema rules line made (Ok fault) = MakesDocument schema rules.strict line made × Belongs schema (document_of made) × SaysFault rules.faults (document_fault schema (document_of made)) fault
+IsJudged schema rules line made (Ok fault) = MakesLineDocument schema rules.strict line made × Belongs schema (document_of made) × SaysFault rules.faults (document_fault schema (document_of made)) fault
 IsJudged schema rules line made (Err e) = IsLineError schema rules line e
 
 -- this is told of a document that is refused since it can't be searched

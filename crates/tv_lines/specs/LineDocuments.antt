@@ -34,8 +34,8 @@ IsToldWhole (Parsing parsing.Memory) = ⊥
 IsToldWhole _ = Unit {0}
 
 -- the line makes this document, by strict rules or not
-abbrev pub MakesDocument : List Entry → Bool → List ℕ → CompactDoc → Type 0
-MakesDocument schema strict line made = IsUtf8 line × ParsesBy schema strict line (Ok made)
+abbrev pub MakesLineDocument : List Entry → Bool → List ℕ → CompactDoc → Type 0
+MakesLineDocument schema strict line made = IsUtf8 line × ParsesBy schema strict line (Ok made)
 
 -- why a line makes no document
 abbrev pub MakesNone : List Entry → Bool → List ℕ → LineError → Type 0
@@ -48,7 +48,7 @@ MakesNone schema strict line (Unsearchable name why) = ⊥
 
 -- what comes of a line: its document, whose fields are those of the schema, or why there is none, and then the document has no pairs
 abbrev pub IsParsed : List Entry → Bool → List ℕ → CompactDoc → Option LineError → Type 0
-IsParsed schema strict line made None = MakesDocument schema strict line made × Belongs schema (document_of made)
+IsParsed schema strict line made None = MakesLineDocument schema strict line made × Belongs schema (document_of made)
 IsParsed schema strict line made (Some e) = MakesNone schema strict line e × (document_of made ≡ [])
 
 -- ---- for private clauses

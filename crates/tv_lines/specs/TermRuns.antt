@@ -31,32 +31,32 @@ run_bytes [] = []
 run_bytes (p ∷ ps) = pair_bytes p ++ run_bytes ps
 
 -- both numbers fit 8 bytes
-abbrev pub Fits : Pair → Type 0
-Fits p = (length p.0 < 2 ^ 64) × (p.1 < 2 ^ 64)
+abbrev pub FitsRun : Pair → Type 0
+FitsRun p = (length p.0 < 2 ^ 64) × (p.1 < 2 ^ 64)
 
 -- each term comes before the later ones, byte by byte
-abbrev pub IsRising : List Pair → Type 0
-IsRising pairs = AllPairs (λ p q. slice_cmp nat_cmp p.0 q.0 ≡ Less) pairs
+abbrev pub IsSortedRun : List Pair → Type 0
+IsSortedRun pairs = AllPairs (λ p q. slice_cmp nat_cmp p.0 q.0 ≡ Less) pairs
 
 -- the bytes are those of these pairs
 abbrev pub IsRun : List ℕ → List Pair → Type 0
-IsRun bytes pairs = All Fits pairs × (bytes ≡ run_bytes pairs)
+IsRun bytes pairs = All FitsRun pairs × (bytes ≡ run_bytes pairs)
 
 -- ---- the next pair
 
 -- Why no pair can be read: something is left, and it begins with none; more bytes are left than are counted; a read failed; or memory was refused.
-abbrev pub RefusesPair : List ℕ → ReadError → Type 0
-RefusesPair bytes (Corrupted UnexpectedEnd) = (bytes ≢ []) × ((p : Pair) (rest : List ℕ) → Fits p → bytes ≢ pair_bytes p ++ rest)
-RefusesPair bytes (Corrupted TooLong) = 2 ^ 64 - 1 ≤ length bytes
-RefusesPair bytes (Corrupted _) = ⊥
-RefusesPair bytes (Io kind) = Unit {0}
-RefusesPair bytes Memory = Unit {0}
+abbrev pub RefusesRun : List ℕ → ReadError → Type 0
+RefusesRun bytes (Corrupted UnexpectedEnd) = (bytes ≢ []) × ((p : Pair) (rest : List ℕ) → FitsRun p → bytes ≢ pair_bytes p ++ rest)
+RefusesRun bytes (Corrupted TooLong) = 2 ^ 64 - 1 ≤ length bytes
+RefusesRun bytes (Corrupted _) = ⊥
+RefusesRun bytes (Io kind) = Unit {0}
+RefusesRun bytes Memory = Unit {0}
 
 -- the pair was taken with which the bytes begin, or there are none, or there is a reason why not
 abbrev pub TakesPair : List ℕ → List ℕ → Pair → Result Bool ReadError → Type 0
-TakesPair bytes left pair (Ok true) = Fits pair × (bytes ≡ pair_bytes pair ++ left)
+TakesPair bytes left pair (Ok true) = FitsRun pair × (bytes ≡ pair_bytes pair ++ left)
 TakesPair bytes left pair (Ok false) = (bytes ≡ []) × (left ≡ [])
-TakesPair bytes left pair (Err e) = RefusesPair bytes e
+TakesPair bytes left pair (Err e) = RefusesRun bytes e
 
 -- ---- several runs
 
@@ -113,7 +113,7 @@ IsAfter term pairs = All (λ p. slice_cmp nat_cmp term p.0 ≡ Less) pairs
 
 -- Where the runs rise, what is left of them without the term rises and comes after it.
 abbrev pub RisesOn : List ℕ → List (List Pair) → Type 0
-RisesOn term runs = All IsRising runs → All (λ pairs. IsRising pairs × IsAfter term pairs) (map (without term) runs)
+RisesOn term runs = All IsSortedRun runs → All (λ pairs. IsSortedRun pairs × IsAfter term pairs) (map (without term) runs)
 
 -- a read failed, memory was refused, or a pair has more bytes than are counted
 abbrev pub IsOfReading : ReadError → Type 0

@@ -19,7 +19,7 @@ sink_stop _ = Short
 -- ---- for private clauses
 
 -- a write failed, or memory was refused
-abbrev pub IsOfWriting : WorkError → Type 0
-IsOfWriting (errors.Write kind) = Unit {0}
-IsOfWriting errors.Memory = Unit {0}
-IsOfWriting _ = ⊥
+abbrev pub IsOfPrinting : WorkError → Type 0
+IsOfPrinting (errors.Write kind) = Unit {0}
+IsOfPrinting errors.Memory = Unit {0}
+IsOfPrinting _ = ⊥

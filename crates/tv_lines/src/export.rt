@@ -5,7 +5,7 @@ ghost use Rattle.tv_base.specs.Stop.{Counts};
 ghost use Rattle.tv_doc.specs.Document.{document_of};
 ghost use Rattle.tv_lines.specs.Exporting.{AppendsBegun, BreaksOff, ExportsAll};
 ghost use Rattle.tv_lines.specs.Printing.{AppendsJson, laid_out};
-ghost use Rattle.tv_lines.specs.WorkErrors.{IsOfWriting, sink_stop, source_stop};
+ghost use Rattle.tv_lines.specs.WorkErrors.{IsOfPrinting, sink_stop, source_stop};
 ghost use Rattle.tv_lines.specs.declared.export.JsonLayout.TheVariants as layouts;
 ghost use Rattle.tv_reader.specs.Version.{version_of};
 
@@ -95,7 +95,7 @@ pub(crate) fn write_json<K: ByteSink>(
     ensures err { K.is_known sink.old
         → OnErr result (AppendsBegun schema.now layout (document_of document.now)
         (K.held sink.old) (K.held sink.new)) }
-    ensures errors { IfErr result IsOfWriting }
+    ensures errors { IfErr result IsOfPrinting }
     ensures failures { Counts sink_stop result (K.failures sink.old) (K.failures sink.new) }
     ensures is_known { K.is_known sink.old → K.is_known sink.new }
 {

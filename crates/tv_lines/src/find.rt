@@ -2,11 +2,11 @@
 
 ghost use Rattle.std.specs.Prelude.{◌≡◌, ◌+◌, ◌-◌, ◌<◌, ◌^◌, [], IfErr, IfOk, OnOk};
 ghost use Rattle.tv_base.specs.Stop.{Counts};
-ghost use Rattle.tv_lines.specs.Finding.{CountsFound, Finds, FindsAll, LeavesDocument, StopsFinding};
+ghost use Rattle.tv_lines.specs.Finding.{CountsFound, FindsDocument, FindsAll, LeavesDocument, StopsFinding};
 ghost use Rattle.tv_lines.specs.Finding.{TellsMatch, find_sink_stop, find_source_stop, named_terms};
-ghost use Rattle.tv_lines.specs.WorkErrors.{IsOfWriting, sink_stop};
+ghost use Rattle.tv_lines.specs.WorkErrors.{IsOfPrinting, sink_stop};
 ghost use Rattle.tv_doc.specs.Document.{document_of};
-ghost use Rattle.tv_query.specs.Grammar.{Tree, steps_of};
+ghost use Rattle.tv_query.specs.Grammar.{QueryTree, steps_of};
 ghost use Rattle.tv_reader.specs.Version.{version_of};
 
 use crate::errors::WorkError;
@@ -78,7 +78,7 @@ fn match_document(
     document: &TantivyDocument,
     matcher: &mut QueryMatcher<'_>,
 ) -> Result<Result<bool, TermValuesError>, AllocError>
-    ensures tells { (tree : Tree) → matcher.old.query.now.steps.items ≡ steps_of tree
+    ensures tells { (tree : QueryTree) → matcher.old.query.now.steps.items ≡ steps_of tree
         → IfOk result (TellsMatch (named_terms schema.now tree (document_of document.now)) tree) }
     ensures query { matcher.new.query.now ≡ matcher.old.query.now }
 {
@@ -101,16 +101,16 @@ fn find_in_document<K: ByteSink>(
     buffers: &mut FindBuffers<'_>,
     sink: &mut K,
 ) -> Result<DocumentOutcome, WorkError>
-    ensures ok { K.is_known sink.old → (tree : Tree)
+    ensures ok { K.is_known sink.old → (tree : QueryTree)
         → buffers.old.matcher.query.now.steps.items ≡ steps_of tree
-        → IfOk result (Finds schema.now tree (document_of document.now) (K.held sink.old)
+        → IfOk result (FindsDocument schema.now tree (document_of document.now) (K.held sink.old)
         (K.held sink.new)) }
-    ensures err { K.is_known sink.old → (tree : Tree)
+    ensures err { K.is_known sink.old → (tree : QueryTree)
         → buffers.old.matcher.query.now.steps.items ≡ steps_of tree
         → IfErr result (LeavesDocument schema.now tree (document_of document.now)
         (K.held sink.old) (K.held sink.new)) }
     ensures query { buffers.new.matcher.query.now ≡ buffers.old.matcher.query.now }
-    ensures errors { IfErr result IsOfWriting }
+    ensures errors { IfErr result IsOfPrinting }
     ensures failures { Counts sink_stop result (K.failures sink.old) (K.failures sink.new) }
     ensures is_known { K.is_known sink.old → K.is_known sink.new }
 {
@@ -184,12 +184,12 @@ pub fn find_in_block<S: ByteSource, K: ByteSink, T: Report<DocumentReport>, W: W
     report: &mut T,
     watch: &mut W,
 ) -> Result<Found, FindError<T::Error>>
-    ensures ok { S.is_known source.old → K.is_known sink.old → (tree : Tree)
+    ensures ok { S.is_known source.old → K.is_known sink.old → (tree : QueryTree)
         → query.now.steps.items ≡ steps_of tree → IfOk result
         (FindsAll schema.now (version_of version) projection.now tree (S.left source.old)
         (K.held sink.old) (K.held sink.new)
         (T.is_known report.old) (T.told report.old) (T.told report.new)) }
-    ensures err { S.is_known source.old → K.is_known sink.old → (tree : Tree)
+    ensures err { S.is_known source.old → K.is_known sink.old → (tree : QueryTree)
         → query.now.steps.items ≡ steps_of tree → IfErr result
         (StopsFinding schema.now (version_of version) projection.now tree (S.left source.old)
         (S.left source.new) (K.held sink.old) (K.held sink.new)

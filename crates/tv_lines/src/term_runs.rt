@@ -6,7 +6,7 @@ ghost use Rattle.tv_base.specs.Stop.{Counts};
 ghost use Rattle.tv_base.specs.Take.{TakesBy, read_stop};
 ghost use Rattle.tv_base.specs.Writing.{Writes};
 ghost use Rattle.tv_lines.specs.TermRuns.{CountsMerge, HasLeft, HaveLeft, IsAtMost, IsLeastRead, IsLesser, IsRun};
-ghost use Rattle.tv_lines.specs.TermRuns.{MergesNext, Pair, RefusesPair, TakesFrom, TakesFromEach, TakesPair, pair_at, pair_bytes, pair_of};
+ghost use Rattle.tv_lines.specs.TermRuns.{MergesNext, Pair, RefusesRun, TakesFrom, TakesFromEach, TakesPair, pair_at, pair_bytes, pair_of};
 
 use std::alloc::{AllocError, Global};
 use std::cmp::Ordering;
@@ -245,7 +245,7 @@ impl<S: ByteSource + Drop> Merge<S> {
             → (runs : List (List Pair)) → HaveLeft S.ByteSource self.old.readers.items runs
             → OnOk result (HaveLeft S.ByteSource self.new.readers.items (runs ++ pairs ∷ [])) }
         ensures err { OnErr result (self.new.readers.items ≡ self.old.readers.items) }
-        ensures errors { S.is_known source → IfErr result (RefusesPair (S.left source)) }
+        ensures errors { S.is_known source → IfErr result (RefusesRun (S.left source)) }
         ensures term { self.new.term ≡ self.old.term }
         ensures count { self.new.count ≡ self.old.count }
     {

@@ -2,7 +2,7 @@
 use Rattle.std.proofs.Common.{◌≡◌, ◌≢◌, ◌⊎◌, ℕ, ◌+◌, ◌<◌, List, [], ◌∷◌, ◌++◌, refl, sym, subst, ap, ◌∙◌, arith, append_assoc, inl, inr}
 use Rattle.std.proofs.lemmas.List.{same_from_push}
 use Rattle.tv_field.specs.Entry.{Entry}
-use Rattle.tv_query.specs.Grammar.{Tree, Writes, all, any, both, either, factor, negation, selecting, steps_of}
+use Rattle.tv_query.specs.Grammar.{QueryTree, WritesQuery, all, any, both, either, factor, negation, selecting, steps_of}
 use Rattle.tv_query.specs.Grammar.{all_alone, and_of, in_parentheses, not_of, of_clause, one_factor, or_of}
 use Rattle.tv_query.specs.Parsing.{Awaits, EndsWithout, Follows, after_and, after_not, after_open, after_or, at_start}
 use Rattle.tv_query.specs.Selections.{Selects}
@@ -24,11 +24,11 @@ record AndOff (schema : List Entry) (tokens : List QueryToken) (written : List S
   pub earlier : List QueryToken
   pub earlier_steps : List Step
   pub operand : List QueryToken
-  pub tree : Tree
+  pub tree : QueryTree
   pub awaits : Awaits schema before earlier earlier_steps depth
   pub without_not : EndsWithout Not before
   pub without_and : EndsWithout And before
-  pub writes : Writes schema all operand tree
+  pub writes : WritesQuery schema all operand tree
   pub tokens_are : tokens ≡ earlier ++ (operand ++ and_word ∷ [])
   pub steps_are : written ≡ earlier_steps ++ steps_of tree
 
@@ -37,12 +37,12 @@ record OrOff (schema : List Entry) (tokens : List QueryToken) (written : List St
   pub earlier : List QueryToken
   pub earlier_steps : List Step
   pub operand : List QueryToken
-  pub tree : Tree
+  pub tree : QueryTree
   pub awaits : Awaits schema before earlier earlier_steps depth
   pub without_not : EndsWithout Not before
   pub without_and : EndsWithout And before
   pub without_or : EndsWithout Or before
-  pub writes : Writes schema any operand tree
+  pub writes : WritesQuery schema any operand tree
   pub tokens_are : tokens ≡ earlier ++ (operand ++ or_word ∷ [])
   pub steps_are : written ≡ earlier_steps ++ steps_of tree
 
@@ -230,10 +230,10 @@ module _ {schema : List Entry} where
 
     -- ---- at the end
 
-    pub finished : Follows schema any operators tokens written depth → EndsWithout Not operators → EndsWithout And operators → EndsWithout Or operators → operators ≡ [] → (tree : Tree) × Writes schema any tokens tree × (written ≡ steps_of tree)
+    pub finished : Follows schema any operators tokens written depth → EndsWithout Not operators → EndsWithout And operators → EndsWithout Or operators → operators ≡ [] → (tree : QueryTree) × WritesQuery schema any tokens tree × (written ≡ steps_of tree)
     finished f no_not no_and no_or none =
         elim (last_open operators f.before f.before_steps depth f.awaits no_not no_and no_or) [
-          | inl w ↦ (f.tree, subst (λ (l : List QueryToken). Writes schema any l f.tree) (sym (f.tokens_are ∙ ap (λ (l : List QueryToken). l ++ f.operand) w.1)) f.writes, f.steps_are ∙ ap (λ (l : List Step). l ++ steps_of f.tree) w.2)
+          | inl w ↦ (f.tree, subst (λ (l : List QueryToken). WritesQuery schema any l f.tree) (sym (f.tokens_are ∙ ap (λ (l : List QueryToken). l ++ f.operand) w.1)) f.writes, f.steps_are ∙ ap (λ (l : List Step). l ++ steps_of f.tree) w.2)
           | inr w ↦ absurd (no_push w.0 Open (sym none ∙ w.1))
         ]
 

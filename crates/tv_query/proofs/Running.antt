@@ -1,7 +1,7 @@
 -- Steps that are taken one after the other.
 use Rattle.std.proofs.Common.{◌≡◌, ◌⊎◌, ◌↔◌, ◌&&◌, ◌||◌, ℕ, ◌+◌, ◌<◌, ◌≤◌, List, [], ◌∷◌, ◌++◌, length, take, get_or, Bool, not, true, false, IsTrue, refl, sym, subst, ap, ◌∙◌, inl, inr, append_assoc, append-nil}
 use Rattle.std.proofs.lemmas.List.{take_all, take_more}
-use Rattle.tv_query.specs.Grammar.{Tree, both, either, negation, selecting, steps_of}
+use Rattle.tv_query.specs.Grammar.{QueryTree, both, either, negation, selecting, steps_of}
 use Rattle.tv_query.specs.Matching.{IsTruthOf, Matches}
 use Rattle.tv_query.specs.declared.query.Step.{Step}
 use Rattle.tv_query.specs.declared.query.Step.TheVariants as steps
@@ -39,7 +39,7 @@ two : (old : List Bool) (a b : Bool) → (old ++ a ∷ []) ++ b ∷ [] ≡ old +
 two old a b = append_assoc old (a ∷ []) (b ∷ [])
 
 -- the steps of a tree leave its truth
-run_tree : (terms : List (List ℕ)) (tree : Tree) (old : List Bool) (ss : List Step) (new : List Bool) → Run terms old (steps_of tree ++ ss) new → (truth : Bool) × (IsTrue truth ↔ Matches terms tree) × Run terms (old ++ truth ∷ []) ss new
+run_tree : (terms : List (List ℕ)) (tree : QueryTree) (old : List Bool) (ss : List Step) (new : List Bool) → Run terms old (steps_of tree ++ ss) new → (truth : Bool) × (IsTrue truth ↔ Matches terms tree) × Run terms (old ++ truth ∷ []) ss new
 run_tree terms (selecting selection) old ss new r = (r.1, r.2.1, subst (λ (l : List Bool). Run terms (l ++ r.1 ∷ []) ss new) r.2.0 r.3)
 run_tree terms (negation tree) old ss new r =
     let i = run_tree terms tree old (steps.Not ∷ ss) new (subst (λ (l : List Step). Run terms old l new) (append_assoc (steps_of tree) (steps.Not ∷ []) ss) r) in
@@ -61,7 +61,7 @@ run_tree terms (either left right) old ss new r =
     let told = n.2 old i.0 j.0 (two old i.0 j.0) in
     (n.1, or_iff i.0 j.0 n.1 (Matches terms left) (Matches terms right) told.1 i.1 j.1, subst (λ (l : List Bool). Run terms (l ++ n.1 ∷ []) ss new) told.0 n.3)
 
-pub matched : (terms : List (List ℕ)) (all : List Step) (tree : Tree) (i : ℕ) (truths left : List Bool) (answer : Bool) → length all ≤ i → Run terms [] (take i all) truths → all ≡ steps_of tree
+pub matched : (terms : List (List ℕ)) (all : List Step) (tree : QueryTree) (i : ℕ) (truths left : List Bool) (answer : Bool) → length all ≤ i → Run terms [] (take i all) truths → all ≡ steps_of tree
     → ((before : List Bool) (a : Bool) → truths ≡ before ++ a ∷ [] → (left ≡ before) × (answer ≡ a)) → IsTrue answer ↔ Matches terms tree
 matched terms all tree i truths left answer done r is last =
     let whole = subst (λ (l : List Step). Run terms [] l truths) (take_all i all done ∙ is ∙ sym (append-nil (steps_of tree))) r in

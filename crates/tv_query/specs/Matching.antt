@@ -4,14 +4,14 @@
 -- `Matches`: the terms of a document match the query.
 -- `HasTaken`: the matcher holds of each clause of its query whether it wants one of these terms.
 use Rattle.std.specs.Prelude.{◌≡◌, ◌⊎◌, ◌↔◌, ◌&&◌, ◌||◌, ℕ, List, [], ◌∷◌, ◌++◌, Bool, false, not, IsTrue, Some, get_or, slice_get}
-use Rattle.tv_query.specs.Grammar.{Tree, both, either, negation, selecting}
+use Rattle.tv_query.specs.Grammar.{QueryTree, both, either, negation, selecting}
 use Rattle.tv_query.specs.Selections.{HasWanted, IsWanted}
 use Rattle.tv_query.specs.declared.matching.QueryMatcher.{QueryMatcher}
 use Rattle.tv_query.specs.declared.query.Step.{Step}
 use Rattle.tv_query.specs.declared.query.Step.TheVariants as steps
 
 -- the terms of a document match the query
-abbrev pub Matches : List (List ℕ) → Tree → Type 0
+abbrev pub Matches : List (List ℕ) → QueryTree → Type 0
 Matches terms (selecting selection) = HasWanted terms selection
 Matches terms (negation tree) = ¬ Matches terms tree
 Matches terms (both left right) = Matches terms left × Matches terms right

@@ -1,7 +1,7 @@
 -- What a parser has of a query, for private clauses.
 use Rattle.std.specs.Prelude.{◌≡◌, ◌≢◌, ◌+◌, ℕ, List, [], ◌∷◌, ◌++◌, MatchBool, if◌then◌else◌}
 use Rattle.tv_field.specs.Entry.{Entry}
-use Rattle.tv_query.specs.Grammar.{Level, State, Tree, Writes, all, any, factor, steps_of, wants_operand, wants_operator}
+use Rattle.tv_query.specs.Grammar.{Level, ParserState, QueryTree, WritesQuery, all, any, factor, steps_of, wants_operand, wants_operator}
 use Rattle.tv_query.specs.Tokens.{QueryToken, and_word, not_word, opened, or_word}
 use Rattle.tv_query.specs.declared.parser.Operator.{Operator}
 use Rattle.tv_query.specs.declared.parser.Operator.TheVariants.{And, Not, Open, Or}
@@ -19,11 +19,11 @@ pub data Awaits (schema : List Entry) : List Operator → List QueryToken → Li
       → Awaits schema (operators ++ Open ∷ []) (tokens ++ opened ∷ []) steps (depth + 1)
   after_not : {operators : List Operator} {tokens : List QueryToken} {steps : List Step} {depth : ℕ} → Awaits schema operators tokens steps depth
       → Awaits schema (operators ++ Not ∷ []) (tokens ++ not_word ∷ []) steps depth
-  after_and : {operators : List Operator} {tokens : List QueryToken} {steps : List Step} {depth : ℕ} (operand : List QueryToken) (tree : Tree) → Awaits schema operators tokens steps depth
-      → EndsWithout Not operators → EndsWithout And operators → Writes schema all operand tree
+  after_and : {operators : List Operator} {tokens : List QueryToken} {steps : List Step} {depth : ℕ} (operand : List QueryToken) (tree : QueryTree) → Awaits schema operators tokens steps depth
+      → EndsWithout Not operators → EndsWithout And operators → WritesQuery schema all operand tree
       → Awaits schema (operators ++ And ∷ []) (tokens ++ (operand ++ and_word ∷ [])) (steps ++ steps_of tree) depth
-  after_or : {operators : List Operator} {tokens : List QueryToken} {steps : List Step} {depth : ℕ} (operand : List QueryToken) (tree : Tree) → Awaits schema operators tokens steps depth
-      → EndsWithout Not operators → EndsWithout And operators → EndsWithout Or operators → Writes schema any operand tree
+  after_or : {operators : List Operator} {tokens : List QueryToken} {steps : List Step} {depth : ℕ} (operand : List QueryToken) (tree : QueryTree) → Awaits schema operators tokens steps depth
+      → EndsWithout Not operators → EndsWithout And operators → EndsWithout Or operators → WritesQuery schema any operand tree
       → Awaits schema (operators ++ Or ∷ []) (tokens ++ (operand ++ or_word ∷ [])) (steps ++ steps_of tree) depth
 
 -- An operand of this level has come for which the operators waited.
@@ -31,9 +31,9 @@ pub record Follows (schema : List Entry) (level : Level) (operators : List Opera
   pub before : List QueryToken
   pub before_steps : List Step
   pub operand : List QueryToken
-  pub tree : Tree
+  pub tree : QueryTree
   pub awaits : Awaits schema operators before before_steps depth
-  pub writes : Writes schema level operand tree
+  pub writes : WritesQuery schema level operand tree
   pub tokens_are : tokens ≡ before ++ operand
   pub steps_are : steps ≡ before_steps ++ steps_of tree
 
@@ -43,7 +43,7 @@ IsAt schema parser tokens depth =
     MatchBool parser.wants_operand (Awaits schema parser.operators.items tokens parser.steps.items depth)
     (Follows schema factor parser.operators.items tokens parser.steps.items depth × EndsWithout Not parser.operators.items)
 
-abbrev pub state_of : Parser → ℕ → State
+abbrev pub state_of : Parser → ℕ → ParserState
 state_of parser depth = if parser.wants_operand then wants_operand depth else wants_operator depth
 
 -- `AND`s are written, too, or also `OR`s

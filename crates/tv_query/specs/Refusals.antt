@@ -7,7 +7,7 @@ use Rattle.std.specs.Char.{is_ascii_whitespace}
 use Rattle.std.specs.List.{AllByRecursion}
 use Rattle.std.specs.Str.{NonePass}
 use Rattle.tv_field.specs.Entry.{Entry}
-use Rattle.tv_query.specs.Grammar.{State, after, after_all, wants_operand, wants_operator}
+use Rattle.tv_query.specs.Grammar.{ParserState, after, after_all, wants_operand, wants_operator}
 use Rattle.tv_query.specs.Selections.{RefusesClause, Selects}
 use Rattle.tv_query.specs.Tokens.{BeginsWithOperator, BeginsWithPath, BeginsWithToken, BeginsWithTokens, BeginsWithout, IsEmptyOrBegins, IsOperator, IsQuoted, IsSpace}
 use Rattle.tv_query.specs.Tokens.{QueryToken, WantedText, clause, closed, closes_range, ends_word, is_quote, opens_range}
@@ -50,23 +50,23 @@ pub data RefusesToken (text : List ℕ) : QueryReason → Type 0 where
 -- ---- tokens that can't stand where they do
 
 -- a token that can't follow, for the reason that there is
-abbrev pub RefusesNext : State → QueryToken → QueryReason → Type 0
+abbrev pub RefusesNext : ParserState → QueryToken → QueryReason → Type 0
 RefusesNext (wants_operand depth) token reason = (after (wants_operand depth) token ≡ None) × (reason ≡ NoOperand)
 RefusesNext (wants_operator depth) closed reason = (depth ≡ 0) × (reason ≡ Unopened)
 RefusesNext (wants_operator depth) token reason = (after (wants_operator depth) token ≡ None) × (reason ≡ NoOperator)
 
 -- the text ends too early
-abbrev pub RefusesEnd : State → QueryReason → Type 0
+abbrev pub RefusesEnd : ParserState → QueryReason → Type 0
 RefusesEnd (wants_operand depth) reason = reason ≡ NoOperand
 RefusesEnd (wants_operator depth) reason = (0 < depth) × (reason ≡ Unclosed)
 
 -- a token that can't follow, or a clause that can, and is refused
-pub data RefusesTaken (schema : List Entry) (state : State) (token : QueryToken) (reason : QueryReason) : Type 0 where
+pub data RefusesTaken (schema : List Entry) (state : ParserState) (token : QueryToken) (reason : QueryReason) : Type 0 where
   misplaced : RefusesNext state token reason → RefusesTaken schema state token reason
   refused : {path : List ℕ} {wanted : WantedText} → token ≡ clause path wanted → after state token ≢ None → RefusesClause schema path wanted reason → RefusesTaken schema state token reason
 
 -- what stands at the place of an error, where these tokens have come before
-pub data RefusesRest (schema : List Entry) (state : State) (text : List ℕ) (reason : QueryReason) : Type 0 where
+pub data RefusesRest (schema : List Entry) (state : ParserState) (text : List ℕ) (reason : QueryReason) : Type 0 where
   ended : text ≡ [] → RefusesEnd state reason → RefusesRest schema state text reason
   no_token : text ≢ [] → RefusesToken text reason → RefusesRest schema state text reason
   no_place : {token : QueryToken} {rest : List ℕ} → BeginsWithToken text token rest → RefusesTaken schema state token reason → RefusesRest schema state text reason
@@ -81,7 +81,7 @@ pub record Refuses (schema : List Entry) (text : List ℕ) (error : QueryError) 
   pub tokens : List QueryToken
   pub space : List ℕ
   pub rest : List ℕ
-  pub state : State
+  pub state : ParserState
   pub begins : BeginsWithTokens text tokens (space ++ rest)
   pub is_space : IsSpace space
   pub no_space : BeginsWithout is_ascii_whitespace rest

@@ -2,7 +2,7 @@
 
 ghost use Rattle.std.specs.Prelude.{◌≡◌, ◌↔◌, ◌≤◌, ◌++◌, ◌∷◌, [], ℕ, Bool, false, IfOk, IsTrue};
 ghost use Rattle.std.specs.Prelude.{get_or, length, List, OnOk};
-ghost use Rattle.tv_query.specs.Grammar.{Tree, steps_of};
+ghost use Rattle.tv_query.specs.Grammar.{QueryTree, steps_of};
 ghost use Rattle.tv_query.specs.Matching.{AreTold, HasTaken, IsTested, IsTold, IsTruthOf};
 ghost use Rattle.tv_query.specs.Matching.{Matches};
 
@@ -104,7 +104,7 @@ fn truth_of(step: &Step, told: bool, truths: &mut Vec<bool>) -> bool
 
 // The truth of all steps, where those of the clauses are told. It takes no more of the machine's stack, however deep the query nests.
 fn truth_of_all(steps: &[Step], wanted: &[bool], truths: &mut Vec<bool>) -> Result<bool, AllocError>
-    ensures { (terms : List (List ℕ)) (tree : Tree) → AreTold terms steps.now wanted.now
+    ensures { (terms : List (List ℕ)) (tree : QueryTree) → AreTold terms steps.now wanted.now
         → steps.now ≡ steps_of tree → IfOk result (λ truth. IsTrue truth ↔ Matches terms tree) }
 {
     truths.clear();
@@ -147,7 +147,7 @@ impl<'q> QueryMatcher<'q> {
     ///
     /// The only error is that memory was refused. However deep the query nests, it takes memory and no more of the machine's stack.
     pub fn matches(&mut self) -> Result<bool, AllocError>
-        ensures truth { (terms : List (List ℕ)) (tree : Tree) → HasTaken terms self.old
+        ensures truth { (terms : List (List ℕ)) (tree : QueryTree) → HasTaken terms self.old
             → self.old.query.now.steps.items ≡ steps_of tree
             → IfOk result (λ truth. IsTrue truth ↔ Matches terms tree) }
         ensures query { self.new.query.now ≡ self.old.query.now }

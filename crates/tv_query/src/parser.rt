@@ -3,7 +3,7 @@
 ghost use Rattle.std.specs.Prelude.{◌≡◌, ◌≢◌, ◌++◌, ◌∷◌, [], ℕ, false, IfErr, IfOk};
 ghost use Rattle.std.specs.Prelude.{List, MatchBool, OnOk};
 ghost use Rattle.tv_field.specs.Entry.{Entry};
-ghost use Rattle.tv_query.specs.Grammar.{Tree, Writes, any, factor, steps_of};
+ghost use Rattle.tv_query.specs.Grammar.{QueryTree, WritesQuery, any, factor, steps_of};
 ghost use Rattle.tv_query.specs.Parsing.{Awaits, EndsWithout, Follows, FollowsAll, FollowsAny};
 ghost use Rattle.tv_query.specs.Parsing.{IsAt, state_of};
 ghost use Rattle.tv_query.specs.Refusals.{RefusesEnd, RefusesTaken};
@@ -251,7 +251,7 @@ impl Parser {
     pub fn finish(self, alloc: Global) -> Result<Query, QueryReason>
         ensures made { (schema : List Entry) (tokens : List QueryToken) (depth : ℕ)
             → IsAt schema self tokens depth
-            → IfOk result (λ query. (tree : Tree) × Writes schema any tokens tree
+            → IfOk result (λ query. (tree : QueryTree) × WritesQuery schema any tokens tree
             × (query.steps.items ≡ steps_of tree)) }
         ensures refused { (schema : List Entry) (tokens : List QueryToken) (depth : ℕ)
             → IsAt schema self tokens depth

@@ -5,7 +5,7 @@ ghost use Rattle.std.specs.Prelude.{List, OnOk};
 ghost use Rattle.std.proofs.Props.{props};
 ghost use Rattle.tv_indexing.specs.DocumentTerms.{is_among};
 ghost use Rattle.tv_query.specs.Fields.{AreDistinct, names_field, step_names};
-ghost use Rattle.tv_query.specs.Grammar.{Tree, Writes, any, steps_of};
+ghost use Rattle.tv_query.specs.Grammar.{QueryTree, WritesQuery, any, steps_of};
 ghost use Rattle.tv_query.specs.Parsing.{IsAt, state_of};
 ghost use Rattle.tv_query.specs.Refusals.{Refuses, RefusesRest};
 ghost use Rattle.tv_query.specs.Tokens.{BeginsWithToken, QueryToken, WritesTokens, token_of};
@@ -137,8 +137,8 @@ impl Query {
     /// Errors: `QueryError`, with the reason for the first token that can't stand where it does or whose clause is refused, and the place in
     /// bytes where that begins; where the text ends too early, that is its length. Of `Memory` no contract says a place.
     pub fn parse(alloc: Global, schema: &Schema, text: &str) -> Result<Query, QueryError>
-        ensures made { IfOk result (λ query. (tokens : List QueryToken) × (tree : Tree)
-            × WritesTokens text.now tokens × Writes schema.now any tokens tree
+        ensures made { IfOk result (λ query. (tokens : List QueryToken) × (tree : QueryTree)
+            × WritesTokens text.now tokens × WritesQuery schema.now any tokens tree
             × (query.steps.items ≡ steps_of tree)) }
         ensures refused { IfErr result
             (λ e. e.reason ≢ Memory → Refuses schema.now text.now e) }

@@ -20,7 +20,7 @@ use Rattle.tv_store.specs.BlockMigration.{EncodesBlock, IsUnmigrated, MigratesAl
 use Rattle.tv_store.specs.BlockSteps.{StepsBlock, refusal_of}
 use Rattle.tv_store.specs.Documents.{BeginsWithDocument, SaysNothing}
 use Rattle.tv_store.specs.Limits.{limited_stop}
-use Rattle.tv_store.specs.Projections.{EncodesWithin, IsReason, no_limits, refused_stop}
+use Rattle.tv_store.specs.Projections.{EncodesWithinLimits, IsReason, no_limits, refused_stop}
 use Rattle.tv_store.specs.Reading.{ReadsNext, reading}
 use Rattle.tv_store.specs.declared.block.BlockReader.{BlockReader}
 use Rattle.tv_store.specs.declared.block.RefusedDocument.{RefusedDocument}
@@ -44,7 +44,7 @@ flat-snoc f (y ∷ ys) x = ap (λ (l : List ℕ). f y ++ l) (flat-snoc f ys x) �
 pub no_more_left : (block before rest : List ℕ) → block ≡ before ++ rest → length block < 2 ^ 63 → length rest < 2 ^ 64 - 1
 no_more_left block before rest joined few = let sum = ap length joined ∙ length-append before rest in omega (arith, sum, few)
 
-pub without_limits : (v : Version) (block : List ℕ) (documents : List Document) → Each (EncodesWithin v no_limits) block documents → EncodesBlock v block documents
+pub without_limits : (v : Version) (block : List ℕ) (documents : List Document) → Each (EncodesWithinLimits v no_limits) block documents → EncodesBlock v block documents
 without_limits v block [] none = none
 without_limits v block (d ∷ ds) each = record { prefix = each.prefix; rest = each.rest; joined = each.joined; first = each.first.encoded; second = without_limits v each.rest ds each.second }
 

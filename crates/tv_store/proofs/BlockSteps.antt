@@ -16,7 +16,7 @@ use Rattle.tv_reader.specs.declared.error.DeserializeError.{DeserializeError}
 use Rattle.tv_reader.specs.declared.error.DeserializeError.TheVariants as errors
 use Rattle.tv_reader.specs.declared.value_type.ValueType.TheVariants as types
 use Rattle.tv_reading.specs.Skip.{IsDocumentEncoding}
-use Rattle.tv_store.specs.BlockSteps.{CountsNext, Finishes, LeavesNone, StepsBlock}
+use Rattle.tv_store.specs.BlockSteps.{CountsNext, FinishesBlock, LeavesNone, StepsBlock}
 use Rattle.tv_store.specs.Blocks.{NextOf, SaysEndBut, next_if}
 use Rattle.tv_store.specs.Documents.{NoDocument, SaysNothing}
 use Rattle.tv_store.specs.declared.block.BlockReader.{BlockReader}
@@ -57,7 +57,7 @@ only_at cut count MayCome (Err e) (Ok false) is none h = tt
 only_at cut count MayCome (Err e) (Err f) is none (inl end) = absurd (omega (arith, none, is.1 end))
 only_at cut count MayCome (Err e) (Err f) is none (inr h) = subst MayCome (sym is.0) h
 
-module _ {E : Type 0} {cut : E} {old new : BlockReader} {read : Result (Unit {0}) E} {count : ℕ} {result : Result Bool E} (f : Finishes cut old new read count result) where
+module _ {E : Type 0} {cut : E} {old new : BlockReader} {read : Result (Unit {0}) E} {count : ℕ} {result : Result Bool E} (f : FinishesBlock cut old new read count result) where
   -- something was read
   pub says_more : {P : Type 0} → result ≡ Ok true → OnOk read P → P
   says_more {P} said h = more_at cut count P read result f.next said h
@@ -84,7 +84,7 @@ steps_refused MayCome again source failed = record {
 
 -- It had not. What it has then is what it had, and another document.
 pub steps_block : {E S : Type 0} (MayCome : E → Type 0) (again : E) (source : Ghosts S) {source_old source_new : S} {old new : BlockReader} {document : CompactDoc} {cut : E} {count : ℕ} {read : Result (Unit {0}) E} {result : Result Bool E} → old.failed ≡ false
-    → Finishes cut (record old { document = document }) new read count result → (source.is_known source_old → Taken (source.left source_old) (source.left source_new) 0 count)
+    → FinishesBlock cut (record old { document = document }) new read count result → (source.is_known source_old → Taken (source.left source_old) (source.left source_new) 0 count)
     → (source.is_known source_old → OnOk read (length (source.left source_new) < length (source.left source_old))) → (source.is_known source_old → IsErrOf read cut → source.left source_new ≡ [])
     → (source.is_known source_old → source.left source_old ≡ [] → EndsOnly cut MayCome read) → StepsBlock MayCome again source source_old source_new old new result
 steps_block {E} MayCome again source {source_old = source_old} {source_new = source_new} {old = old} {new = new} {document = document} {cut = cut} {count = count} {read = read} {result = result} live f taken fewer all only = record {
@@ -153,7 +153,7 @@ module _ (v : Version) (Is : List ℕ → Type 0) (encodes : (b : List ℕ) → 
   only_end (Err e) h lean few none = only_error v old new count e h (λ is. lean (ap (λ (z : DeserializeError). Err z) is)) few none
 
 pub steps_found : {S : Type 0} (source : Ghosts S) {source_old source_new : S} {old new : BlockReader} {document : CompactDoc} {count : ℕ} {May : DeserializeError → ℕ → Type 0} {read : Result (Unit {0}) DeserializeError} {result : Result Bool DeserializeError} (v : Version) (Is : List ℕ → Type 0)
-    → old.failed ≡ false → Finishes cut_off (record old { document = document }) new read count result → ((b : List ℕ) → Is b → IsDocumentEncoding v b)
+    → old.failed ≡ false → FinishesBlock cut_off (record old { document = document }) new read count result → ((b : List ℕ) → Is b → IsDocumentEncoding v b)
     → FindsIf May source.is_known source.left source.failures source_old 0 source_new count read (λ b _. Is b) (NoDocument v) → (source.is_known source_old → source.left source_old ≡ [] → ¬ IsErrOf read errors.HeapFull)
     → StepsBlock SaysNothing errors.AlreadyFailed source source_old source_new old new result
 steps_found source {source_old = source_old} {source_new = source_new} {count = count} {read = read} v Is live f encodes h lean =

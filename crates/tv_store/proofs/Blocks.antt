@@ -25,7 +25,7 @@ use Rattle.tv_reader.specs.Finds.{FindsIf}
 use Rattle.tv_reader.specs.declared.error.DeserializeError.{DeserializeError}
 use Rattle.tv_reader.specs.declared.error.DeserializeError.TheVariants as errors
 use Rattle.tv_reading.specs.Skip.{IsDocumentEncoding}
-use Rattle.tv_store.specs.BlockSteps.{Finishes}
+use Rattle.tv_store.specs.BlockSteps.{FinishesBlock}
 use Rattle.tv_store.specs.Blocks.{NextOf, as_passed, as_read, next_if, read_or}
 use Rattle.tv_store.specs.Documents.{NoDocument, in_place}
 use Rattle.tv_store.specs.Reading.{passed, reading, resumed}
@@ -60,7 +60,7 @@ error_at cut count (Err f) (Ok true) e is said = absurd is
 error_at cut count (Err f) (Ok false) e is said = absurd (cc (said))
 error_at cut count (Err f) (Err h) e is said = let same = is.0 in cc (same, said)
 
-module _ {E : Type 0} {cut : E} {old new : BlockReader} {read : Result (Unit {0}) E} {count : ℕ} {result : Result Bool E} (f : Finishes cut old new read count result) where
+module _ {E : Type 0} {cut : E} {old new : BlockReader} {read : Result (Unit {0}) E} {count : ℕ} {result : Result Bool E} (f : FinishesBlock cut old new read count result) where
   -- what was read in a place is what the call says of it
   pub placed : {D : Type 0} (document : D) → read_or cut result document ≡ in_place read document
   placed document = placed_at cut count read result document f.next
@@ -69,7 +69,7 @@ module _ {E : Type 0} {cut : E} {old new : BlockReader} {read : Result (Unit {0}
   pub error_said : {e : E} → IsErrOf result e → IsErrOf read e
   error_said {e} said = error_at cut count read result e f.next said
 
-module _ {S : Type 0} {source : Ghosts S} {old new : S} {count : ℕ} {before after : BlockReader} {read : Result (Unit {0}) DeserializeError} {result : Result Bool DeserializeError} (f : Finishes cut_off before after read count result) (failed : Bool) where
+module _ {S : Type 0} {source : Ghosts S} {old new : S} {count : ℕ} {before after : BlockReader} {read : Result (Unit {0}) DeserializeError} {result : Result Bool DeserializeError} (f : FinishesBlock cut_off before after read count result) (failed : Bool) where
   -- a document, or chosen pairs of it, was read in a place
   pub reads_placed : (pairs : Grammar Refusal Document) → IsSingle pairs (source.left old)
       → FindsIf StoreMayStop source.is_known source.left source.failures old 0 new count read (λ b _. pairs.Encodes b (document_of before.document)) pairs.HasError

@@ -6,7 +6,7 @@ use Rattle.tv_format.specs.Tree.{Document}
 use Rattle.tv_format.specs.Version.{Version}
 use Rattle.tv_reader.specs.Version.{version_of}
 use Rattle.tv_store.specs.BlockSteps.{StepsBlock, refusal_of}
-use Rattle.tv_store.specs.Projections.{EncodesBlockWithin, EncodesWithin, IsReason, IsRefusedAt, ReadsOne, ReadsProjected, limits_of}
+use Rattle.tv_store.specs.Projections.{EncodesBlockWithin, EncodesWithinLimits, IsReason, IsRefusedAt, ReadsOne, ReadsProjected, limits_of}
 use Rattle.tv_store.specs.declared.block.BlockReader.{BlockReader}
 use Rattle.tv_store.specs.declared.block.RefusedDocument.{RefusedDocument}
 use Rattle.tv_store.specs.declared.limits.LimitedReadError.{LimitedReadError}
@@ -50,13 +50,13 @@ abbrev pub read_none : (v : Version) (limits : ReadLimits) (block : List ℕ) (s
 read_none v limits block start is = record { before = []; joined = refl; documents = []; encoded = refl; counted = refl; few = omega arith; begins = λ few. is }
 
 module _ {v : Version} {limits : ReadLimits} {block rest : List ℕ} {number start : ℕ} (m : ReadSoFar v limits block rest number start) where
-  abbrev pub read_more : {now : List ℕ} {next : ℕ} (d : Document) (h : Begins (λ b. EncodesWithin v limits b d) rest now) → length now < length rest → (start + length rest < 2 ^ 64 → next + length now ≡ start + length rest)
+  abbrev pub read_more : {now : List ℕ} {next : ℕ} (d : Document) (h : Begins (λ b. EncodesWithinLimits v limits b d) rest now) → length now < length rest → (start + length rest < 2 ^ 64 → next + length now ≡ start + length rest)
       → ReadSoFar v limits block now (number + 1) next
   read_more {now} {next} d h fewer placed = record {
     before = m.before ++ h.prefix;
     joined = joined_more block m.before rest h.prefix now m.joined h.joined;
     documents = m.documents ++ d ∷ [];
-    encoded = each-snoc (EncodesWithin v limits) m.before h.prefix m.documents d m.encoded h.encoded;
+    encoded = each-snoc (EncodesWithinLimits v limits) m.before h.prefix m.documents d m.encoded h.encoded;
     counted = omega (arith, m.counted, length-append m.documents (d ∷ []));
     few = omega (arith, m.few, fewer);
     begins = λ few.

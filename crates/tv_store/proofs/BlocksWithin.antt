@@ -24,7 +24,7 @@ use Rattle.tv_reader.specs.Legacy.{Legacy}
 use Rattle.tv_reader.specs.Finds.{ShowsRefusal}
 use Rattle.tv_reader.specs.declared.error.DeserializeError.{DeserializeError}
 use Rattle.tv_reader.specs.declared.error.DeserializeError.TheVariants as errors
-use Rattle.tv_store.specs.BlockSteps.{Finishes, StepsBlock}
+use Rattle.tv_store.specs.BlockSteps.{FinishesBlock, StepsBlock}
 use Rattle.tv_store.specs.Blocks.{NextOf, SaysNothingWithin, SeesNext, as_read_within, next_if}
 use Rattle.tv_store.specs.Documents.{NoDocument, SaysNothing, in_place}
 use Rattle.tv_store.specs.Limits.{IsAll, IsPast, PassesDepth, ReadsByLimits, StopsNextWithin, StopsWithin, Unread, at_least_one, limited_stop, within}
@@ -45,7 +45,7 @@ use Rattle.tv_store.proofs.WithinLimits.{past_none, reads_within}
 abbrev pub cut_within : LimitedReadError
 cut_within = limited.Read cut_off
 
-module _ {count : ℕ} {before after : BlockReader} {read : Result (Unit {0}) LimitedReadError} {next : Result Bool LimitedReadError} (f : Finishes cut_within before after read count next) where
+module _ {count : ℕ} {before after : BlockReader} {read : Result (Unit {0}) LimitedReadError} {next : Result Bool LimitedReadError} (f : FinishesBlock cut_within before after read count next) where
   pub said_comes : (v : Version) (limits : ReadLimits) (old new : List ℕ) → ReadsByLimits v limits old new (in_place read before.document) → ReadsByLimits v limits old new (as_read_within next before.document)
   said_comes v limits old new h = subst (λ (r : Result CompactDoc LimitedReadError). ReadsByLimits v limits old new r) (sym (placed f before.document)) h
 
@@ -119,7 +119,7 @@ module _ (v : Version) (limits : ReadLimits) (old new : List ℕ) (document : Co
   only_within (Err (limited.Limit limit.Depth)) h some none = absurd (never_deep v limits.depth h.taken (none_before h.taken new (sym h.joined ∙ none)) h.outcome)
 
 pub steps_within : {S : Type 0} (source : Ghosts S) {source_old source_new : S} {old new : BlockReader} {document : CompactDoc} {count : ℕ} {read : Result (Unit {0}) LimitedReadError} {result : Result Bool LimitedReadError} (v : Version) (limits : ReadLimits)
-    → old.failed ≡ false → Finishes cut_within (record old { document = document }) new read count result → limits.bytes ≢ Some 0 → (source.is_known source_old → ReadsByLimits v limits (source.left source_old) (source.left source_new) (in_place read document))
+    → old.failed ≡ false → FinishesBlock cut_within (record old { document = document }) new read count result → limits.bytes ≢ Some 0 → (source.is_known source_old → ReadsByLimits v limits (source.left source_old) (source.left source_new) (in_place read document))
     → (source.is_known source_old → Taken (source.left source_old) (source.left source_new) 0 count) → StepsBlock SaysNothingWithin (limited.Read errors.AlreadyFailed) source source_old source_new old new result
 steps_within source {source_old = source_old} {source_new = source_new} {document = document} {read = read} v limits live f some comes taken =
     steps_block SaysNothingWithin (limited.Read errors.AlreadyFailed) source live f taken (λ known. fewer_within v limits (source.left source_old) (source.left source_new) document read (comes known))
@@ -180,7 +180,7 @@ says_at IsKnown old new count (Err e) (Ok true) is sees = absurd is
 says_at IsKnown old new count (Err e) (Ok false) is sees = says_error IsKnown old new cut_within (subst (λ z. SeesNext IsKnown old new (Err z)) is.0 sees)
 says_at IsKnown old new count (Err e) (Err f) is sees = subst (λ z. SaysNext IsKnown old new (Err z)) (sym is.0) (says_error IsKnown old new e sees)
 
-pub says_next : (IsKnown : Type 0) (old new : List ℕ) {count : ℕ} {before after : BlockReader} {seen : Result (Unit {0}) LimitedReadError} {result : Result Bool LimitedReadError} → Finishes cut_within before after seen count result → SeesNext IsKnown old new seen → SaysNext IsKnown old new result
+pub says_next : (IsKnown : Type 0) (old new : List ℕ) {count : ℕ} {before after : BlockReader} {seen : Result (Unit {0}) LimitedReadError} {result : Result Bool LimitedReadError} → FinishesBlock cut_within before after seen count result → SeesNext IsKnown old new seen → SaysNext IsKnown old new result
 says_next IsKnown old new {count = count} {seen = seen} {result = result} f sees = says_at IsKnown old new count seen result f.next sees
 
 -- the promise of the call then
@@ -199,7 +199,7 @@ seen_only IsKnown old new (Err (limited.Read (errors.Io kind))) sees known none 
 seen_only IsKnown old new (Err e) sees known none = absurd sees
 
 pub steps_seen : {S : Type 0} (source : Ghosts S) {source_old source_new : S} {old new : BlockReader} {document : CompactDoc} {count : ℕ} {seen : Result (Unit {0}) LimitedReadError} {result : Result Bool LimitedReadError} → old.failed ≡ false
-    → Finishes cut_within (record old { document = document }) new seen count result → SeesNext (source.is_known source_old) (source.left source_old) (source.left source_new) seen → (source.is_known source_old → Taken (source.left source_old) (source.left source_new) 0 count)
+    → FinishesBlock cut_within (record old { document = document }) new seen count result → SeesNext (source.is_known source_old) (source.left source_old) (source.left source_new) seen → (source.is_known source_old → Taken (source.left source_old) (source.left source_new) 0 count)
     → StepsBlock SaysNothingWithin (limited.Read errors.AlreadyFailed) source source_old source_new old new result
 steps_seen source {source_old = source_old} {source_new = source_new} {seen = seen} live f sees taken =
     steps_block SaysNothingWithin (limited.Read errors.AlreadyFailed) source live f taken (λ known. seen_fewer (source.is_known source_old) (source.left source_old) (source.left source_new) seen sees)
@@ -223,7 +223,7 @@ module _ {S : Type 0} (source : Ghosts S) (v : Version) (limits : ReadLimits) {o
     stays_known = stays;
   }
 
-  pub reads_seen : {count : ℕ} {before after : BlockReader} {seen : Result (Unit {0}) LimitedReadError} {result : Result Bool LimitedReadError} → Finishes cut_within before after seen count result → SeesNext (source.is_known old) (source.left old) (source.left new) seen
+  pub reads_seen : {count : ℕ} {before after : BlockReader} {seen : Result (Unit {0}) LimitedReadError} {result : Result Bool LimitedReadError} → FinishesBlock cut_within before after seen count result → SeesNext (source.is_known old) (source.left old) (source.left new) seen
       → (source.is_known old → (prefix : List ℕ) × (source.left old ≡ prefix ++ source.left new)) → Counts limited_stop seen (source.failures old) (source.failures new) → (source.is_known old → source.is_known new)
       → Reads (within limits) (documents v) source old new document_of (as_read_within result after.document)
   reads_seen {after = after} {seen = seen} f sees taken counts stays = subst (λ (r : Result CompactDoc LimitedReadError). Reads (within limits) (documents v) source old new document_of r) (sym (placed f after.document)) (reads seen sees counts)

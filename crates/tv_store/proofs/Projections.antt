@@ -28,7 +28,7 @@ use Rattle.tv_store.specs.BlockSteps.{CountsNext, LeavesNone, StepsBlock, place_
 use Rattle.tv_store.specs.Blocks.{SaysEndBut, SaysNothingWithin, as_passed, as_read, as_read_within}
 use Rattle.tv_store.specs.Documents.{IsReadingError, NoDocument, SaysNothing}
 use Rattle.tv_store.specs.Limits.{AllNestWithinLimit, IsPast, StopsNextWithin, limited_stop, within}
-use Rattle.tv_store.specs.Projections.{EncodesWithin, IsReason, IsRefusedBy, NoRoomFor, ReadsNextOf, ReadsOne, ReadsProjected, error_of, kept, limits_of, no_limits, refused_stop, with_error}
+use Rattle.tv_store.specs.Projections.{EncodesWithinLimits, IsReason, IsRefusedBy, NoRoomFor, ReadsNextOf, ReadsOne, ReadsProjected, error_of, kept, limits_of, no_limits, refused_stop, with_error}
 use Rattle.tv_store.specs.Reading.{chosen_pairs, documents, passed, reading}
 use Rattle.tv_store.specs.declared.block.BlockReader.{BlockReader}
 use Rattle.tv_store.specs.declared.block.RefusedDocument.{RefusedDocument}
@@ -62,7 +62,7 @@ none_after (b ∷ bs) rest is = absurd (cc)
 -- ---- without limits
 
 -- every document is within no limits
-pub within_none : {v : Version} {bytes : List ℕ} {d : Document} → EncodesDocument Legacy v bytes d → EncodesWithin v no_limits bytes d
+pub within_none : {v : Version} {bytes : List ℕ} {d : Document} → EncodesDocument Legacy v bytes d → EncodesWithinLimits v no_limits bytes d
 within_none encoded = record { encoded = encoded; small = λ past. past; light = λ past. past; shallow = tt }
 
 module _ {S Y X : Type 0} {source : Ghosts S} {grammar : Grammar Refusal Y} {old new : S} {view : X → Y} (v : Version) (projection : Projection) where
@@ -99,7 +99,7 @@ module _ {S : Type 0} (source : Ghosts S) {old new : S} (v : Version) where
       → ReadsOne v projection (λ d. Unit {0}) (source.left old) (source.left new) (with_error limited.Read result)
   one_passed projection none (Ok true) reads end ends known =
       let h = reads.found known in
-      (h.encoded.0, record { prefix = h.prefix; joined = h.joined; encoded = subst (λ (l : ReadLimits). EncodesWithin v l h.prefix h.encoded.0) (sym none) (within_none h.encoded.1) }, tt)
+      (h.encoded.0, record { prefix = h.prefix; joined = h.joined; encoded = subst (λ (l : ReadLimits). EncodesWithinLimits v l h.prefix h.encoded.0) (sym none) (within_none h.encoded.1) }, tt)
   one_passed projection none (Ok false) reads end ends known = end_of reads known (end known refl)
   one_passed projection none (Err e) reads end ends known = reason_of v projection (Err e) e refl reads (λ bytes r h. h) (λ full. absurd full) known (ends known)
 

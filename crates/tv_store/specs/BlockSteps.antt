@@ -77,7 +77,7 @@ LeavesNone old new result = old.failed ≡ false → result ≢ Ok true → docu
 -- ---- for private clauses
 
 -- What is counted, by what reading a document returned and how many bytes that took, and that there was one.
-pub record Finishes {E : Type 0} (end : E) (old new : BlockReader) (read : Result (Unit {0}) E) (count : ℕ) (result : Result Bool E) : Type 0 where
+pub record FinishesBlock {E : Type 0} (end : E) (old new : BlockReader) (read : Result (Unit {0}) E) (count : ℕ) (result : Result Bool E) : Type 0 where
   pub next : NextOf end read count (next_if result)
   pub taken : new.taken ≡ count
   pub not_failed : OnOk result (new.failed ≡ old.failed)

@@ -20,8 +20,8 @@ abbrev pub BeginsWithDocument : Version → List ℕ → List ℕ → Document �
 BeginsWithDocument v bytes rest d = Begins (λ prefix. EncodesDocument Legacy v prefix d) bytes rest
 
 -- these bytes encode the document
-abbrev pub EncodesRead : Version → List ℕ → CompactDoc → Type 0
-EncodesRead v b document = EncodesDocument Legacy v b (document_of document)
+abbrev pub EncodesReadPairs : Version → List ℕ → CompactDoc → Type 0
+EncodesReadPairs v b document = EncodesDocument Legacy v b (document_of document)
 
 -- an error that says nothing of the bytes: the source failed, or memory was refused
 abbrev pub SaysNothing : DeserializeError → Type 0

@@ -226,14 +226,14 @@ at_least_one most = most
 
 -- The document with which the bytes begin passes the limit of its bytes: all that may be taken were, and it needs more. Where none may be, one byte was
 -- taken, so that there is a document.
-abbrev pub PassesBytes : Version → Option ℕ → List ℕ → List ℕ → Type 0
-PassesBytes v most old new = Begins (IsAll (at_least_one most)) old new × (most ≢ Some 0 → EndsEarly (corrupted UnexpectedEnd) (NoDocument v) old new)
+abbrev pub PassesBytesLimit : Version → Option ℕ → List ℕ → List ℕ → Type 0
+PassesBytesLimit v most old new = Begins (IsAll (at_least_one most)) old new × (most ≢ Some 0 → EndsEarly (corrupted UnexpectedEnd) (NoDocument v) old new)
 
 -- what was taken where a limit is passed, and that no more was than may be, whatever is returned
 pub record StopsNextWithin {S : Type 0} (v : Version) (limits : ReadLimits) (source : Ghosts S) (old new : S) (result : Result Bool LimitedReadError) : Type 0 where
   pub depth : source.is_known old → IsErrOf result (limited.Limit limit.Depth) → Begins (PassesDepth v limits.depth) (source.left old) (source.left new)
   pub heap : source.is_known old → IsErrOf result (limited.Limit limit.HeapBytes) → Begins (IsLarge v limits.heap_bytes) (source.left old) (source.left new)
-  pub bytes : source.is_known old → IsErrOf result (limited.Limit limit.Bytes) → PassesBytes v limits.bytes (source.left old) (source.left new)
+  pub bytes : source.is_known old → IsErrOf result (limited.Limit limit.Bytes) → PassesBytesLimit v limits.bytes (source.left old) (source.left new)
   pub small : source.is_known old → result ≡ Ok true → Begins (λ b. ¬ IsPast limits.bytes (length b)) (source.left old) (source.left new)
   pub most : source.is_known old → Begins (λ b. ¬ IsPast (at_least_one limits.bytes) (length b)) (source.left old) (source.left new)
 

@@ -25,7 +25,7 @@ use Rattle.tv_reading.specs.ChosenFields.{HasNoRoomChosen, chosen}
 use Rattle.tv_store.specs.BlockSteps.{refusal_of}
 use Rattle.tv_store.specs.Blocks.{SaysNothingWithin}
 use Rattle.tv_store.specs.Documents.{HasNoRoom, NoDocument}
-use Rattle.tv_store.specs.Limits.{AllNestWithinLimit, IsLarge, IsPast, PassesBytes, PassesDepth, limited_stop}
+use Rattle.tv_store.specs.Limits.{AllNestWithinLimit, IsLarge, IsPast, PassesBytesLimit, PassesDepth, limited_stop}
 use Rattle.tv_store.specs.declared.block.BlockReader.{BlockReader}
 use Rattle.tv_store.specs.declared.block.RefusedDocument.{RefusedDocument}
 use Rattle.tv_store.specs.declared.limits.LimitedReadError.{LimitedReadError}
@@ -58,7 +58,7 @@ NoRoomFor v (Fields fields) bytes = HasNoRoomChosen v fields.items bytes
 -- ---- documents within limits
 
 -- The bytes encode the document. They are within the limits, and so are its heap and the lists in which its values nest.
-pub record EncodesWithin (v : Version) (limits : ReadLimits) (bytes : List ℕ) (d : Document) : Type 0 where
+pub record EncodesWithinLimits (v : Version) (limits : ReadLimits) (bytes : List ℕ) (d : Document) : Type 0 where
   pub encoded : EncodesDocument Legacy v bytes d
   pub small : ¬ IsPast limits.bytes (length bytes)
   pub light : ¬ IsPast limits.heap_bytes (length (document_heap [] d))
@@ -66,11 +66,11 @@ pub record EncodesWithin (v : Version) (limits : ReadLimits) (bytes : List ℕ) 
 
 -- the bytes encode these documents, one after the other, each within the limits
 abbrev pub EncodesBlockWithin : Version → ReadLimits → List ℕ → List Document → Type 0
-EncodesBlockWithin v limits block documents = Each (EncodesWithin v limits) block documents
+EncodesBlockWithin v limits block documents = Each (EncodesWithinLimits v limits) block documents
 
 -- the document with which the bytes begin passes this limit, as those of them show that were taken: `left` follows them
 abbrev pub PassesLimit : Version → ReadLimits → List ℕ → List ℕ → ReadLimit → Type 0
-PassesLimit v limits bytes left limit.Bytes = PassesBytes v limits.bytes bytes left
+PassesLimit v limits bytes left limit.Bytes = PassesBytesLimit v limits.bytes bytes left
 PassesLimit v limits bytes left limit.HeapBytes = Begins (IsLarge v limits.heap_bytes) bytes left
 PassesLimit v limits bytes left limit.Depth = Begins (PassesDepth v limits.depth) bytes left
 
@@ -106,7 +106,7 @@ pub record IsRefusedAt (v : Version) (projection : Projection) (bytes left : Lis
 
 -- a document was read, of which this is kept; or there was none; or there is a reason why not
 abbrev pub ReadsOne : Version → Projection → (Document → Type 0) → List ℕ → List ℕ → Result Bool LimitedReadError → Type 0
-ReadsOne v projection IsKept bytes left (Ok true) = (d : Document) × Begins (λ b. EncodesWithin v (limits_of projection) b d) bytes left × IsKept d
+ReadsOne v projection IsKept bytes left (Ok true) = (d : Document) × Begins (λ b. EncodesWithinLimits v (limits_of projection) b d) bytes left × IsKept d
 ReadsOne v projection IsKept bytes left (Ok false) = (bytes ≡ []) × (left ≡ [])
 ReadsOne v projection IsKept bytes left (Err e) = IsReason v projection bytes left e
 

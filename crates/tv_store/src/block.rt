@@ -5,7 +5,7 @@ ghost use Rattle.tv_base.specs.Stop.{Counts, Taken};
 ghost use Rattle.tv_doc.specs.Document.{document_of, heap_of};
 ghost use Rattle.tv_reader.specs.Version.{version_of};
 ghost use Rattle.tv_reader.specs.declared.error.DeserializeError.TheVariants.{AlreadyFailed, HeapFull};
-ghost use Rattle.tv_store.specs.BlockSteps.{Finishes, LeavesNone, StartsAt, StepsBlock, place_of, refusal_of};
+ghost use Rattle.tv_store.specs.BlockSteps.{FinishesBlock, LeavesNone, StartsAt, StepsBlock, place_of, refusal_of};
 ghost use Rattle.tv_store.specs.Blocks.{SaysNothingWithin, SeesNext};
 ghost use Rattle.tv_store.specs.Documents.{SaysNothing};
 ghost use Rattle.tv_store.specs.Limits.{AllNestWithinLimit, IsPast, ReadsNextWithin, StopsNextWithin, limited_stop};
@@ -129,7 +129,7 @@ impl BlockReader {
 
     // Counts what was read, by what reading a document returned and how many bytes that took, and says whether there was one.
     fn finish<E: EarlyEnd + Drop>(&mut self, read: Result<(), E>, taken: u64) -> Result<bool, E>
-        ensures { Finishes E.early_end self.old self.new read taken result }
+        ensures { FinishesBlock E.early_end self.old self.new read taken result }
     {
         self.taken = taken;
         match next_of(read, taken) {

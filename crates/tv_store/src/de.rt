@@ -6,7 +6,7 @@ ghost use Rattle.tv_reading.specs.Prefix.{HasNoRoom};
 ghost use Rattle.tv_reader.specs.Finds.{Finds};
 ghost use Rattle.tv_reader.specs.Version.{version_of};
 ghost use Rattle.tv_reader.specs.declared.error.DeserializeError.TheVariants.{HeapFull};
-ghost use Rattle.tv_store.specs.Documents.{NoDocument, EncodesRead, in_place};
+ghost use Rattle.tv_store.specs.Documents.{NoDocument, EncodesReadPairs, in_place};
 ghost use Rattle.tv_store.specs.Reading.{ReadsDocument, PassesDocument, PassesValue};
 
 use std::alloc::Global;
@@ -41,7 +41,7 @@ pub(crate) fn take_in_place<S: ByteSource>(
     version: DocStoreVersion,
 ) -> Result<(), DeserializeError>
     ensures finds { Finds S.ByteSource source.old count.old source.new count.new result
-        (λ b _. EncodesRead (version_of version) b document.new) (NoDocument (version_of version)) }
+        (λ b _. EncodesReadPairs (version_of version) b document.new) (NoDocument (version_of version)) }
     ensures no_room { S.is_known source.old → IsErrOf result HeapFull
         → HasNoRoom (version_of version) (S.left source.old) }
     ensures none { OnErr result (document_of document.new ≡ []) }

@@ -6,7 +6,7 @@ use Rattle.tv_field.specs.declared.field_type.FieldType.TheVariants as types
 use Rattle.tv_format.specs.Tree.{Tree}
 use Rattle.tv_heap.specs.Value.{tree_of}
 use Rattle.tv_indexing.specs.DocumentTerms.{field_terms, pair_terms, plain_terms, typed_terms}
-use Rattle.tv_indexing.specs.Visits.{Takes, TakesSome}
+use Rattle.tv_indexing.specs.Visits.{TakesTerms, TakesSome}
 use Rattle.tv_indexing.specs.LeafTerms.{tree_value}
 use Rattle.tv_options.specs.declared.own_part.DotExpansion.{DotExpansion}
 use Rattle.tv_options.specs.declared.textual_options.TextualOptions.{TextualOptions}
@@ -30,7 +30,7 @@ plain_pair schema field tree found type at is indexed plain =
     let known : is_indexed_type found.field_type ≡ true = ap is_indexed_type (sym is) ∙ indexed in
     ap (λ entry. field_terms field entry tree) at ∙ rw known (ap (λ t. typed_terms field t tree) (sym is) ∙ plain_type field type tree plain)
 
-still_some : {V E : Type 0} (P : V → V → List (List ℕ) → Type 0) (result : Result (Unit {0}) E) (old new : V) → OnErr result (Takes P old new []) → OnErr result (TakesSome P old new)
+still_some : {V E : Type 0} (P : V → V → List (List ℕ) → Type 0) (result : Result (Unit {0}) E) (old new : V) → OnErr result (TakesTerms P old new []) → OnErr result (TakesSome P old new)
 still_some P (Ok x) old new h = tt
 still_some P (Err e) old new h = ([], h)
 

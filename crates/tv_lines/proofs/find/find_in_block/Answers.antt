@@ -1,5 +1,5 @@
 use Rattle.std.proofs.Common.{refl, subst, ap, ◌∙◌, arith}
-use Rattle.tv_lines.specs.Finding.{Finds, LeavesDocument}
+use Rattle.tv_lines.specs.Finding.{FindsDocument, LeavesDocument}
 use Rattle.tv_lines.proofs.Checks.{counts_source}
 use Rattle.tv_lines.proofs.Prints.{counts_sink, not_source}
 use Rattle.tv_lines.proofs.Finds.{few_more, found_all, found_left, found_next, found_none, found_stops, found_untold, one_counted}
@@ -49,7 +49,7 @@ loop-number-preserved g c =
       sink_failures = gone.failures ∙ i.sink_failures;
       so_far = λ s k tree is. found_next (i.so_far s k tree is) said _ c.counted-found.result (one_read (ap version_of i.version) (i.source_is_known s) reads) (steps.fewer (i.source_is_known s) refl)
           (start_after steps i.not_failed (i.source_is_known s))
-          (subst (λ d. Finds c.args.schema.now tree (document_of d) (g.K.ByteSink.held c.loop-number.sink) (g.K.ByteSink.held c.find_in_document.new.sink) said) c.document-document.ensures (gone.ok (i.sink_is_known k) tree (ap (λ (q : Query). q.steps.items) i.query ∙ is)))
+          (subst (λ d. FindsDocument c.args.schema.now tree (document_of d) (g.K.ByteSink.held c.loop-number.sink) (g.K.ByteSink.held c.find_in_document.new.sink) said) c.document-document.ensures (gone.ok (i.sink_is_known k) tree (ap (λ (q : Query). q.steps.items) i.query ∙ is)))
           refl c.start-start.ensures refl count (λ told. c.in-Ok-tell.ensures.told (i.report_is_known told));
     }
 
@@ -128,7 +128,7 @@ returns-in-Err-tell-clause-err g c =
     let said = c.in-Ok.outcome in
     λ s k tree is.
     found_untold (i.so_far s k tree is) (g.K.ByteSink.held c.find_in_document.new.sink) said c.in-Err-tell.error (one_read (ap version_of i.version) (i.source_is_known s) reads)
-    (subst (λ d. Finds c.args.schema.now tree (document_of d) (g.K.ByteSink.held c.loop-number.sink) (g.K.ByteSink.held c.find_in_document.new.sink) said) c.document-document.ensures (c.in-Ok.ensures.ok (i.sink_is_known k) tree (ap (λ (q : Query). q.steps.items) i.query ∙ is)))
+    (subst (λ d. FindsDocument c.args.schema.now tree (document_of d) (g.K.ByteSink.held c.loop-number.sink) (g.K.ByteSink.held c.find_in_document.new.sink) said) c.document-document.ensures (c.in-Ok.ensures.ok (i.sink_is_known k) tree (ap (λ (q : Query). q.steps.items) i.query ∙ is)))
     (λ told. c.in-Err-tell.ensures.untold (i.report_is_known told))
 
 pub returns-in-Err-tell-clause-source_failures : goal.returns-in-Err-tell-clause-source_failures

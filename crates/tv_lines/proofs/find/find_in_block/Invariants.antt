@@ -1,6 +1,6 @@
 use Rattle.std.proofs.Common.{◌≡◌, ◌≤◌, ◌+◌, false}
 use Rattle.tv_lines.proofs.Finds.{FoundSoFar}
-use Rattle.tv_query.specs.Grammar.{Tree, steps_of}
+use Rattle.tv_query.specs.Grammar.{QueryTree, steps_of}
 use Rattle.tv_reader.specs.Version.{version_of}
 use Rattle.tv_lines.proofs.find.find_in_block.Given as goal
 
@@ -21,7 +21,7 @@ invariant-loop-number g l =
       report_is_known : report.is_known l.initial.report → report.is_known l.report;
       source_failures : source.failures l.source ≡ source.failures l.initial.source;
       sink_failures : sink.failures l.sink ≡ sink.failures l.initial.sink;
-      so_far : source.is_known l.initial.source → sink.is_known l.initial.sink → (tree : Tree) → l.query.steps.items ≡ steps_of tree
+      so_far : source.is_known l.initial.source → sink.is_known l.initial.sink → (tree : QueryTree) → l.query.steps.items ≡ steps_of tree
           → FoundSoFar l.schema (version_of l.fn.version) l.projection tree (source.left l.initial.source) (source.left l.source) (sink.held l.initial.sink) (sink.held l.sink)
           (report.is_known l.initial.report) (report.told l.initial.report) (report.told l.report) l.number l.reader.start l.found;
     }
