@@ -1,32 +1,20 @@
 //! The calls that are measured.
 
-use crate::inputs::Inputs;
 use crate::workload::{Pair, Workload, write_stored};
-use crate::{layer, term_calls};
-use anyhow::Result;
-use serde_json::Value;
+use anyhow::{Result, anyhow};
 use std::alloc::Global;
 use tantivy_schema::common::{SliceSource, VecSink};
 use tantivy_schema::schema::document::{AddError, CompactDoc, Document, ParseBuffers};
+use tantivy_schema::schema::{Field, TermList, term_values};
 use tantivy_schema::store::{
-    DocStoreVersion, WriteVersion, migrate, read_document, read_document_into,
+    BlockReader, DocStoreVersion, WriteVersion, migrate, read_document, read_document_into,
+    read_fields_into, skip_document,
 };
+use tantivy_schema::{RunEnd, run};
 
-// Every other one of the first twelve fields.
-const HALF: [u32; 6] = [10, 2, 6, 0, 8, 4];
-
-// The first field among 63 that no document has.
-const MANY: [u32; 64] = [
-    31, 60, 26, 55, 21, 50, 79, 45, 74, 40, 69, 35, 64, 30, 59, 25, 54, 20, 49, 78, 44, 73, 39, 68,
-    34, 63, 29, 58, 24, 53, 82, 48, 77, 43, 72, 38, 67, 33, 62, 28, 0, 57, 23, 52, 81, 47, 76, 42,
-    71, 37, 66, 32, 61, 27, 56, 22, 51, 80, 46, 75, 41, 70, 36, 65,
-];
-
-/// A call that is made for each document, or for each field, path, term, text, range or facet.
+/// A call that is made for each document.
 #[derive(Clone, Copy)]
 pub enum Call {
-    /// From JSON to the JSON library's value alone, which is the first part of the next.
-    ReadJson,
     /// From JSON to a document.
     ParseJson,
     /// From JSON to a document, each in the memory of the one before.
@@ -47,60 +35,16 @@ pub enum Call {
     DeserializeV3,
     /// From stored bytes of version 2 to those of version 3.
     Migrate,
-    /// From stored bytes to values that own what they hold.
-    ReadTyped,
-    /// From bytes that come in pieces of 64 KiB to documents, by the decoder's steps.
-    DecodePieces,
-    /// From bytes that come one at a time to documents.
-    ReadSingleBytes,
-    /// From a reader of std to documents.
-    ReadSource,
-    /// From a reader of std to documents, through a buffer.
-    ReadBuffered,
     /// From a block to documents, each in the memory of the one before.
     ReadBlock,
     /// The values of the schema's first field out of the documents of a block, each document in the memory of the one before.
     ReadFields,
-    /// The same with no field at all.
-    ReadNoFields,
-    /// The same with every other one of the first twelve fields.
-    ReadHalfFields,
-    /// The same with the schema's first field and 63 others that no document has, in no order.
-    ReadManyFields,
     /// The documents of a block, passed over.
     SkipDocument,
-    /// The same value by value.
-    SkipValue,
     /// From lines of JSON to answers.
     Run,
-    /// From its JSON to a schema.
-    ReadSchema,
-    /// The field that a path names.
-    FindField,
-    /// From values to terms, each compared with the one before.
-    Terms,
-    /// From values to terms in one buffer.
-    WriteTerms,
     /// From documents to the terms of their values in one buffer, which is used again.
     TermValues,
-    /// A range of terms of each value.
-    Ranges,
-    /// The text that `Debug` has for each term.
-    PrintTerms,
-    /// From decimal texts to terms of numbers, by the constructor.
-    NumberTerms,
-    /// The same by the call for texts of queries.
-    QueryNumbers,
-    /// From texts to terms of texts, by the constructor.
-    TextTerms,
-    /// The same by the call for texts of queries.
-    QueryTexts,
-    /// The terms, of many in rising order, that are in a range.
-    Within,
-    /// From texts to facets, each tested as a prefix of the next.
-    Facets,
-    /// How many facets there are below each child of the root, counted in one pass over all.
-    CountFacets,
 }
 
 /// What a round did: how often the call was made, how often it was refused, and how many bytes the answers
@@ -132,143 +76,28 @@ impl Round {
 }
 
 impl Call {
-    pub const ALL: [Call; 38] = [
-        Call::ReadJson,
-        Call::ParseJson,
-        Call::ParseJsonInto,
-        Call::Serialize,
-        Call::Deserialize,
-        Call::DeserializeInto,
-        Call::ToJson,
-        Call::Add,
-        Call::SerializeV3,
-        Call::DeserializeV3,
-        Call::Migrate,
-        Call::ReadTyped,
-        Call::DecodePieces,
-        Call::ReadSingleBytes,
-        Call::ReadSource,
-        Call::ReadBuffered,
-        Call::ReadBlock,
-        Call::ReadFields,
-        Call::ReadNoFields,
-        Call::ReadHalfFields,
-        Call::ReadManyFields,
-        Call::SkipDocument,
-        Call::SkipValue,
-        Call::Run,
-        Call::ReadSchema,
-        Call::FindField,
-        Call::Terms,
-        Call::WriteTerms,
-        Call::TermValues,
-        Call::Ranges,
-        Call::PrintTerms,
-        Call::NumberTerms,
-        Call::QueryNumbers,
-        Call::TextTerms,
-        Call::QueryTexts,
-        Call::Within,
-        Call::Facets,
-        Call::CountFacets,
+    /// The calls, each after the name under which it is printed.
+    pub const NAMED: [(&'static str, Call); 15] = [
+        ("parse_json", Call::ParseJson),
+        ("parse_json_into", Call::ParseJsonInto),
+        ("serialize", Call::Serialize),
+        ("deserialize", Call::Deserialize),
+        ("deserialize_into", Call::DeserializeInto),
+        ("to_json", Call::ToJson),
+        ("add", Call::Add),
+        ("serialize_v3", Call::SerializeV3),
+        ("deserialize_v3", Call::DeserializeV3),
+        ("migrate", Call::Migrate),
+        ("read_block", Call::ReadBlock),
+        ("read_fields", Call::ReadFields),
+        ("skip_document", Call::SkipDocument),
+        ("run", Call::Run),
+        ("term_values", Call::TermValues),
     ];
 
-    /// The name under which it is printed.
-    pub fn name(self) -> &'static str {
+    /// Makes the call for each document.
+    pub fn for_each(self, alloc: Global, workload: &Workload) -> Result<Round> {
         match self {
-            Call::ReadJson => "read_json",
-            Call::ParseJson => "parse_json",
-            Call::ParseJsonInto => "parse_json_into",
-            Call::Serialize => "serialize",
-            Call::Deserialize => "deserialize",
-            Call::DeserializeInto => "deserialize_into",
-            Call::ToJson => "to_json",
-            Call::Add => "add",
-            Call::SerializeV3 => "serialize_v3",
-            Call::DeserializeV3 => "deserialize_v3",
-            Call::Migrate => "migrate",
-            Call::ReadTyped => "read_typed",
-            Call::DecodePieces => "decode_pieces",
-            Call::ReadSingleBytes => "read_single_bytes",
-            Call::ReadSource => "read_source",
-            Call::ReadBuffered => "read_buffered",
-            Call::ReadBlock => "read_block",
-            Call::ReadFields => "read_fields",
-            Call::ReadNoFields => "read_no_fields",
-            Call::ReadHalfFields => "read_half_fields",
-            Call::ReadManyFields => "read_many_fields",
-            Call::SkipDocument => "skip_document",
-            Call::SkipValue => "skip_value",
-            Call::Run => "run",
-            Call::ReadSchema => "read_schema",
-            Call::FindField => "find_field",
-            Call::Terms => "terms",
-            Call::WriteTerms => "write_terms",
-            Call::TermValues => "term_values",
-            Call::Ranges => "ranges",
-            Call::PrintTerms => "print_terms",
-            Call::NumberTerms => "number_terms",
-            Call::QueryNumbers => "query_numbers",
-            Call::TextTerms => "text_terms",
-            Call::QueryTexts => "query_texts",
-            Call::Within => "within",
-            Call::Facets => "facets",
-            Call::CountFacets => "count_facets",
-        }
-    }
-
-    /// What it is made for.
-    pub fn unit(self) -> &'static str {
-        match self {
-            Call::ReadSchema => "field",
-            Call::FindField => "path",
-            Call::Terms | Call::WriteTerms | Call::PrintTerms => "term",
-            Call::NumberTerms | Call::QueryNumbers | Call::TextTerms | Call::QueryTexts => "text",
-            Call::Ranges | Call::Within => "range",
-            Call::Facets | Call::CountFacets => "facet",
-            _ => "doc",
-        }
-    }
-
-    /// Makes the call for each document, field, path, term, text, range or facet.
-    pub fn for_each(self, alloc: Global, workload: &Workload, inputs: &Inputs) -> Result<Round> {
-        let documents = workload.documents.len();
-        match self {
-            Call::ReadTyped => layer::read_typed_each(alloc, workload),
-            Call::DecodePieces => layer::decode_each(alloc, inputs, documents),
-            Call::ReadSingleBytes => layer::read_single_bytes_each(alloc, inputs, documents),
-            Call::ReadSource => layer::read_source_each(alloc, inputs, documents),
-            Call::ReadBuffered => layer::read_buffered_each(alloc, inputs, documents),
-            Call::ReadBlock => layer::read_block_each(alloc, inputs, documents),
-            Call::ReadFields => layer::read_fields_each(alloc, inputs, documents, &[0]),
-            Call::ReadNoFields => layer::read_fields_each(alloc, inputs, documents, &[]),
-            Call::ReadHalfFields => layer::read_fields_each(alloc, inputs, documents, &HALF),
-            Call::ReadManyFields => layer::read_fields_each(alloc, inputs, documents, &MANY),
-            Call::SkipDocument => layer::skip_each(alloc, inputs, documents),
-            Call::SkipValue => layer::skip_values_each(alloc, inputs, documents),
-            Call::Run => layer::run_lines(alloc, inputs, documents),
-            Call::ReadSchema => layer::read_schema(alloc, inputs),
-            Call::FindField => Ok(layer::find_each(workload, inputs)),
-            Call::Terms => layer::make_terms(alloc, workload),
-            Call::WriteTerms => layer::write_terms(alloc, workload),
-            Call::TermValues => layer::list_terms(alloc, workload),
-            Call::Ranges => term_calls::make_ranges(alloc, workload),
-            Call::PrintTerms => term_calls::print_terms(alloc, workload),
-            Call::NumberTerms => term_calls::number_terms(alloc, inputs),
-            Call::QueryNumbers => term_calls::query_terms(alloc, inputs, "number"),
-            Call::TextTerms => term_calls::text_terms(alloc, inputs),
-            Call::QueryTexts => term_calls::query_terms(alloc, inputs, "text"),
-            Call::Within => Ok(term_calls::within_each(inputs)),
-            Call::Facets => layer::make_facets(alloc, inputs),
-            Call::CountFacets => layer::count_facets(alloc, inputs),
-            other => other.for_each_document(alloc, workload),
-        }
-    }
-
-    // Makes a call on documents for each.
-    fn for_each_document(self, alloc: Global, workload: &Workload) -> Result<Round> {
-        match self {
-            Call::ReadJson => read_each(alloc, workload),
             Call::ParseJson => parse_each(alloc, workload),
             Call::ParseJsonInto => parse_each_into(alloc, workload),
             Call::Serialize => serialize_each(alloc, workload, WriteVersion::V2),
@@ -282,19 +111,14 @@ impl Call {
                 &workload.stored_v3,
                 DocStoreVersion::V3,
             ),
-            _ => migrate_each(alloc, workload),
+            Call::Migrate => migrate_each(alloc, workload),
+            Call::ReadBlock => read_block_each(alloc, workload),
+            Call::ReadFields => read_fields_each(alloc, workload),
+            Call::SkipDocument => skip_each(alloc, workload),
+            Call::Run => run_lines(alloc, workload),
+            Call::TermValues => list_terms(alloc, workload),
         }
     }
-}
-
-fn read_each(alloc: Global, workload: &Workload) -> Result<Round> {
-    let mut round = Round::new();
-    for line in &workload.lines {
-        if let Ok(json) = Value::from_str(alloc, line.as_str()) {
-            round.made(json.as_object().map_or(0, |members| members.len()));
-        }
-    }
-    Ok(round)
 }
 
 fn parse_each(alloc: Global, workload: &Workload) -> Result<Round> {
@@ -393,6 +217,78 @@ fn migrate_each(alloc: Global, workload: &Workload) -> Result<Round> {
         let (from, to) = (DocStoreVersion::V2, WriteVersion::V3);
         match migrate(alloc, &mut source, from, &mut sink, to) {
             Ok(()) => round.made(sink.as_slice().len()),
+            Err(_) => round.left_out(),
+        }
+    }
+    Ok(round)
+}
+
+fn read_block_each(alloc: Global, workload: &Workload) -> Result<Round> {
+    let mut round = Round::new();
+    let mut source = SliceSource::new(workload.block.as_slice());
+    let mut reader = BlockReader::new(alloc, DocStoreVersion::V2);
+    for _ in &workload.lines {
+        if reader.advance(&mut source)? {
+            round.made(reader.document().node_data().len());
+        }
+    }
+    Ok(round)
+}
+
+fn read_fields_each(alloc: Global, workload: &Workload) -> Result<Round> {
+    let mut round = Round::new();
+    let mut source = SliceSource::new(workload.block.as_slice());
+    let mut document = CompactDoc::new(alloc);
+    let (version, fields) = (DocStoreVersion::V2, [Field::from_field_id(0)]);
+    for _ in &workload.lines {
+        match read_fields_into(alloc, &mut document, &mut source, version, &fields) {
+            Ok(()) => round.made(document.node_data().len()),
+            Err(_) => round.left_out(),
+        }
+    }
+    Ok(round)
+}
+
+// An answer has no bytes.
+fn skip_each(alloc: Global, workload: &Workload) -> Result<Round> {
+    let mut round = Round::new();
+    let mut source = SliceSource::new(workload.block.as_slice());
+    for _ in &workload.lines {
+        match skip_document(alloc, &mut source, DocStoreVersion::V2) {
+            Ok(()) => round.made(0),
+            Err(_) => round.left_out(),
+        }
+    }
+    Ok(round)
+}
+
+fn run_lines(alloc: Global, workload: &Workload) -> Result<Round> {
+    let mut round = Round::new();
+    let bytes = answers_len(alloc, workload.run_input.as_slice())?;
+    for _ in &workload.lines {
+        round.made(0);
+    }
+    round.bytes = bytes;
+    Ok(round)
+}
+
+/// How many bytes the answers to these lines of JSON have.
+pub fn answers_len(alloc: Global, lines: &[u8]) -> Result<usize> {
+    let mut source = SliceSource::new(lines);
+    let mut sink = VecSink::new(alloc);
+    match run(alloc, &mut source, &mut sink) {
+        RunEnd::Done => Ok(sink.as_slice().len()),
+        _ => Err(anyhow!("a run that ends early")),
+    }
+}
+
+fn list_terms(alloc: Global, workload: &Workload) -> Result<Round> {
+    let mut round = Round::new();
+    let mut terms = TermList::new(alloc);
+    for document in &workload.documents {
+        terms.clear();
+        match term_values(alloc, &workload.schema, document, &mut terms) {
+            Ok(()) => round.made(terms.len()),
             Err(_) => round.left_out(),
         }
     }

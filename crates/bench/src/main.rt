@@ -3,8 +3,8 @@
 //!
 //! Standard input has two parts, with an empty line between them; each may be missing. The first holds a schema as JSON on its first line,
 //! and a document as JSON on each other line. Standard output says how many documents were accepted, how many bytes of JSON these have, and
-//! how many stored bytes. With the arguments `time N` standard error says for each call how many nanoseconds a document takes, or a field,
-//! path, term, text, range or facet: the mean over N rounds, and that of the best round. `time N CALL` makes that call alone.
+//! how many stored bytes. With the arguments `time N` standard error says for each call how many nanoseconds a document takes: the mean over N
+//! rounds, and that of the best round. `time N CALL` makes that call alone.
 //!
 //! Each line of the second part has a shape's name and a number, as in `levels 1000000`: what there are many of, and how many. For each call
 //! that the shape has, standard output has the line, the call's name and how many bytes or fields its answer has, or that the values nest
@@ -13,14 +13,10 @@
 
 mod calls;
 mod growth;
-mod inputs;
-mod layer;
-mod term_calls;
 mod workload;
 
 use crate::calls::{Call, Round};
 use crate::growth::answer_rows;
-use crate::inputs::Inputs;
 use crate::workload::Workload;
 use anyhow::{Context, Result};
 use std::env;
@@ -71,10 +67,9 @@ fn measure_documents(
         "{documents} accepted documents, {json_len} bytes of JSON, {stored_len} stored bytes"
     )?;
     if let Some((rounds, name)) = wanted {
-        let inputs = Inputs::of(rt.alloc(), &workload)?;
-        for call in Call::ALL {
-            if name.is_empty() || name.as_str() == call.name() {
-                measure(rt, &workload, &inputs, call, rounds)?;
+        for (known, call) in Call::NAMED {
+            if name.is_empty() || name.as_str() == known {
+                measure(rt, &workload, known, call, rounds)?;
             }
         }
     }
@@ -100,11 +95,11 @@ fn rounds_wanted(rt: &(impl Env + AllocGlobal)) -> Result<Option<(u32, String)>>
     Ok(Some((rounds, name)))
 }
 
-// Makes the call for each document, in this many rounds, and says what a document takes.
+// Makes the call of this name for each document, in this many rounds, and says what a document takes.
 fn measure(
     rt: &(impl Clock + Eprint + AllocGlobal),
     workload: &Workload,
-    inputs: &Inputs,
+    name: &str,
     call: Call,
     rounds: u32,
 ) -> Result<()> {
@@ -113,7 +108,7 @@ fn measure(
     let mut done = Round::new();
     for _ in 0..rounds {
         let start = Instant::now(rt)?;
-        done = call.for_each(rt.alloc(), workload, inputs)?;
+        done = call.for_each(rt.alloc(), workload)?;
         let nanos = start.elapsed(rt)?.as_nanos();
         total = total.saturating_add(nanos);
         best = best.min(nanos);
@@ -121,9 +116,8 @@ fn measure(
     let calls = u128::from(done.calls).max(1);
     let mean = total / u128::from(rounds).max(1) / calls;
     let best = best / calls;
-    let (name, unit) = (call.name(), call.unit());
     eprintln!(rt;
-        "{name} {mean} ns/{unit} (best round {best}), {} bytes",
+        "{name} {mean} ns/doc (best round {best}), {} bytes",
         done.bytes
     )?;
     if done.left_out > 0 {

@@ -22,7 +22,8 @@ impl Drop for Pair {
 }
 
 /// A schema, and the documents that it accepts: as JSON, as documents, as lists of pairs, and as stored bytes of
-/// version 2 and of version 3.
+/// version 2 and of version 3; the bytes of version 2 one after the other, as in a block of a store; and the schema's
+/// line with a line for each document.
 pub struct Workload {
     pub schema: Schema,
     pub lines: Vec<String>,
@@ -30,6 +31,8 @@ pub struct Workload {
     pub pairs: Vec<Vec<Pair>>,
     pub stored: Vec<Vec<u8>>,
     pub stored_v3: Vec<Vec<u8>>,
+    pub block: Vec<u8>,
+    pub run_input: Vec<u8>,
 }
 
 // Written here, so that a workload is dropped by one call.
@@ -42,6 +45,8 @@ impl Drop for Workload {
             pairs: _,
             stored: _,
             stored_v3: _,
+            block: _,
+            run_input: _,
         } = self;
     }
 }
@@ -71,6 +76,8 @@ impl Workload {
             pairs: Vec::new(alloc),
             stored: Vec::new(alloc),
             stored_v3: Vec::new(alloc),
+            block: Vec::new(alloc),
+            run_input: Vec::new(alloc),
         }
     }
 
@@ -92,6 +99,9 @@ impl Workload {
         let documents = self.documents.as_slice();
         self.stored = stored_of(alloc, &self.schema, documents, WriteVersion::V2)?;
         self.stored_v3 = stored_of(alloc, &self.schema, documents, WriteVersion::V3)?;
+        self.block = block_of(alloc, self.stored.as_slice())?;
+        let schema_json = json_of(alloc, &self.schema)?;
+        self.run_input = lines_of(alloc, schema_json.as_str(), self.lines.as_slice())?;
         Ok(())
     }
 
@@ -122,6 +132,14 @@ pub fn schema_of(alloc: Global, text: &str) -> Result<Schema> {
     Ok(schema?)
 }
 
+/// The JSON of a schema.
+pub fn json_of(alloc: Global, schema: &Schema) -> Result<String> {
+    let json = schema.to_json_value()?;
+    let text = json.to_string(alloc);
+    drop(json);
+    Ok(text?)
+}
+
 fn documents_of(alloc: Global, schema: &Schema, lines: &[String]) -> Result<Vec<CompactDoc>> {
     let mut documents = Vec::new(alloc);
     for line in lines {
@@ -150,6 +168,24 @@ fn stored_of(
         stored.push(stored_bytes(alloc, schema, document, version)?)?;
     }
     Ok(stored)
+}
+
+fn block_of(alloc: Global, stored: &[Vec<u8>]) -> Result<Vec<u8>> {
+    let mut block = Vec::new(alloc);
+    for bytes in stored {
+        block.extend_from_slice(bytes.as_slice())?;
+    }
+    Ok(block)
+}
+
+fn lines_of(alloc: Global, schema_json: &str, documents: &[String]) -> Result<Vec<u8>> {
+    let mut lines = Vec::new(alloc);
+    lines.extend_from_slice(schema_json.as_bytes())?;
+    for document in documents {
+        lines.push(b'\n')?;
+        lines.extend_from_slice(document.as_bytes())?;
+    }
+    Ok(lines)
 }
 
 /// The stored bytes of a document whose fields belong to the schema; none of another.

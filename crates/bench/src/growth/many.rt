@@ -1,7 +1,7 @@
 //! Calls on many lines, terms and facets.
 
+use crate::calls::answers_len;
 use crate::growth::sample::Sample;
-use crate::layer::answers_len;
 use anyhow::{Context, Result, anyhow};
 use std::alloc::Global;
 use tantivy_schema::common::SliceSource;

@@ -1,7 +1,6 @@
 //! Calls on documents whose values may nest deep. `None` stands for a refusal of what nests in too many lists.
 
 use crate::growth::sample::Sample;
-use crate::layer::decoded;
 use anyhow::{Context, Result, anyhow};
 use std::alloc::{AllocError, Global};
 use tantivy_schema::common::{SliceSource, VecSink};
@@ -11,8 +10,8 @@ use tantivy_schema::schema::document::{
 };
 use tantivy_schema::schema::{Field, OwnedValue, TermList, TermVisitor, term_values, visit_terms};
 use tantivy_schema::store::{
-    BlockReader, DocStoreVersion, LimitedReadError, ReadLimit, ReadLimits, read_document_into,
-    read_document_within, read_fields, skip_document,
+    BlockReader, DirectDecoder, DocStoreVersion, LimitedReadError, ReadLimit, ReadLimits, Step,
+    read_document_into, read_document_within, read_fields, skip_document,
 };
 
 // The depth of a reading within limits.
@@ -74,7 +73,13 @@ pub fn equal(alloc: Global, sample: &Sample) -> Result<usize> {
 /// Reads the document part by part. Gives the length of its heap.
 pub fn step(alloc: Global, sample: &Sample) -> Result<usize> {
     let mut source = SliceSource::new(sample.stored.as_slice());
-    Ok(decoded(alloc, &mut source)?.node_data().len())
+    let mut decoder = DirectDecoder::new(alloc, DocStoreVersion::V2);
+    for _ in 0..u64::MAX {
+        if decoder.step(&mut source)? == Step::Done {
+            break;
+        }
+    }
+    Ok(decoder.into_doc().node_data().len())
 }
 
 /// Reads the document into another one. Gives the length of its heap.

@@ -1,8 +1,7 @@
 //! Documents of many values, members or levels, as JSON or as stored bytes.
 
 use crate::growth::shape::Shape;
-use crate::inputs::json_of;
-use crate::workload::stored_bytes;
+use crate::workload::{json_of, stored_bytes};
 use anyhow::Result;
 use std::alloc::Global;
 use tantivy_schema::common::SliceSource;
