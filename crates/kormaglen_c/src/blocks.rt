@@ -10,8 +10,9 @@ ghost use Rattle.tv_reader.specs.Version.{version_of_number, version_of};
 
 use crate::handles::closed;
 use std::alloc::Global;
+use tv_blocks::Answer;
 use tv_blocks::schema_handle::SchemaHandle;
-use tv_blocks::status::{Answer, written_answer, wrong_version};
+use tv_blocks::status::{written_answer, wrong_version};
 use tv_schema::Schema;
 use tv_store::DocStoreVersion;
 

@@ -1,8 +1,7 @@
 //! Calls for C by a document that a handle holds. A handle is used by one call at a time. One that is all zeros holds nothing.
 
 ghost use Rattle.kormaglen_c.specs.Answers.{AnswersFill, IsWrongVersion, write_numbered};
-ghost use Rattle.kormaglen_c.specs.Documents.{AnswersParsed, AnswersRead, HoldsNone};
-ghost use Rattle.kormaglen_c.specs.Documents.{ParsesOr, ReadsOr};
+ghost use Rattle.kormaglen_c.specs.Documents.{AnswersParsed, AnswersRead, HoldsNone, ParsesOr, ReadsOr};
 ghost use Rattle.kormaglen_c.specs.Handles.{IsClosedHandle, closed_answer};
 ghost use Rattle.std.specs.Prelude.{◌≡◌, MatchOption, None};
 ghost use Rattle.tv_blocks.specs.Documents.{IsForeignRefusal, IsPrintedBy, IsStoredDocument};
@@ -15,12 +14,11 @@ ghost use Rattle.tv_reader.specs.Version.{version_of_number, version_of};
 use crate::handles::closed;
 use crate::write_version;
 use std::alloc::{AllocError, Global};
-use tv_blocks::BlockError;
 use tv_blocks::document_handle::DocumentHandle;
-use tv_blocks::schema_handle::SchemaHandle;
-use tv_blocks::schema_handle::SchemaMemory;
-use tv_blocks::status::{Answer, written_answer, wrong_version};
-use tv_doc::document::CompactDoc;
+use tv_blocks::schema_handle::{SchemaHandle, SchemaMemory};
+use tv_blocks::status::{written_answer, wrong_version};
+use tv_blocks::{Answer, BlockError};
+use tv_doc::CompactDoc;
 use tv_doc::parse_buffers::ParseBuffers;
 use tv_schema::Schema;
 use tv_store::DocStoreVersion;

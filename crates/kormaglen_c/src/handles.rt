@@ -1,9 +1,7 @@
 //! Calls for C by a schema that a handle holds. A handle is used by one call at a time. One that is all zeros holds nothing.
 
-ghost use Rattle.kormaglen_c.specs.Answers.{AnswersFill, AnswersFound, AnswersImport};
-ghost use Rattle.kormaglen_c.specs.Answers.{IsWrongVersion};
-ghost use Rattle.kormaglen_c.specs.Handles.{AnswersOpened, OpensOr, closed_answer};
-ghost use Rattle.kormaglen_c.specs.Handles.{IsClosedHandle, IsClosedFound, IsClosedImport};
+ghost use Rattle.kormaglen_c.specs.Answers.{AnswersFill, AnswersFound, AnswersImport, IsWrongVersion};
+ghost use Rattle.kormaglen_c.specs.Handles.{AnswersOpened, OpensOr, closed_answer, IsClosedHandle, IsClosedFound, IsClosedImport};
 ghost use Rattle.std.specs.Prelude.{◌≡◌, MatchOption, None};
 ghost use Rattle.tv_blocks.specs.Blocks.{IsPrintedBlock};
 ghost use Rattle.tv_blocks.specs.Fields.{FindsAmong};
@@ -15,10 +13,9 @@ ghost use Rattle.tv_reader.specs.Version.{version_of_number, version_of};
 
 use crate::{NOTHING_FOUND, found_answer};
 use std::alloc::Global;
-use tv_blocks::schema_handle::SchemaHandle;
-use tv_blocks::schema_handle::SchemaMemory;
-use tv_blocks::status::{Answer, import_answer, written_answer, wrong_version};
-use tv_blocks::{BlockError, FoundField, LineAnswer};
+use tv_blocks::schema_handle::{SchemaHandle, SchemaMemory};
+use tv_blocks::status::{import_answer, written_answer, wrong_version};
+use tv_blocks::{Answer, BlockError, FoundField, LineAnswer};
 use tv_schema::Schema;
 use tv_store::DocStoreVersion;
 

@@ -9,12 +9,9 @@ ghost use Rattle.tv_blocks.specs.Blocks.{IsExported};
 ghost use Rattle.tv_blocks.specs.FacetCounts.{AreFacetCounts, IsCountsRefusal};
 ghost use Rattle.tv_blocks.specs.Fields.{FindsInText, IsPathAnswer};
 ghost use Rattle.tv_blocks.specs.Imports.{ImportsInto};
-ghost use Rattle.tv_blocks.specs.Refusals.{IsBlockRefusal, IsExportRefusal};
-ghost use Rattle.tv_blocks.specs.Refusals.{IsFacetRefusal, IsTextRefusal};
-ghost use Rattle.tv_blocks.specs.Terms.{IsEnd, IsEndRefusal, IsTermList, IsTermRefusal};
-ghost use Rattle.tv_blocks.specs.Terms.{IsTermText, IsTextTerm};
-ghost use Rattle.kormaglen_c.specs.Answers.{AnswersFill, AnswersFound, AnswersImport};
-ghost use Rattle.kormaglen_c.specs.Answers.{IsWrongVersion, TellsField, write_numbered};
+ghost use Rattle.tv_blocks.specs.Refusals.{IsBlockRefusal, IsExportRefusal, IsFacetRefusal, IsTextRefusal};
+ghost use Rattle.tv_blocks.specs.Terms.{IsEnd, IsEndRefusal, IsTermList, IsTermRefusal, IsTermText, IsTextTerm};
+ghost use Rattle.kormaglen_c.specs.Answers.{AnswersFill, AnswersFound, AnswersImport, IsWrongVersion, TellsField, write_numbered};
 ghost use Rattle.tv_format.specs.WriteVersion.{written_version};
 ghost use Rattle.tv_reader.specs.Version.{version_of_number, version_of};
 ghost use Rattle.tv_store.specs.BlockMigration.{IsMigrated};
@@ -25,8 +22,8 @@ pub mod handles;
 pub mod queries;
 
 use std::alloc::Global;
-use tv_blocks::status::{Answer, error_answer, import_answer, written_answer, wrong_version};
-use tv_blocks::{BlockError, FoundField, LineAnswer};
+use tv_blocks::status::{error_answer, import_answer, written_answer, wrong_version};
+use tv_blocks::{Answer, BlockError, FoundField, LineAnswer};
 use tv_format::WriteVersion;
 use tv_store::DocStoreVersion;
 

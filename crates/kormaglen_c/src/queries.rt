@@ -3,14 +3,14 @@
 ghost use Rattle.kormaglen_c.specs.Answers.{AnswersFill};
 ghost use Rattle.kormaglen_c.specs.Handles.{IsClosedHandle};
 ghost use Rattle.std.specs.Prelude.{◌≡◌, MatchOption};
-ghost use Rattle.tv_blocks.specs.Query.{AreTextRanges, AreTextTerms};
-ghost use Rattle.tv_blocks.specs.Query.{IsRangesRefusal, IsTermsRefusal};
+ghost use Rattle.tv_blocks.specs.Query.{AreTextRanges, AreTextTerms, IsRangesRefusal, IsTermsRefusal};
 ghost use Rattle.tv_blocks.specs.Held.{entries_of};
 
 use crate::handles::closed;
 use std::alloc::Global;
+use tv_blocks::Answer;
 use tv_blocks::schema_handle::SchemaHandle;
-use tv_blocks::status::{Answer, written_answer};
+use tv_blocks::status::written_answer;
 use tv_schema::Schema;
 
 // Writes the terms that a text has at a path by a schema.

@@ -14,13 +14,12 @@ use crate::buffer::put_whole;
 use crate::line_refusal::LineRefusal;
 use std::alloc::Global;
 use tv_base::{SliceSource, VecSink};
-use tv_doc::document::CompactDoc;
-use tv_doc::document_trait::Document;
 use tv_doc::parse_buffers::ParseBuffers;
+use tv_doc::{CompactDoc, Document};
 use tv_format::WriteVersion;
 use tv_schema::Schema;
 use tv_store::{BinaryDocumentSerializer, DocStoreVersion, read_document_into};
-use tv_value::field::Field;
+use tv_value::Field;
 
 /// Reads the document with which the bytes begin, in place of one that is there and in its memory, and returns how many bytes it takes. See
 /// `read_document_into`.

@@ -11,7 +11,7 @@ use crate::kept::Kept;
 use std::alloc::Global;
 use std::marker::Model;
 use std::mem::replace;
-use tv_doc::document::CompactDoc;
+use tv_doc::CompactDoc;
 
 /// A document that stays where it is between two calls, or none. A handle of zeros holds none. (Not in tantivy.)
 #[repr(C)]

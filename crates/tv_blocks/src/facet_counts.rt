@@ -3,8 +3,7 @@
 ghost use Rattle.std.specs.Prelude.{◌≡◌, ◌++◌, map, MatchOption, OnOk};
 ghost use Rattle.std.specs.List.{flat_map};
 ghost use Rattle.tv_blocks.specs.Buffer.{FillsBuffer};
-ghost use Rattle.tv_blocks.specs.FacetCounts.{AreFacetCounts, BeginsWithNoPair, IsCountsRefusal};
-ghost use Rattle.tv_blocks.specs.FacetCounts.{IsDocumentFacet, ReadsDocumentFacets, facet_record};
+ghost use Rattle.tv_blocks.specs.FacetCounts.{AreFacetCounts, BeginsWithNoPair, IsCountsRefusal, IsDocumentFacet, ReadsDocumentFacets, facet_record};
 ghost use Rattle.tv_base.specs.DocumentCounting.{facet_of};
 ghost use Rattle.tv_base.specs.FacetCounting.{entry_of};
 

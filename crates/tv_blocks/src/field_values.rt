@@ -2,10 +2,8 @@
 
 ghost use Rattle.std.specs.Prelude.{◌≡◌, ◌++◌, [], IfErr, OnOk};
 ghost use Rattle.tv_blocks.specs.Buffer.{FillsBuffer};
-ghost use Rattle.tv_blocks.specs.FieldValues.{AreNamedValues, IsNamedValuesRefusal, IsValueList};
-ghost use Rattle.tv_blocks.specs.FieldValues.{IsValueListRefusal, IsValuesBlockRefusal};
-ghost use Rattle.tv_blocks.specs.FieldValues.{content_record, document_values, json_content};
-ghost use Rattle.tv_blocks.specs.FieldValues.{kind_number, value_record};
+ghost use Rattle.tv_blocks.specs.FieldValues.{AreNamedValues, IsNamedValuesRefusal, IsValueList, IsValueListRefusal, IsValuesBlockRefusal, content_record};
+ghost use Rattle.tv_blocks.specs.FieldValues.{document_values, json_content, kind_number, value_record};
 ghost use Rattle.tv_doc.specs.Document.{document_of};
 ghost use Rattle.tv_reader.specs.Version.{version_of};
 
@@ -13,13 +11,11 @@ use crate::block_error::{BlockError, unread};
 use crate::buffer::{append_numbered, put_whole};
 use std::alloc::{AllocError, Global};
 use tv_base::SliceSource;
-use tv_doc::document::CompactDoc;
+use tv_doc::CompactDoc;
 use tv_json::compact::push_json;
 use tv_schema::Schema;
 use tv_store::{BlockReader, DocStoreVersion};
-use tv_value::field::Field;
-use tv_value::leaf::ReferenceValueLeaf;
-use tv_value::value::{ReferenceValue, Value};
+use tv_value::{Field, ReferenceValue, ReferenceValueLeaf, Value};
 
 /// What kind a value is of, and so what its bytes are. (Not in tantivy.)
 #[derive(Clone, Copy, Debug, PartialEq, Eq, Drop)]

@@ -1,8 +1,7 @@
 //! Lines of JSON as a block of stored documents.
 
 ghost use Rattle.std.specs.Prelude.{◌≡◌, [], OnOk};
-ghost use Rattle.tv_blocks.specs.Imports.{ImportsBy, ImportsLines, ImportsInto, IsLenientOutcome};
-ghost use Rattle.tv_blocks.specs.Imports.{PutsBoth, lenient, line_answer};
+ghost use Rattle.tv_blocks.specs.Imports.{ImportsBy, ImportsLines, ImportsInto, IsLenientOutcome, PutsBoth, lenient, line_answer};
 ghost use Rattle.tv_lines.specs.Importing.{left_to};
 
 use crate::block_error::BlockError;

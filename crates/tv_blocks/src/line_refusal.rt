@@ -1,13 +1,12 @@
 //! Why there is no document of a line.
 
 ghost use Rattle.std.specs.Prelude.{◌≡◌, unwrap_or};
-ghost use Rattle.tv_blocks.specs.LineRefusals.{IsLenient, line_field, line_number, refusal_of};
-ghost use Rattle.tv_blocks.specs.LineRefusals.{value_number, value_refusal};
+ghost use Rattle.tv_blocks.specs.LineRefusals.{IsLenient, line_field, line_number, refusal_of, value_number, value_refusal};
 ghost use Rattle.tv_schema.specs.Schema.{field_named};
 
 use std::fmt;
 use thiserror::Error;
-use tv_doc::errors::{DocParsingError, StrictParsingError};
+use tv_doc::{DocParsingError, StrictParsingError};
 use tv_field::ValueParsingError;
 use tv_lines::line_document::LineError;
 use tv_schema::Schema;

@@ -3,9 +3,7 @@
 ghost use Rattle.std.specs.Prelude.{◌≡◌, ◌++◌, OnOk};
 ghost use Rattle.std.specs.List.{flat_map};
 ghost use Rattle.tv_blocks.specs.Buffer.{FillsBuffer};
-ghost use Rattle.tv_blocks.specs.Query.{AreTextRanges, AreTextTerms};
-ghost use Rattle.tv_blocks.specs.Query.{IsRangesRefusal, IsTermsRefusal};
-ghost use Rattle.tv_blocks.specs.Query.{end_bytes, end_length, measured_term, range_record};
+ghost use Rattle.tv_blocks.specs.Query.{AreTextRanges, AreTextTerms, IsRangesRefusal, IsTermsRefusal, end_bytes, end_length, measured_term, range_record};
 ghost use Rattle.tv_blocks.specs.QueryRefusals.{query_error, text_refusal};
 
 use crate::block_error::BlockError;

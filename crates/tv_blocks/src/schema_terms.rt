@@ -1,12 +1,10 @@
 //! Terms that documents of a block have by a schema.
 
-ghost use Rattle.std.specs.Prelude.{◌≡◌, ◌≢◌, ◌++◌, [], IfErr, IfOk, OnErr, OnOk};
-ghost use Rattle.std.specs.Prelude.{◌+◌, ◌≤◌, drop, length, take};
+ghost use Rattle.std.specs.Prelude.{◌≡◌, ◌≢◌, ◌++◌, [], IfErr, IfOk, OnErr, OnOk, ◌+◌, ◌≤◌, drop, length, take};
 ghost use Rattle.std.specs.Int.{from_le_bytes, w64};
 ghost use Rattle.tv_blocks.specs.Buffer.{FillsBuffer};
-ghost use Rattle.tv_blocks.specs.SchemaTerms.{AppendsDocument, AreSchemaTerms, IsSchemaTermsRefusal};
-ghost use Rattle.tv_blocks.specs.SchemaTerms.{IsTermsBlockRefusal, IsWithoutTerms};
-ghost use Rattle.tv_blocks.specs.SchemaTerms.{common_len, fault_record, shared_record};
+ghost use Rattle.tv_blocks.specs.SchemaTerms.{AppendsDocument, AreSchemaTerms, IsSchemaTermsRefusal, IsTermsBlockRefusal, IsWithoutTerms, common_len};
+ghost use Rattle.tv_blocks.specs.SchemaTerms.{fault_record, shared_record};
 ghost use Rattle.tv_doc.specs.Document.{document_of};
 ghost use Rattle.tv_indexing.specs.declared.document.TermValuesError.TheVariants.{Memory};
 ghost use Rattle.tv_reader.specs.Version.{version_of};
@@ -16,7 +14,7 @@ use crate::buffer::{append_numbered, put_whole};
 use crate::terms_refusal::{refusal_of, terms_error};
 use std::alloc::{AllocError, Global};
 use tv_base::SliceSource;
-use tv_doc::document::CompactDoc;
+use tv_doc::CompactDoc;
 use tv_indexing::{TermValuesError, TermVisitor, visit_terms};
 use tv_schema::Schema;
 use tv_store::{BlockReader, DocStoreVersion};

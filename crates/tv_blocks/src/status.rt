@@ -1,8 +1,7 @@
 //! Answers as numbers, for callers in other languages.
 
 ghost use Rattle.std.specs.Prelude.{◌≡◌};
-ghost use Rattle.tv_blocks.specs.Status.{call_answer, cause_number, error_answer, import_answer};
-ghost use Rattle.tv_blocks.specs.Status.{key_number, nothing_written, placed, refusal_number};
+ghost use Rattle.tv_blocks.specs.Status.{call_answer, cause_number, error_answer, import_answer, key_number, nothing_written, placed, refusal_number};
 ghost use Rattle.tv_blocks.specs.Status.{schema_answer, wrong_version};
 
 use crate::block_error::{BlockError, DocumentRefusal};

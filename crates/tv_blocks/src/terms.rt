@@ -4,9 +4,7 @@ ghost use Rattle.std.specs.Prelude.{◌≡◌, ◌++◌, [], IfErr, OnOk};
 ghost use Rattle.tv_blocks.specs.Blocks.{IsRefusedBlock};
 ghost use Rattle.tv_blocks.specs.Buffer.{FillsBuffer};
 ghost use Rattle.tv_blocks.specs.Refusals.{IsBlockRefusal, IsTextRefusal};
-ghost use Rattle.tv_blocks.specs.Terms.{document_records, term_record};
-ghost use Rattle.tv_blocks.specs.Terms.{IsEnd, IsEndRefusal, IsTermList, IsTermRefusal};
-ghost use Rattle.tv_blocks.specs.Terms.{IsTermText, IsTextTerm};
+ghost use Rattle.tv_blocks.specs.Terms.{document_records, term_record, IsEnd, IsEndRefusal, IsTermList, IsTermRefusal, IsTermText, IsTextTerm};
 ghost use Rattle.tv_doc.specs.Document.{document_of};
 ghost use Rattle.tv_indexing.specs.LeafTerms.{tree_value};
 ghost use Rattle.tv_reader.specs.Version.{version_of};
@@ -15,12 +13,11 @@ use crate::block_error::{BlockError, unread};
 use crate::buffer::{append_record, put_whole};
 use std::alloc::{AllocError, Global};
 use tv_base::SliceSource;
-use tv_doc::document::CompactDoc;
+use tv_doc::CompactDoc;
 use tv_indexing::write_leaf;
 use tv_store::{BlockReader, DocStoreVersion};
 use tv_term::{Term, TermWriter, successor};
-use tv_value::field::Field;
-use tv_value::value::{ReferenceValue, Value};
+use tv_value::{Field, ReferenceValue, Value};
 
 // Appends the record of a value, if it has a term.
 fn append_value<'a, V: Value<'a>>(

@@ -7,7 +7,7 @@ use crate::block_error::BlockError;
 use std::error::Error;
 use std::fmt;
 use tv_indexing::TermValuesError;
-use tv_value::field::Field;
+use tv_value::Field;
 
 /// Why the values of a document have no terms by a schema. (Not in tantivy.)
 #[derive(Clone, Copy, Debug, PartialEq, Eq, Drop)]

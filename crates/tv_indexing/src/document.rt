@@ -14,11 +14,11 @@ use crate::term_buffer::TermBuffer;
 use crate::term_list::TermList;
 use std::alloc::{AllocError, Global};
 use thiserror::Error;
-use tv_doc::document::CompactDoc;
-use tv_field::field_type::FieldType;
+use tv_doc::CompactDoc;
+use tv_field::FieldType;
 use tv_heap::value::CompactDocValue;
 use tv_schema::Schema;
-use tv_value::field::Field;
+use tv_value::Field;
 
 /// Takes the terms of a document, one after the other, as `visit_terms` makes them: a list of them, say, or a test whether one is wanted. (Not in
 /// tantivy.)

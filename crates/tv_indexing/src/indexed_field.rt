@@ -9,9 +9,9 @@ ghost use Rattle.tv_schema.specs.Path.{find_or};
 use crate::text_terms_error::{TextTermsError, unknown_path};
 use std::alloc::Global;
 use std::marker::Model;
-use tv_field::field_type::FieldType;
+use tv_field::FieldType;
 use tv_schema::Schema;
-use tv_value::field::Field;
+use tv_value::Field;
 
 /// A field that is indexed, as a path of a query names it. (Not in tantivy.)
 ///

@@ -1,12 +1,10 @@
 //! Terms of values of fields of JSON objects, however deep these nest.
 
-ghost use Rattle.std.specs.Prelude.{◌≡◌, ◌≢◌, ◌++◌, ◌∷◌, Err, IfErr, IfOk, length, option_map, OnErr, OnOk};
-ghost use Rattle.std.specs.Prelude.{[], false, take, true};
+ghost use Rattle.std.specs.Prelude.{◌≡◌, ◌≢◌, ◌++◌, ◌∷◌, Err, IfErr, IfOk, length, option_map, OnErr, OnOk, [], false, take, true};
 ghost use Rattle.tv_heap.specs.Value.{held_children, tree_of};
 ghost use Rattle.tv_indexing.specs.DocumentTerms.{has_zero, json_terms};
 ghost use Rattle.tv_format.specs.Tree.{Tree};
-ghost use Rattle.tv_indexing.specs.JsonWalk.{IsBegun, child_terms};
-ghost use Rattle.tv_indexing.specs.JsonWalk.{children_terms, separated, terms_at};
+ghost use Rattle.tv_indexing.specs.JsonWalk.{IsBegun, child_terms, children_terms, separated, terms_at};
 ghost use Rattle.tv_indexing.specs.Visits.{TakesTerms, TakesAll, TakesSome};
 ghost use Rattle.tv_indexing.specs.declared.document.TermValuesError.TheVariants.{Memory, NulInPath};
 
@@ -15,8 +13,8 @@ use crate::json_leaf::visit_json_leaf;
 use crate::term_buffer::TermBuffer;
 use std::alloc::AllocError;
 use tv_heap::value::CompactDocValue;
+use tv_value::Field;
 use tv_value::children::Children;
-use tv_value::field::Field;
 use tv_value::nested::Nested;
 
 // A field of JSON objects, and whether dots part the keys of these.

@@ -9,7 +9,7 @@ ghost use Rattle.tv_value.specs.Lent.{leaf_of};
 use crate::text_terms::{date_written, number_written, truth_written};
 use std::ops::Bound;
 use tv_options::DATE_TIME_PRECISION_INDEXED;
-use tv_value::leaf::ReferenceValueLeaf;
+use tv_value::ReferenceValueLeaf;
 
 // Whether the first of two values of one kind is above the second one.
 fn above(start: Option<ReferenceValueLeaf<'_>>, end: Option<ReferenceValueLeaf<'_>>) -> Option<bool>

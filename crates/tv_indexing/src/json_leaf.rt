@@ -1,7 +1,6 @@
 //! Terms of values without children in values of fields of JSON objects.
 
-ghost use Rattle.std.specs.Prelude.{◌≡◌, ◌≢◌, ◌^◌, ℕ, List, drop, Err, IfErr, IfOk, IfSome, None, OnErr, OnOk};
-ghost use Rattle.std.specs.Prelude.{[]};
+ghost use Rattle.std.specs.Prelude.{◌≡◌, ◌≢◌, ◌^◌, ℕ, List, drop, Err, IfErr, IfOk, IfSome, None, OnErr, OnOk, []};
 ghost use Rattle.tv_indexing.specs.DocumentTerms.{json_leaf_terms, value_terms};
 ghost use Rattle.tv_indexing.specs.LeafTerms.{json_value, leaf_value};
 ghost use Rattle.tv_indexing.specs.Visits.{TakesTerms, TakesAll};
@@ -12,8 +11,7 @@ ghost use Rattle.tv_value.specs.Lent.{leaf_of};
 use crate::document::{TermValuesError, TermVisitor};
 use crate::leaf::payload_of;
 use crate::term_buffer::TermBuffer;
-use tv_value::field::Field;
-use tv_value::leaf::ReferenceValueLeaf;
+use tv_value::{Field, ReferenceValueLeaf};
 
 // The least number that fits no signed one of 64 bits.
 const SIGNED_END: u64 = 1 << 63;

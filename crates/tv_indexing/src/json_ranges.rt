@@ -7,12 +7,9 @@ ghost use Rattle.std.specs.declared.ops.Bound.TheVariants.{Included};
 ghost use Rattle.tv_base.specs.JsonPath.{joined_path};
 ghost use Rattle.tv_date.specs.Rfc3339.{rfc};
 ghost use Rattle.tv_field.specs.JsonTable.{truth_in};
-ghost use Rattle.tv_indexing.specs.JsonRanges.{AnswersBetween, AnswersRanges, AreBoundValues};
-ghost use Rattle.tv_indexing.specs.JsonRanges.{AreOfKind, AreRangesOf, AreTermsAt, EndsIn};
-ghost use Rattle.tv_indexing.specs.JsonRanges.{IsBetweenAt, IsTypedAt, OneRange, RangesBelow};
-ghost use Rattle.tv_indexing.specs.JsonRanges.{RangesInField, RangesOfText, StartsIn, WritesEnd};
-ghost use Rattle.tv_indexing.specs.JsonRanges.{placed_bound, ranges_in, signed_end, signed_start};
-ghost use Rattle.tv_indexing.specs.JsonRanges.{type_of_kind, unsigned_end, unsigned_start};
+ghost use Rattle.tv_indexing.specs.JsonRanges.{AnswersBetween, AnswersRanges, AreBoundValues, AreOfKind, AreRangesOf, AreTermsAt, EndsIn, IsBetweenAt};
+ghost use Rattle.tv_indexing.specs.JsonRanges.{IsTypedAt, OneRange, RangesBelow, RangesInField, RangesOfText, StartsIn, WritesEnd, placed_bound, ranges_in};
+ghost use Rattle.tv_indexing.specs.JsonRanges.{signed_end, signed_start, type_of_kind, unsigned_end, unsigned_start};
 ghost use Rattle.tv_indexing.specs.LeafTerms.{leaf_value};
 ghost use Rattle.tv_indexing.specs.TextRange.{bound_text};
 ghost use Rattle.tv_indexing.specs.TextTerms.{date_written_in, listed};
@@ -32,12 +29,11 @@ use crate::text_terms::{date_written, number_written, truth_written};
 use crate::text_terms_error::{TextTermsError, wrong_range};
 use std::alloc::Global;
 use std::ops::Bound;
-use tv_field::field_type::FieldType;
+use tv_field::FieldType;
 use tv_options::Type;
 use tv_schema::Schema;
 use tv_term::{Term, TermRange};
-use tv_value::field::Field;
-use tv_value::leaf::ReferenceValueLeaf;
+use tv_value::{Field, ReferenceValueLeaf};
 
 /// What a value in JSON objects is, by the type of its term, in the order of the terms. The contract of `ranges_of_text` speaks of these.
 #[derive(Clone, Copy)]

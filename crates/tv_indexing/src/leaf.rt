@@ -10,8 +10,7 @@ ghost use Rattle.tv_value.specs.Lent.{leaf_of};
 
 use tv_options::{DATE_TIME_PRECISION_INDEXED, Type};
 use tv_term::{FastValue, TermError, TermWriter};
-use tv_value::field::Field;
-use tv_value::leaf::ReferenceValueLeaf;
+use tv_value::{Field, ReferenceValueLeaf};
 
 // The bytes of a value after the code of its type.
 #[derive(Clone, Copy)]

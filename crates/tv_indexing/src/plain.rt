@@ -15,9 +15,7 @@ use crate::leaf::{Payload, payload_of};
 use crate::term_buffer::TermBuffer;
 use tv_heap::value::CompactDocValue;
 use tv_options::Type;
-use tv_value::field::Field;
-use tv_value::leaf::ReferenceValueLeaf;
-use tv_value::value::{ReferenceValue, Value};
+use tv_value::{Field, ReferenceValue, ReferenceValueLeaf, Value};
 
 // The term of what stands for a value in eight bytes.
 #[inline(always)]

@@ -1,7 +1,6 @@
 //! The bytes of the term that is made.
 
-ghost use Rattle.std.specs.Prelude.{◌≡◌, ◌≤◌, ◌++◌, ◌∷◌, [], drop, length, map, OnErr, OnOk, take};
-ghost use Rattle.std.specs.Prelude.{true};
+ghost use Rattle.std.specs.Prelude.{◌≡◌, ◌≤◌, ◌++◌, ◌∷◌, [], drop, length, map, OnErr, OnOk, take, true};
 ghost use Rattle.std.specs.Int.{to_be_bytes, w32};
 ghost use Rattle.tv_base.specs.JsonPath.{expanded};
 ghost use Rattle.tv_indexing.specs.JsonWalk.{separated};
@@ -14,7 +13,7 @@ use crate::document::TermVisitor;
 use std::alloc::{AllocError, Global};
 use std::marker::Model;
 use tv_options::Type;
-use tv_value::field::Field;
+use tv_value::Field;
 
 // How many bytes a field's number and the code of a type have.
 const START_LEN: usize = 5;

@@ -1,12 +1,10 @@
 //! The texts of the values of terms.
 
-ghost use Rattle.std.specs.Prelude.{◌≡◌, ◌++◌, drop, ℕ, IfOk, IfSome, IsSome, Some, OnOk};
-ghost use Rattle.std.specs.Prelude.{option_map, string_bytes};
+ghost use Rattle.std.specs.Prelude.{◌≡◌, ◌++◌, drop, ℕ, IfOk, IfSome, IsSome, Some, OnOk, option_map, string_bytes};
 ghost use Rattle.std.specs.Net.Addr.{ipv6_bits};
 ghost use Rattle.std.specs.Net.Text.{ip_text};
 ghost use Rattle.std.specs.Option.{option_and_then, option_copied};
-ghost use Rattle.tv_indexing.specs.TermText.{coded_leaf, inner, leaf_text, text_of_value};
-ghost use Rattle.tv_indexing.specs.TermText.{truth_at, value_leaf};
+ghost use Rattle.tv_indexing.specs.TermText.{coded_leaf, inner, leaf_text, text_of_value, truth_at, value_leaf};
 ghost use Rattle.tv_value.specs.JsonOf.{address_text};
 ghost use Rattle.tv_term.specs.Key.{Fits, IsTerm, TermValue, coded_value};
 ghost use Rattle.tv_term.specs.Printed.{text_if_utf8};
@@ -19,7 +17,8 @@ use std::net::{IpAddr, Ipv6Addr};
 use tv_base::Facet;
 use tv_options::Type;
 use tv_term::ValueBytes;
-use tv_value::leaf::{ReferenceValueLeaf, address_of};
+use tv_value::ReferenceValueLeaf;
+use tv_value::leaf::address_of;
 
 // What follows the type's code.
 fn payload(value: ValueBytes<'_>) -> &[u8]

@@ -3,11 +3,9 @@
 ghost use Rattle.std.specs.Prelude.{◌≡◌, List, ℕ, IfOk, MatchOption};
 ghost use Rattle.std.specs.Option.{option_copied};
 ghost use Rattle.std.specs.declared.ops.Bound.{Bound};
-ghost use Rattle.tv_indexing.specs.TextRange.{AnswersBounds, AnswersRange, AreTermsOfBound};
-ghost use Rattle.tv_indexing.specs.TextRange.{BelowInField, EndsBelowTerm, IsEndBound, IsStartBound};
-ghost use Rattle.tv_indexing.specs.TextRange.{IsTermOfText, RangeInField, RangeOfTexts};
-ghost use Rattle.tv_indexing.specs.TextRange.{RangeWithBelow, WritesBounds, bound_of, bound_text};
-ghost use Rattle.tv_indexing.specs.TextRange.{bounding, bytes_run_backwards, outer_bound};
+ghost use Rattle.tv_indexing.specs.TextRange.{AnswersBounds, AnswersRange, AreTermsOfBound, BelowInField, EndsBelowTerm, IsEndBound, IsStartBound};
+ghost use Rattle.tv_indexing.specs.TextRange.{IsTermOfText, RangeInField, RangeOfTexts, RangeWithBelow, WritesBounds, bound_of, bound_text, bounding};
+ghost use Rattle.tv_indexing.specs.TextRange.{bytes_run_backwards, outer_bound};
 ghost use Rattle.tv_indexing.specs.Unless.{Unless};
 ghost use Rattle.tv_indexing.specs.declared.text_terms_error.TextTermsError.TheVariants.{Memory};
 ghost use Rattle.tv_term.specs.Key.{IsTerm, TermValue};
@@ -19,11 +17,11 @@ use crate::text_terms_error::{TextTermsError, wrong_range, wrong_text};
 use std::alloc::{AllocError, Global};
 use std::ops::Bound;
 use tv_base::FACET_SEP_BYTE;
-use tv_field::field_type::FieldType;
+use tv_field::FieldType;
 use tv_field::json_value::{JsonRefusal, JsonScratch, lend_text};
 use tv_schema::Schema;
 use tv_term::{Term, TermRange, TermWriter};
-use tv_value::field::Field;
+use tv_value::Field;
 
 // The term of the value that a text is to a field that isn't of JSON objects.
 fn term_of_text(

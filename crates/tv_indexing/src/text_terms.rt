@@ -9,9 +9,8 @@ ghost use Rattle.tv_format.specs.Tree.{Leaf};
 ghost use Rattle.tv_indexing.specs.DocumentTerms.{AreAppended, plain_terms};
 ghost use Rattle.tv_indexing.specs.JsonWalk.{ExtendsPath};
 ghost use Rattle.tv_indexing.specs.LeafTerms.{json_value, leaf_value};
-ghost use Rattle.tv_indexing.specs.TextTerms.{TermsBelow, TermOfText, AnswersText, TermsInField};
-ghost use Rattle.tv_indexing.specs.TextTerms.{AppendsAnswer, WritesLeaves, WritesNumber};
-ghost use Rattle.tv_indexing.specs.TextTerms.{date_written_in, leaves_terms, listed};
+ghost use Rattle.tv_indexing.specs.TextTerms.{TermsBelow, TermOfText, AnswersText, TermsInField, AppendsAnswer, WritesLeaves, WritesNumber, date_written_in};
+ghost use Rattle.tv_indexing.specs.TextTerms.{leaves_terms, listed};
 ghost use Rattle.tv_indexing.specs.Unless.{Unless};
 ghost use Rattle.tv_indexing.specs.declared.document.TermValuesError.TheVariants as values;
 ghost use Rattle.tv_indexing.specs.declared.text_terms_error.TextTermsError.TheVariants.{Memory};
@@ -29,12 +28,11 @@ use crate::text_terms_error::{TextTermsError, wrong_text};
 use std::alloc::Global;
 use tv_base::push_joined_json_path;
 use tv_date::DateTime;
-use tv_field::field_type::FieldType;
+use tv_field::FieldType;
 use tv_field::json_value::{JsonRefusal, JsonScratch, lend_text};
 use tv_options::Type;
 use tv_schema::Schema;
-use tv_value::field::Field;
-use tv_value::leaf::ReferenceValueLeaf;
+use tv_value::{Field, ReferenceValueLeaf};
 
 // The number that a text writes in a JSON value, if it writes one.
 pub(crate) fn number_written(text: &str) -> Option<ReferenceValueLeaf<'static>>

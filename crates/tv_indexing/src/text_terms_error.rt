@@ -11,7 +11,7 @@ use std::fmt;
 use tv_base::cause::text_start;
 use tv_field::json_value::JsonRefusal;
 use tv_options::Type;
-use tv_value::field::Field;
+use tv_value::Field;
 
 /// Why a text of a query has no terms, or no range of them. (Not in tantivy.)
 #[derive(Debug, PartialEq, Drop)]

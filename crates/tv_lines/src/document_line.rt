@@ -16,11 +16,9 @@ ghost use Rattle.hex.specs.Hex.{encode_lower};
 use crate::import::put_stored;
 use std::alloc::{AllocError, Global};
 use tv_base::{SliceSource, VecSink};
-use tv_doc::document::CompactDoc;
-use tv_doc::document_trait::Document;
-use tv_doc::errors::DocParsingError;
 use tv_doc::laws::documents_are_valid;
 use tv_doc::parse_buffers::ParseBuffers;
+use tv_doc::{CompactDoc, DocParsingError, Document};
 use tv_field::ValueParsingError;
 use tv_format::WriteVersion;
 use tv_reader::laws::{

@@ -14,8 +14,7 @@ use json::{Pretty, Reader, Scratch, Token};
 use std::alloc::{AllocError, Global};
 use tv_base::write::write_all;
 use tv_base::{ByteSink, ByteSource};
-use tv_doc::TantivyDocument;
-use tv_doc::document_trait::Document;
+use tv_doc::{Document, TantivyDocument};
 use tv_schema::Schema;
 use tv_store::{BlockReader, DocStoreVersion, Projection, Watch};
 

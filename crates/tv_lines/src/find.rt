@@ -2,8 +2,8 @@
 
 ghost use Rattle.std.specs.Prelude.{◌≡◌, ◌+◌, ◌-◌, ◌<◌, ◌^◌, [], IfErr, IfOk, OnOk};
 ghost use Rattle.tv_base.specs.Stop.{Counts};
-ghost use Rattle.tv_lines.specs.Finding.{CountsFound, FindsDocument, FindsAll, LeavesDocument, StopsFinding};
-ghost use Rattle.tv_lines.specs.Finding.{TellsMatch, find_sink_stop, find_source_stop, named_terms};
+ghost use Rattle.tv_lines.specs.Finding.{CountsFound, FindsDocument, FindsAll, LeavesDocument, StopsFinding, TellsMatch, find_sink_stop, find_source_stop};
+ghost use Rattle.tv_lines.specs.Finding.{named_terms};
 ghost use Rattle.tv_lines.specs.WorkErrors.{IsOfPrinting, sink_stop};
 ghost use Rattle.tv_doc.specs.Document.{document_of};
 ghost use Rattle.tv_query.specs.Grammar.{QueryTree, steps_of};

@@ -7,8 +7,7 @@ ghost use Rattle.tv_doc.specs.Document.{document_of};
 ghost use Rattle.tv_format.specs.Short.{short_document};
 ghost use Rattle.tv_format.specs.WriteVersion.{written_version};
 ghost use Rattle.tv_lines.specs.Halts.{sink_stop, source_stop};
-ghost use Rattle.tv_lines.specs.Importing.{CountsTaken, Imports, IsJudged, LeavesBegun};
-ghost use Rattle.tv_lines.specs.Importing.{TellsUnsearchable, left_to, most_to};
+ghost use Rattle.tv_lines.specs.Importing.{CountsTaken, Imports, IsJudged, LeavesBegun, TellsUnsearchable, left_to, most_to};
 ghost use Rattle.tv_store.specs.Stored.{stored};
 
 use crate::errors::{Halt, append};
@@ -17,7 +16,7 @@ use crate::line_reader::LineReader;
 use crate::terms::name_of_faulty;
 use std::alloc::{AllocError, Global};
 use tv_base::{ByteSink, ByteSource, VecSink};
-use tv_doc::document::CompactDoc;
+use tv_doc::CompactDoc;
 use tv_doc::parse_buffers::ParseBuffers;
 use tv_format::WriteVersion;
 use tv_indexing::{TermValuesError, term_fault};

@@ -3,8 +3,7 @@
 ghost use Rattle.std.specs.Prelude.{◌≡◌, ◌+◌, ◌-◌, ◌^◌, ◌<◌, ◌≤◌, [], IfErr, IfOk, OnOk};
 ghost use Rattle.tv_base.specs.Stop.{Counts};
 ghost use Rattle.tv_lines.specs.Importing.{left_to};
-ghost use Rattle.tv_lines.specs.WholeImports.{CountsOutcome, ImportsAll, StopsImport};
-ghost use Rattle.tv_lines.specs.WholeImports.{lines_sink_stop, lines_source_stop};
+ghost use Rattle.tv_lines.specs.WholeImports.{CountsOutcome, ImportsAll, StopsImport, lines_sink_stop, lines_source_stop};
 
 use crate::errors::Halt;
 use crate::import::{LineImporter, LineOutcome};

@@ -5,8 +5,8 @@ ghost use Rattle.std.specs.Prelude.{◌≡◌, ◌++◌, [], ◌∷◌, List, fa
 ghost use Rattle.tv_base.specs.Stop.{Counts};
 ghost use Rattle.tv_base.specs.Take.{TakesBy, read_stop};
 ghost use Rattle.tv_base.specs.Writing.{Writes};
-ghost use Rattle.tv_lines.specs.TermRuns.{CountsMerge, HasLeft, HaveLeft, IsAtMost, IsLeastRead, IsLesser, IsRun};
-ghost use Rattle.tv_lines.specs.TermRuns.{MergesNext, Pair, RefusesRun, TakesFrom, TakesFromEach, TakesPair, pair_at, pair_bytes, pair_of};
+ghost use Rattle.tv_lines.specs.TermRuns.{CountsMerge, HasLeft, HaveLeft, IsAtMost, IsLeastRead, IsLesser, IsRun, MergesNext, Pair, RefusesRun, TakesFrom};
+ghost use Rattle.tv_lines.specs.TermRuns.{TakesFromEach, TakesPair, pair_at, pair_bytes, pair_of};
 
 use std::alloc::{AllocError, Global};
 use std::cmp::Ordering;

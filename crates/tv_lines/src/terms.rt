@@ -8,7 +8,7 @@ ghost use Rattle.tv_store.specs.Stored.{is_stored_field};
 
 use tv_indexing::TermValuesError;
 use tv_schema::Schema;
-use tv_value::field::Field;
+use tv_value::Field;
 
 /// The name of a field, or nothing where the schema has no such field. (Not in tantivy.)
 pub fn name_of<'s>(schema: &'s Schema, field: Field) -> &'s str

@@ -1,10 +1,8 @@
 //! Documents that match a query.
 
-ghost use Rattle.std.specs.Prelude.{◌≡◌, ◌↔◌, ◌≤◌, ◌++◌, ◌∷◌, [], ℕ, Bool, false, IfOk, IsTrue};
-ghost use Rattle.std.specs.Prelude.{get_or, length, List, OnOk};
+ghost use Rattle.std.specs.Prelude.{◌≡◌, ◌↔◌, ◌≤◌, ◌++◌, ◌∷◌, [], ℕ, Bool, false, IfOk, IsTrue, get_or, length, List, OnOk};
 ghost use Rattle.tv_query.specs.Grammar.{QueryTree, steps_of};
-ghost use Rattle.tv_query.specs.Matching.{AreTold, HasTaken, IsTested, IsTold, IsTruthOf};
-ghost use Rattle.tv_query.specs.Matching.{Matches};
+ghost use Rattle.tv_query.specs.Matching.{AreTold, HasTaken, IsTested, IsTold, IsTruthOf, Matches};
 
 use crate::query::{Query, Step};
 use std::alloc::{AllocError, Global};

@@ -1,16 +1,12 @@
 //! Tokens of a query, taken one by one.
 
-ghost use Rattle.std.specs.Prelude.{◌≡◌, ◌≢◌, ◌++◌, ◌∷◌, [], ℕ, false, IfErr, IfOk};
-ghost use Rattle.std.specs.Prelude.{List, MatchBool, OnOk};
+ghost use Rattle.std.specs.Prelude.{◌≡◌, ◌≢◌, ◌++◌, ◌∷◌, [], ℕ, false, IfErr, IfOk, List, MatchBool, OnOk};
 ghost use Rattle.tv_field.specs.Entry.{Entry};
-ghost use Rattle.tv_query.specs.Grammar.{QueryTree, WritesQuery, any, factor, steps_of};
-ghost use Rattle.tv_query.specs.Parsing.{Awaits, EndsWithout, Follows, FollowsAll, FollowsAny};
-ghost use Rattle.tv_query.specs.Parsing.{IsAt, state_of};
+ghost use Rattle.tv_query.specs.Grammar.{QueryTree, WritesQuery, any, factor, steps_of, wants_operand, wants_operator};
+ghost use Rattle.tv_query.specs.Parsing.{Awaits, EndsWithout, Follows, FollowsAll, FollowsAny, IsAt, state_of};
 ghost use Rattle.tv_query.specs.Refusals.{RefusesEnd, RefusesTaken};
 ghost use Rattle.tv_query.specs.Selections.{Selects};
-ghost use Rattle.tv_query.specs.Grammar.{wants_operand, wants_operator};
-ghost use Rattle.tv_query.specs.Tokens.{QueryToken, WantedText, and_word, clause, closed};
-ghost use Rattle.tv_query.specs.Tokens.{or_word, token_of};
+ghost use Rattle.tv_query.specs.Tokens.{QueryToken, WantedText, and_word, clause, closed, or_word, token_of};
 ghost use Rattle.tv_query.specs.declared.query_error.QueryReason.TheVariants.{Memory, Unopened};
 ghost use Rattle.tv_query.specs.declared.parser.Operator.TheVariants.{Not};
 

@@ -1,7 +1,6 @@
 //! Queries.
 
-ghost use Rattle.std.specs.Prelude.{◌≡◌, ◌≢◌, ◌<◌, ◌++◌, ◌∷◌, ◌||◌, [], ℕ, length, IfErr, IfOk};
-ghost use Rattle.std.specs.Prelude.{List, OnOk};
+ghost use Rattle.std.specs.Prelude.{◌≡◌, ◌≢◌, ◌<◌, ◌++◌, ◌∷◌, ◌||◌, [], ℕ, length, IfErr, IfOk, List, OnOk};
 ghost use Rattle.std.proofs.Props.{props};
 ghost use Rattle.tv_indexing.specs.DocumentTerms.{is_among};
 ghost use Rattle.tv_query.specs.Fields.{AreDistinct, names_field, step_names};
@@ -16,9 +15,9 @@ use crate::query_error::{QueryError, QueryReason};
 use crate::selection::Selection;
 use crate::token::next_token;
 use std::alloc::{AllocError, Global};
-use tv_indexing::document::is_among;
+use tv_indexing::is_among;
 use tv_schema::Schema;
-use tv_value::field::Field;
+use tv_value::Field;
 
 /// A step of a query. Each has its truth after those of its operands.
 #[derive(Drop)]

@@ -3,9 +3,7 @@
 ghost use Rattle.std.specs.Prelude.{◌≡◌, ◌↔◌, ◌∷◌, [], IfOk, IsTrue};
 ghost use Rattle.std.specs.List.{Any, Contains};
 ghost use Rattle.tv_indexing.specs.Unless.{Unless};
-ghost use Rattle.tv_query.specs.Selections.{AnswersClause, AnswersInField, AreOfFirst};
-ghost use Rattle.tv_query.specs.Selections.{HasTermsOfText, IsWanted, has_prefixes, is_of_facets};
-ghost use Rattle.tv_query.specs.Selections.{reason_of};
+ghost use Rattle.tv_query.specs.Selections.{AnswersClause, AnswersInField, AreOfFirst, HasTermsOfText, IsWanted, has_prefixes, is_of_facets, reason_of};
 ghost use Rattle.tv_query.specs.Tokens.{of_prefix, of_range, of_text, wanted_text};
 ghost use Rattle.tv_query.specs.declared.query_error.QueryReason.TheVariants.{Memory};
 ghost use Rattle.tv_term.specs.Range.{IsIn};
@@ -13,11 +11,11 @@ ghost use Rattle.tv_term.specs.Range.{IsIn};
 use crate::query_error::QueryReason;
 use crate::token::Wanted;
 use std::alloc::{AllocError, Global};
-use tv_field::field_type::FieldType;
+use tv_field::FieldType;
 use tv_indexing::{IndexedField, TermList, TextTermsError};
 use tv_schema::Schema;
 use tv_term::TermRange;
-use tv_value::field::Field;
+use tv_value::Field;
 
 /// The terms that a clause of a query wants: some terms of a field, and ranges of them. (Not in tantivy.)
 pub struct Selection {

@@ -1,13 +1,9 @@
 //! The tokens of a query's text.
 
-ghost use Rattle.std.specs.Prelude.{◌≡◌, ◌≢◌, ◌==◌, ◌<◌, ◌≤◌, ◌++◌, ◌∷◌, [], ℕ, List, length};
-ghost use Rattle.std.specs.Prelude.{false, slice_index, true, IfErr, IfOk, MatchBool, MatchOption};
+ghost use Rattle.std.specs.Prelude.{◌≡◌, ◌≢◌, ◌==◌, ◌<◌, ◌≤◌, ◌++◌, ◌∷◌, [], ℕ, List, length, false, slice_index, true, IfErr, IfOk, MatchBool, MatchOption};
 ghost use Rattle.tv_query.specs.Refusals.{IsUnquoted, RefusesToken, RefusesWanted};
-ghost use Rattle.tv_query.specs.Tokens.{BeginsWithPath, BeginsWithToken, BeginsWithWanted};
-ghost use Rattle.tv_query.specs.Tokens.{BeginsWithQuote, BeginsWithout, IsOperator};
-ghost use Rattle.tv_query.specs.Tokens.{IsQuoted, IsUpTo, QueryToken};
-ghost use Rattle.tv_query.specs.Tokens.{ends_word, is_quote, opens_range, star, stops_at};
-ghost use Rattle.tv_query.specs.Tokens.{token_of, wanted_text};
+ghost use Rattle.tv_query.specs.Tokens.{BeginsWithPath, BeginsWithToken, BeginsWithWanted, BeginsWithQuote, BeginsWithout, IsOperator, IsQuoted, IsUpTo};
+ghost use Rattle.tv_query.specs.Tokens.{QueryToken, ends_word, is_quote, opens_range, star, stops_at, token_of, wanted_text};
 ghost use Rattle.tv_query.specs.declared.query_error.QueryReason.TheVariants.{Unended};
 
 use crate::query_error::QueryReason;
