@@ -68,7 +68,8 @@ pub use tv_schema::laws::{
 };
 pub use tv_store::direct_decoder::stepped_decoders_are_paid_for;
 pub use tv_store::laws::{
-    refusals_are_unique, stored_pairs_are_valid, stored_pairs_need_no_more_room,
+    refusals_are_unique, stepped_decoders_are_paid_for, stored_pairs_are_valid,
+    stored_pairs_need_no_more_room,
 };
 pub use tv_store::migration_trip::{MigrationTrip, migrations_are_read_back};
 pub use tv_store::round_trip::{RoundTrip, RoundTripError, additions_are_stored_and_read_back};

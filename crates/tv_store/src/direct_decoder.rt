@@ -5,13 +5,10 @@ ghost use Rattle.tv_reading.specs.Prefix.{parts_read, IsSound, IsDone};
 ghost use Rattle.tv_reading.specs.Kept.{Grows, KeepsPairs};
 ghost use Rattle.tv_reading.specs.Sound.{SoundUnless-prop};
 ghost use Rattle.tv_reading.specs.Steps.{Sees, IsFew};
-ghost use Rattle.tv_reading.specs.Paid.{PaidBy};
 ghost use Rattle.tv_builder.specs.Builder.{built, state_of, heap_so_far, kept_heap};
 ghost use Rattle.tv_builder.specs.HeldPairs.{document_of as pairs_of};
 ghost use Rattle.tv_doc.specs.Document.{document_of, heap_of};
 ghost use Rattle.tv_builder.specs.State.{lists_of, children_of};
-ghost use Rattle.tv_base.specs.Stop.{Taken};
-ghost use Rattle.tv_store.specs.Decoder.{IsStepped};
 
 use std::alloc::Global;
 use tv_base::ByteSource;
@@ -226,28 +223,4 @@ impl DirectDecoder {
     {
         self.legacy_seen
     }
-}
-
-/// A decoder of a document of this version, after this many steps over one source, whatever each of them returned.
-///
-/// What it holds is paid for by the bytes that it read: its heap takes at most 7 bytes for each, two of them or more stand for each list that
-/// is open, and one for each finished child of an open list. So announced numbers alone take nothing. Of objects as older stores hold them,
-/// whose JSON takes more room in a heap than in the store, nothing is said.
-pub fn stepped_decoders_are_paid_for<S: ByteSource>(
-    alloc: Global,
-    source: &mut S,
-    version: DocStoreVersion,
-    steps: u64,
-) -> DirectDecoder
-    ensures stepped { IsStepped S.ByteSource version steps source.old source.new result }
-    ensures paid { S.is_known source.old → result.legacy_seen ≡ false
-        → PaidBy result.reading.builder result.count }
-    ensures taken { S.is_known source.old
-        → Taken (S.left source.old) (S.left source.new) 0 result.count }
-{
-    let mut decoder = DirectDecoder::new(alloc, version);
-    for _ in 0..steps {
-        let _ = decoder.step(source);
-    }
-    decoder
 }

@@ -3,7 +3,7 @@ use Rattle.tv_base.specs.Stop.{Taken}
 use Rattle.tv_base.proofs.TakeSteps.{Taken_none, Taken_then}
 use Rattle.tv_store.specs.Decoder.{IsStepped}
 use Rattle.tv_store.proofs.StepsPaid.{one_more, paid_at_start, still_paid, still_known, still_counted}
-use Rattle.tv_store.proofs.direct_decoder.stepped_decoders_are_paid_for.Goals as goal
+use Rattle.tv_store.proofs.laws.stepped_decoders_are_paid_for.Goals as goal
 
 pub loop-init : goal.loop-init
 loop-init g c =

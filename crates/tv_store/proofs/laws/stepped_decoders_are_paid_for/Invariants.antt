@@ -1,7 +1,7 @@
 use Rattle.std.proofs.Common.{◌≡◌, false}
 use Rattle.tv_base.specs.Stop.{Taken}
 use Rattle.tv_store.specs.Decoder.{IsPaidFor, IsStepped}
-use Rattle.tv_store.proofs.direct_decoder.stepped_decoders_are_paid_for.Given as goal
+use Rattle.tv_store.proofs.laws.stepped_decoders_are_paid_for.Given as goal
 
 -- the steps so far were made, and what was taken pays for what the decoder holds
 abbrev pub invariant-loop : goal.invariant-loop
