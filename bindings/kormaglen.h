@@ -47,7 +47,7 @@ enum kormaglen_status {
     KORMAGLEN_BAD_DOCUMENT = 8,  /* a document is refused; detail says why, place is where in the block it begins */
     KORMAGLEN_WRONG_VERSION = 9, /* there is no such version of the store */
     KORMAGLEN_NO_END = 10,       /* no byte string is above all that begin with the prefix */
-    KORMAGLEN_BAD_LINE = 11,     /* a line has no document; detail is of kormaglen_line_status, place is the field whose value is refused */
+    KORMAGLEN_BAD_LINE = 11,     /* a line has no document; detail is of kormaglen_line_status, place is the field whose value is refused, or of kormaglen_json_fault */
     KORMAGLEN_FOREIGN_FIELD = 12,/* a document has a field that the schema does not have; place is its number */
     KORMAGLEN_BAD_QUERY = 13,    /* a text of a query has no terms, or no ranges; detail says why, place is the field, or 0 for NO_RANGE */
     KORMAGLEN_BAD_PAIRS = 14,    /* pairs of a document and a facet are refused; place is where the first such pair begins */
@@ -110,13 +110,38 @@ enum kormaglen_document_detail {
 /* What became of a line: kormaglen_line_answer.status, and with KORMAGLEN_BAD_LINE kormaglen_answer.detail. */
 enum kormaglen_line_status {
     KORMAGLEN_LINE_STORED = 0,
-    KORMAGLEN_LINE_INVALID_JSON = 1, /* it is no JSON object */
+    KORMAGLEN_LINE_INVALID_JSON = 1, /* it is no JSON object: kormaglen_json_fault says why */
     KORMAGLEN_LINE_OVERFLOW = 2,     /* a number does not fit the field's type */
     KORMAGLEN_LINE_WRONG_TYPE = 3,   /* a value is of another kind than the field's; a text that is no date, too */
     KORMAGLEN_LINE_BAD_TEXT = 4,     /* a date is out of its range, or a text is no address or facet */
     KORMAGLEN_LINE_BAD_BASE64 = 5,
     KORMAGLEN_LINE_FLOAT = 6,        /* a number is not whole, or does not fit 64 bits */
     KORMAGLEN_LINE_NO_ROOM = 7       /* the values need more than 4294967295 bytes */
+};
+
+/* Why a line is no JSON object: with KORMAGLEN_LINE_INVALID_JSON kormaglen_line_answer.field, and kormaglen_answer.place. From 4 on it is what was
+ * expected at the byte that the answer's bytes say, or where the line ends there. */
+enum kormaglen_json_fault {
+    KORMAGLEN_JSON_NOT_UTF8 = 0,
+    KORMAGLEN_JSON_TOO_DEEP = 1,         /* the list that begins at the byte lies within 127 others */
+    KORMAGLEN_JSON_NUMBER_TOO_LARGE = 2, /* the number at the byte is too large for a float */
+    KORMAGLEN_JSON_NO_OBJECT = 3,        /* it is JSON, and no object */
+    KORMAGLEN_JSON_VALUE = 4,
+    KORMAGLEN_JSON_VALUE_OR_ARRAY_END = 5,
+    KORMAGLEN_JSON_KEY = 6,
+    KORMAGLEN_JSON_KEY_OR_OBJECT_END = 7,
+    KORMAGLEN_JSON_COLON = 8,
+    KORMAGLEN_JSON_COMMA_OR_ARRAY_END = 9,
+    KORMAGLEN_JSON_COMMA_OR_OBJECT_END = 10,
+    KORMAGLEN_JSON_TEXT_END = 11,
+    KORMAGLEN_JSON_STRING_CHARACTER = 12, /* a character of a text, an escape or the closing quote */
+    KORMAGLEN_JSON_ESCAPE = 13,           /* one of "\/bfnrtu after a backslash */
+    KORMAGLEN_JSON_HEXADECIMAL_DIGIT = 14,
+    KORMAGLEN_JSON_HEXADECIMAL_DIGIT_BELOW_C = 15, /* after \ud: no high surrogate stands before */
+    KORMAGLEN_JSON_LOW_SURROGATE = 16,             /* the escape of a low surrogate, after that of a high one */
+    KORMAGLEN_JSON_DIGIT = 17,
+    KORMAGLEN_JSON_DIGIT_OR_SIGN = 18,
+    KORMAGLEN_JSON_WORD = 19 /* the rest of true, false or null */
 };
 
 /* With KORMAGLEN_BAD_QUERY: kormaglen_answer.detail. From 12 on the text, or a bound of the range, is no value of the field's type. */
@@ -159,14 +184,14 @@ typedef struct kormaglen_answer {
     uint32_t status; /* of kormaglen_status */
     uint32_t detail;
     uint64_t place;
-    uint64_t bytes; /* how many bytes were written, or are needed */
+    uint64_t bytes; /* how many bytes were written, or are needed; with KORMAGLEN_LINE_INVALID_JSON those of the line before its fault */
     uint64_t lines; /* how many answers of lines were written, or are needed */
 } kormaglen_answer;
 
 typedef struct kormaglen_line_answer {
     uint32_t status; /* of kormaglen_line_status */
-    uint32_t field;  /* the field whose value is refused, with 2 to 6; else 0 */
-    uint64_t bytes;  /* how many bytes its document takes in the block */
+    uint32_t field;  /* the field whose value is refused, with 2 to 6; of kormaglen_json_fault, with 1; else 0 */
+    uint64_t bytes;  /* how many bytes its document takes in the block; with 1 those of the line before its fault; else 0 */
 } kormaglen_line_answer;
 
 typedef struct kormaglen_found_field {
@@ -188,10 +213,12 @@ typedef struct kormaglen_document {
 /* The library's version, as "0.1.0". A library that was built without its proofs says so: "0.1.0 (unproved)". */
 const char *kormaglen_version(void);
 
-/* The words of a status, of a detail (an empty text where the status has none), and of a line's status. None is NULL, and none is freed. */
+/* The words of a status, of a detail (an empty text where the status has none), of a line's status, and of why a line is no JSON object ("a colon
+ * was expected"). None is NULL, and none is freed. */
 const char *kormaglen_status_text(uint32_t status);
 const char *kormaglen_detail_text(uint32_t status, uint32_t detail);
 const char *kormaglen_line_status_text(uint32_t status);
+const char *kormaglen_json_fault_text(uint32_t fault);
 
 /* Stores the documents of lines of JSON, one after the other in version 2, and answers each line. A line ends at a line feed, and the last
  * may lack it. A line that is refused stores nothing, and the next line follows. bytes is the block's size, lines the number of answers.

@@ -114,6 +114,9 @@ static void test_empty(void) {
     kormaglen_answer no_range = kormaglen_schema_ranges_of_text(&schema, NULL, 0, NULL, 0, NULL, 0);
     expect("no range", no_range.status == KORMAGLEN_BAD_QUERY && no_range.detail == KORMAGLEN_QUERY_NO_RANGE && no_range.place == 0);
     expect("no line", kormaglen_document_parse(&schema, NULL, 0, &document).status == KORMAGLEN_BAD_LINE);
+    kormaglen_answer odd = kormaglen_document_parse(&schema, bytes_of("{\"age\" 7}"), 9, &document);
+    expect("no colon", odd.status == KORMAGLEN_BAD_LINE && odd.detail == KORMAGLEN_LINE_INVALID_JSON);
+    expect("no colon", odd.place == KORMAGLEN_JSON_COLON && odd.bytes == 7 && odd.lines == 0);
     kormaglen_schema_close(&schema);
 }
 
@@ -297,6 +300,9 @@ static void test_texts(void) {
         int is_known = status <= KORMAGLEN_NOT_A_TERM;
         expect("status", is_known != (strcmp(kormaglen_status_text(status), "unknown status") == 0));
         expect("line", (status <= KORMAGLEN_LINE_NO_ROOM) != (strcmp(kormaglen_line_status_text(status), "unknown status of a line") == 0));
+    }
+    for (uint32_t fault = 0; fault < 30; fault++) {
+        expect("JSON", (fault <= KORMAGLEN_JSON_WORD) == (kormaglen_json_fault_text(fault)[0] != 0));
     }
     static const uint32_t last[] = {0, 0, 0, 0, 0, 0, KORMAGLEN_SCHEMA_EXPAND_DOTS, 0, KORMAGLEN_DOCUMENT_NO_TERM, 0, 0, KORMAGLEN_LINE_NO_ROOM,
         0, KORMAGLEN_QUERY_FLOAT, 0, 0, KORMAGLEN_ARGUMENT_OVERLAP, 0};

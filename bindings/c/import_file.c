@@ -53,7 +53,11 @@ static void tell_refused(import *it, const kormaglen_line_answer *answer) {
     if (answer->status >= KORMAGLEN_LINE_OVERFLOW && answer->status <= KORMAGLEN_LINE_FLOAT) {
         fprintf(stderr, "field %u: ", (unsigned)answer->field);
     }
-    fprintf(stderr, "%s\n", kormaglen_line_status_text(answer->status));
+    fprintf(stderr, "%s", kormaglen_line_status_text(answer->status));
+    if (answer->status == KORMAGLEN_LINE_INVALID_JSON) {
+        fprintf(stderr, ": at byte %llu: %s", (unsigned long long)answer->bytes, kormaglen_json_fault_text(answer->field));
+    }
+    fputc('\n', stderr);
 }
 
 /* Imports whole lines, and writes their documents. Returns the status with which the program ends, if it ends here. */

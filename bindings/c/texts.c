@@ -126,6 +126,32 @@ const char *kormaglen_line_status_text(uint32_t status) {
     }
 }
 
+const char *kormaglen_json_fault_text(uint32_t fault) {
+    switch (fault) {
+    case KORMAGLEN_JSON_NOT_UTF8: return "it is not UTF-8";
+    case KORMAGLEN_JSON_TOO_DEEP: return "the list nests too deep";
+    case KORMAGLEN_JSON_NUMBER_TOO_LARGE: return "the number is too large";
+    case KORMAGLEN_JSON_NO_OBJECT: return "it is JSON, but no object";
+    case KORMAGLEN_JSON_VALUE: return "a value was expected";
+    case KORMAGLEN_JSON_VALUE_OR_ARRAY_END: return "a value or ] was expected";
+    case KORMAGLEN_JSON_KEY: return "a key was expected";
+    case KORMAGLEN_JSON_KEY_OR_OBJECT_END: return "a key or } was expected";
+    case KORMAGLEN_JSON_COLON: return "a colon was expected";
+    case KORMAGLEN_JSON_COMMA_OR_ARRAY_END: return "a comma or ] was expected";
+    case KORMAGLEN_JSON_COMMA_OR_OBJECT_END: return "a comma or } was expected";
+    case KORMAGLEN_JSON_TEXT_END: return "the end of the text was expected";
+    case KORMAGLEN_JSON_STRING_CHARACTER: return "a character or the closing quote was expected";
+    case KORMAGLEN_JSON_ESCAPE: return "one of \"\\/bfnrtu was expected";
+    case KORMAGLEN_JSON_HEXADECIMAL_DIGIT: return "a hexadecimal digit was expected";
+    case KORMAGLEN_JSON_HEXADECIMAL_DIGIT_BELOW_C: return "a hexadecimal digit below c was expected";
+    case KORMAGLEN_JSON_LOW_SURROGATE: return "the escape of a low surrogate was expected";
+    case KORMAGLEN_JSON_DIGIT: return "a digit was expected";
+    case KORMAGLEN_JSON_DIGIT_OR_SIGN: return "a digit or a sign was expected";
+    case KORMAGLEN_JSON_WORD: return "the rest of true, false or null was expected";
+    default: return "";
+    }
+}
+
 const char *kormaglen_detail_text(uint32_t status, uint32_t detail) {
     switch (status) {
     case KORMAGLEN_BAD_SCHEMA: return schema_text(detail);

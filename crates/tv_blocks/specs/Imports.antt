@@ -1,6 +1,6 @@
 -- Lines of JSON as a block of stored documents.
 use Rattle.std.specs.Prelude.{◌≡◌, ℕ, ◌<◌, ◌≤◌, ◌⊎◌, false, List, ◌++◌, length, drop, map, Result, Ok, Err}
-use Rattle.tv_blocks.specs.LineRefusals.{IsLenient, line_field, line_number, refusal_of}
+use Rattle.tv_blocks.specs.LineRefusals.{IsLenient, line_byte, line_field, line_number, refusal_of}
 use Rattle.tv_blocks.specs.Refusals.{IsSchemaRefusal}
 use Rattle.tv_blocks.specs.declared.block_error.BlockError.{BlockError}
 use Rattle.tv_blocks.specs.declared.block_error.BlockError.TheVariants as errors
@@ -22,10 +22,11 @@ use Rattle.tv_lines.specs.declared.import.LineOutcome.TheVariants as outcome
 abbrev pub lenient : ImportRules
 lenient = record { version = V2; strict = false; faults = Ignore }
 
--- the numbers that say what became of a line: how many bytes its stored pairs take, or why there is no document of it
+-- the numbers that say what became of a line: how many bytes its stored pairs take; or why there is no document of it, of which field or with what
+-- fault of its JSON, and at which byte of the line
 abbrev pub line_answer : List Entry → LineOutcome → LineAnswer
 line_answer schema (outcome.Stored size fault) = record { status = 0; field = 0; bytes = size }
-line_answer schema (outcome.Refused why) = record { status = line_number (refusal_of schema why); field = line_field (refusal_of schema why); bytes = 0 }
+line_answer schema (outcome.Refused why) = record { status = line_number (refusal_of schema why); field = line_field (refusal_of schema why); bytes = line_byte (refusal_of schema why) }
 
 -- What became of each line of the input: what all put into the block, and the answers that say it.
 pub record ImportsLines (schema : List Entry) (input block : List ℕ) (answers : List LineAnswer) : Type 0 where

@@ -11,6 +11,10 @@ use Rattle.tv_doc.specs.declared.errors.DocParsingError.TheVariants as parsing
 use Rattle.tv_doc.specs.declared.document.CompactDoc.{CompactDoc}
 use Rattle.tv_doc.specs.declared.errors.StrictParsingError.TheVariants.{Parsing}
 use Rattle.tv_field.specs.Entry.{Entry}
+use Rattle.tv_json.specs.declared.json_expected.JsonExpected.{JsonExpected}
+use Rattle.tv_json.specs.declared.json_expected.JsonExpected.TheVariants as expected
+use Rattle.tv_json.specs.declared.json_fault.JsonFaultKind.{JsonFaultKind}
+use Rattle.tv_json.specs.declared.json_fault.JsonFaultKind.TheVariants as faults
 use Rattle.tv_field.specs.declared.value_parsing_error.ValueParsingError.{ValueParsingError}
 use Rattle.tv_field.specs.declared.value_parsing_error.ValueParsingError.TheVariants as values
 use Rattle.tv_format.specs.Tree.{Document}
@@ -38,12 +42,12 @@ bad_value schema name refusal = lines.BadValue (unwrap_or (field_named schema na
 
 -- what is said of a line that makes no document: of a value of which field, and why
 abbrev pub refusal_of : List Entry → LineError → LineRefusal
-refusal_of schema NotUtf8 = lines.InvalidJson
-refusal_of schema (NoObject start fault) = lines.InvalidJson
+refusal_of schema NotUtf8 = lines.NotUtf8
+refusal_of schema (NoObject start fault) = lines.InvalidJson fault
 refusal_of schema (Float name json) = bad_value schema (string_bytes name) refusals.FloatNumber
 refusal_of schema (Refused (Parsing (parsing.ValueError name e))) = bad_value schema (string_bytes name) (value_refusal e)
 refusal_of schema (Refused (Parsing (parsing.Add e))) = lines.HeapFull
-refusal_of schema e = lines.InvalidJson
+refusal_of schema e = lines.NotUtf8
 
 -- a line makes no document for this reason, which is said so
 abbrev pub RefusesLine : List Entry → List ℕ → LineRefusal → Type 0
@@ -65,15 +69,51 @@ value_number refusals.BadBase64 = 5
 value_number refusals.FloatNumber = 6
 
 abbrev pub line_number : LineRefusal → ℕ
-line_number lines.InvalidJson = 1
+line_number lines.NotUtf8 = 1
+line_number (lines.InvalidJson fault) = 1
 line_number (lines.BadValue field refusal) = value_number refusal
 line_number lines.HeapFull = 7
 
--- the field whose value is refused, or 0
+-- what was expected, from 4 on
+abbrev pub expected_number : JsonExpected → ℕ
+expected_number expected.Value = 4
+expected_number expected.ValueOrArrayEnd = 5
+expected_number expected.Key = 6
+expected_number expected.KeyOrObjectEnd = 7
+expected_number expected.Colon = 8
+expected_number expected.CommaOrArrayEnd = 9
+expected_number expected.CommaOrObjectEnd = 10
+expected_number expected.TextEnd = 11
+expected_number expected.StringCharacter = 12
+expected_number expected.Escape = 13
+expected_number expected.HexadecimalDigit = 14
+expected_number expected.HexadecimalDigitBelowC = 15
+expected_number (expected.LowSurrogate part) = 16
+expected_number expected.Digit = 17
+expected_number expected.DigitOrSign = 18
+expected_number (expected.Word word) = 19
+
+-- what is wrong with a text that is no JSON object
+abbrev pub fault_number : JsonFaultKind → ℕ
+fault_number faults.TooDeep = 1
+fault_number faults.NumberTooLarge = 2
+fault_number faults.NoObject = 3
+fault_number (faults.EndsEarly e) = expected_number e
+fault_number (faults.Unexpected e) = expected_number e
+
+-- the field whose value is refused, or what is wrong with the JSON, or 0
 abbrev pub line_field : LineRefusal → ℕ
-line_field lines.InvalidJson = 0
+line_field lines.NotUtf8 = 0
+line_field (lines.InvalidJson fault) = fault_number fault.kind
 line_field (lines.BadValue field refusal) = field
 line_field lines.HeapFull = 0
+
+-- where the JSON is refused, or 0
+abbrev pub line_byte : LineRefusal → ℕ
+line_byte lines.NotUtf8 = 0
+line_byte (lines.InvalidJson fault) = fault.offset
+line_byte (lines.BadValue field refusal) = 0
+line_byte lines.HeapFull = 0
 
 -- ---- for private clauses
 

@@ -2,7 +2,7 @@
 use Rattle.std.specs.Prelude.{ℕ, ◌+◌, ◌-◌, ◌^◌, min, Option, Some, None, Result, Ok, Err}
 use Rattle.tv_base.specs.declared.cause.Cause.{Cause}
 use Rattle.tv_base.specs.declared.cause.Cause.TheVariants as causes
-use Rattle.tv_blocks.specs.LineRefusals.{line_field, line_number}
+use Rattle.tv_blocks.specs.LineRefusals.{line_byte, line_field, line_number}
 use Rattle.tv_blocks.specs.QueryRefusals.{query_field, query_number}
 use Rattle.tv_blocks.specs.TermsRefusals.{terms_number}
 use Rattle.tv_blocks.specs.declared.block_error.BlockError.{BlockError}
@@ -89,7 +89,7 @@ error_answer (errors.BadSchemaKey entry key) = nothing_written 6 (key_number key
 error_answer errors.NoField = nothing_written 7 0 0
 error_answer errors.NoEnd = nothing_written 10 0 0
 error_answer (errors.BadDocument start refusal) = nothing_written 8 (refusal_number refusal) start
-error_answer (errors.BadLine why) = nothing_written 11 (line_number why) (line_field why)
+error_answer (errors.BadLine why) = record { status = 11; detail = line_number why; place = line_field why; bytes = line_byte why; lines = 0 }
 error_answer (errors.ForeignField field) = nothing_written 12 0 field
 error_answer (errors.BadQuery why) = nothing_written 13 (query_number why) (query_field why)
 error_answer (errors.NoTerms start refusal) = nothing_written 8 (terms_number refusal) start

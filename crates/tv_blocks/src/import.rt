@@ -23,7 +23,7 @@ pub struct LineAnswer {
     pub status: u32,
     /// `LineRefusal::field`; 0 where the document was stored.
     pub field: u32,
-    /// How many bytes the stored document takes; 0 where the line was refused.
+    /// How many bytes the stored document takes; `LineRefusal::byte` where the line was refused.
     pub bytes: u64,
 }
 
@@ -64,7 +64,7 @@ fn answer_of(schema: &Schema, outcome: &LineOutcome) -> LineAnswer
             LineAnswer {
                 status: refusal.number(),
                 field: refusal.field(),
-                bytes: 0,
+                bytes: refusal.byte(),
             }
         }
     }

@@ -32,10 +32,10 @@ pub struct Answer {
     pub detail: u32,
     /// With status 6 the place of the entry, from 1, and 0 where the whole is meant; with status 8 where in the block the document begins,
     /// with status 14 where among the records the pair begins;
-    /// with status 11 the number of the field whose value is refused, 0 where it isn't a value that is; with status 12 the number of the
+    /// with status 11 `LineRefusal::field`; with status 12 the number of the
     /// field; with status 13 the number of the field that the path names, 0 where the text is no range. Else 0.
     pub place: u64,
-    /// How many bytes were written, or with status 1 how many are needed. Else 0.
+    /// How many bytes were written, or with status 1 how many are needed; with status 11 `LineRefusal::byte`. Else 0.
     pub bytes: u64,
     /// How many answers of lines were written, or with status 1 how many are needed. Else 0.
     pub lines: u64,
@@ -176,7 +176,13 @@ pub fn error_answer(error: BlockError) -> Answer
             start,
             refusal: why,
         } => refusal(8, refusal_number(why), start),
-        BlockError::BadLine(why) => refusal(11, why.number(), u64::from(why.field())),
+        BlockError::BadLine(why) => Answer {
+            status: 11,
+            detail: why.number(),
+            place: u64::from(why.field()),
+            bytes: why.byte(),
+            lines: 0,
+        },
         BlockError::ForeignField { field } => refusal(12, 0, u64::from(field)),
         BlockError::BadQuery(why) => refusal(13, why.number(), u64::from(why.field())),
         BlockError::NoTerms {

@@ -291,6 +291,20 @@ fn answers_are_numbers(rt: HostRuntime) -> Result<(), Fail> {
                 ..nothing
             }
     );
+    let no_colon = BlockError::BadLine(LineRefusal::InvalidJson(JsonFault {
+        offset: 5,
+        kind: JsonFaultKind::EndsEarly(JsonExpected::Colon),
+    }));
+    assert!(rt;
+        error_answer(no_colon)
+            == Answer {
+                status: 11,
+                detail: 1,
+                place: 8,
+                bytes: 5,
+                ..nothing
+            }
+    );
     assert!(rt;
         error_answer(BlockError::ForeignField { field: 5 })
             == Answer {

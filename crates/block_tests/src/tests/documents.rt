@@ -3,7 +3,7 @@
 use std::alloc::Global;
 use std::test::Fail;
 use tantivy_schema::common::Cause;
-use tantivy_schema::schema::{Field, TantivyDocument};
+use tantivy_schema::schema::{Field, JsonExpected, JsonFault, JsonFaultKind, TantivyDocument};
 use tv_blocks::{
     BlockError, DocumentRefusal, LineRefusal, ValueRefusal, parse_line, print_document,
     read_first_document, read_schema, write_document,
@@ -138,9 +138,20 @@ fn bytes_begin_with_a_document(rt: HostRuntime) -> Result<(), Fail> {
 fn a_refused_line_is_told_with_its_field(rt: HostRuntime) -> Result<(), Fail> {
     let alloc = rt.alloc();
     let schema = read_schema(alloc, SCHEMA).expect(&rt, "a schema");
-    let none = Err(BlockError::BadLine(LineRefusal::InvalidJson));
+    let no_text = Err(BlockError::BadLine(LineRefusal::NotUtf8));
+    assert!(rt; refused(alloc, &schema, b"\xff") == no_text);
+    let no_object = JsonFault {
+        offset: 0,
+        kind: JsonFaultKind::NoObject,
+    };
+    let none = Err(BlockError::BadLine(LineRefusal::InvalidJson(no_object)));
     assert!(rt; refused(alloc, &schema, b"null") == none);
-    assert!(rt; refused(alloc, &schema, b"\xff") == none);
+    let no_colon = JsonFault {
+        offset: 5,
+        kind: JsonFaultKind::Unexpected(JsonExpected::Colon),
+    };
+    let odd = Err(BlockError::BadLine(LineRefusal::InvalidJson(no_colon)));
+    assert!(rt; refused(alloc, &schema, b"{\"s\" 7}") == odd);
     let kind = Err(BlockError::BadLine(LineRefusal::BadValue {
         field: 0,
         refusal: ValueRefusal::WrongType,

@@ -43,7 +43,7 @@ const ANSWERS: [LineAnswer; 3] = [
     },
     LineAnswer {
         status: 1,
-        field: 0,
+        field: 3,
         bytes: 0,
     },
     NO_ANSWER,
