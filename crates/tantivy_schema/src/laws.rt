@@ -66,7 +66,6 @@ pub use tv_schema::laws::{
     record_options_agree, the_last_dot_counts, whole_paths_come_first,
     written_schemas_are_read_back, written_schemas_tell_all,
 };
-pub use tv_store::direct_decoder::stepped_decoders_are_paid_for;
 pub use tv_store::laws::{
     refusals_are_unique, stepped_decoders_are_paid_for, stored_pairs_are_valid,
     stored_pairs_need_no_more_room,

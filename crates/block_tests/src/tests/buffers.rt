@@ -3,6 +3,7 @@
 use std::alloc::Global;
 use std::test::Fail;
 use tantivy_schema::common::Cause;
+use tantivy_schema::schema::{JsonExpected, JsonFault, JsonFaultKind};
 use tv_blocks::status::{error_answer, import_answer, written_answer, wrong_version};
 use tv_blocks::{
     Answer, BlockError, DocumentRefusal, FoundField, Imported, LineAnswer, LineRefusal,
