@@ -47,8 +47,8 @@ const SIZES: [u64; 8] = [8, 0, 0, 0, 0, 0, 0, 13];
 // Where nothing was written.
 const KEPT: u8 = 0xa5;
 
-// The fields whose values are refused.
-const FIELDS: [u32; 8] = [0, 0, 1, 1, 2, 3, 4, 0];
+// The fields whose values are refused, and of the line that is JSON and no object the number of that.
+const FIELDS: [u32; 8] = [0, 3, 1, 1, 2, 3, 4, 0];
 
 const NO_ANSWER: LineAnswer = LineAnswer {
     status: 99,
