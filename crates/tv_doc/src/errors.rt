@@ -5,9 +5,9 @@ ghost use Rattle.tv_doc.specs.declared.errors.DocParsingError.TheVariants.{Memor
 ghost use Rattle.tv_doc.specs.declared.errors.StrictParsingError.TheVariants.{Parsing};
 ghost use Rattle.tv_doc.specs.declared.errors.NamedBackError.TheVariants.{Named, Converted};
 
-use tv_builder::errors::AddError;
 use std::alloc::AllocError;
 use thiserror::Error;
+use tv_builder::errors::AddError;
 use tv_field::ValueParsingError;
 use tv_value::copy::CopyError;
 

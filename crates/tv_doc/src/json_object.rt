@@ -11,13 +11,13 @@ ghost use Rattle.tv_doc.specs.Document.{Adds};
 ghost use Rattle.tv_doc.specs.InPlace.{in_place};
 ghost use Rattle.tv_doc.specs.TextFault.{IsFault, TellsFault};
 
-use tv_builder::errors::AddError;
 use crate::document::CompactDoc;
 use crate::errors::DocParsingError;
 use crate::parse_buffers::{Adding, ParseBuffers};
 use serde_json::{Map, Value};
 use std::alloc::{AllocError, Global};
 use tv_base::cause::text_start;
+use tv_builder::errors::AddError;
 use tv_field::FieldType;
 use tv_field::json_value::{JsonRefusal, JsonScratch, LentFieldValue};
 use tv_json::json_fault::{JsonFault, JsonFaultKind};

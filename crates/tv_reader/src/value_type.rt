@@ -12,9 +12,6 @@ ghost use Rattle.tv_value.specs.Owned.{owned_tree};
 use crate::heads::Head;
 use crate::leaves::{take_date, take_ip_address, take_tokenized};
 use crate::trees::take_entry_count;
-use tv_format::type_codes::{
-    ARRAY_CODE, EXT_CODE, F64_CODE, JSON_OBJ_CODE, OBJECT_CODE, TOK_STR_EXT_CODE,
-};
 use crate::version::DocStoreVersion;
 use std::alloc::Global;
 use tv_base::take::{
@@ -22,6 +19,9 @@ use tv_base::take::{
 };
 use tv_base::{ByteSource, Cause, ReadError};
 use tv_format::LeafType;
+use tv_format::type_codes::{
+    ARRAY_CODE, EXT_CODE, F64_CODE, JSON_OBJ_CODE, OBJECT_CODE, TOK_STR_EXT_CODE,
+};
 use tv_value::leaf::ReferenceValueLeaf;
 use tv_value::owned_value::OwnedValue;
 

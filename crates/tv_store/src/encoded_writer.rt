@@ -15,11 +15,11 @@ ghost use Rattle.tv_writer.specs.Error as store;
 ghost use Rattle.tv_writer.specs.Error.{IsIo, IsIoOrMemory};
 ghost use Rattle.tv_value.specs.Nesting.{NestsWithin};
 
-use tv_format::type_codes::{ARRAY_CODE, BOOL_CODE, EXT_CODE, NULL_CODE, TOK_STR_EXT_CODE};
 use std::alloc::Global;
 use tv_base::write::write_all;
 use tv_base::{ByteSink, WriteError};
 use tv_format::WriteVersion;
+use tv_format::type_codes::{ARRAY_CODE, BOOL_CODE, EXT_CODE, NULL_CODE, TOK_STR_EXT_CODE};
 use tv_heap::value::{CompactDocArrayIter, CompactDocObjectIter, CompactDocValue, Encoded};
 use tv_value::children::Children;
 use tv_writer::SerializeError;

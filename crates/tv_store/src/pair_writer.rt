@@ -21,12 +21,12 @@ ghost use Rattle.tv_writer.specs.Error.{IsIo, IsIoOrMemory};
 ghost use Rattle.tv_value.specs.Nesting.{AllNestWithin, NestsWithin};
 
 use crate::encoded_writer::write_encoded;
-use tv_format::type_codes::TEXT_CODE;
 use std::alloc::Global;
 use tv_base::write::{write_all, write_u32, write_vint};
 use tv_base::{ByteSink, WriteError};
 use tv_doc::document::CompactDoc;
 use tv_format::WriteVersion;
+use tv_format::type_codes::TEXT_CODE;
 use tv_heap::value::{CompactDocValue, Encoded};
 use tv_value::field::Field;
 use tv_value::leaf::ReferenceValueLeaf;

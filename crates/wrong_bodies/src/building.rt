@@ -7,9 +7,8 @@ ghost use Rattle.tv_builder.specs.State.{and_bytes, and_key, and_list, awaited};
 ghost use Rattle.tv_builder.specs.declared.kinds.Awaits.TheVariants.{Key, Value};
 ghost use Rattle.tv_builder.specs.declared.kinds.ListKind.TheVariants.{Array};
 
-use tv_builder::kinds::Awaits;
 use tv_builder::errors::BuildError;
-use tv_builder::kinds::ListKind;
+use tv_builder::kinds::{Awaits, ListKind};
 use tv_builder::pair_builder::PairBuilder;
 
 /// Bytes stand in the heap as soon as they have come, whether or not they are also kept for later.

@@ -9,8 +9,7 @@ ghost use Rattle.tv_format.specs.Tree.{leaf};
 
 use std::alloc::AllocError;
 use tv_base::ByteBuffer;
-use tv_heap::value_type::Place;
-use tv_heap::value_type::ValueType;
+use tv_heap::value_type::{Place, ValueType};
 use tv_heap::write::write_leaf;
 use tv_value::leaf::ReferenceValueLeaf;
 

@@ -2,10 +2,10 @@
 
 use std::alloc::{AllocError, Global};
 use std::test::Fail;
-use tv_doc::errors::DocParsingError;
 use tv_doc::document::CompactDoc;
-use tv_doc::parse_buffers::ParseBuffers;
+use tv_doc::errors::DocParsingError;
 use tv_doc::json_object::text_fault;
+use tv_doc::parse_buffers::ParseBuffers;
 use tv_field::{SchemaError, ValueParsingError};
 use tv_json::json_expected::JsonExpected;
 use tv_json::json_fault::JsonFaultKind;
