@@ -61,9 +61,6 @@ common_len-end xs ys n past = cases (leb (length xs) n) refl where
 
 -- ---- what is shared, and the rest
 
-pub common_len-within : (xs ys : List ℕ) → common_len xs ys ≤ length ys
-common_len-within xs ys = (common_prefix_len-le nat_eq xs ys).1
-
 one_more : (n x : ℕ) (xs : List ℕ) → take (1 + n) (x ∷ xs) ≡ x ∷ take n xs
 one_more n x xs = let more : 1 + n ≡ suc n = omega arith in ap (λ (k : ℕ). take k (x ∷ xs)) more
 

@@ -29,9 +29,6 @@ are_appended old new (Err e) h = cc
 
 -- ---- the list begins with what it was
 
-pub extends_as : (old new : List (List ℕ)) → new ≡ old → ExtendsPath old new
-extends_as old new e = ([], e ∙ sym (append-nil old))
-
 pub extends_by : (old new : List (List ℕ)) (wanted : Terms) → AreAppended old new wanted → ExtendsPath old new
 extends_by old new (Ok made) h = (made, h)
 extends_by old new (Err e) h = absurd h
@@ -40,10 +37,6 @@ pub extends_on : (a b c : List (List ℕ)) → ExtendsPath a b → ExtendsPath b
 extends_on a b c h k = (h.0 ++ k.0, k.1 ∙ ap (λ l. l ++ k.0) h.1 ∙ append_assoc a h.0 k.0)
 
 -- ---- so far: the whole is what was appended, and then what is left
-
-pub more_appended : (whole first left : Terms) (old new : List (List ℕ)) → whole ≡ followed_by (Ok old) (followed_by first left) → AreAppended old new first → whole ≡ followed_by (Ok new) left
-more_appended whole first left old new so_far h =
-    so_far ∙ sym (regrouped (Ok old) first left) ∙ ap (λ t. followed_by t left) (put_behind old new first h)
 
 pub all_appended : (old new : List (List ℕ)) (wanted : Terms) → followed_by (Ok old) wanted ≡ followed_by (Ok new) (Ok []) → AreAppended old new wanted
 all_appended old new wanted h = are_appended old new wanted (h ∙ ap Ok (append-nil new))

@@ -20,14 +20,6 @@ module _ (field : Field) (expand_dots : Bool) where
       let outer = open_terms field expand_dots (take list.path_len path) lists in
       ap (λ cs. followed_by (children_terms field expand_dots path cs) outer) cut ∙ regrouped (child_terms field expand_dots path key t) (children_terms field expand_dots path more) outer
 
-  -- no child is left
-  pub walk_up : (path : List ℕ) (list outer : OpenList) (around more : List OpenList) → held_children list.children ≡ [] → around ≡ more ++ outer ∷ []
-      → open_terms field expand_dots path (list ∷ reverse around) ≡ open_terms field expand_dots (take list.path_len path) (outer ∷ reverse more)
-  walk_up path list outer around more none popped =
-      ap (λ cs. followed_by (children_terms field expand_dots path cs) (open_terms field expand_dots (take list.path_len path) (reverse around))) none
-      ∙ nothing_before (open_terms field expand_dots (take list.path_len path) (reverse around))
-      ∙ ap (open_terms field expand_dots (take list.path_len path)) (ap reverse popped ∙ reverse-snoc more outer)
-
   -- the next child is a list
   pub walk_down : (path below : List ℕ) (list : OpenList) (more inner : HeldList) (key : Option (List ℕ)) (t : Tree) (len : ℕ) (around deeper : List OpenList)
       → held_children list.children ≡ (key, t) ∷ held_children more → child_terms field expand_dots path key t ≡ children_terms field expand_dots below (held_children inner) → len ≡ length path → take (length path) below ≡ path

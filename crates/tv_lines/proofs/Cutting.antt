@@ -15,23 +15,12 @@ unbroken_to [] (suc k) none = tt
 unbroken_to (b ∷ bs) zero none = tt
 unbroken_to (b ∷ bs) (suc k) none = ((λ is. none 0 (omega arith) (omega arith) (eq-eqb b 10 is)), unbroken_to bs k (λ j low below passes. none (suc j) (omega arith) (omega arith) passes))
 
-feed_at : (bytes : List ℕ) (k : ℕ) → k < length bytes → get_or bytes k 0 ≡ 10 → bytes ≡ take k bytes ++ 10 ∷ drop (k + 1) bytes
-feed_at bytes k below is =
-    sym (take-append-drop k bytes) ∙ ap (λ l. take k bytes ++ l) (drop-cons bytes k 0 below ∙ ap (λ b. b ∷ drop (suc k) bytes) is ∙ ap (λ n. 10 ∷ drop n bytes) (sym (add-one k)))
-
 behind : (chunk : List ℕ) (from to len : ℕ) → len < to - from → slice_range chunk (from + (len + 1)) to ≡ drop (len + 1) (slice_range chunk from to)
 behind chunk from to len within =
     let most : to - from ≡ (len + 1) + (to - (from + (len + 1))) = omega arith in
     sym (ap (λ n. drop (len + 1) (take n (drop from chunk))) most ∙ drop-take (len + 1) (to - (from + (len + 1))) (drop from chunk) ∙ ap (λ l. take (to - (from + (len + 1))) l) (drop-drop (len + 1) from chunk))
 
 -- ---- a piece is cut
-
-pub cuts_at_feed : (piece before after : List ℕ) (len : ℕ) → NoneBefore (Passes (is_byte 10) piece) 0 (length piece) len → Passes (is_byte 10) piece len
-    → after ≡ before ++ take len piece → CutsPiece piece before after (Some len)
-cuts_at_feed piece before after len none passes e = (none.high, unbroken_to piece len none.before, feed_at piece len none.high (eqb-true _ _ passes), e)
-
-pub cuts_whole : (piece before after : List ℕ) → Nowhere (Passes (is_byte 10) piece) 0 (length piece) → after ≡ before ++ piece → CutsPiece piece before after None
-cuts_whole piece before after none e = (subst IsUnbroken (take_all (length piece) piece (omega arith)) (unbroken_to piece (length piece) none), e)
 
 -- ---- of what was read
 
@@ -83,33 +72,6 @@ passes_all left new piece more prefix before after starts passes long cuts =
     (piece, cuts.0, passes ∙ ap (λ (l : List ℕ). l ++ new) is, cuts.1)
 
 -- ---- both together
-
--- what is moved of the first bytes is moved of all
-pub moves_first : (old new left before after : List ℕ) → MovesLine old new before after true → MovesLine (old ++ left) (new ++ left) before after true
-moves_first old new left before after m = (m.0, m.1, ap (λ l. l ++ left) m.2 ∙ append_assoc m.0 (10 ∷ new) left, m.3)
-
--- where the first bytes have no line feed, and all of them were moved
-pub moves_then : (old new left left' before mid after : List ℕ) (ended : Bool) → MovesLine old new before mid false → new ≡ [] → MovesLine left left' mid after ended
-    → MovesLine (old ++ left) (new ++ left') before after ended
-moves_then old new left left' before mid after true m none n = (
-  m.0 ++ n.0,
-  unbroken-append m.0 n.0 m.1 n.1,
-  ap (λ l. l ++ left) (m.2 ∙ ap (λ l. m.0 ++ l) none ∙ append-nil m.0) ∙ ap (λ l. m.0 ++ l) n.2 ∙ sym (append_assoc m.0 n.0 (10 ∷ left')) ∙ ap (λ l. (m.0 ++ n.0) ++ 10 ∷ (l ++ left')) (sym none),
-  n.3 ∙ ap (λ l. l ++ n.0) m.3 ∙ append_assoc before m.0 n.0,
-)
-moves_then old new left left' before mid after false m none n = (
-  m.0 ++ n.0,
-  unbroken-append m.0 n.0 m.1 n.1,
-  ap (λ l. l ++ left) (m.2 ∙ ap (λ l. m.0 ++ l) none ∙ append-nil m.0) ∙ ap (λ l. m.0 ++ l) n.2 ∙ sym (append_assoc m.0 n.0 left') ∙ ap (λ l. (m.0 ++ n.0) ++ (l ++ left')) (sym none),
-  n.3 ∙ ap (λ l. l ++ n.0) m.3 ∙ append_assoc before m.0 n.0,
-)
-
--- how many bytes are there then
-pub moved_len : (old new before after : List ℕ) → MovesLine old new before after false → length new + length after ≡ length old + length before
-moved_len old new before after m = omega (arith, ap length m.2, ap length m.3, length-append m.0 new, length-append before m.0)
-
-pub ended_len : (old new before after : List ℕ) → MovesLine old new before after true → length new + length after + 1 ≡ length old + length before
-ended_len old new before after m = omega (arith, ap length m.2, ap length m.3, length-append m.0 (10 ∷ new), length-append before m.0)
 
 -- what a read put into the start of a longer list
 pub prefix_given : (n len : ℕ) (old new buf post rest : List ℕ) → n ≤ length buf → n ≤ len → old ≡ take n buf ++ new → old ≡ take n (take len ((buf ++ post) ++ rest)) ++ new

@@ -27,9 +27,6 @@ use Rattle.tv_store.specs.Stored.{stored}
 
 -- ---- what becomes of it
 
-pub imports_none : (schema : List Entry) (rules : ImportRules) (input rest line held : List ℕ) → TakesLine input line rest None → Imports schema rules input rest held held None
-imports_none schema rules input rest line held took = ([], (took.0, took.2, refl), sym (append-nil held))
-
 pub refuses : (schema : List Entry) (rules : ImportRules) (input rest line held : List ℕ) (count : ℕ) (e : LineError) → TakesLine input line rest (Some count)
     → IsLineError schema rules line e → Imports schema rules input rest held held (Some (outcome.Refused e))
 refuses schema rules input rest line held count e took is = ([], (took.0, line, took.1, (is, refl)), sym (append-nil held))
@@ -60,17 +57,3 @@ leaves result schema rules input rest line text held new made fault count took i
     on_err result (inr (rest, text, fault, (took.0, line, took.1, ((made, is.0, written, is.2), refl)), appends))
 
 -- ---- failures
-
--- a read that failed says nothing of the sink
-pub reading_counts : (e : Halt) (f : Failures) → ((kind : ErrorKind) → ¬ (e ≡ halts.Write kind)) → CountsStop (sink_stop e) f f
-reading_counts (halts.Read kind) f never = refl
-reading_counts (halts.Write kind) f never = absurd (never kind refl)
-reading_counts halts.Memory f never = refl
-reading_counts halts.TooLong f never = refl
-
--- nor does a write of the source
-pub writing_counts : (e : Halt) (f : Failures) → IsOfWriting e → CountsStop (source_stop e) f f
-writing_counts (halts.Read kind) f is = absurd is
-writing_counts (halts.Write kind) f is = refl
-writing_counts halts.Memory f is = absurd is
-writing_counts halts.TooLong f is = absurd is

@@ -9,6 +9,3 @@ taken_more a b c m n k s t = record {
   joined = s.joined ∙ ap (λ l. s.prefix ++ l) t.joined ∙ sym (append_assoc s.prefix t.prefix c);
   counted = omega (arith, s.counted, t.counted, length-append s.prefix t.prefix);
 }
-
-pub taken_again : (a b c : List ℕ) (m n i k : ℕ) → Taken a b m n → i ≡ n → Taken b c i k → Taken a c m k
-taken_again a b c m n i k s e t = taken_more a b c m n k s (subst (λ j. Taken b c j k) e t)

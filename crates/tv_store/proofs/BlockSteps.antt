@@ -68,20 +68,6 @@ module _ {E : Type 0} {cut : E} {old new : BlockReader} {read : Result (Unit {0}
 
 -- ---- whatever is read
 
--- the reader had failed
-pub steps_refused : {E S : Type 0} (MayCome : E → Type 0) (again : E) (source : Ghosts S) {source_old : S} {old : BlockReader} → old.failed ≡ true → StepsBlock MayCome again source source_old source_old old old (Err again)
-steps_refused MayCome again source failed = record {
-  refused = λ is. record { answers = refl; unchanged = refl; unread = refl };
-  not_failed = tt;
-  marked = failed;
-  taken = λ live. absurd (cc);
-  fewer = λ known is. absurd (cc);
-  end = λ live. absurd (cc);
-  ended = λ live. absurd (cc);
-  counted = record { documents = refl; start = refl };
-  version = refl;
-}
-
 -- It had not. What it has then is what it had, and another document.
 pub steps_block : {E S : Type 0} (MayCome : E → Type 0) (again : E) (source : Ghosts S) {source_old source_new : S} {old new : BlockReader} {document : CompactDoc} {cut : E} {count : ℕ} {read : Result (Unit {0}) E} {result : Result Bool E} → old.failed ≡ false
     → FinishesBlock cut (record old { document = document }) new read count result → (source.is_known source_old → Taken (source.left source_old) (source.left source_new) 0 count)
