@@ -791,8 +791,8 @@ static void handle_once(void) {
     }
 }
 
-/* Nothing that is read begins as a line does up to the byte where its JSON goes wrong and one more: cut at that byte the line ends early, and the
- * same is expected there. */
+/* Cut at the byte where its JSON goes wrong, a line ends too early there, and the same is expected. Where the end of the text was expected, what
+ * stands before is whole. */
 static void check_cut(kormaglen_schema *schema, const uint8_t *line, kormaglen_answer refused) {
     if (refused.place < KORMAGLEN_JSON_VALUE || refused.place == KORMAGLEN_JSON_TEXT_END) {
         return;
