@@ -146,6 +146,48 @@ static uint8_t *fresh(size_t len) {
     return buffer;
 }
 
+/* What the answer to a refused line names: what is wrong with its JSON and a byte of it, or the field whose value is refused. */
+static void check_refused(uint32_t status, uint64_t named, uint64_t byte, size_t len) {
+    int is_json = status == KORMAGLEN_LINE_INVALID_JSON;
+    int is_value = status >= KORMAGLEN_LINE_OVERFLOW && status <= KORMAGLEN_LINE_FLOAT;
+    int has_byte = is_json && named != KORMAGLEN_JSON_NOT_UTF8 && named != KORMAGLEN_JSON_NO_OBJECT;
+    if (is_json && (named > KORMAGLEN_JSON_WORD || kormaglen_json_fault_text((uint32_t)named)[0] == 0)) {
+        fail("an unknown fault of a line's JSON");
+    }
+    if (!is_json && named > (is_value ? 7 : 0)) {
+        fail("a field that is none, or where no value is refused");
+    }
+    if (byte > (has_byte ? len : 0)) {
+        fail("a byte that the line does not have");
+    }
+}
+
+/* Each line has one answer. Returns how many bytes the documents take. */
+static uint64_t check_lines(const uint8_t *text, size_t len, const kormaglen_line_answer *answers, uint64_t count) {
+    uint64_t sum = 0;
+    size_t start = 0;
+    for (uint64_t i = 0; i < count; i++) {
+        size_t end = start;
+        while (end < len && text[end] != '\n') {
+            end += 1;
+        }
+        if (start == len || answers[i].status > KORMAGLEN_LINE_NO_ROOM) {
+            fail("an answer without a line, or an unknown status of a line");
+        }
+        if (answers[i].status == KORMAGLEN_LINE_STORED) {
+            sum += answers[i].bytes;
+            check_refused(KORMAGLEN_LINE_STORED, answers[i].field, 0, 0);
+        } else {
+            check_refused(answers[i].status, answers[i].field, answers[i].bytes, end - start);
+        }
+        start = end < len ? end + 1 : len;
+    }
+    if (start != len) {
+        fail("a line without an answer");
+    }
+    return sum;
+}
+
 static void import_once(void) {
     uint8_t schema[2 * LARGEST + 1024], text[2 * LARGEST];
     size_t schema_len = strlen(SCHEMA);
@@ -175,17 +217,7 @@ static void import_once(void) {
         fail("both buffers are large enough");
     }
     check(0, answer, block, room);
-    uint64_t sum = 0;
-    for (uint64_t i = 0; answer.status == KORMAGLEN_OK && i < answer.lines; i++) {
-        sum += answers[i].bytes;
-        if (answers[i].status > KORMAGLEN_LINE_NO_ROOM) {
-            fail("an unknown status of a line");
-        }
-        if (answers[i].field != 0 && (answers[i].status < KORMAGLEN_LINE_OVERFLOW || answers[i].status > KORMAGLEN_LINE_FLOAT)) {
-            fail("a field where no value is refused");
-        }
-    }
-    if (answer.status == KORMAGLEN_OK && sum != answer.bytes) {
+    if (answer.status == KORMAGLEN_OK && check_lines(t, text_len, answers, answer.lines) != answer.bytes) {
         fail("the lines' bytes are not the block's");
     }
     free(s);
@@ -722,6 +754,9 @@ static void handle_once(void) {
     if (imported.status != KORMAGLEN_TOO_SMALL) {
         check(10, imported, stored, room);
     }
+    if (imported.status == KORMAGLEN_OK && check_lines(t, text_len, answers, imported.lines) != imported.bytes) {
+        fail("the lines' bytes are not the block's");
+    }
     expect_closed(handle.at == NULL, imported);
     free(t);
     free(stored);
@@ -756,6 +791,21 @@ static void handle_once(void) {
     }
 }
 
+/* Cut at the byte where its JSON goes wrong, a line ends too early there, and the same is expected. Where the end of the text was expected, what
+ * stands before is whole. */
+static void check_cut(kormaglen_schema *schema, const uint8_t *line, kormaglen_answer refused) {
+    if (refused.place < KORMAGLEN_JSON_VALUE || refused.place == KORMAGLEN_JSON_TEXT_END) {
+        return;
+    }
+    kormaglen_document document = {0};
+    uint8_t *cut = copy_of(line, (size_t)refused.bytes);
+    kormaglen_answer again = kormaglen_document_parse(schema, cut, (size_t)refused.bytes, &document);
+    free(cut);
+    if (again.status != refused.status || again.detail != refused.detail || again.place != refused.place || again.bytes != refused.bytes) {
+        fail("a line that is cut where its JSON goes wrong is refused in another way");
+    }
+}
+
 /* Has the handle hold a document of bytes or of a line, or none where these are refused. */
 static void fill_document(kormaglen_schema *schema, kormaglen_document *document) {
     uint8_t none[1] = {KEPT}, input[2 * LARGEST];
@@ -777,9 +827,15 @@ static void fill_document(kormaglen_schema *schema, kormaglen_document *document
         len = below(4) == 0 ? random_bytes(input) : changed(input, len);
         uint8_t *bytes = copy_of(input, len);
         answer = kormaglen_document_parse(schema, bytes, len, document);
-        free(bytes);
         check(14, answer, none, 1);
         expect_closed(schema->at == NULL, answer);
+        if (answer.status == KORMAGLEN_BAD_LINE) {
+            check_refused(answer.detail, answer.place, answer.bytes, len);
+        }
+        if (answer.status == KORMAGLEN_BAD_LINE && answer.detail == KORMAGLEN_LINE_INVALID_JSON) {
+            check_cut(schema, bytes, answer);
+        }
+        free(bytes);
     }
     if ((answer.status == KORMAGLEN_OK) != (document->at != NULL)) {
         fail("the answer is not what became of the document");

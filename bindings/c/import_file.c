@@ -55,7 +55,10 @@ static void tell_refused(import *it, const kormaglen_line_answer *answer) {
     }
     fprintf(stderr, "%s", kormaglen_line_status_text(answer->status));
     if (answer->status == KORMAGLEN_LINE_INVALID_JSON) {
-        fprintf(stderr, ": at byte %llu: %s", (unsigned long long)answer->bytes, kormaglen_json_fault_text(answer->field));
+        fprintf(stderr, ": %s", kormaglen_json_fault_text(answer->field));
+        if (answer->field != KORMAGLEN_JSON_NOT_UTF8 && answer->field != KORMAGLEN_JSON_NO_OBJECT) {
+            fprintf(stderr, " at byte %llu", (unsigned long long)answer->bytes);
+        }
     }
     fputc('\n', stderr);
 }

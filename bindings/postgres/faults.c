@@ -85,6 +85,20 @@ static const char *place_of(const call *it, int argument, kormaglen_answer answe
     return psprintf(", field %llu", (unsigned long long)answer.place);
 }
 
+/* Why it is refused there, as `: the field is not indexed`, or an empty text; of a line that is no JSON object also what was
+ * expected, and at which byte. */
+static const char *reason_of(kormaglen_answer answer) {
+    const char *detail = kormaglen_detail_text(answer.status, answer.detail);
+    if (answer.status != KORMAGLEN_BAD_LINE || answer.detail != KORMAGLEN_LINE_INVALID_JSON) {
+        return detail[0] != 0 ? psprintf(": %s", detail) : "";
+    }
+    const char *fault = kormaglen_json_fault_text((uint32_t)answer.place);
+    if (answer.place == KORMAGLEN_JSON_NOT_UTF8 || answer.place == KORMAGLEN_JSON_NO_OBJECT) {
+        return psprintf(": %s: %s", detail, fault);
+    }
+    return psprintf(": %s: %s at byte %llu", detail, fault, (unsigned long long)answer.bytes);
+}
+
 /* What may help, or NULL. */
 static const char *hint_of(kormaglen_answer answer) {
     switch (answer.status) {
@@ -103,12 +117,12 @@ static const char *hint_of(kormaglen_answer answer) {
 
 void refuse(const call *it, int about, kormaglen_answer answer) {
     const int argument = refused_argument(it, about, answer);
-    const char *detail = kormaglen_detail_text(answer.status, answer.detail);
     const char *place = answer.status != KORMAGLEN_NO_MEMORY ? place_of(it, argument, answer) : "";
+    const char *reason = reason_of(answer);
     const char *hint = hint_of(answer);
     const char *name = it->signature->arguments[argument];
     ereport(ERROR, errcode(code_of(answer)), errmsg("%s: %s", it->signature->name, kormaglen_status_text(answer.status)),
-            errdetail("Argument %d (%s)%s%s%s.", argument + 1, name, place, detail[0] != 0 ? ": " : "", detail),
+            errdetail("Argument %d (%s)%s%s.", argument + 1, name, place, reason),
             hint != NULL ? errhint("%s", hint) : 0);
 }
 

@@ -52,18 +52,33 @@ static char *place_of(call *it, kormaglen_answer answer) {
     return sqlite3_mprintf(": field %llu", (unsigned long long)answer.place);
 }
 
+/* Why it is refused there, as `: the field is not indexed`, or an empty text; of a line that is no JSON object also what was
+ * expected, and at which byte. NULL where there is no memory. */
+static char *reason_of(kormaglen_answer answer) {
+    const char *detail = kormaglen_detail_text(answer.status, answer.detail);
+    if (answer.status != KORMAGLEN_BAD_LINE || answer.detail != KORMAGLEN_LINE_INVALID_JSON) {
+        return sqlite3_mprintf("%s%s", detail[0] != 0 ? ": " : "", detail);
+    }
+    const char *fault = kormaglen_json_fault_text((uint32_t)answer.place);
+    if (answer.place == KORMAGLEN_JSON_NOT_UTF8 || answer.place == KORMAGLEN_JSON_NO_OBJECT) {
+        return sqlite3_mprintf(": %s: %s", detail, fault);
+    }
+    return sqlite3_mprintf(": %s: %s at byte %llu", detail, fault, (unsigned long long)answer.bytes);
+}
+
 bool refuse(call *it, kormaglen_answer answer) {
     if (answer.status == KORMAGLEN_NO_MEMORY) {
         return fail(it, SQLITE_NOMEM);
     }
-    const char *status = kormaglen_status_text(answer.status);
-    const char *detail = kormaglen_detail_text(answer.status, answer.detail);
     char *place = place_of(it, answer);
-    if (place == NULL) {
+    char *reason = place != NULL ? reason_of(answer) : NULL;
+    if (reason == NULL) {
+        sqlite3_free(place);
         return it->fault.code != SQLITE_OK ? false : fail(it, SQLITE_NOMEM);
     }
-    char *message = sqlite3_mprintf("%s: %s%s%s%s", it->signature->name, status, place, detail[0] != 0 ? ": " : "", detail);
+    char *message = sqlite3_mprintf("%s: %s%s%s", it->signature->name, kormaglen_status_text(answer.status), place, reason);
     sqlite3_free(place);
+    sqlite3_free(reason);
     return fail_with(it, message);
 }
 

@@ -18,6 +18,8 @@ SELECT field, encode(term, 'hex'), value, kormaglen_term_text(term) FROM kormagl
 SELECT encode(term, 'hex') FROM kormaglen_query_terms(:'s', 'more.é', 'ü');
 SELECT encode(kormaglen_term(:'s', 'été', 'é'), 'hex'), encode(kormaglen_range_end(:'s', 'été', 'é*'), 'hex');
 SELECT kormaglen_facet_counts('/é', 1, kormaglen_facet('/é/ü'));
+-- a line that is no JSON object: the byte is that of its UTF-8
+SELECT kormaglen_store(:'s', '{"été" 1}');
 -- names of fields in messages, also where the encoding has no such name
 SELECT kormaglen_store(:'s', '{"été":1}');
 SELECT kormaglen_store(:'s', '{"\u68da":"x"}');

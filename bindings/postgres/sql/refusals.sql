@@ -18,6 +18,8 @@ SELECT refusals('kormaglen_store', $$'[{"name":"a","type":"u64","options":{"inde
 SELECT refusals('kormaglen_terms', $$'[]]', 2, '\x80'$$);
 -- lines
 SELECT refusals('kormaglen_store', $$:s, ''$$, $$:s, '[1]'$$);
+SELECT refusals('kormaglen_store', $$:s, '{"price" 20}'$$, $$:s, '{"price":20'$$, $$:s, '{"name":"Lamp'$$, $$:s, '{"price":20}}'$$);
+SELECT refusals('kormaglen_store', $$:s, '{"name":"\x"}'$$, $$:s, '{"price":1e400}'$$, $$:s, '{"more":' || repeat('[', 128)$$);
 SELECT refusals('kormaglen_store', $$:s, '{"price":-1}'$$, $$:s, '{"price":"1"}'$$, $$:s, '{"price":1.5}'$$);
 SELECT refusals('kormaglen_store', $$:s, '{"kind":"shop"}'$$, $$:s, '{"added":"yesterday"}'$$, $$:s, '{"more":{"a":1.5}}'$$);
 -- documents

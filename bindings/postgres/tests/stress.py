@@ -33,6 +33,8 @@ CANCELED, OUT_OF_MEMORY, TOO_LONG = "57014", "53200", "54000"
 REFUSED = [
     ("kormaglen_store(s, '{\"price\":\"' || i || '\"}')", "22P02"),
     ("kormaglen_store(s, '{\"price\":-' || i + 1 || '}')", "22003"),
+    ("kormaglen_store(s, '{\"price\" ' || i || '}')", "22P02"),
+    ("kormaglen_store(s, '[' || i || ']')", "22P02"),
     ("kormaglen_store(substr(s, 2), '{}')", "22P02"),
     ("kormaglen_store(replace(s, 'u64', 'u65'), '{}')", "22023"),
     ("kormaglen_json(s, 4, d)", "22023"),

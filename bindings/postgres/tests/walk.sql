@@ -9,6 +9,7 @@ INSERT INTO product SELECT id - 1, kormaglen_store(:'schema', json) FROM line WH
 SELECT id, length(stored), kormaglen_json(:'schema', 2, stored) FROM product WHERE id = 4;
 
 INSERT INTO product VALUES (0, kormaglen_store(:'schema', '{"name":"Stool","price":"cheap"}'));
+INSERT INTO product VALUES (0, kormaglen_store(:'schema', '{"name" "Stool"}'));
 
 SELECT id, kormaglen_value(:'schema', 2, stored, 'kind') AS kind, kormaglen_bigint(:'schema', 2, stored, 'price') AS price,
   kormaglen_timestamptz(:'schema', 2, stored, 'added') AT TIME ZONE 'UTC' AS added

@@ -9,6 +9,7 @@ SELECT kormaglen_json(schema.json, 2, kormaglen_store(schema.json, line.json)) F
 SELECT field, hex(term) FROM schema, line, kormaglen_terms(schema.json, 2, kormaglen_store(schema.json, line.json));
 SELECT hex(term) FROM schema, kormaglen_query_terms(schema.json, 'more.é', '𝄞');
 SELECT kormaglen_store(schema.json, '{"price":"é"}') FROM schema;
+SELECT kormaglen_store(schema.json, '{"é" 1}') FROM schema;
 SELECT kormaglen_value(schema.json, 2, kormaglen_store(schema.json, line.json), 'name') FROM schema, line;
 SELECT value, kind FROM schema, line, kormaglen_values(schema.json, 2, kormaglen_store(schema.json, line.json), 'more');
 SELECT facet, documents FROM kormaglen_facet_counts('/é', (SELECT kormaglen_facet_pairs(1, '/é/棚')));

@@ -73,6 +73,8 @@ static const char *const STATEMENTS[] = {
     "SELECT kormaglen_facet_pairs(value, substr('/a', 1 + value / 3)) FROM json_each('[1,2,3]') WHERE ?1 <> ''",
     "SELECT facet FROM kormaglen_facet_counts('/', x'00') WHERE ?1 <> ''",
     "SELECT facet FROM kormaglen_facet_counts(substr(?1, 1, 1), x'')",
+    "SELECT kormaglen_store(?1, replace(?2, ':', ' '))",
+    "SELECT kormaglen_store(?1, '[' || ?2 || ']')",
 };
 enum { COUNT = sizeof STATEMENTS / sizeof *STATEMENTS, FIRST_REFUSED = 20 };
 

@@ -15,6 +15,7 @@ INSERT INTO product(stored) SELECT kormaglen_store(:schema, column1) FROM (VALUE
 SELECT id, length(stored), kormaglen_json(:schema, 2, stored) FROM product;
 
 INSERT INTO product(stored) VALUES (kormaglen_store(:schema, '{"name":"Stool","price":"cheap"}'));
+INSERT INTO product(stored) VALUES (kormaglen_store(:schema, '{"name" "Stool"}'));
 
 SELECT id, kormaglen_value(:schema, 2, stored, 'name'), kormaglen_value(:schema, 2, stored, 'price') AS price
 FROM product ORDER BY price LIMIT 2;
