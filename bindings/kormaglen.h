@@ -407,8 +407,8 @@ kormaglen_answer kormaglen_document_read(
     const uint8_t *bytes, size_t bytes_len,
     kormaglen_document *document);
 
-/* Makes the document of a line of JSON, and has the handle hold it, in the memory of what it held before. bytes is 0. After a refusal the
- * document's handle is closed.
+/* Makes the document of a line of JSON, and has the handle hold it, in the memory of what it held before. bytes is 0, but with BAD_LINE of
+ * a line that is no JSON object. After a refusal the document's handle is closed.
  * Refusals: NO_MEMORY, BAD_LINE, CLOSED. */
 kormaglen_answer kormaglen_document_parse(
     kormaglen_schema *schema,
