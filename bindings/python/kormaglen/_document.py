@@ -120,8 +120,8 @@ class Document(Held, Mapping[str, List[Any]]):
                 schema, lambda own, by: CALLS.kormaglen_document_parse(by, given.at, given.size, own)
             )
             if answer.status == Status.BAD_LINE:
-                text = given.bytes_at(0, 4 * SHOWN)
-                raise line_refused(answer.detail, text, None, *schema._about(answer.detail, answer.place))
+                row = (answer.detail, answer.place, answer.bytes)
+                raise line_refused(row, given.bytes_at(0, 4 * SHOWN), None, schema._about(row))
         if answer.status != Status.OK:
             raise refused(answer)
         return document

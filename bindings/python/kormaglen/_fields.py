@@ -8,7 +8,15 @@ from typing import Any, Dict, NamedTuple, Optional, Tuple
 from kormaglen._arguments import Lent, copied, filled, text, type_name
 from kormaglen._handles import Handle, Held, opened
 from kormaglen._library import CALLS, FoundField, SchemaStruct
-from kormaglen._refusals import Closed, LineStatus, Status, field_refused, refused, schema_refused
+from kormaglen._refusals import (
+    Closed,
+    LineRow,
+    Status,
+    field_of,
+    field_refused,
+    refused,
+    schema_refused,
+)
 from kormaglen._types import Json
 from kormaglen._values import printed
 
@@ -128,11 +136,10 @@ class HeldSchema(Held):
             self._names = kinds
         return kinds
 
-    def _about(self, status: int, field: int) -> Tuple[Optional[int], Optional[str]]:
-        """The number and the name of the field that a refusal of a line is about, or none."""
-        if not LineStatus.OVERFLOW <= status <= LineStatus.FLOAT:
-            return None, None
-        return field, list(self._kinds())[field]
+    def _about(self, row: LineRow) -> Optional[str]:
+        """The name of the field that a refusal of a line is about, or None."""
+        field = field_of(row)
+        return None if field is None else list(self._kinds())[field]
 
     def __eq__(self, other: object) -> bool:
         if not isinstance(other, HeldSchema):

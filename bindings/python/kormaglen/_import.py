@@ -6,22 +6,37 @@ import struct
 from typing import Any, Iterator, List, NamedTuple, Optional, Sequence, Tuple, TypeVar
 
 from kormaglen._library import LINE_ANSWER, LINE_ANSWER_SIZE
-from kormaglen._refusals import SHOWN, LineRefused, LineStatus, line_refused
+from kormaglen._refusals import (
+    SHOWN,
+    JsonFault,
+    LineRefused,
+    LineRow,
+    LineStatus,
+    fault_of,
+    field_of,
+    line_refused,
+)
 
 _T = TypeVar("_T")
 
 
 class LineAnswer(NamedTuple):
     """What became of a line: `LineStatus.STORED`, or why it was refused; how many bytes its document
-    takes in the block; and the number of the field whose value was refused, or None.
+    takes in the block, 0 where it was refused; the number of the field whose value was refused, or None;
+    and `fault` and `byte` of a line that is no JSON object, as `LineRefused` has them, or None.
 
     >>> import_lines(SCHEMA, '{"age":"x"}').lines[0].field
     0
+    >>> answer = import_lines(SCHEMA, '{"age" 7}').lines[0]
+    >>> answer.fault.name, answer.byte, answer.size
+    ('COLON', 7, 0)
     """
 
     status: LineStatus
     size: int
     field: Optional[int]
+    fault: Optional[JsonFault] = None
+    byte: Optional[int] = None
 
 
 class _Rows(Sequence[_T]):
@@ -64,19 +79,28 @@ class LineAnswers(_Rows[LineAnswer]):
         return len(self._packed) // LINE_ANSWER_SIZE
 
     def _at(self, index: int) -> LineAnswer:
-        return _answer(*struct.unpack_from(LINE_ANSWER, self._packed, index * LINE_ANSWER_SIZE))
+        row: Any = struct.unpack_from(LINE_ANSWER, self._packed, index * LINE_ANSWER_SIZE)
+        return _answer(row)
 
     def __iter__(self) -> Iterator[LineAnswer]:
-        return (_answer(*row) for row in struct.iter_unpack(LINE_ANSWER, self._packed))
+        return map(_answer, _unpacked(self._packed))
 
 
-def _answer(status: int, field: int, size: int) -> LineAnswer:
-    said = LineStatus(status)
-    return LineAnswer(said, size, field if said.of_a_field else None)
+def _unpacked(packed: bytes) -> Iterator[Any]:
+    """What the library answers of each line, as a `LineRow`."""
+    return struct.iter_unpack(LINE_ANSWER, packed)
 
 
-# A line that was refused: its number, its status, the number and the name of the field, and how it begins.
-_Record = Tuple[int, int, Optional[int], Optional[str], bytes]
+def _answer(row: LineRow) -> LineAnswer:
+    status = LineStatus(row[0])
+    if status == LineStatus.STORED:
+        return LineAnswer(status, row[2], None)
+    return LineAnswer(status, 0, field_of(row), *fault_of(row))
+
+
+# A line that was refused: its number, what the library answers of it, the name of the field, and how it
+# begins. (All of it is plain, so that it is pickled without the name of a class.)
+_Record = Tuple[int, LineRow, Optional[str], bytes]
 
 
 class LineRefusals(_Rows[LineRefused]):
@@ -93,8 +117,8 @@ class LineRefusals(_Rows[LineRefused]):
         return len(self._records)
 
     def _at(self, index: int) -> LineRefused:
-        line, status, number, name, text = self._records[index]
-        return line_refused(status, text, line, number, name)
+        line, row, name, text = self._records[index]
+        return line_refused(row, text, line, name)
 
 
 class Imported(NamedTuple):
@@ -129,13 +153,13 @@ class ImportCounts(NamedTuple):
 def imported(piece: bytes, block: bytes, packed: bytes, first: int, names: Sequence[str]) -> Imported:
     """What the lines of a piece gave. How a line begins is kept of those that were refused alone."""
     records: List[_Record] = []
-    if any(status for status, _, _ in struct.iter_unpack(LINE_ANSWER, packed)):
+    if any(status for status, _, _ in _unpacked(packed)):
         start = 0
-        for line, row in enumerate(struct.iter_unpack(LINE_ANSWER, packed), first):
-            answer = _answer(*row)
-            if answer.status != LineStatus.STORED:
-                name = None if answer.field is None else names[answer.field]
-                records.append((line, answer.status, answer.field, name, _line_at(piece, start)))
+        for line, row in enumerate(_unpacked(packed), first):
+            if row[0] != LineStatus.STORED:
+                field = field_of(row)
+                name = None if field is None else names[field]
+                records.append((line, row, name, _line_at(piece, start)))
             start = piece.find(b"\n", start) + 1
     return Imported(block, LineAnswers(packed), LineRefusals(records), first)
 

@@ -57,6 +57,7 @@ _SIGNATURES: Dict[str, Tuple[List[Any], Any]] = {
     "status_text": ([_NUMBER], ctypes.c_char_p),
     "detail_text": ([_NUMBER, _NUMBER], ctypes.c_char_p),
     "line_status_text": ([_NUMBER], ctypes.c_char_p),
+    "json_fault_text": ([_NUMBER], ctypes.c_char_p),
     "export_block": (_GIVEN + [_NUMBER] + _GIVEN + _WRITTEN, Answer),
     "migrate_block": ([_NUMBER] + _GIVEN + [_NUMBER] + _WRITTEN, Answer),
     "facet_of_text": (_GIVEN + _WRITTEN, Answer),

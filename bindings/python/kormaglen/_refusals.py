@@ -163,6 +163,56 @@ class LineStatus(_Numbers):
         return LineStatus.OVERFLOW <= self <= LineStatus.FLOAT
 
 
+class JsonFault(_Numbers):
+    """Why a line is no JSON object: `kormaglen_json_fault` of the header. From 4 on it is what was
+    expected at a byte of the line, which is the line's length where the line ends too early.
+
+    `NOT_UTF8` is 0: whether there is a fault is asked by `is None`.
+
+    >>> JsonFault(8).name
+    'COLON'
+    """
+
+    NOT_UTF8 = 0
+    TOO_DEEP = 1
+    NUMBER_TOO_LARGE = 2
+    NO_OBJECT = 3
+    VALUE = 4
+    VALUE_OR_ARRAY_END = 5
+    KEY = 6
+    KEY_OR_OBJECT_END = 7
+    COLON = 8
+    COMMA_OR_ARRAY_END = 9
+    COMMA_OR_OBJECT_END = 10
+    TEXT_END = 11
+    STRING_CHARACTER = 12
+    ESCAPE = 13
+    HEXADECIMAL_DIGIT = 14
+    HEXADECIMAL_DIGIT_BELOW_C = 15
+    LOW_SURROGATE = 16
+    DIGIT = 17
+    DIGIT_OR_SIGN = 18
+    WORD = 19
+
+    @property
+    def words(self) -> str:
+        """What it is called in words.
+
+        >>> JsonFault.COLON.words
+        'a colon was expected'
+        """
+        return _words(CALLS.kormaglen_json_fault_text, self) or "unknown fault"
+
+    @property
+    def at_a_byte(self) -> bool:
+        """Whether a fault of this kind is at a byte of the line, and not of the line as a whole.
+
+        >>> JsonFault.COLON.at_a_byte, JsonFault.NOT_UTF8.at_a_byte
+        (True, False)
+        """
+        return self not in (JsonFault.NOT_UTF8, JsonFault.NO_OBJECT)
+
+
 class QueryFault(_Numbers):
     """Why a text of a query has no terms, or no ranges of them: `kormaglen_query_detail` of the header.
 
@@ -234,7 +284,11 @@ class DocumentRefused(Refused):
 class LineRefused(Refused):
     """A line of JSON has no document. `line` is its number, from 1, or None where there is one alone;
     `field` and `field_number` are the field whose value is refused, or None; `text` is how the line
-    begins: 60 characters at most.
+    begins: 60 characters at most. `place` is the field's number, or 0.
+
+    Where the line is no JSON object, `fault` says why, and `byte` how many bytes of it come before that
+    place, in UTF-8; it is None where the whole line is wrong. Where it is refused for another reason,
+    both are None.
 
     >>> schema = Schema('[{"name":"age","type":"u64","options":{"indexed":true,"stored":true}}]')
     >>> try:
@@ -242,11 +296,20 @@ class LineRefused(Refused):
     ... except LineRefused as refused:
     ...     print(refused.reason.name, refused.field, refused.field_number, refused.text)
     WRONG_TYPE age 0 {"age":"x"}
+    >>> try:
+    ...     schema.parse('{"age" 7}')
+    ... except LineRefused as refused:
+    ...     print(refused.reason.name, refused.fault.name, refused.byte)
+    ...     print(refused)
+    INVALID_JSON COLON 7
+    the line is not a JSON object: a colon was expected at byte 7: {"age" 7}
     """
 
     line: Optional[int] = None
     field: Optional[str] = None
     field_number: Optional[int] = None
+    fault: Optional[JsonFault] = None
+    byte: Optional[int] = None
     text: str = ""
 
 
@@ -336,6 +399,12 @@ def line_text(status: int) -> str:
     return _words(CALLS.kormaglen_line_status_text, status)
 
 
+def refused_text(status: int, fault: Optional[JsonFault], byte: Optional[int]) -> str:
+    """The library's words for why a line has no document, and the byte where it is no JSON object."""
+    why = "" if fault is None else f": {fault.words}"
+    return line_text(status) + why + ("" if byte is None else f" at byte {byte}")
+
+
 def document_refused(detail: int, place: int) -> DocumentRefused:
     """That no document begins at a place of a block, or one that has no terms."""
     words = detail_text(Status.BAD_DOCUMENT, detail)
@@ -357,19 +426,36 @@ def schema_refused(answer: Answer, field: Optional[str]) -> SchemaRefused:
     return error
 
 
+# What the library answers of a line: its status; the number of the field that is refused, or why it is no
+# JSON object; and the size of its document, or the byte where it is no JSON object.
+LineRow = Tuple[int, int, int]
+
+
+def field_of(row: LineRow) -> Optional[int]:
+    """The number of the field whose value is refused, or None."""
+    return row[1] if LineStatus(row[0]).of_a_field else None
+
+
+def fault_of(row: LineRow) -> Tuple[Optional[JsonFault], Optional[int]]:
+    """Why a line is no JSON object, and at which byte: each of them or None."""
+    if row[0] != LineStatus.INVALID_JSON:
+        return None, None
+    fault = JsonFault(row[1])
+    return fault, row[2] if fault.at_a_byte else None
+
+
 def line_refused(
-    status: int,
-    text: bytes,
-    line: Optional[int] = None,
-    field_number: Optional[int] = None,
-    field: Optional[str] = None,
+    row: LineRow, text: bytes, line: Optional[int] = None, field: Optional[str] = None
 ) -> LineRefused:
-    """That a line has no document. The text is the line, or as much of it as is shown."""
-    shown = beginning(text)
+    """That a line has no document. The text is the line, or as much of it as is shown; the field is its
+    name."""
+    number, (fault, byte), shown = field_of(row), fault_of(row), beginning(text)
     head = "" if line is None else f"line {line}: "
     about = "" if field is None else f'field "{field[:SHOWN]}": '
-    error = LineRefused(f"{head}{about}{line_text(status)}: {shown}", LineStatus(status), field_number or 0)
-    error.line, error.field, error.field_number, error.text = line, field, field_number, shown
+    said = refused_text(row[0], fault, byte)
+    error = LineRefused(f"{head}{about}{said}: {shown}", LineStatus(row[0]), number or 0)
+    error.line, error.field, error.field_number, error.text = line, field, number, shown
+    error.fault, error.byte = fault, byte
     return error
 
 

@@ -7,7 +7,7 @@ import json
 import os
 import subprocess
 import sys
-from typing import Any, Dict, List
+from typing import Any, Dict, List, Optional, Tuple
 
 HERE = os.path.dirname(os.path.abspath(__file__))
 PACKAGE = os.path.dirname(HERE)
@@ -35,6 +35,22 @@ SCHEMA = json.dumps(ENTRIES).encode()
 # One document in version 2, by docs/FORMATS.md: one pair, field 1 in 4 bytes, code 1 (u64), 36 in 8 bytes.
 AGE_36 = bytes.fromhex("81" "01000000" "01" "2400000000000000")
 EMPTY = b"\x80"
+
+# Lines that are no JSON objects, by RFC 8259: the number in the header of why, the byte at which, if it is
+# one, and the library's words. The last four are cut off, so that the byte is the line's length.
+FAULTS: List[Tuple[bytes, int, Optional[int], str]] = [
+    (b'{"age" 7}', 8, 7, "a colon was expected"),
+    ('{"é" 7}'.encode(), 8, 6, "a colon was expected"),
+    (b'{"\xff":1}', 0, None, "it is not UTF-8"),
+    (b"null", 3, None, "it is JSON, but no object"),
+    (b'{"age":' + b"[" * 127 + b"]" * 127 + b"}", 1, 133, "the list nests too deep"),
+    (b'{"age":1e999}', 2, 7, "the number is too large"),
+    (b'{"age":1} {', 11, 10, "the end of the text was expected"),
+    (b'{"age":', 4, 7, "a value was expected"),
+    (b'{"age":1\r', 10, 9, "a comma or } was expected"),
+    (b'{"age":"\xc3\xa9', 12, 10, "a character or the closing quote was expected"),
+    (b"", 4, 0, "a value was expected"),
+]
 
 # A text with its one token.
 TOKENS = json.dumps(

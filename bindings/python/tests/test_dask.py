@@ -22,7 +22,7 @@ from typing import Any, List, Tuple
 from unittest import mock
 
 import kormaglen as K
-from tests.common import EMPTY, HERE, PACKAGE, run
+from tests.common import EMPTY, FAULTS, HERE, PACKAGE, run
 from tests.dask_files import SCHEMA, write_bytes
 
 IS_THERE = all(map(importlib.util.find_spec, ("dask", "fsspec", "toolz")))
@@ -116,7 +116,8 @@ class Reading(InAFolder):
                 self.assertEqual([each.line for piece in pieces for each in piece.refused], refused)
                 told = blocks.refused().compute()
                 self.assertEqual([each.line for each in told], refused)
-                self.assertEqual([each.text for each in told], [each.text for each in whole.refused])
+                wanted = [(each.text, each.fault, each.byte) for each in whole.refused]
+                self.assertEqual([(each.text, each.fault, each.byte) for each in told], wanted)
 
     def test_each_blocksize(self) -> None:
         random_ = random.Random(5)
@@ -146,9 +147,27 @@ class Reading(InAFolder):
         stored = K.LineAnswer(K.LineStatus.STORED, 1, None)
         self.assertEqual((third.first, third.block, list(third.lines)), (3, EMPTY, [stored]))
         (refused,) = D.read_json_lines(path, AGE_SCHEMA, 11).refused().compute()
-        self.assertEqual(refused, (path, 2, K.LineStatus.WRONG_TYPE, "age", '{"age":"x"}\r'))
+        wanted = (path, 2, K.LineStatus.WRONG_TYPE, "age", '{"age":"x"}\r', None, None)
+        self.assertEqual(refused, wanted)
         about = "a value is of another kind than the field's"
         self.assertEqual(str(refused), f'{path}:2: field "age": {about}: {{"age":"x"}}\r')
+
+    def test_faults(self) -> None:
+        path = self.file("a.jsonl", b"".join(b'{"age":36}\n' + line + b"\n" for line, *_ in FAULTS))
+        for blocksize in (1, 20, 100, None):
+            blocks = D.read_json_lines(path, AGE_SCHEMA, blocksize)
+            pieces, told = dask.compute(blocks, blocks.refused())
+            rows = [row for piece in pieces for row in piece.lines]
+            self.assertEqual([row.size for row in rows], len(FAULTS) * [len(STORED_AGE), 0])
+            wanted = [(number, byte) for _, number, byte, _ in FAULTS]
+            self.assertEqual([(row.fault, row.byte) for row in rows[1::2]], wanted)
+            self.assertEqual([(each.fault, each.byte) for each in told], wanted)
+            self.assertEqual({(each.reason, each.field) for each in told}, {(1, None)})
+            for at, (each, (_, _, byte, words)) in enumerate(zip(told, FAULTS), 1):
+                place = "" if byte is None else f" at byte {byte}"
+                said = f"the line is not a JSON object: {words}{place}: {each.text}"
+                self.assertEqual(str(each), f"{path}:{2 * at}: {said}")
+                self.assertEqual(pickle.loads(pickle.dumps(each)), each)
 
     def test_several_files(self) -> None:
         counts = (("a", 3), ("b", 0), ("c", 2))

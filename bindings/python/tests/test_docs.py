@@ -79,7 +79,8 @@ class Docs(unittest.TestCase):
         about = "a value is of another kind than the field's"
         self.assertEqual(first, 'line 2: field "age": ' + about + ': {"name":"Bob","age":"old"}')
         self.assertEqual(second, "['Ada'] [36]")
-        self.assertTrue(refused.startswith("line 2: ") and refused.endswith(": []"), refused)
+        about = "it is JSON, but no object"
+        self.assertEqual(refused, f"line 2: the line is not a JSON object: {about}: []")
         self.assertEqual(fault, 'document 0: field "added": a value is not of its field\'s type')
         self.assertEqual(term, "1 2024-05-01T12:00:00Z")
         # One pair in 1 byte, of "Cleo" in 4 + 1 + 1 + 4 bytes and of 7 in 4 + 1 + 8.

@@ -20,6 +20,7 @@ ENUMS: Dict[str, Type[enum.IntEnum]] = {
     "kormaglen_schema_detail": K.SchemaFault,
     "kormaglen_document_detail": K.DocumentFault,
     "kormaglen_line_status": K.LineStatus,
+    "kormaglen_json_fault": K.JsonFault,
     "kormaglen_query_detail": K.QueryFault,
     "kormaglen_value_kind": _refusals.ValueKind,
 }
@@ -28,6 +29,7 @@ PREFIXES = {
     "kormaglen_schema_detail": "KORMAGLEN_SCHEMA_",
     "kormaglen_document_detail": "KORMAGLEN_DOCUMENT_",
     "kormaglen_line_status": "KORMAGLEN_LINE_",
+    "kormaglen_json_fault": "KORMAGLEN_JSON_",
     "kormaglen_query_detail": "KORMAGLEN_QUERY_",
     "kormaglen_value_kind": "KORMAGLEN_VALUE_",
 }

@@ -8,7 +8,7 @@ import unittest
 from typing import Any, List
 
 import kormaglen as K
-from tests.common import ENTRIES, SCHEMA
+from tests.common import ENTRIES, FAULTS, SCHEMA
 
 
 class Building(unittest.TestCase):
@@ -300,8 +300,33 @@ class Messages(unittest.TestCase):
             (age.line, age.field, age.field_number, age.text, age.place), (3, "age", 1, '{"age":"x"}', 1)
         )
         self.assertEqual(age.reason, K.LineStatus.WRONG_TYPE)
-        self.assertEqual(str(whole), "line 4: the line is not a JSON object: []")
-        self.assertEqual((whole.line, whole.field, whole.field_number), (4, None, None))
+        self.assertEqual((age.fault, age.byte), (None, None))
+        no_object = "line 4: the line is not a JSON object: it is JSON, but no object: []"
+        self.assertEqual(str(whole), no_object)
+        self.assertEqual((whole.line, whole.field, whole.field_number, whole.place), (4, None, None, 0))
+
+    def test_a_line_that_is_no_json_object(self) -> None:
+        schema = K.Schema(SCHEMA)
+        for line, number, byte, words in FAULTS:
+            with self.subTest(line), self.assertRaises(K.LineRefused) as caught:
+                schema.parse(line)
+            refused = caught.exception
+            self.assertEqual(refused.reason, K.LineStatus.INVALID_JSON)
+            self.assertEqual((refused.fault, refused.byte, refused.field_number), (number, byte, None))
+            self.assertEqual((refused.field, refused.line, refused.place), (None, None, 0))
+            assert refused.fault is not None
+            self.assertEqual((refused.fault.words, refused.fault.at_a_byte), (words, byte is not None))
+            place = "" if byte is None else f" at byte {byte}"
+            said = f"the line is not a JSON object: {words}{place}: {refused.text}"
+            self.assertEqual(str(refused), said)
+        with self.assertRaises(K.LineRefused) as caught:
+            schema.parse('{"é" 7}')
+        self.assertEqual((caught.exception.fault, caught.exception.byte), (K.JsonFault.COLON, 6))
+
+    def test_words_of_faults(self) -> None:
+        self.assertEqual(len({fault.words for fault in K.JsonFault}), len(K.JsonFault))
+        self.assertNotIn("", {fault.words for fault in K.JsonFault})
+        self.assertEqual((K.JsonFault(99).name, K.JsonFault(99).words), ("UNKNOWN_99", "unknown fault"))
 
     def test_a_long_line(self) -> None:
         with self.assertRaises(K.LineRefused) as caught:
@@ -359,6 +384,7 @@ class Messages(unittest.TestCase):
     def test_they_are_pickled(self) -> None:
         for refused in (
             K.import_lines(SCHEMA, '{"age":"x"}').refused[0],
+            K.import_lines(SCHEMA, '{"age" 7}').refused[0],
             K.Closed("the schema is closed", K.Status.CLOSED),
         ):
             other = pickle.loads(pickle.dumps(refused))
@@ -381,9 +407,15 @@ class Messages(unittest.TestCase):
     def test_a_number_without_a_name(self) -> None:
         from kormaglen._refusals import document_refused, line_refused
 
-        for refused in (document_refused(99, 7), line_refused(99, b"x")):
+        for refused in (document_refused(99, 7), line_refused((99, 8, 7), b"x")):
             self.assertEqual((refused.reason, refused.reason.name), (99, "UNKNOWN_99"))
             self.assertEqual(pickle.loads(pickle.dumps(refused)).reason, refused.reason)
+        line = line_refused((99, 8, 7), b"x")
+        self.assertEqual((line.field_number, line.fault, line.byte), (None, None, None))
+        line = line_refused((1, 99, 7), b"x")
+        self.assertEqual((line.fault, line.byte, line.field_number), (99, 7, None))
+        self.assertEqual(str(line), "the line is not a JSON object: unknown fault at byte 7: x")
+        self.assertEqual(pickle.loads(pickle.dumps(line)).fault, line.fault)
         for value in (-1, 2**32, None, "x"):
             with self.assertRaises(ValueError):
                 K.Status(value)

@@ -13,7 +13,7 @@ import unittest
 from typing import Any, Iterator, List
 
 import kormaglen as K
-from tests.common import AGE_36, EMPTY, SCHEMA
+from tests.common import AGE_36, EMPTY, FAULTS, SCHEMA
 
 LINES = '{"age":36}\n{"age":"x"}\n\n{}\n{"name":["a","é"],"age":[1,2]}'
 # The second and the third line are refused. The fifth has its pairs in byte order of the names: age is
@@ -105,6 +105,39 @@ class Importing(unittest.TestCase):
                 self.assertEqual([r.line for part in parts for r in part.refused], [2, 3])
                 if size == 1:
                     self.assertIn(len(parts), (3, 5))  # (three items of the last source)
+
+    def check_faults(self, part: K.Imported) -> None:
+        """Stored lines, with one that is no JSON object after each."""
+        self.assertEqual([row.size for row in part.lines], len(FAULTS) * [len(AGE_36), 0])
+        self.assertEqual({row.field for row in part.lines}, {None})
+        self.assertEqual({(row.fault, row.byte) for row in part.lines[::2]}, {(None, None)})
+        wanted = [(number, byte) for _, number, byte, _ in FAULTS]
+        self.assertEqual([(row.fault, row.byte) for row in part.lines[1::2]], wanted)
+        self.assertEqual([(each.fault, each.byte) for each in part.refused], wanted)
+        for at, (each, (_, _, byte, words)) in enumerate(zip(part.refused, FAULTS), 1):
+            place = "" if byte is None else f" at byte {byte}"
+            head = f"line {2 * at}: the line is not a JSON object: "
+            self.assertEqual(str(each), f"{head}{words}{place}: {each.text}")
+
+    def test_faults(self) -> None:
+        lines = b"".join(b'{"age":36}\n' + line + b"\n" for line, *_ in FAULTS)
+        self.check_faults(self.schema.import_lines(lines))
+        self.check_faults(self.schema.import_lines(lines.splitlines(keepends=True)))
+        for size in (1, 2, 17, 100, 1000):
+            parts = list(self.schema.import_chunks(io.BytesIO(lines), chunk_size=size))
+            self.check_faults(
+                K.Imported(
+                    b"".join(part.block for part in parts),
+                    K.LineAnswers(b"".join(part.lines._packed for part in parts)),
+                    K.LineRefusals([record for part in parts for record in part.refused._records]),
+                    1,
+                )
+            )
+            seen: List[K.LineRefused] = []
+            counts = self.schema.import_file(io.BytesIO(lines), io.BytesIO(), seen.append, size)
+            wanted = [(2 * at, number, byte) for at, (_, number, byte, _) in enumerate(FAULTS, 1)]
+            self.assertEqual([(each.line, each.fault, each.byte) for each in seen], wanted)
+            self.assertEqual([str(each) for each in counts.refusals], [str(each) for each in seen])
 
     def test_nothing(self) -> None:
         for source in ("", b"", [], io.BytesIO()):

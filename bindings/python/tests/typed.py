@@ -93,12 +93,25 @@ def refusal(by: K.Schema) -> Tuple[Optional[int], Optional[str], str]:
     raise AssertionError("nothing was refused")
 
 
+def fault(by: K.Schema) -> Tuple[Optional[K.JsonFault], Optional[int]]:
+    """What a line that is no JSON object has."""
+    answer: K.LineAnswer = by.import_lines('{"age" 7}').lines[0]
+    try:
+        by.parse('{"age" 7}')
+    except K.LineRefused as refused:
+        assert (refused.fault, refused.byte) == (answer.fault, answer.byte)
+    words: str = "" if answer.fault is None else answer.fault.words
+    assert words == "a colon was expected"
+    return answer.fault, answer.byte
+
+
 def main() -> None:
     """All of it."""
     with schema() as by:
         assert values(by)[0] == [36, 37]
         assert streams(by) == {"parts": 1, "lines": 1, "documents": 3, "found": 1, "bytes": 18}
         assert refusal(by) == (None, "age", '{"age":"x"}')
+        assert fault(by) == (K.JsonFault.COLON, 7)
 
 
 if __name__ == "__main__":

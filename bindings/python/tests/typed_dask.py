@@ -18,6 +18,9 @@ def pieces(path: pathlib.Path) -> Tuple[int, bytes, int, Optional[str]]:
     blocks: D.StoredBlocks = D.read_json_lines([path, str(path)], SCHEMA, blocksize="1 MiB")
     found: List[D.Piece] = blocks.compute()
     refused: D.RefusedLine = blocks.refused().compute(scheduler="threads")[0]
+    fault: Optional[K.JsonFault] = refused.fault
+    byte: Optional[int] = refused.byte
+    assert fault is None and byte is None
     assert found[0].lines[0].status == K.LineStatus.STORED
     return found[0].first, found[0].block, refused.line, refused.field
 

@@ -115,7 +115,7 @@ pub(crate) fn imported(
 fn line(answer: LineAnswer) -> Result<u64, LineRefusal> {
     match answer.status {
         0 => Ok(answer.bytes),
-        status => Err(LineRefusal::of_numbers(status, answer.field)),
+        status => Err(LineRefusal::of_numbers(status, answer.field, answer.bytes)),
     }
 }
 

@@ -52,6 +52,7 @@ mod c {
         pub(super) fn kormaglen_version() -> *const c_char;
         pub(super) fn kormaglen_status_text(status: u32) -> *const c_char;
         pub(super) fn kormaglen_detail_text(status: u32, detail: u32) -> *const c_char;
+        pub(super) fn kormaglen_json_fault_text(fault: u32) -> *const c_char;
         pub(super) fn kormaglen_import_lines(
             schema: *const u8,
             schema_len: usize,
@@ -256,6 +257,11 @@ pub(crate) fn status_text(status: u32) -> &'static str {
 pub(crate) fn detail_text(status: u32, detail: u32) -> &'static str {
     // SAFETY: the text is a constant of the library's, for all numbers.
     unsafe { words(c::kormaglen_detail_text(status, detail)) }
+}
+
+pub(crate) fn json_fault_text(fault: u32) -> &'static str {
+    // SAFETY: the text is a constant of the library's, for every number.
+    unsafe { words(c::kormaglen_json_fault_text(fault)) }
 }
 
 pub(crate) fn import_lines(

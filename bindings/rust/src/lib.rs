@@ -70,7 +70,9 @@ pub use documents::{documents, Documents};
 pub use facets::{count_facets, facet_of_text, text_of_facet, FacetCount};
 pub use queries::TermRange;
 pub use reader::{ImportError, ImportedBlocks};
-pub use reasons::{ArgumentReason, DocumentReason, LineReason, QueryReason, SchemaReason};
+pub use reasons::{
+    ArgumentReason, DocumentReason, JsonFault, LineReason, QueryReason, SchemaReason,
+};
 pub use refusal::{LineRefusal, QueryRefusal, Refusal, TermFault};
 pub use schema::{find_field, Field, Schema};
 pub use terms::{

@@ -15,11 +15,11 @@ pub(crate) const BAD_QUERY: u32 = 13;
 pub(crate) const BAD_ARGUMENT: u32 = 16;
 
 /// Makes an enum of numbers, with a variant for every other number, so that a library that has more
-/// of them is no error.
+/// of them is no error. The words of a number are given by a function of the library's.
 macro_rules! reasons {
     (
         $(#[$about:meta])*
-        $name:ident, of $status:ident;
+        $name:ident, by $words:expr;
         $($(#[$says:meta])* $variant:ident = $number:literal,)*
     ) => {
         $(#[$about])*
@@ -56,7 +56,8 @@ macro_rules! reasons {
         /// Prints the library's words for the reason.
         impl fmt::Display for $name {
             fn fmt(&self, f: &mut fmt::Formatter<'_>) -> fmt::Result {
-                match calls::detail_text($status, self.number()) {
+                let words_of: fn(u32) -> &'static str = $words;
+                match words_of(self.number()) {
                     "" => write!(f, "unknown reason {}", self.number()),
                     words => f.write_str(words),
                 }
@@ -81,7 +82,7 @@ reasons! {
     ///     other => panic!("{other:?}"),
     /// }
     /// ```
-    SchemaReason, of BAD_SCHEMA;
+    SchemaReason, by |number| calls::detail_text(BAD_SCHEMA, number);
     /// A field's name is empty or begins with `-`.
     BadName = 1,
     /// Two fields have the same name.
@@ -142,7 +143,7 @@ reasons! {
     ///     other => panic!("{other:?}"),
     /// }
     /// ```
-    DocumentReason, of BAD_DOCUMENT;
+    DocumentReason, by |number| calls::detail_text(BAD_DOCUMENT, number);
     /// The bytes end inside the document.
     UnexpectedEnd = 1,
     /// A value has a code that names no type.
@@ -195,8 +196,8 @@ reasons! {
     /// assert_eq!(reason.number(), 1);
     /// # Ok::<(), kormaglen::Refusal>(())
     /// ```
-    LineReason, of BAD_LINE;
-    /// The line is no JSON object.
+    LineReason, by |number| calls::detail_text(BAD_LINE, number);
+    /// The line is no JSON object: [`LineRefusal::fault`](crate::LineRefusal::fault) says why.
     InvalidJson = 1,
     /// A number doesn't fit the field's type.
     Overflow = 2,
@@ -210,6 +211,64 @@ reasons! {
     Float = 6,
     /// The values need more than 4294967295 bytes.
     NoRoom = 7,
+}
+
+reasons! {
+    /// Why a line is no JSON object. `NotUtf8` and `NoObject` are of the line as a whole; the others
+    /// are at a byte of it, which is the line's length where the line ends too early.
+    ///
+    /// ```
+    /// use kormaglen::{JsonFault, Schema};
+    ///
+    /// let mut schema = Schema::open(b"[]")?;
+    /// let imported = schema.import_lines(b"{\"age\" 7}\n")?;
+    /// let fault = imported.lines[0].unwrap_err().fault.unwrap();
+    /// assert_eq!(fault, JsonFault::Colon);
+    /// assert_eq!(fault.number(), 8);
+    /// assert_eq!(fault.to_string(), "a colon was expected");
+    /// # Ok::<(), kormaglen::Refusal>(())
+    /// ```
+    JsonFault, by calls::json_fault_text;
+    /// The line isn't UTF-8.
+    NotUtf8 = 0,
+    /// The list that begins at the byte lies within 127 others.
+    TooDeep = 1,
+    /// The number at the byte is too large for a float.
+    NumberTooLarge = 2,
+    /// The line is JSON, and no object.
+    NoObject = 3,
+    /// A value was expected.
+    Value = 4,
+    /// A value or `]` was expected.
+    ValueOrArrayEnd = 5,
+    /// A key was expected.
+    Key = 6,
+    /// A key or `}` was expected.
+    KeyOrObjectEnd = 7,
+    /// A colon was expected.
+    Colon = 8,
+    /// A comma or `]` was expected.
+    CommaOrArrayEnd = 9,
+    /// A comma or `}` was expected.
+    CommaOrObjectEnd = 10,
+    /// The end of the line was expected.
+    TextEnd = 11,
+    /// A character of a text, an escape or the closing quote was expected.
+    StringCharacter = 12,
+    /// One of `"\/bfnrtu` was expected, after a backslash.
+    Escape = 13,
+    /// A hexadecimal digit was expected.
+    HexadecimalDigit = 14,
+    /// A hexadecimal digit below `c` was expected, after `\ud`: no high surrogate stands before.
+    HexadecimalDigitBelowC = 15,
+    /// The escape of a low surrogate was expected, after that of a high one.
+    LowSurrogate = 16,
+    /// A digit was expected.
+    Digit = 17,
+    /// A digit or a sign was expected.
+    DigitOrSign = 18,
+    /// The rest of `true`, `false` or `null` was expected.
+    Word = 19,
 }
 
 reasons! {
@@ -229,7 +288,7 @@ reasons! {
     /// }
     /// # Ok::<(), Refusal>(())
     /// ```
-    QueryReason, of BAD_QUERY;
+    QueryReason, by |number| calls::detail_text(BAD_QUERY, number);
     /// The field isn't indexed.
     NotIndexed = 1,
     /// The path ends at a field of JSON objects.
@@ -261,7 +320,7 @@ reasons! {
     /// assert_eq!(ArgumentReason::Overlap.number(), 4);
     /// println!("{}", ArgumentReason::Overlap);
     /// ```
-    ArgumentReason, of BAD_ARGUMENT;
+    ArgumentReason, by |number| calls::detail_text(BAD_ARGUMENT, number);
     /// It is null, and has a length.
     Null = 1,
     /// No buffer has this length.
@@ -283,5 +342,12 @@ impl LineReason {
     /// Whether the reason is about the value of one field.
     pub(crate) fn has_field(self) -> bool {
         !matches!(self, LineReason::InvalidJson | LineReason::NoRoom)
+    }
+}
+
+impl JsonFault {
+    /// Whether the fault is at a byte of the line, and not of the line as a whole.
+    pub(crate) fn has_byte(self) -> bool {
+        !matches!(self, JsonFault::NotUtf8 | JsonFault::NoObject)
     }
 }

@@ -1,7 +1,9 @@
 //! Why a call was refused.
 
 use crate::calls::{self, Answer};
-use crate::reasons::{ArgumentReason, DocumentReason, LineReason, QueryReason, SchemaReason};
+use crate::reasons::{
+    ArgumentReason, DocumentReason, JsonFault, LineReason, QueryReason, SchemaReason,
+};
 use crate::reasons::{BAD_ARGUMENT, BAD_DOCUMENT, BAD_LINE, BAD_QUERY, BAD_SCHEMA};
 use std::error::Error;
 use std::fmt;
@@ -169,7 +171,7 @@ impl fmt::Display for Refusal {
 impl Error for Refusal {}
 
 /// Why a line has no document. It prints as the number of the field, and the library's words for
-/// the reason.
+/// the reason; of a line that is no JSON object also as those for the fault, and the byte.
 ///
 /// ```
 /// use kormaglen::{LineReason, Schema};
@@ -182,6 +184,17 @@ impl Error for Refusal {}
 /// assert!(refusal.to_string().starts_with("field 0: "));
 /// # Ok::<(), kormaglen::Refusal>(())
 /// ```
+///
+/// ```
+/// use kormaglen::{JsonFault, LineReason, Schema};
+///
+/// let imported = Schema::open(b"[]")?.import_lines(b"{\"age\" 7}\n")?;
+/// let refusal = imported.lines[0].unwrap_err();
+/// assert_eq!(refusal.reason, LineReason::InvalidJson);
+/// assert_eq!((refusal.fault, refusal.byte), (Some(JsonFault::Colon), Some(7)));
+/// assert!(refusal.to_string().ends_with(": a colon was expected at byte 7"));
+/// # Ok::<(), kormaglen::Refusal>(())
+/// ```
 #[non_exhaustive]
 #[derive(Clone, Copy, Debug, PartialEq, Eq, Hash)]
 pub struct LineRefusal {
@@ -189,20 +202,38 @@ pub struct LineRefusal {
     pub reason: LineReason,
     /// The number of the field whose value is refused, where it is one that is.
     pub field: Option<u32>,
+    /// Why it is no JSON object, where that is the reason.
+    pub fault: Option<JsonFault>,
+    /// How many bytes of the line come before the fault, unless it is of the line as a whole.
+    pub byte: Option<u64>,
 }
 
 impl LineRefusal {
-    pub(crate) fn of_numbers(status: u32, field: u32) -> LineRefusal {
+    /// Of the status of a line, and of the other two numbers that the library answers with it.
+    pub(crate) fn of_numbers(status: u32, number: u32, byte: u64) -> LineRefusal {
         let reason = LineReason::of_number(status);
-        LineRefusal { reason, field: reason.has_field().then_some(field) }
+        let fault = (reason == LineReason::InvalidJson).then(|| JsonFault::of_number(number));
+        LineRefusal {
+            reason,
+            field: reason.has_field().then_some(number),
+            fault,
+            byte: fault.filter(|fault| fault.has_byte()).map(|_| byte),
+        }
     }
 }
 
 impl fmt::Display for LineRefusal {
     fn fmt(&self, f: &mut fmt::Formatter<'_>) -> fmt::Result {
-        match self.field {
-            Some(field) => write!(f, "field {field}: {}", self.reason),
-            None => write!(f, "{}", self.reason),
+        if let Some(field) = self.field {
+            write!(f, "field {field}: ")?;
+        }
+        write!(f, "{}", self.reason)?;
+        if let Some(fault) = self.fault {
+            write!(f, ": {fault}")?;
+        }
+        match self.byte {
+            Some(byte) => write!(f, " at byte {byte}"),
+            None => Ok(()),
         }
     }
 }
@@ -328,7 +359,9 @@ impl Answer {
             }
             (WRONG_VERSION, _) => Refusal::WrongVersion,
             (NO_END, _) => Refusal::NoEnd,
-            (BAD_LINE, Ok(field)) => Refusal::BadLine(LineRefusal::of_numbers(detail, field)),
+            (BAD_LINE, Ok(number)) => {
+                Refusal::BadLine(LineRefusal::of_numbers(detail, number, bytes))
+            }
             (FOREIGN_FIELD, Ok(field)) => Refusal::ForeignField { field },
             (BAD_QUERY, Ok(field)) => Refusal::BadQuery(QueryRefusal::of_numbers(detail, field)),
             (BAD_PAIR, _) => Refusal::BadPair { pair: place },
@@ -344,8 +377,10 @@ impl Answer {
 
 #[cfg(test)]
 mod tests {
-    use super::{calls, Answer, Refusal};
-    use crate::reasons::{ArgumentReason, DocumentReason, LineReason, QueryReason, SchemaReason};
+    use super::{calls, Answer, LineRefusal, Refusal};
+    use crate::reasons::{
+        ArgumentReason, DocumentReason, JsonFault, LineReason, QueryReason, SchemaReason,
+    };
 
     fn refused(status: u32, detail: u32, place: u64) -> Refusal {
         Answer { status, detail, place, bytes: 7, lines: 0 }.accepted().unwrap_err()
@@ -378,6 +413,26 @@ mod tests {
                 let words = refused(status, number, 2).to_string();
                 assert_eq!(words.contains(&format!("unknown reason {number}")), is_unknown);
             }
+        }
+    }
+
+    #[test]
+    fn each_fault_has_a_name_where_the_library_has_words() {
+        for number in (0..100).chain([u32::MAX]) {
+            let fault = JsonFault::of_number(number);
+            let has_words = !calls::json_fault_text(number).is_empty();
+            assert_eq!(has_words, !matches!(fault, JsonFault::Unknown(_)), "{number}");
+            assert_eq!(fault.number(), number);
+            let Refusal::BadLine(line) = refused(11, 1, number.into()) else { panic!("{number}") };
+            assert_eq!(line, LineRefusal::of_numbers(1, number, 7));
+            assert_eq!((line.field, line.fault), (None, Some(fault)));
+            assert_eq!(line.byte, (![0, 3].contains(&number)).then_some(7));
+            let words = line.to_string();
+            assert_eq!(words.contains(&format!("unknown reason {number}")), !has_words);
+            assert_eq!(words.ends_with(" at byte 7"), line.byte.is_some(), "{words}");
+            // With another reason, the number is that of a field.
+            let other = LineRefusal::of_numbers(3, number, 7);
+            assert_eq!((other.field, other.fault, other.byte), (Some(number), None, None));
         }
     }
 

@@ -2,7 +2,7 @@
 
 mod common;
 
-use common::{stored_text, SCHEMA};
+use common::{stored_text, FAULTS, SCHEMA};
 use kormaglen::{ImportError, Imported, Refusal, Schema};
 use std::io::{self, Read};
 
@@ -64,6 +64,24 @@ fn lines_are_imported_alike_in_chunks_of_any_size() {
             let parts = schema.import_reader(reader).with_chunk(chunk);
             let parts: Result<Vec<_>, _> = parts.collect();
             assert_eq!(joined(parts.unwrap()), (block.clone(), 6, 4), "{chunk} {size}");
+        }
+    }
+}
+
+#[test]
+fn lines_are_refused_alike_in_chunks_of_any_size() {
+    let mut schema = Schema::open(SCHEMA).unwrap();
+    let mut lines = Vec::new();
+    for (line, ..) in FAULTS {
+        lines.extend_from_slice(&[b"{\"s\":\"a\"}\n", line, b"\n"].concat());
+    }
+    for chunk in 0..=lines.len() + 2 {
+        let parts = schema.import_reader(&lines[..]).with_chunk(chunk);
+        let answers: Vec<_> = parts.flat_map(|part| part.unwrap().lines).collect();
+        assert_eq!(answers.len(), 2 * FAULTS.len());
+        for (pair, (_, fault, byte, _)) in answers.chunks(2).zip(FAULTS) {
+            let refusal = pair[1].unwrap_err();
+            assert_eq!((pair[0], refusal.fault, refusal.byte), (Ok(8), Some(fault), byte));
         }
     }
 }

@@ -2,11 +2,11 @@
 
 mod common;
 
-use common::SCHEMA;
+use common::{FAULTS, SCHEMA};
 use kormaglen::{
     count_facets, end_of_prefix, export_block, facet_of_text, find_field, import_lines,
     migrate_block, terms_of_block, text_of_facet, text_of_term, Document, DocumentReason,
-    LineReason, QueryReason, Refusal, Schema, SchemaReason, Version,
+    JsonFault, LineReason, QueryReason, Refusal, Schema, SchemaReason, Version,
 };
 use std::error::Error;
 use std::fmt::Display;
@@ -241,6 +241,33 @@ fn a_line_is_refused_with_the_reason_and_the_field() {
         let parsed = Document::parse(&mut schema, line.as_bytes()).unwrap_err();
         assert_eq!(parsed, Refusal::BadLine(refusal));
         expect_status(parsed, 11);
+    }
+}
+
+#[test]
+fn a_line_that_is_no_json_object_is_refused_with_the_fault_and_the_byte() {
+    let mut schema = Schema::open(SCHEMA).unwrap();
+    for (line, fault, byte, words) in FAULTS {
+        let lines = [b"{\"s\":\"a\"}\n", line, b"\n{}\n"].concat();
+        for imported in [schema.import_lines(&lines), import_lines(SCHEMA, &lines)] {
+            let answers = imported.unwrap().lines;
+            assert_eq!((answers[0], answers[2]), (Ok(8), Ok(1)));
+            let refusal = answers[1].unwrap_err();
+            assert_eq!((refusal.reason, refusal.field), (LineReason::InvalidJson, None));
+            assert_eq!((refusal.fault, refusal.byte), (Some(fault), byte), "{line:?}");
+            let place = byte.map_or(String::new(), |byte| format!(" at byte {byte}"));
+            assert_eq!(fault.to_string(), words);
+            assert_eq!(refusal.to_string(), format!("{}: {words}{place}", refusal.reason));
+            let parsed = Document::parse(&mut schema, line).unwrap_err();
+            assert_eq!(parsed, Refusal::BadLine(refusal));
+            assert!(parsed.to_string().ends_with(&format!(": {refusal}")), "{parsed}");
+        }
+    }
+    // The last list lies within the others and the object.
+    for (lists, wanted) in [(126, None), (127, Some((Some(JsonFault::TooDeep), Some(132))))] {
+        let line = format!("{{\"no\":{}{}}}", "[".repeat(lists), "]".repeat(lists));
+        let refusal = schema.import_lines(line.as_bytes()).unwrap().lines[0].err();
+        assert_eq!(refusal.map(|refusal| (refusal.fault, refusal.byte)), wanted);
     }
 }
 

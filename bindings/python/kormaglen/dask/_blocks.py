@@ -10,7 +10,7 @@ from kormaglen._blocks import SchemaOrJson
 from kormaglen._fields import Field
 from kormaglen._handles import opened
 from kormaglen._import import LineAnswers, LineRefusals
-from kormaglen._refusals import LineStatus, beginning, line_text
+from kormaglen._refusals import JsonFault, LineStatus, beginning, fault_of, refused_text
 from kormaglen._schema import Schema
 from kormaglen.dask import _graphs, _pieces
 from kormaglen.dask._files import Paths, cuts, tested_blocksize
@@ -36,12 +36,15 @@ class Piece(NamedTuple):
 
 class RefusedLine(NamedTuple):
     """A line that was refused: the path of its file, its number there, from 1, why it was, the name of
-    the field whose value is refused, or None, and how the line begins: 60 characters at most. Its `str`
-    is a message of one line.
+    the field whose value is refused, or None, and how the line begins: 60 characters at most; and
+    `fault` and `byte` of a line that is no JSON object, as `kormaglen.LineRefused` has them, or None.
+    Its `str` is a message of one line.
 
     >>> refused = read_json_lines(PATH, SCHEMA).refused().compute(scheduler="threads")[0]
     >>> refused.line, refused.reason.name, refused.field, refused.text
     (2, 'WRONG_TYPE', 'age', '{"age":"x"}')
+    >>> print(RefusedLine("a.jsonl", 4, LineStatus.INVALID_JSON, None, '{"age" 7}', JsonFault.COLON, 7))
+    a.jsonl:4: the line is not a JSON object: a colon was expected at byte 7: {"age" 7}
     """
 
     path: str
@@ -49,10 +52,13 @@ class RefusedLine(NamedTuple):
     reason: LineStatus
     field: Optional[str]
     text: str
+    fault: Optional[JsonFault] = None
+    byte: Optional[int] = None
 
     def __str__(self) -> str:
         about = "" if self.field is None else f'field "{self.field}": '
-        return f"{self.path}:{self.line}: {about}{line_text(self.reason)}: {self.text}"
+        said = refused_text(self.reason, self.fault, self.byte)
+        return f"{self.path}:{self.line}: {about}{said}: {self.text}"
 
 
 class Place(NamedTuple):
@@ -208,8 +214,8 @@ def _numbered(parts: Sequence[_pieces.Part], places: Sequence[Place]) -> List[Pi
 def _refused(lines: _pieces.Lines, before: Sequence[int], at: int, path: str) -> List[RefusedLine]:
     """The refused lines of a piece, by their numbers in the file."""
     return [
-        RefusedLine(path, line, LineStatus(status), field, beginning(text))
-        for line, status, _, field, text in _pieces.moved(lines[2], before[at])
+        RefusedLine(path, line, LineStatus(row[0]), field, beginning(text), *fault_of(row))
+        for line, row, field, text in _pieces.moved(lines[2], before[at])
     ]
 
 

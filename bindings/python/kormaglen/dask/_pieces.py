@@ -72,10 +72,7 @@ def import_piece(place: FilePart, schema: bytes) -> Part:
         raise FileChanged(f"{place.path}: the file changed after its pieces were cut")
     with Schema(schema) as by:
         imported = by.import_lines(lines)
-    # (a status is a plain number here, so that a part is pickled without the name of a class)
-    records = imported.refused._records
-    plain = tuple((line, int(status), number, name, text) for line, status, number, name, text in records)
-    return imported.block, imported.lines._packed, plain
+    return imported.block, imported.lines._packed, tuple(imported.refused._records)
 
 
 def block_of(part: Part) -> bytes:
@@ -101,7 +98,7 @@ def first_of(values: Tuple[Any, ...]) -> Any:
 
 def moved(records: Sequence[_Record], before: int) -> List[_Record]:
     """The refused lines by their numbers in the whole file, where `before` lines stand before the piece."""
-    return [(line + before, status, number, field, text) for line, status, number, field, text in records]
+    return [(line + before, row, field, text) for line, row, field, text in records]
 
 
 def documents_of(part: Part, schema: bytes) -> List[Dict[str, List[Any]]]:

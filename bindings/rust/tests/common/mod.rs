@@ -1,5 +1,6 @@
 //! What several tests need.
 
+use kormaglen::JsonFault;
 use std::fs;
 
 /// A field of each kind that refuses values in its own way: 0 of texts, 1 of numbers, 2 of facets,
@@ -11,6 +12,27 @@ pub const SCHEMA: &[u8] = br#"[{"name":"s","type":"text","options":{"stored":tru
 {"name":"d","type":"date","options":{"indexed":false,"fieldnorms":false,"stored":true}},
 {"name":"y","type":"bytes","options":{"indexed":false,"fast":false,"stored":true}},
 {"name":"j","type":"json_object","options":{"stored":true,"fast":false}}]"#;
+
+/// Lines that are no JSON objects, by RFC 8259: why, at which byte, if it is one, and the library's
+/// words. The last four are cut off, so that the byte is the line's length.
+#[allow(dead_code)]
+pub const FAULTS: [(&[u8], JsonFault, Option<u64>, &str); 10] = [
+    (b"{\"age\" 7}", JsonFault::Colon, Some(7), "a colon was expected"),
+    (b"{\"\xc3\xa9\" 7}", JsonFault::Colon, Some(6), "a colon was expected"),
+    (b"{\"\xff\":1}", JsonFault::NotUtf8, None, "it is not UTF-8"),
+    (b"null", JsonFault::NoObject, None, "it is JSON, but no object"),
+    (b"{\"u\":1e999}", JsonFault::NumberTooLarge, Some(5), "the number is too large"),
+    (b"{\"u\":1} {", JsonFault::TextEnd, Some(8), "the end of the text was expected"),
+    (b"{\"u\":", JsonFault::Value, Some(5), "a value was expected"),
+    (b"{\"u\":1\r", JsonFault::CommaOrObjectEnd, Some(7), "a comma or } was expected"),
+    (
+        b"{\"s\":\"\xc3\xa9",
+        JsonFault::StringCharacter,
+        Some(8),
+        "a character or the closing quote was expected",
+    ),
+    (b"", JsonFault::Value, Some(0), "a value was expected"),
+];
 
 /// A stored document with a text in field 0, of version 2: one pair, the field's number in four
 /// bytes, the code 0 of texts, and the length. Numbers of variable length below 128 are one byte
