@@ -4,7 +4,7 @@ ghost use Rattle.std.specs.Coded.{coded_option};
 ghost use Rattle.std.specs.Option.{option_map};
 ghost use Rattle.std.specs.Prelude.{◌≡◌, None, Option, Some, OnErr, OnOk};
 ghost use Rattle.tv_blocks.specs.Kept.{keeps};
-ghost use Rattle.tv_blocks.specs.contracts.schema_memory.SchemaMemory.{the_row as schema_row};
+ghost use Rattle.tv_blocks.specs.contracts.schema_handle.SchemaMemory.{the_row as schema_row};
 ghost use Rattle.tv_blocks.specs.declared.schema_handle.SchemaMemory.{SchemaMemory};
 
 use crate::kept::Kept;

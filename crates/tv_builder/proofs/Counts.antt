@@ -4,7 +4,7 @@ use Rattle.std.specs.Coded.{Coded-set}
 use Rattle.std.proofs.Math.Logic.{∥∥₁_elim}
 use Rattle.std.proofs.Math.Nat.{ℕ_set}
 use Rattle.std.proofs.lemmas.List.{length-reverse}
-use Rattle.tv_builder.specs.contracts.awaits.Awaits.{the_row}
+use Rattle.tv_builder.specs.contracts.kinds.Awaits.{the_row}
 use Rattle.tv_builder.specs.declared.building.Building.{Building}
 use Rattle.tv_builder.specs.declared.building.OpenBytes.{OpenBytes}
 use Rattle.tv_builder.specs.declared.building.Frame.{Frame}

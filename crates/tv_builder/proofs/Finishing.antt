@@ -10,7 +10,7 @@ use Rattle.tv_heap.specs.TypeCode.{type_code}
 use Rattle.tv_builder.specs.declared.errors.BuildError.{BuildError}
 use Rattle.tv_builder.specs.declared.errors.BuildError.TheVariants.{AlreadyFailed, OutOfPlace, NotUtf8, HeapFull, Memory}
 use Rattle.tv_builder.specs.declared.building.Building.{Building}
-use Rattle.tv_heap.specs.contracts.place.Place.{the_row}
+use Rattle.tv_heap.specs.contracts.value_type.Place.{the_row}
 use Rattle.tv_heap.specs.declared.value_type.Place.{Place}
 use Rattle.tv_builder.specs.Given.{Given, pending_in}
 use Rattle.tv_builder.specs.Image.{held, image_of, ShowsBehind}

@@ -14,8 +14,8 @@ use Rattle.tv_heap.specs.Held.{same_list}
 use Rattle.tv_heap.specs.ReadsLaws.{one_tree, one_elements}
 use Rattle.tv_heap.specs.Reads.{ReadsTree}
 use Rattle.tv_heap.specs.TypeCode.{type_code}
-use Rattle.tv_builder.specs.contracts.bytes_kind.BytesKind.{the_row as bytes_row}
-use Rattle.tv_builder.specs.contracts.list_kind.ListKind.{the_row as list_row}
+use Rattle.tv_builder.specs.contracts.kinds.BytesKind.{the_row as bytes_row}
+use Rattle.tv_builder.specs.contracts.kinds.ListKind.{the_row as list_row}
 use Rattle.tv_builder.specs.declared.building.Building.{Building}
 use Rattle.tv_builder.specs.declared.building.OpenBytes.{OpenBytes}
 use Rattle.tv_builder.specs.declared.kinds.BytesKind.{BytesKind}

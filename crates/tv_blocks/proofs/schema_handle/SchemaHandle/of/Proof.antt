@@ -8,7 +8,7 @@ use Rattle.tv_blocks.proofs.kept.Kept.TheLaws as kept_laws
 use Rattle.tv_blocks.specs.contracts.schema_handle.SchemaHandle.of as f
 use Rattle.tv_blocks.specs.contracts.schema_handle.SchemaHandle.{the_row}
 use Rattle.tv_blocks.specs.contracts.kept.Kept.{the_row as kept_row}
-use Rattle.tv_blocks.specs.contracts.schema_memory.SchemaMemory.{the_row as schema_row}
+use Rattle.tv_blocks.specs.contracts.schema_handle.SchemaMemory.{the_row as schema_row}
 use base.Logic.{emp, id⊢}
 use contract.Monad.{fact_i}
 use denote.Exit.{no}

@@ -8,26 +8,26 @@ use Rattle.serde_json.specs.View.{items_of, members_view}
 use Rattle.tv_json.specs.BorrowedData.{data_of, items_data, members_data}
 use Rattle.tv_json.proofs.Copies.{AllBelow, RisesTo, rises_on, put_last}
 use Rattle.tv_json.proofs.Levels.{data_of-Array, data_of-Object}
-use Rattle.tv_json.proofs.+copies.Goals as goal
+use Rattle.tv_json.proofs.value.+copies.Goals as goal
 
-pub borrowed::BorrowedJson::to_value-returns-in-Array : goal.borrowed::BorrowedJson::to_value-returns-in-Array
-borrowed::BorrowedJson::to_value-returns-in-Array t c =
+pub BorrowedJson::to_value-returns-in-Array : goal.BorrowedJson::to_value-returns-in-Array
+BorrowedJson::to_value-returns-in-Array t c =
     IfSome_then c.copied_items.result c.copied_items.ensures (λ made e. e ∙ ap (λ vs. array (items_data vs)) c.as_slice.ensures.value ∙ sym (data_of-Array c.in-Array.items) ∙ ap data_of (sym c.in-Array.is))
 
-pub borrowed::BorrowedJson::to_value-returns-in-Object : goal.borrowed::BorrowedJson::to_value-returns-in-Object
-borrowed::BorrowedJson::to_value-returns-in-Object t c =
+pub BorrowedJson::to_value-returns-in-Object : goal.BorrowedJson::to_value-returns-in-Object
+BorrowedJson::to_value-returns-in-Object t c =
     IfSome_then c.copied_members.result c.copied_members.ensures (λ made e. e ∙ ap (λ ms. object (members_data ms)) c.as_slice-in-Object.ensures.value ∙ sym (data_of-Object c.in-Object.members) ∙ ap data_of (sym c.in-Object.is))
 
-pub value::copied_items-loop-item-preserved : goal.value::copied_items-loop-item-preserved
-value::copied_items-loop-item-preserved t c = grind (arith, common_steps)
+pub copied_items-loop-item-preserved : goal.copied_items-loop-item-preserved
+copied_items-loop-item-preserved t c = grind (arith, common_steps)
 
-pub value::copied_items-returns : goal.value::copied_items-returns
-value::copied_items-returns t c =
+pub copied_items-returns : goal.copied_items-returns
+copied_items-returns t c =
     let l = c.loop-item in
     view-Array l.made ∙ ap (λ ds. array (items_of ds)) (l.invariant ∙ ap (map data_of) (take_all l.item-index c.args.items.now c.loop-item-test.false))
 
-pub value::copied_members-loop-key-preserved : goal.value::copied_members-loop-key-preserved
-value::copied_members-loop-key-preserved t c =
+pub copied_members-loop-key-preserved : goal.copied_members-loop-key-preserved
+copied_members-loop-key-preserved t c =
     let ms = c.args.members.now in
     let l = c.loop-key in
     let m = c.loop-key-item.result in
@@ -37,7 +37,7 @@ value::copied_members-loop-key-preserved t c =
     let placed = c.in_ok-insert_copy.ensures ∙ ap (λ d. put m.0.now d (members_view l.made.entries)) c.in_ok-value.ensures ∙ ap (put m.0.now (data_of m.1)) l.invariant.0 in
     (placed ∙ put_last m prefix below ∙ ap members_data (sym up), subst (RisesTo (Some m.0)) (sym up) (rises_on prefix m below))
 
-pub value::copied_members-returns : goal.value::copied_members-returns
-value::copied_members-returns t c =
+pub copied_members-returns : goal.copied_members-returns
+copied_members-returns t c =
     let l = c.loop-key in
     view-Object l.made ∙ ap object (l.invariant.0 ∙ ap members_data (take_all l.key-index c.args.members.now c.loop-key-test.false))
