@@ -1,13 +1,12 @@
 -- A piece up to its first line feed.
-use Rattle.std.proofs.Common.{◌≡◌, ℕ, suc, zero, ◌+◌, ◌-◌, ◌<◌, ◌≤◌, Bool, true, false, Option, Some, None, List, [], ◌∷◌, ◌++◌, length, take, drop, get_or, sym, ap, ◌∙◌, subst, arith, append_assoc, append-nil, add-one, length-append, length-take, drop-cons, take_all}
-use borrow.Author.Tests.{eq-eqb, eqb-true}
-use Rattle.std.proofs.lemmas.List.{take-append-drop, take-append-le, take-take, drop-take, drop-drop}
+use Rattle.std.proofs.Common.{◌≡◌, ℕ, suc, zero, ◌+◌, ◌-◌, ◌<◌, ◌≤◌, true, false, Some, None, List, [], ◌∷◌, ◌++◌, length, take, drop, sym, ap, ◌∙◌, arith, append_assoc, append-nil, length-append, length-take, take_all}
+use borrow.Author.Tests.{eq-eqb}
+use Rattle.std.proofs.lemmas.List.{take-append-le, take-take, drop-take, drop-drop}
 use Rattle.std.specs.List.{slice_range}
-use Rattle.memchr.specs.Find.{Nowhere, NoneBefore, Passes, is_byte}
+use Rattle.memchr.specs.Find.{Nowhere, Passes, is_byte}
 use Rattle.tv_lines.specs.Lines.{IsUnbroken}
 use Rattle.tv_lines.specs.Lines.{CutsPiece}
 use Rattle.tv_lines.specs.Reader.{MovesLine}
-use Rattle.tv_lines.proofs.LineSteps.{unbroken-append}
 
 unbroken_to : (bytes : List ℕ) (k : ℕ) → Nowhere (Passes (is_byte 10) bytes) 0 k → IsUnbroken (take k bytes)
 unbroken_to [] zero none = tt

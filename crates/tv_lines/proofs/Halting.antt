@@ -1,15 +1,8 @@
 -- How a run over lines ends.
-use Rattle.std.proofs.Common.{◌≡◌, ℕ, ◌-◌, ◌^◌, Option, Some, None, List, Result, Ok, Err, arith, refl, subst}
-use Rattle.std.specs.Prelude.{IfErr}
-use Rattle.tv_base.specs.Source.{Failures}
-use Rattle.tv_base.specs.Stop.{Counts, CountsStop, Taken}
+use Rattle.std.proofs.Common.{◌≡◌, ℕ, ◌-◌, ◌^◌, List, arith}
+use Rattle.tv_base.specs.Stop.{Taken}
 use Rattle.tv_base.specs.ReadsAs.{TakesMost}
-use Rattle.tv_lines.specs.Halts.{IsOfWriting, sink_stop, source_stop}
-use Rattle.tv_lines.specs.Lines.{FirstLine}
-use Rattle.tv_lines.specs.Reader.{TakesLine}
 use Rattle.tv_lines.specs.Run.{IsWhole}
-use Rattle.tv_lines.specs.declared.errors.Halt.{Halt}
-use Rattle.tv_lines.specs.declared.errors.Halt.TheVariants as halts
 use Rattle.tv_lines.specs.declared.runs.RunEnd.{RunEnd}
 use Rattle.tv_lines.specs.declared.runs.RunEnd.TheVariants.{Done, BadSchema, Broken}
 

@@ -2,6 +2,7 @@ mod Checks
 mod Cutting
 mod Finds
 mod Halting
+mod Layouts
 mod LineSteps
 mod Lines
 mod Merging

@@ -1,5 +1,5 @@
 -- How a line is taken in pieces, and that any input has lines and answers.
-use Rattle.std.proofs.Common.{◌≡◌, ◌≢◌, ◌==◌, ℕ, Bool, true, false, List, [], ◌∷◌, ◌++◌, Option, Some, None, ◌+◌, length, refl, sym, ap, ◌∙◌, subst, append_assoc, append-nil, arith, length-append}
+use Rattle.std.proofs.Common.{◌≡◌, ◌≢◌, ◌==◌, ℕ, Bool, true, false, List, [], ◌∷◌, ◌++◌, Some, None, ◌+◌, length, refl, sym, ap, ◌∙◌, subst, append_assoc, append-nil, arith, length-append}
 use borrow.Author.Tests.{eqb-true, eqb-false}
 use Rattle.std.proofs.Math.Dec.{eqb}
 use Rattle.tv_lines.specs.Lines.{IsUnbroken, FirstLine, Lines}

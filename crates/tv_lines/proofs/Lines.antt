@@ -1,10 +1,7 @@
 -- What becomes of a line that was taken.
-use Rattle.std.proofs.Common.{◌≡◌, ◌∙◌, ℕ, List, [], ◌++◌, length, Option, Some, None, Result, Ok, Err, append-nil, refl, sym, ap, inr}
-use Rattle.std.specs.Prelude.{IsErrOf, OnErr}
-use Rattle.std.specs.declared.io.ErrorKind.{ErrorKind}
+use Rattle.std.proofs.Common.{◌≡◌, ◌∙◌, ℕ, List, [], ◌++◌, length, Option, Some, Result, Ok, Err, append-nil, refl, sym, ap, inr}
+use Rattle.std.specs.Prelude.{OnErr}
 use Rattle.tv_base.specs.Sink.{AppendsPrefix}
-use Rattle.tv_base.specs.Source.{Failures}
-use Rattle.tv_base.specs.Stop.{Counts, CountsStop}
 use Rattle.tv_doc.specs.Document.{document_of}
 use Rattle.tv_doc.specs.declared.document.CompactDoc.{CompactDoc}
 use Rattle.tv_field.specs.Entry.{Entry}
@@ -12,13 +9,10 @@ use Rattle.tv_format.specs.Short.{short_document}
 use Rattle.tv_format.specs.WriteVersion.{written_version}
 use Rattle.tv_indexing.specs.TermFault.{document_fault}
 use Rattle.tv_indexing.specs.declared.document.TermValuesError.{TermValuesError}
-use Rattle.tv_lines.specs.Halts.{IsOfWriting, sink_stop, source_stop}
 use Rattle.tv_lines.specs.Importing.{Imports, IsJudged, IsLineError, LeavesBegun, RefusesFault, TellsUnsearchable}
 use Rattle.tv_lines.specs.LineDocuments.{MakesLineDocument}
 use Rattle.tv_lines.specs.Reader.{TakesLine}
 use Rattle.tv_lines.specs.Terms.{faulty_name}
-use Rattle.tv_lines.specs.declared.errors.Halt.{Halt}
-use Rattle.tv_lines.specs.declared.errors.Halt.TheVariants as halts
 use Rattle.tv_lines.specs.declared.import.ImportRules.{ImportRules}
 use Rattle.tv_lines.specs.declared.import.LineOutcome.TheVariants as outcome
 use Rattle.tv_lines.specs.declared.line_document.LineError.{LineError}

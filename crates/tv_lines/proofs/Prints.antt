@@ -3,7 +3,7 @@ use Rattle.std.proofs.Common.{true, Ok, ◌≡◌, ℕ, ◌+◌, ◌^◌, ◌<�
 use Rattle.tv_base.specs.Parts.{Begins}
 use Rattle.tv_base.specs.Source.{Failures}
 use Rattle.tv_base.specs.Stop.{CountsStop}
-use Rattle.tv_lines.specs.Printing.{AppendsJson, ArePrinted, is_bad, laid_out}
+use Rattle.tv_lines.specs.Printing.{AppendsJson, ArePrinted, laid_out}
 use Rattle.tv_lines.specs.Printing.ArePrinted.{none_printed, next_printed}
 use Rattle.tv_lines.specs.Exporting.{AppendsBegun, BreaksOff, ExportsAll, LeavesNext}
 use Rattle.tv_lines.specs.WorkErrors.{IsOfPrinting, sink_stop, source_stop}

@@ -1,5 +1,5 @@
 -- What is answered for a document's line.
-use Rattle.std.proofs.Common.{◌≡◌, ℕ, List, Result, Ok, Err, refl, inl, inr}
+use Rattle.std.proofs.Common.{ℕ, List, Result, Ok, Err, inl, inr}
 use Rattle.std.specs.Prelude.{IfErr, IsUtf8, OnOk}
 use Rattle.tv_doc.specs.Document.{document_of}
 use Rattle.tv_doc.specs.JsonObject.{Parses}

@@ -1,11 +1,7 @@
 -- What is told of a line that is refused.
-use Rattle.std.proofs.Common.{◌≡◌, Bool, true, false, List, ℕ, String, Global, Err, refl, sym, subst}
-use Rattle.std.specs.Prelude.{IsUtf8}
-use Rattle.tv_lines.specs.LineDocuments.{MakesNone, ParsesBy, Tells}
-use Rattle.tv_lines.specs.declared.line_document.LineError.{LineError}
+use Rattle.std.proofs.Common.{◌≡◌, List, ℕ, String, Global, refl}
+use Rattle.tv_lines.specs.LineDocuments.{Tells}
 use Rattle.tv_lines.specs.declared.line_document.LineError.TheVariants.{Refused}
-use Rattle.tv_doc.specs.JsonObject.{Parses}
-use Rattle.tv_doc.specs.declared.errors.DocParsingError.{DocParsingError}
 use Rattle.tv_doc.specs.declared.errors.DocParsingError.TheVariants as errors
 use Rattle.tv_doc.specs.declared.errors.StrictParsingError.TheVariants.{Parsing}
 use Rattle.tv_field.specs.Entry.{Entry}

@@ -49,7 +49,47 @@ pub fn push_pretty(alloc: Global, json: &str, text: &mut String) -> Result<(), A
     text.push_str(lines.as_str())
 }
 
-/// Appends the document's JSON by the names of the schema's fields to `text`, in this layout, and a line feed, see `Document::to_json`. (Not in tantivy.)
+// Appends the document's JSON on one line.
+fn append_compact(
+    alloc: Global,
+    schema: &Schema,
+    document: &TantivyDocument,
+    text: &mut String,
+) -> Result<(), AllocError>
+    ensures appended { OnOk result
+        (AppendsJson schema.now layouts.Compact (document_of document.now) (string_bytes text.old)
+        (string_bytes text.new)) }
+    ensures unchanged { OnErr result (string_bytes text.new ≡ string_bytes text.old) }
+{
+    let len = text.len();
+    document.push_json(alloc, schema, text)?;
+    let fed = text.push('\n');
+    if fed.is_err() {
+        text.truncate(len);
+    }
+    fed
+}
+
+// Appends the document's JSON over several lines.
+fn append_pretty(
+    alloc: Global,
+    schema: &Schema,
+    document: &TantivyDocument,
+    text: &mut String,
+) -> Result<(), AllocError>
+    ensures appended { OnOk result
+        (AppendsJson schema.now layouts.Pretty (document_of document.now) (string_bytes text.old)
+        (string_bytes text.new)) }
+    ensures unchanged { OnErr result (string_bytes text.new ≡ string_bytes text.old) }
+{
+    let json = document.to_json(alloc, schema)?;
+    let mut lines = String::new(alloc);
+    push_pretty(alloc, json.as_str(), &mut lines)?;
+    lines.push('\n')?;
+    text.push_str(lines.as_str())
+}
+
+/// Appends the document's JSON by the names of the schema's fields to `text`, in the layout `layout`, and a line feed, see `Document::to_json`. (Not in tantivy.)
 ///
 /// The only error is that memory was refused, and then `text` is as it was.
 pub fn append_json(
@@ -64,19 +104,10 @@ pub fn append_json(
         (string_bytes text.new)) }
     ensures unchanged { OnErr result (string_bytes text.new ≡ string_bytes text.old) }
 {
-    let len = text.len();
     match layout {
-        JsonLayout::Compact => document.push_json(alloc, schema, text)?,
-        JsonLayout::Pretty => {
-            let json = document.to_json(alloc, schema)?;
-            push_pretty(alloc, json.as_str(), text)?;
-        }
+        JsonLayout::Compact => append_compact(alloc, schema, document, text),
+        JsonLayout::Pretty => append_pretty(alloc, schema, document, text),
     }
-    let fed = text.push('\n');
-    if fed.is_err() {
-        text.truncate(len);
-    }
-    fed
 }
 
 // Appends the document's JSON and a line feed to the sink. `text` is for them.

@@ -1,4 +1,4 @@
-use Rattle.std.proofs.Common.{refl, subst, List, ℕ, Err}
+use Rattle.std.proofs.Common.{subst, List, ℕ, Err}
 use Rattle.tv_doc.specs.JsonObject.{Parses}
 use Rattle.tv_lines.specs.Answers.Answer.{refused}
 use Rattle.tv_lines.proofs.Refusing.{document_answers, unwritten_answers, ok_maps, err_maps}

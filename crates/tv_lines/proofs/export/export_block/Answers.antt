@@ -37,7 +37,7 @@ loop-documents-preserved g c =
       source_failures = reads.failures ∙ i.source_failures;
       sink_failures = write.failures ∙ i.sink_failures;
       so_far = λ s k. printed_next (i.so_far s k) (one_read (ap version_of i.version) (i.source_is_known s) reads) (steps.fewer (i.source_is_known s) refl) (start_after steps i.not_failed (i.source_is_known s))
-          (subst (λ d. AppendsJson c.args.schema.now c.args.layout (document_of d) (g.K.ByteSink.held c.loop-documents.sink) (g.K.ByteSink.held c.write_json.new.sink)) c.document.ensures (write.ok (i.sink_is_known k)));
+          (subst (λ d. AppendsJson c.args.schema.now c.args.layout (document_of d) (g.K.ByteSink.held c.loop-documents.sink) (g.K.ByteSink.held c.write_json.new.sink)) c.document-document.ensures (write.ok (i.sink_is_known k)));
     }
 
 pub returns-in-Ok-false-clause-ok : goal.returns-in-Ok-false-clause-ok
@@ -93,7 +93,7 @@ returns-in-Err-write_json-clause-err g c =
     let m = i.so_far s k in
     printed_stops m error
     (printed_begun m error (one_read (ap version_of i.version) (i.source_is_known s) reads) c.in-Err-write_json.ensures.errors
-    (subst (λ x. AppendsBegun c.args.schema.now c.args.layout (document_of x) (g.K.ByteSink.held c.loop-documents.sink) (g.K.ByteSink.held c.write_json.new.sink)) c.document.ensures (c.in-Err-write_json.ensures.err (i.sink_is_known k))))
+    (subst (λ x. AppendsBegun c.args.schema.now c.args.layout (document_of x) (g.K.ByteSink.held c.loop-documents.sink) (g.K.ByteSink.held c.write_json.new.sink)) c.document-document.ensures (c.in-Err-write_json.ensures.err (i.sink_is_known k))))
 
 pub returns-in-Err-write_json-clause-sink_failures : goal.returns-in-Err-write_json-clause-sink_failures
 returns-in-Err-write_json-clause-sink_failures g c =

@@ -1,4 +1,4 @@
-use Rattle.std.proofs.Common.{◌++◌, arith, length, drop, sym, ap, ◌∙◌, append_assoc, length-take}
+use Rattle.std.proofs.Common.{◌++◌, arith, drop, sym, ap, ◌∙◌, append_assoc, length-take}
 use Rattle.std.proofs.lemmas.List.{take-append-drop}
 use Rattle.tv_lines.proofs.Cutting.{passes_to_feed, passes_all}
 use Rattle.tv_lines.proofs.line_reader.LineReader.take_buffered.Goals.{in-Some, in-None}
