@@ -1,5 +1,5 @@
 -- Documents of a block, one after the other.
-use Rattle.std.proofs.Common.{◌≡◌, ℕ, ◌-◌, ◌^◌, ◌<◌, List, [], ◌∷◌, ◌++◌, length, map, refl, sym, subst, ap, ◌∙◌, arith, append_assoc, length-append}
+use Rattle.std.proofs.Common.{◌≡◌, ℕ, ◌-◌, ◌^◌, ◌<◌, List, [], ◌∷◌, ◌++◌, length, map, refl, sym, subst, ap, ◌∙◌, arith, length-append}
 use Rattle.tv_blocks.specs.Blocks.{IsPrintedBlock, IsRefusedBlock}
 use Rattle.tv_lines.specs.Exporting.{BreaksOff, ExportsAll}
 use Rattle.tv_lines.specs.Printing.{ArePrinted}
@@ -8,11 +8,9 @@ use Rattle.tv_lines.specs.declared.errors.WorkError.{WorkError}
 use Rattle.tv_lines.specs.declared.errors.WorkError.TheVariants as work
 use Rattle.tv_blocks.specs.Refusals.{document_refusal, export_refusal, migration_refusal, refusal_within}
 use Rattle.tv_field.specs.Entry.{Entry}
-use Rattle.tv_format.specs.Encoding.{EncodesDocument}
 use Rattle.tv_format.specs.InputError.{Refusal, corrupted, no_text_key}
 use Rattle.tv_format.specs.Tree.{Document}
 use Rattle.tv_format.specs.Version.{Version}
-use Rattle.tv_reader.specs.Legacy.{Legacy}
 use Rattle.tv_reader.specs.Error.{IsRefusal}
 use Rattle.tv_reader.specs.Error.IsRefusal.{is_corrupted, is_no_text}
 use Rattle.tv_reader.specs.ValueType.{value_type_code}
@@ -21,7 +19,7 @@ use Rattle.tv_reader.specs.declared.error.DeserializeError.TheVariants as errors
 use Rattle.tv_reader.specs.declared.value_type.ValueType.{ValueType}
 use Rattle.tv_reader.specs.declared.value_type.ValueType.TheVariants as types
 use Rattle.tv_store.specs.BlockMigration.{EncodesBlock, IsUnmigrated}
-use Rattle.tv_store.specs.Documents.{BeginsWithDocument, NoDocument, HasNoRoom, IsReadingError, SaysNothing}
+use Rattle.tv_store.specs.Documents.{NoDocument, HasNoRoom, IsReadingError, SaysNothing}
 use Rattle.tv_store.proofs.BlockMigration.{without_limits}
 use Rattle.tv_store.specs.Projections.{IsReason, IsRefusedAt, kept, no_limits}
 use Rattle.tv_store.specs.declared.block.RefusedDocument.{RefusedDocument}
@@ -89,7 +87,7 @@ prints_all {entries} {v} {block} {lines} (documents, exported, number) = (
 )
 
 pub export_breaks : {entries : List Entry} {v : Version} {block left lines : List ℕ} (error : WorkError) → length block < 2 ^ 63 → BreaksOff entries Compact v (All no_limits) block left [] lines error → IsRefusedBlock v block (export_refusal error)
-export_breaks {v = v} {block} {left} (work.Read e) small m = refused_breaks v block m.before m.behind left m.documents e m.joined small (without_limits v m.before m.documents m.exported.encoded) m.next.2.1
+export_breaks {v = v} {block} {left} (work.Read e) small m = refused_breaks v block m.before m.behind left m.documents e m.joined small (without_limits v m.before m.documents m.exported.encoded) m.next.2
 export_breaks (work.Write e) small m = tt
 export_breaks work.Memory small m = tt
 export_breaks work.TooMany small m = tt

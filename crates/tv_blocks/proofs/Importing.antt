@@ -1,5 +1,5 @@
 -- What becomes of lines.
-use Rattle.std.proofs.Common.{◌≡◌, ℕ, List, [], ◌∷◌, ◌++◌, Some, None, map, append-nil, refl, sym, subst, ap, ◌∙◌}
+use Rattle.std.proofs.Common.{◌≡◌, ℕ, List, [], ◌∷◌, ◌++◌, Some, None, map, append-nil, sym, subst, ap, ◌∙◌}
 use Rattle.std.proofs.lemmas.List.{map-append}
 use Rattle.tv_blocks.proofs.LineDocuments.{lenient_of}
 use Rattle.tv_blocks.specs.Imports.{ImportsLines, IsLenientOutcome, lenient, line_answer}

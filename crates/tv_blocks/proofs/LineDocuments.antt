@@ -1,5 +1,5 @@
 -- Documents of lines, and why there is none.
-use Rattle.std.proofs.Common.{◌≡◌, ℕ, false, List, Err, refl}
+use Rattle.std.proofs.Common.{ℕ, false, List}
 use Rattle.tv_blocks.specs.LineRefusals.{IsLenient}
 use Rattle.tv_doc.specs.declared.errors.DocParsingError.TheVariants as errors
 use Rattle.tv_doc.specs.declared.errors.StrictParsingError.TheVariants.{Parsing, UnknownKey, RepeatedKey}

@@ -1,7 +1,6 @@
 -- The common prefix of two lists of bytes.
 use Rattle.std.proofs.Common.{Fits, w8, ◌≡◌, ℕ, suc, ◌+◌, ◌<◌, ◌≤◌, Bool, true, false, List, [], ◌∷◌, ◌++◌, cond, get_or, length, drop, take, leb, ltb, min, nat_eq, refl, sym, ap, ◌∙◌, arith}
 use Rattle.std.proofs.lemmas.List.{take-append-drop, length-take, length-drop, drop_all, drop-drop, get_or-drop, get_or-take, get_or_past}
-use Rattle.std.proofs.lemmas.List.Sums.{common_prefix_len-le}
 use Rattle.std.proofs.lemmas.Bool.{ltb-false, ltb-true}
 use Rattle.std.proofs.lemmas.Nat.{le_bytes_8}
 use Rattle.std.proofs.Math.Facts.{Fits-lt-pow}

@@ -43,7 +43,11 @@ fn printed_lines(
         alloc,
         schema,
         version,
-        &Projection::All(ReadLimits::default()),
+        &Projection::All(ReadLimits {
+            bytes: None,
+            heap_bytes: None,
+            depth: None,
+        }),
         JsonLayout::Compact,
         &mut source,
         &mut sink,
