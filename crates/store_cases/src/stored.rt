@@ -14,7 +14,9 @@ use tantivy_schema::schema::document::{
 use tantivy_schema::schema::{
     Field, JsonObjectOptions, OwnedValue, STORED, Schema, TantivyDocument,
 };
-use tantivy_schema::store::{DocStoreVersion, Unwatched, WriteVersion, migrate, migrate_block};
+use tantivy_schema::store::{
+    DocStoreVersion, MigrateBlockError, Unwatched, WriteVersion, migrate, migrate_block,
+};
 
 // The bytes that are written of a document.
 fn written(alloc: Global, document: &TantivyDocument, schema: &Schema) -> Result<String> {
@@ -133,6 +135,19 @@ fn migrated(alloc: Global, call: &[&str]) -> Result<String> {
     Ok(format!(in alloc; "{answer}, {left} left")?)
 }
 
+// Why a document of a block isn't migrated, and where it begins.
+fn unmigrated(alloc: Global, failed: &MigrateBlockError) -> Result<String> {
+    Ok(match failed {
+        MigrateBlockError::Read(refused) => {
+            format!(in alloc; "error {:?} at {}", refused.error, refused.start)?
+        }
+        MigrateBlockError::Write { start, error, .. } => {
+            format!(in alloc; "error Write({error:?}) at {start}")?
+        }
+        MigrateBlockError::TooMany => String::from_str(alloc, "error TooMany")?,
+    })
+}
+
 // What is written of a block that is carried over to another version, after the number of its documents, or after which of them isn't.
 fn migrated_block(alloc: Global, call: &[&str]) -> Result<String> {
     let (from, to, word) = words::three(call)?;
@@ -142,7 +157,7 @@ fn migrated_block(alloc: Global, call: &[&str]) -> Result<String> {
     let (from, to) = (reads::version(from)?, written_version(to)?);
     let answer = match migrate_block(alloc, &mut source, from, &mut sink, to, &mut Unwatched) {
         Ok(number) => format!(in alloc; "{number} documents")?,
-        Err(failed) => format!(in alloc; "error: {failed}")?,
+        Err(failed) => unmigrated(alloc, &failed)?,
     };
     let digits = words::digits(alloc, sink.as_slice())?;
     Ok(format!(in alloc; "{answer}, {digits}")?)
