@@ -1,5 +1,5 @@
 -- Whether bytes are a block of documents, and nothing else.
-use Rattle.std.specs.Prelude.{◌≡◌, ℕ, List, ◌++◌, length}
+use Rattle.std.specs.Prelude.{◌≡◌, ℕ, List, [], ◌++◌, Result, Ok, Err, length}
 use Rattle.tv_format.specs.Tree.{Document}
 use Rattle.tv_format.specs.Version.{Version}
 use Rattle.tv_store.specs.Projections.{EncodesBlockWithin, IsRefusedAt}
@@ -18,3 +18,8 @@ pub record RefusesBlock (v : Version) (limits : ReadLimits) (block left : List �
   pub joined : block ≡ before ++ behind
   pub documents : IsBlock v limits before e.document
   pub refused : IsRefusedAt v (All limits) behind left (length before) e
+
+-- The bytes were tested: they are a block and nothing is left, or this is why they aren't.
+abbrev pub TestsBlock : Version → ReadLimits → List ℕ → List ℕ → Result ℕ RefusedDocument → Type 0
+TestsBlock v limits block left (Ok number) = IsBlock v limits block number × (left ≡ [])
+TestsBlock v limits block left (Err e) = RefusesBlock v limits block left e

@@ -1,5 +1,5 @@
 -- A block of documents, printed as JSON.
-use Rattle.std.specs.Prelude.{◌≡◌, ◌⊎◌, ◌-◌, ◌^◌, ℕ, List, [], ◌++◌, length, map}
+use Rattle.std.specs.Prelude.{◌≡◌, ◌⊎◌, ◌-◌, ◌^◌, ℕ, List, [], ◌++◌, Result, Ok, Err, length, map}
 use Rattle.tv_base.specs.Sink.{AppendsPrefix}
 use Rattle.tv_lines.specs.Printing.{AppendsJson, ArePrinted}
 use Rattle.tv_lines.specs.declared.export.JsonLayout.{JsonLayout}
@@ -19,7 +19,7 @@ pub record Exported (schema : List Entry) (layout : JsonLayout) (v : Version) (p
   pub printed : ArePrinted schema layout (map (kept projection) documents) lines
   pub held : new ≡ old ++ lines
 
--- The whole block was printed, of this many documents.
+-- The whole block was printed, `number` documents.
 abbrev pub ExportsAll : List Entry → JsonLayout → Version → Projection → List ℕ → List ℕ → List ℕ → ℕ → Type 0
 ExportsAll schema layout v projection block old new number = (documents : List Document) × Exported schema layout v projection block old new documents × (number ≡ length documents)
 
@@ -27,8 +27,8 @@ ExportsAll schema layout v projection block old new number = (documents : List D
 abbrev pub AppendsBegun : List Entry → JsonLayout → Document → List ℕ → List ℕ → Type 0
 AppendsBegun schema layout d old new = (new ≡ old) ⊎ ((text : List ℕ) × AppendsJson schema layout d [] text × AppendsPrefix old new text)
 
--- What was appended of the document with which these bytes begin, and why no more: nothing where it can't be read, or isn't. Before it come this many
--- documents, in this number of bytes.
+-- What was appended of the document with which `bytes` begin, and why no more: nothing where it can't be read, or isn't. Before it come `number`
+-- documents, in `start` bytes.
 abbrev pub LeavesNext : List Entry → JsonLayout → Version → Projection → List ℕ → List ℕ → ℕ → ℕ → List ℕ → List ℕ → WorkError → Type 0
 LeavesNext schema layout v projection bytes left number start old new (errors.Read e) = (new ≡ old) × (e.document ≡ number) × IsRefusedAt v projection bytes left start e
 LeavesNext schema layout v projection bytes left number start old new errors.TooMany = (new ≡ old) × (number ≡ 2 ^ 64 - 1)
@@ -43,3 +43,8 @@ pub record BreaksOff (schema : List Entry) (layout : JsonLayout) (v : Version) (
   pub middle : List ℕ
   pub exported : Exported schema layout v projection before old middle documents
   pub next : LeavesNext schema layout v projection behind left (length documents) (length before) middle new error
+
+-- The block was printed, whole or up to the document at which that broke off.
+abbrev pub PrintsBlock : List Entry → JsonLayout → Version → Projection → List ℕ → List ℕ → List ℕ → List ℕ → Result ℕ WorkError → Type 0
+PrintsBlock schema layout v projection block left old new (Ok number) = ExportsAll schema layout v projection block old new number
+PrintsBlock schema layout v projection block left old new (Err e) = BreaksOff schema layout v projection block left old new e

@@ -75,8 +75,8 @@ pub record FindsAll (schema : List Entry) (v : Version) (projection : Projection
   pub matching : found.found ≡ count_by (λ report. is_found report.outcome) reports
   pub faulty : found.faulty ≡ count_by (λ report. is_faulty report.outcome) reports
 
--- What was appended of the document with which these bytes begin, and why the search went no further: nothing where it can't be read, or isn't. Before it come
--- this many documents, in this number of bytes.
+-- What was appended of the document with which `bytes` begin, and why the search went no further: nothing where it can't be read, or isn't. Before it come
+-- `number` documents, in `start` bytes.
 abbrev pub LeavesUnsearched : List Entry → Version → Projection → QueryTree → List ℕ → List ℕ → ℕ → ℕ → List ℕ → List ℕ → WorkError → Type 0
 LeavesUnsearched schema v projection tree bytes left number start old new (errors.Read e) = (new ≡ old) × (e.document ≡ number) × IsRefusedAt v projection bytes left start e
 LeavesUnsearched schema v projection tree bytes left number start old new errors.TooMany = (new ≡ old) × (number ≡ 2 ^ 64 - 1)
@@ -100,6 +100,11 @@ pub record StopsFinding {E : Type 0} (schema : List Entry) (v : Version) (projec
   pub told : IsTold → ended ≡ begun ++ reports
   pub next : LeavesSearch schema v projection tree after left (length reports) (length before) middle new error
 
+-- The block was searched, whole or up to the document at which that broke off.
+abbrev pub SearchesBlock : {E : Type 0} → List Entry → Version → Projection → QueryTree → List ℕ → List ℕ → List ℕ → List ℕ → Type 0 → List DocumentReport → List DocumentReport → Result Found (FindError E) → Type 0
+SearchesBlock schema v projection tree block left old new IsTold begun ended (Ok found) = FindsAll schema v projection tree block old new IsTold begun ended found
+SearchesBlock schema v projection tree block left old new IsTold begun ended (Err e) = StopsFinding schema v projection tree block left old new IsTold begun ended e
+
 -- why a search broke off, as its source and its sink see it
 abbrev pub find_source_stop : {E : Type 0} → FindError E → Stop Refusal
 find_source_stop (finding.Work e) = source_stop e
@@ -110,6 +115,11 @@ find_sink_stop (finding.Work e) = sink_stop e
 find_sink_stop (finding.Report e) = Short
 
 -- ---- for private clauses
+
+-- a document was searched, and its line appended if it is found, whole or in part
+abbrev pub SearchesDocument : List Entry → QueryTree → Document → List ℕ → List ℕ → Result DocumentOutcome WorkError → Type 0
+SearchesDocument schema tree d old new (Ok said) = FindsDocument schema tree d old new said
+SearchesDocument schema tree d old new (Err e) = LeavesDocument schema tree d old new e
 
 -- one document more is counted
 abbrev pub CountsFound : Found → DocumentOutcome → Found → Type 0

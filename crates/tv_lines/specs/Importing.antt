@@ -13,6 +13,7 @@ use Rattle.tv_lines.specs.LineDocuments.{MakesLineDocument, MakesNone}
 use Rattle.tv_lines.specs.Lines.{FirstLine}
 use Rattle.tv_lines.specs.Reader.{most_left, unread}
 use Rattle.tv_lines.specs.Terms.{faulty_name}
+use Rattle.tv_lines.specs.declared.errors.Halt.{Halt}
 use Rattle.tv_lines.specs.declared.import.FaultRule.{FaultRule}
 use Rattle.tv_lines.specs.declared.import.FaultRule.TheVariants.{Ignore, Tell, Refuse}
 use Rattle.tv_lines.specs.declared.import.ImportRules.{ImportRules}
@@ -65,6 +66,11 @@ abbrev pub LeavesBegun : List Entry → ImportRules → List ℕ → List ℕ �
 LeavesBegun schema rules input old new =
     (new ≡ old) ⊎ ((rest : List ℕ) × (text : List ℕ) × (fault : Option TermValuesError) × ImportsNext schema rules input rest text (Some (outcome.Stored (length text) fault)) × AppendsPrefix old new text)
 
+-- The next line of an input was taken, or that broke off.
+abbrev pub ImportsLine : List Entry → ImportRules → List ℕ → List ℕ → List ℕ → List ℕ → Result (Option LineOutcome) Halt → Type 0
+ImportsLine schema rules input rest old new (Ok said) = Imports schema rules input rest old new said
+ImportsLine schema rules input rest old new (Err e) = LeavesBegun schema rules input old new
+
 -- what an importer has left to read of a source that has these bytes left
 abbrev pub left_to : LineImporter → List ℕ → List ℕ
 left_to importer left = unread importer.lines ++ left
@@ -73,9 +79,9 @@ left_to importer left = unread importer.lines ++ left
 abbrev pub most_to : LineImporter → ℕ
 most_to importer = most_left importer.lines
 
--- this many bytes of the input were taken, and these are left
-abbrev pub CountsTaken : List ℕ → List ℕ → ℕ → Type 0
-CountsTaken input rest count = length input ≡ count + length rest
+-- what the importer says it took is what it had left to read before and not after
+abbrev pub CountsTaken : LineImporter → List ℕ → LineImporter → List ℕ → Type 0
+CountsTaken old old_left new new_left = length (left_to old old_left) ≡ new.taken + length (left_to new new_left)
 
 -- ---- for private clauses
 

@@ -1,4 +1,5 @@
 pub mod Lines
+pub mod Streams
 pub mod Reader
 pub mod Halts
 pub mod Terms

@@ -1,5 +1,5 @@
 -- What a run over an input writes.
-use Rattle.std.specs.Prelude.{◌≡◌, ◌⊎◌, ℕ, List, [], ◌∷◌, ◌++◌}
+use Rattle.std.specs.Prelude.{◌≡◌, ◌⊎◌, ℕ, List, [], ◌∷◌, ◌++◌, Result, Ok, Err}
 use Rattle.tv_base.specs.ReadsAs.{TakesMost}
 use Rattle.tv_base.specs.Sink.{IsPrefix}
 use Rattle.tv_base.specs.Source.{Failures}
@@ -49,16 +49,22 @@ BrokenText input text = PrefixOf (λ whole. DoneText input whole ⊎ BadSchemaTe
 abbrev pub WritesText : (List ℕ → Type 0) → List ℕ → List ℕ → Type 0
 WritesText P old new = (text : List ℕ) × P text × (new ≡ old ++ text)
 
--- what is written at an end that isn't broken
-abbrev pub EndsWith : RunEnd → List ℕ → List ℕ → List ℕ → Type 0
-EndsWith Done input old new = WritesText (DoneText input) old new
-EndsWith BadSchema input old new = WritesText (BadSchemaText input) old new
-EndsWith Broken input old new = ⊥
-
+-- the run wasn't broken off
 abbrev pub IsWhole : RunEnd → Type 0
 IsWhole Done = Unit {0}
 IsWhole BadSchema = Unit {0}
 IsWhole Broken = ⊥
+
+-- what is written of an input by a run that ends so
+abbrev pub EndsWith : RunEnd → List ℕ → List ℕ → List ℕ → Type 0
+EndsWith Done input old new = WritesText (DoneText input) old new
+EndsWith BadSchema input old new = WritesText (BadSchemaText input) old new
+EndsWith Broken input old new = WritesText (BrokenText input) old new
+
+-- what is written of an input by a run that may break off with an error
+abbrev pub RunsOver : List ℕ → List ℕ → List ℕ → Result RunEnd Halt → Type 0
+RunsOver input old new (Ok end) = EndsWith end input old new
+RunsOver input old new (Err _) = EndsWith Broken input old new
 
 -- A run broke off for some reason: a read or a write failed exactly where the reason says so, with its kind, and `TooLong` comes after the
 -- most bytes that are counted.
@@ -67,3 +73,8 @@ pub record Halted (read new_read written new_written : Failures) (is_known : Typ
   pub source : CountsStop (source_stop halt) read new_read
   pub sink : CountsStop (sink_stop halt) written new_written
   pub too_long : is_known → halt ≡ TooLong → TakesMost left new_left
+
+-- why a run ended so: where it is whole, no read and no write failed
+abbrev pub HasReason : RunEnd → Failures → Failures → Failures → Failures → Type 0 → List ℕ → List ℕ → Type 0
+HasReason Broken read new_read written new_written is_known left new_left = Halted read new_read written new_written is_known left new_left
+HasReason _ read new_read written new_written is_known left new_left = (new_read ≡ read) × (new_written ≡ written)

@@ -1,5 +1,5 @@
 -- What becomes of all lines of an input.
-use Rattle.std.specs.Prelude.{◌≡◌, ◌≢◌, ◌+◌, ◌-◌, ◌^◌, ℕ, Bool, true, false, List, [], ◌∷◌, ◌++◌, None, Some, count_by, length}
+use Rattle.std.specs.Prelude.{◌≡◌, ◌≢◌, ◌+◌, ◌-◌, ◌^◌, ℕ, Bool, true, false, List, [], ◌∷◌, ◌++◌, None, Some, Result, Ok, Err, count_by, length}
 use Rattle.tv_base.specs.Stop.{Stop}
 use Rattle.tv_base.specs.Stop.Stop.{Short}
 use Rattle.tv_lines.specs.Halts.{sink_stop, source_stop}
@@ -61,7 +61,7 @@ pub record ImportsAll (schema : List Entry) (rules : ImportRules) (input old new
   pub unsearchable : said.unsearchable ≡ count_by is_unsearchable imported.outcomes
   pub refused : said.refused ≡ count_by is_refused imported.outcomes
 
--- What a sink that held `old` holds of the next line, before which there were this many: maybe a beginning of its document where that wasn't stored, and
+-- What a sink that held `old` holds of the next line, before which there were `number`: maybe a beginning of its document where that wasn't stored, and
 -- all of it where only the report failed.
 abbrev pub LeavesLine : {E : Type 0} → List Entry → ImportRules → List ℕ → ℕ → List ℕ → List ℕ → ImportLinesError E → Type 0
 LeavesLine schema rules rest number old new (errors.Import e) = LeavesBegun schema rules rest old new
@@ -77,6 +77,11 @@ pub record StopsImport {E : Type 0} (schema : List Entry) (rules : ImportRules) 
   pub middle : List ℕ
   pub imported : ImportsEach schema rules lines old middle IsTold begun ended
   pub next : LeavesLine schema rules rest (length lines) middle new e
+
+-- The input was imported, whole or up to the line at which that broke off.
+abbrev pub ImportsInput : {E : Type 0} → List Entry → ImportRules → List ℕ → List ℕ → List ℕ → Type 0 → List LineReport → List LineReport → Result Imported (ImportLinesError E) → Type 0
+ImportsInput schema rules input old new IsTold begun ended (Ok said) = ImportsAll schema rules input old new IsTold begun ended said
+ImportsInput schema rules input old new IsTold begun ended (Err e) = StopsImport schema rules input old new IsTold begun ended e
 
 -- why an import of lines broke off, as its source and its sink see it
 abbrev pub lines_source_stop : {E : Type 0} → ImportLinesError E → Stop ⊥

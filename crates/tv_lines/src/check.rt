@@ -1,8 +1,8 @@
 //! Blocks of stored documents, tested.
 
-ghost use Rattle.std.specs.Prelude.{◌<◌, ◌-◌, ◌^◌, IfErr, IfOk, length};
-ghost use Rattle.tv_base.specs.Stop.{Counts};
-ghost use Rattle.tv_lines.specs.Checking.{IsBlock, RefusesBlock};
+ghost use Rattle.std.specs.Prelude.{◌<◌, ◌-◌, ◌^◌, length};
+ghost use Rattle.tv_lines.specs.Checking.{TestsBlock};
+ghost use Rattle.tv_lines.specs.Streams.{ReportsReads};
 ghost use Rattle.tv_reader.specs.Version.{version_of};
 ghost use Rattle.tv_store.specs.Projections.{refused_stop};
 
@@ -26,13 +26,9 @@ pub fn check_block<S: ByteSource, W: Watch>(
     source: &mut S,
     watch: &mut W,
 ) -> Result<u64, RefusedDocument>
-    ensures ok { S.is_known source.old → length (S.left source.old) < 2 ^ 64 - 1
-        → IfOk result (IsBlock (version_of version) limits (S.left source.old)) }
-    ensures err { S.is_known source.old → length (S.left source.old) < 2 ^ 64 - 1
-        → IfErr result
-        (RefusesBlock (version_of version) limits (S.left source.old) (S.left source.new)) }
-    ensures failures { Counts refused_stop result (S.failures source.old) (S.failures source.new) }
-    ensures is_known { S.is_known source.old → S.is_known source.new }
+    ensures tests { S.is_known source.old → length (S.left source.old) < 2 ^ 64 - 1 → TestsBlock
+        (version_of version) limits (S.left source.old) (S.left source.new) result }
+    ensures source { ReportsReads S.ByteSource refused_stop source.old source.new result }
 {
     let mut reader = BlockReader::new(alloc, version);
     let projection = Projection::All(limits);

@@ -2,8 +2,8 @@
 
 ghost use Rattle.std.specs.Prelude.{◌≡◌, ◌++◌, OnErr, OnOk, IfErr};
 ghost use Rattle.tv_base.specs.Sink.{AppendsPrefix};
-ghost use Rattle.tv_base.specs.Stop.{Counts};
 ghost use Rattle.tv_lines.specs.Halts.{IsOfWriting, sink_stop};
+ghost use Rattle.tv_lines.specs.Streams.{ReportsWrites};
 ghost use Rattle.tv_lines.specs.declared.errors.Halt.TheVariants.{Memory};
 
 use std::alloc::AllocError;
@@ -44,8 +44,7 @@ pub(crate) fn append<K: ByteSink>(sink: &mut K, bytes: &[u8]) -> Result<(), Halt
     ensures err { K.is_known sink.old
         → OnErr result (AppendsPrefix (K.held sink.old) (K.held sink.new) bytes.now) }
     ensures writes { IfErr result IsOfWriting }
-    ensures failures { Counts sink_stop result (K.failures sink.old) (K.failures sink.new) }
-    ensures is_known { K.is_known sink.old → K.is_known sink.new }
+    ensures sink { ReportsWrites K.ByteSink sink_stop sink.old sink.new result }
 {
     match write_all(sink, bytes) {
         Ok(()) => Ok(()),

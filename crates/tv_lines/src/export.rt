@@ -1,9 +1,9 @@
 //! Blocks of stored documents to JSON.
 
-ghost use Rattle.std.specs.Prelude.{◌≡◌, ◌++◌, [], IfErr, IfOk, OnErr, OnOk, string_bytes};
-ghost use Rattle.tv_base.specs.Stop.{Counts};
+ghost use Rattle.std.specs.Prelude.{◌≡◌, ◌++◌, [], IfErr, OnErr, OnOk, string_bytes};
 ghost use Rattle.tv_doc.specs.Document.{document_of};
-ghost use Rattle.tv_lines.specs.Exporting.{AppendsBegun, BreaksOff, ExportsAll};
+ghost use Rattle.tv_lines.specs.Exporting.{AppendsBegun, PrintsBlock};
+ghost use Rattle.tv_lines.specs.Streams.{ReportsReads, ReportsWrites};
 ghost use Rattle.tv_lines.specs.Printing.{AppendsJson, laid_out};
 ghost use Rattle.tv_lines.specs.WorkErrors.{IsOfPrinting, sink_stop, source_stop};
 ghost use Rattle.tv_lines.specs.declared.export.JsonLayout.TheVariants as layouts;
@@ -126,8 +126,7 @@ pub(crate) fn write_json<K: ByteSink>(
         → OnErr result (AppendsBegun schema.now layout (document_of document.now)
         (K.held sink.old) (K.held sink.new)) }
     ensures errors { IfErr result IsOfPrinting }
-    ensures failures { Counts sink_stop result (K.failures sink.old) (K.failures sink.new) }
-    ensures is_known { K.is_known sink.old → K.is_known sink.new }
+    ensures sink { ReportsWrites K.ByteSink sink_stop sink.old sink.new result }
 {
     text.clear();
     append_json(alloc, schema, layout, document, text)?;
@@ -154,20 +153,12 @@ pub fn export_block<S: ByteSource, K: ByteSink, W: Watch>(
     sink: &mut K,
     watch: &mut W,
 ) -> Result<u64, WorkError>
-    ensures ok { S.is_known source.old → K.is_known sink.old
-        → IfOk result
-        (ExportsAll schema.now layout (version_of version) projection.now (S.left source.old)
-        (K.held sink.old) (K.held sink.new)) }
-    ensures err { S.is_known source.old → K.is_known sink.old
-        → IfErr result
-        (BreaksOff schema.now layout (version_of version) projection.now (S.left source.old)
-        (S.left source.new) (K.held sink.old) (K.held sink.new)) }
+    ensures prints { S.is_known source.old → K.is_known sink.old → PrintsBlock schema.now layout
+        (version_of version) projection.now (S.left source.old) (S.left source.new)
+        (K.held sink.old) (K.held sink.new) result }
     ensures all { S.is_known source.old → OnOk result (S.left source.new ≡ []) }
-    ensures source_failures { Counts source_stop result (S.failures source.old)
-        (S.failures source.new) }
-    ensures sink_failures { Counts sink_stop result (K.failures sink.old) (K.failures sink.new) }
-    ensures source_is_known { S.is_known source.old → S.is_known source.new }
-    ensures sink_is_known { K.is_known sink.old → K.is_known sink.new }
+    ensures source { ReportsReads S.ByteSource source_stop source.old source.new result }
+    ensures sink { ReportsWrites K.ByteSink sink_stop sink.old sink.new result }
 {
     let mut reader = BlockReader::new(alloc, version);
     let mut text = String::new(alloc);

@@ -1,9 +1,8 @@
 //! The documents of a block that a query matches, as lines of JSON.
 
 ghost use Rattle.std.specs.Prelude.{◌≡◌, ◌+◌, ◌-◌, ◌<◌, ◌^◌, [], IfErr, IfOk, OnOk};
-ghost use Rattle.tv_base.specs.Stop.{Counts};
-ghost use Rattle.tv_lines.specs.Finding.{CountsFound, FindsDocument, FindsAll, LeavesDocument, StopsFinding, TellsMatch, find_sink_stop, find_source_stop};
-ghost use Rattle.tv_lines.specs.Finding.{named_terms};
+ghost use Rattle.tv_lines.specs.Finding.{CountsFound, SearchesBlock, SearchesDocument, TellsMatch, find_sink_stop, find_source_stop, named_terms};
+ghost use Rattle.tv_lines.specs.Streams.{ReportsReads, ReportsWrites};
 ghost use Rattle.tv_lines.specs.WorkErrors.{IsOfPrinting, sink_stop};
 ghost use Rattle.tv_doc.specs.Document.{document_of};
 ghost use Rattle.tv_query.specs.Grammar.{QueryTree, steps_of};
@@ -101,18 +100,12 @@ fn find_in_document<K: ByteSink>(
     buffers: &mut FindBuffers<'_>,
     sink: &mut K,
 ) -> Result<DocumentOutcome, WorkError>
-    ensures ok { K.is_known sink.old → (tree : QueryTree)
-        → buffers.old.matcher.query.now.steps.items ≡ steps_of tree
-        → IfOk result (FindsDocument schema.now tree (document_of document.now) (K.held sink.old)
-        (K.held sink.new)) }
-    ensures err { K.is_known sink.old → (tree : QueryTree)
-        → buffers.old.matcher.query.now.steps.items ≡ steps_of tree
-        → IfErr result (LeavesDocument schema.now tree (document_of document.now)
-        (K.held sink.old) (K.held sink.new)) }
+    ensures searches { K.is_known sink.old → (tree : QueryTree)
+        → buffers.old.matcher.query.now.steps.items ≡ steps_of tree → SearchesDocument schema.now
+        tree (document_of document.now) (K.held sink.old) (K.held sink.new) result }
     ensures query { buffers.new.matcher.query.now ≡ buffers.old.matcher.query.now }
     ensures errors { IfErr result IsOfPrinting }
-    ensures failures { Counts sink_stop result (K.failures sink.old) (K.failures sink.new) }
-    ensures is_known { K.is_known sink.old → K.is_known sink.new }
+    ensures sink { ReportsWrites K.ByteSink sink_stop sink.old sink.new result }
 {
     match match_document(alloc, schema, document, &mut buffers.matcher)? {
         Ok(true) => {
@@ -184,24 +177,14 @@ pub fn find_in_block<S: ByteSource, K: ByteSink, T: Report<DocumentReport>, W: W
     report: &mut T,
     watch: &mut W,
 ) -> Result<Found, FindError<T::Error>>
-    ensures ok { S.is_known source.old → K.is_known sink.old → (tree : QueryTree)
-        → query.now.steps.items ≡ steps_of tree → IfOk result
-        (FindsAll schema.now (version_of version) projection.now tree (S.left source.old)
-        (K.held sink.old) (K.held sink.new)
-        (T.is_known report.old) (T.told report.old) (T.told report.new)) }
-    ensures err { S.is_known source.old → K.is_known sink.old → (tree : QueryTree)
-        → query.now.steps.items ≡ steps_of tree → IfErr result
-        (StopsFinding schema.now (version_of version) projection.now tree (S.left source.old)
-        (S.left source.new) (K.held sink.old) (K.held sink.new)
-        (T.is_known report.old) (T.told report.old) (T.told report.new)) }
+    ensures searches { S.is_known source.old → K.is_known sink.old → (tree : QueryTree)
+        → query.now.steps.items ≡ steps_of tree → SearchesBlock schema.now (version_of version)
+        projection.now tree (S.left source.old) (S.left source.new) (K.held sink.old)
+        (K.held sink.new) (T.is_known report.old) (T.told report.old) (T.told report.new) result }
     ensures all { S.is_known source.old → OnOk result (S.left source.new ≡ []) }
-    ensures source_failures { Counts find_source_stop result (S.failures source.old)
-        (S.failures source.new) }
-    ensures sink_failures { Counts find_sink_stop result (K.failures sink.old)
-        (K.failures sink.new) }
-    ensures source_is_known { S.is_known source.old → S.is_known source.new }
-    ensures sink_is_known { K.is_known sink.old → K.is_known sink.new }
-    ensures report_is_known { T.is_known report.old → T.is_known report.new }
+    ensures source { ReportsReads S.ByteSource find_source_stop source.old source.new result }
+    ensures sink { ReportsWrites K.ByteSink find_sink_stop sink.old sink.new result }
+    ensures report { T.is_known report.old → T.is_known report.new }
 {
     let mut reader = BlockReader::new(alloc, version);
     let matcher = QueryMatcher::new(alloc, query);

@@ -1,13 +1,13 @@
 //! Lines of JSON to stored documents.
 
-ghost use Rattle.std.specs.Prelude.{◌≡◌, ◌<◌, ℕ, List, IfOk, IsSome, OnErr, OnOk};
-ghost use Rattle.tv_base.specs.Stop.{Counts};
+ghost use Rattle.std.specs.Prelude.{◌≡◌, ◌<◌, ℕ, List, IfOk, IsSome, OnOk};
 ghost use Rattle.tv_doc.specs.Belongs.{Belongs};
 ghost use Rattle.tv_doc.specs.Document.{document_of};
 ghost use Rattle.tv_format.specs.Short.{short_document};
 ghost use Rattle.tv_format.specs.WriteVersion.{written_version};
 ghost use Rattle.tv_lines.specs.Halts.{sink_stop, source_stop};
-ghost use Rattle.tv_lines.specs.Importing.{CountsTaken, Imports, IsJudged, LeavesBegun, TellsUnsearchable, left_to, most_to};
+ghost use Rattle.tv_lines.specs.Importing.{CountsTaken, ImportsLine, IsJudged, TellsUnsearchable, left_to, most_to};
+ghost use Rattle.tv_lines.specs.Streams.{ReportsReads, ReportsWrites};
 ghost use Rattle.tv_store.specs.Stored.{stored};
 
 use crate::errors::{Halt, append};
@@ -174,25 +174,15 @@ impl LineImporter {
         source: &mut S,
         sink: &mut K,
     ) -> Result<Option<LineOutcome>, Halt>
-        ensures ok { S.is_known source.old → K.is_known sink.old
-            → IfOk result
-            (Imports schema.now self.old.rules (left_to self.old (S.left source.old))
-            (left_to self.new (S.left source.new)) (K.held sink.old) (K.held sink.new)) }
-        ensures err { S.is_known source.old → K.is_known sink.old
-            → OnErr result
-            (LeavesBegun schema.now self.old.rules (left_to self.old (S.left source.old))
-            (K.held sink.old) (K.held sink.new)) }
-        ensures bytes { S.is_known source.old
-            → OnOk result (CountsTaken (left_to self.old (S.left source.old))
-            (left_to self.new (S.left source.new)) self.new.taken) }
+        ensures imports { S.is_known source.old → K.is_known sink.old → ImportsLine schema.now
+            self.old.rules (left_to self.old (S.left source.old))
+            (left_to self.new (S.left source.new)) (K.held sink.old) (K.held sink.new) result }
+        ensures bytes { S.is_known source.old → OnOk result
+            (CountsTaken self.old (S.left source.old) self.new (S.left source.new)) }
         ensures fewer { IfOk result (λ said. IsSome said → most_to self.new < most_to self.old) }
-        ensures source_failures { Counts source_stop result (S.failures source.old)
-            (S.failures source.new) }
-        ensures sink_failures { Counts sink_stop result (K.failures sink.old)
-            (K.failures sink.new) }
         ensures rules { self.new.rules ≡ self.old.rules }
-        ensures source_is_known { S.is_known source.old → S.is_known source.new }
-        ensures sink_is_known { K.is_known sink.old → K.is_known sink.new }
+        ensures source { ReportsReads S.ByteSource source_stop source.old source.new result }
+        ensures sink { ReportsWrites K.ByteSink sink_stop sink.old sink.new result }
     {
         let Some(taken) = self.lines.take_line(source, &mut self.line)? else {
             self.taken = 0;

@@ -1,9 +1,9 @@
 //! All lines of an input to stored documents.
 
-ghost use Rattle.std.specs.Prelude.{◌≡◌, ◌+◌, ◌-◌, ◌^◌, ◌<◌, ◌≤◌, [], IfErr, IfOk, OnOk};
-ghost use Rattle.tv_base.specs.Stop.{Counts};
+ghost use Rattle.std.specs.Prelude.{◌≡◌, ◌+◌, ◌-◌, ◌^◌, ◌<◌, ◌≤◌, [], OnOk};
 ghost use Rattle.tv_lines.specs.Importing.{left_to};
-ghost use Rattle.tv_lines.specs.WholeImports.{CountsOutcome, ImportsAll, StopsImport, lines_sink_stop, lines_source_stop};
+ghost use Rattle.tv_lines.specs.Streams.{ReportsReads, ReportsWrites};
+ghost use Rattle.tv_lines.specs.WholeImports.{CountsOutcome, ImportsInput, lines_sink_stop, lines_source_stop};
 
 use crate::errors::Halt;
 use crate::import::{LineImporter, LineOutcome};
@@ -86,26 +86,15 @@ pub fn import_lines<S: ByteSource, K: ByteSink, T: Report<LineReport>, W: Watch>
     report: &mut T,
     watch: &mut W,
 ) -> Result<Imported, ImportLinesError<T::Error>>
-    ensures ok { S.is_known source.old → K.is_known sink.old
-        → IfOk result
-        (ImportsAll schema.now importer.old.rules (left_to importer.old (S.left source.old))
-        (K.held sink.old) (K.held sink.new) (T.is_known report.old) (T.told report.old)
-        (T.told report.new)) }
-    ensures err { S.is_known source.old → K.is_known sink.old
-        → IfErr result
-        (StopsImport schema.now importer.old.rules (left_to importer.old (S.left source.old))
-        (K.held sink.old) (K.held sink.new) (T.is_known report.old) (T.told report.old)
-        (T.told report.new)) }
+    ensures imports { S.is_known source.old → K.is_known sink.old → ImportsInput schema.now
+        importer.old.rules (left_to importer.old (S.left source.old)) (K.held sink.old)
+        (K.held sink.new) (T.is_known report.old) (T.told report.old) (T.told report.new) result }
     ensures all { S.is_known source.old → K.is_known sink.old
         → OnOk result (left_to importer.new (S.left source.new) ≡ []) }
-    ensures source_failures { Counts lines_source_stop result (S.failures source.old)
-        (S.failures source.new) }
-    ensures sink_failures { Counts lines_sink_stop result (K.failures sink.old)
-        (K.failures sink.new) }
     ensures rules { importer.new.rules ≡ importer.old.rules }
-    ensures source_is_known { S.is_known source.old → S.is_known source.new }
-    ensures sink_is_known { K.is_known sink.old → K.is_known sink.new }
-    ensures report_is_known { T.is_known report.old → T.is_known report.new }
+    ensures source { ReportsReads S.ByteSource lines_source_stop source.old source.new result }
+    ensures sink { ReportsWrites K.ByteSink lines_sink_stop sink.old sink.new result }
+    ensures report { T.is_known report.old → T.is_known report.new }
 {
     let mut imported = Imported {
         stored: 0,

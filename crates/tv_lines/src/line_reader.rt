@@ -76,8 +76,9 @@ fn cut(piece: &[u8], line: &mut Vec<u8>) -> Result<Option<usize>, AllocError>
 impl LineReader {
     ghost use Rattle.std.specs.Prelude.{◌-◌, ◌+◌, ◌^◌, true, false, None, IsErrOf, IsSome, length};
     ghost use Rattle.std.specs.declared.io.ErrorKind.{ErrorKind};
-    ghost use Rattle.tv_base.specs.Stop.{Counts, Taken};
+    ghost use Rattle.tv_base.specs.Stop.{Taken};
     ghost use Rattle.tv_lines.specs.Halts.{source_stop};
+    ghost use Rattle.tv_lines.specs.Streams.{ReportsReads};
     ghost use Rattle.tv_lines.specs.declared.errors.Halt.TheVariants.{TooLong};
     ghost use Rattle.tv_lines.specs.Reader.{unread, most_left, MovesLine, ReadsSome, TakesLine};
 
@@ -214,9 +215,7 @@ impl LineReader {
             → Taken (S.left source.old) (S.left source.new) self.old.count self.new.count }
         ensures too_long { IsErrOf result TooLong → self.new.count ≡ 2 ^ 64 - 1 }
         ensures reads { (kind : ErrorKind) → ¬ IsErrOf result (Halt.Write kind) }
-        ensures is_known { S.is_known source.old → S.is_known source.new }
-        ensures failures { Counts source_stop result (S.failures source.old)
-            (S.failures source.new) }
+        ensures source { ReportsReads S.ByteSource source_stop source.old source.new result }
     {
         let room = u64::MAX - self.count;
         if room == 0 {
@@ -246,15 +245,12 @@ impl LineReader {
         ensures takes { S.is_known source.old
             → IfOk result (TakesLine (unread self.old ++ S.left source.old) line.new.items
             (unread self.new ++ S.left source.new)) }
-        ensures fewer { IfOk result
-            (λ taken. IsSome taken → most_left self.new < most_left self.old) }
+        ensures fewer { IfOk result (λ count. IsSome count → most_left self.new < most_left self.old) }
         ensures taken { S.is_known source.old
             → Taken (S.left source.old) (S.left source.new) self.old.count self.new.count }
         ensures too_long { IsErrOf result TooLong → self.new.count ≡ 2 ^ 64 - 1 }
         ensures reads { (kind : ErrorKind) → ¬ IsErrOf result (Halt.Write kind) }
-        ensures is_known { S.is_known source.old → S.is_known source.new }
-        ensures failures { Counts source_stop result (S.failures source.old)
-            (S.failures source.new) }
+        ensures source { ReportsReads S.ByteSource source_stop source.old source.new result }
     {
         line.clear();
         'pieces: loop {

@@ -2,14 +2,15 @@
 
 ghost use Rattle.std.specs.Prelude.{◌≡◌, ◌-◌, ◌^◌, ◌++◌, [], IfOk, IsErrOf, OnErr, OnOk, ◌∷◌, codes, IfErr};
 ghost use Rattle.tv_base.specs.ReadsAs.{TakesMost};
-ghost use Rattle.tv_base.specs.Stop.{Counts, Taken};
+ghost use Rattle.tv_base.specs.Stop.{Taken};
 ghost use Rattle.tv_lines.specs.Answers.{ReadsSchema, SchemaRefusal, schema_error_name};
 ghost use Rattle.tv_lines.specs.Halts.{source_stop, sink_stop};
 ghost use Rattle.tv_lines.specs.Reader.{unread};
-ghost use Rattle.tv_lines.specs.Run.{AnswersOf, BadSchemaText, BrokenText, DoneText, EndsWith, Halted, PrefixOf, WritesText, IsWhole, IsEnded};
+ghost use Rattle.tv_lines.specs.Run.{AnswersOf, EndsWith, HasReason, PrefixOf, RunsOver, WritesText, IsEnded, IsWhole};
 ghost use Rattle.tv_lines.specs.Status.{status_of};
+ghost use Rattle.tv_lines.specs.Streams.{ReportsReads, ReportsWrites};
 ghost use Rattle.tv_lines.specs.declared.errors.Halt.TheVariants.{TooLong};
-ghost use Rattle.tv_lines.specs.declared.runs.RunEnd.TheVariants.{Done, BadSchema, Broken};
+ghost use Rattle.tv_lines.specs.declared.runs.RunEnd.TheVariants.{Done};
 
 use crate::document_line::{LineMemory, answer_line};
 use crate::errors::{Halt, append};
@@ -40,11 +41,8 @@ fn answer_each<S: ByteSource, K: ByteSink>(
         (WritesText (PrefixOf (AnswersOf schema.now (unread reader.old ++ S.left source.old)))
         (K.held sink.old) (K.held sink.new)) }
     ensures all { S.is_known source.old → OnOk result (S.left source.new ≡ []) }
-    ensures source_is_known { S.is_known source.old → S.is_known source.new }
-    ensures sink_is_known { K.is_known sink.old → K.is_known sink.new }
-    ensures source_failures { Counts source_stop result (S.failures source.old)
-        (S.failures source.new) }
-    ensures sink_failures { Counts sink_stop result (K.failures sink.old) (K.failures sink.new) }
+    ensures source { ReportsReads S.ByteSource source_stop source.old source.new result }
+    ensures sink { ReportsWrites K.ByteSink sink_stop sink.old sink.new result }
     ensures taken { S.is_known source.old
         → Taken (S.left source.old) (S.left source.new) reader.old.count reader.new.count }
     ensures too_long { IsErrOf result TooLong → reader.new.count ≡ 2 ^ 64 - 1 }
@@ -71,19 +69,12 @@ pub fn try_run<S: ByteSource, K: ByteSink>(
     source: &mut S,
     sink: &mut K,
 ) -> Result<RunEnd, Halt>
-    ensures ok { S.is_known source.old → K.is_known sink.old
-        → IfOk result
-        (λ end. EndsWith end (S.left source.old) (K.held sink.old) (K.held sink.new)) }
-    ensures err { S.is_known source.old → K.is_known sink.old
-        → OnErr result
-        (WritesText (BrokenText (S.left source.old)) (K.held sink.old) (K.held sink.new)) }
+    ensures runs { S.is_known source.old → K.is_known sink.old
+        → RunsOver (S.left source.old) (K.held sink.old) (K.held sink.new) result }
     ensures whole { IfOk result IsWhole }
     ensures all { S.is_known source.old → IfOk result (λ end. end ≡ Done → S.left source.new ≡ []) }
-    ensures source_is_known { S.is_known source.old → S.is_known source.new }
-    ensures sink_is_known { K.is_known sink.old → K.is_known sink.new }
-    ensures source_failures { Counts source_stop result (S.failures source.old)
-        (S.failures source.new) }
-    ensures sink_failures { Counts sink_stop result (K.failures sink.old) (K.failures sink.new) }
+    ensures source { ReportsReads S.ByteSource source_stop source.old source.new result }
+    ensures sink { ReportsWrites K.ByteSink sink_stop sink.old sink.new result }
     ensures too_long { S.is_known source.old → IsErrOf result TooLong
         → TakesMost (S.left source.old) (S.left source.new) }
 {
@@ -113,23 +104,12 @@ pub fn try_run<S: ByteSource, K: ByteSink>(
 ///
 /// `Broken` where the run broke off; `try_run` does the same, and tells why.
 pub fn run<S: ByteSource, K: ByteSink>(alloc: Global, source: &mut S, sink: &mut K) -> RunEnd
-    // what is written after what the sink held
-    ensures done { S.is_known source.old → K.is_known sink.old → result ≡ Done
-        → WritesText (DoneText (S.left source.old)) (K.held sink.old) (K.held sink.new) }
-    ensures bad_schema { S.is_known source.old → K.is_known sink.old → result ≡ BadSchema
-        → WritesText (BadSchemaText (S.left source.old)) (K.held sink.old) (K.held sink.new) }
-    ensures broken { S.is_known source.old → K.is_known sink.old → result ≡ Broken
-        → WritesText (BrokenText (S.left source.old)) (K.held sink.old) (K.held sink.new) }
-
-    // all of the source was read
+    ensures ends { S.is_known source.old → K.is_known sink.old
+        → EndsWith result (S.left source.old) (K.held sink.old) (K.held sink.new) }
     ensures all { S.is_known source.old → result ≡ Done → S.left source.new ≡ [] }
-
-    // where it didn't break off, no read and no write failed; else there is a reason, which `try_run` returns
-    ensures whole_source { IsWhole result → S.failures source.new ≡ S.failures source.old }
-    ensures whole_sink { IsWhole result → K.failures sink.new ≡ K.failures sink.old }
-    ensures halted { result ≡ Broken
-        → Halted (S.failures source.old) (S.failures source.new) (K.failures sink.old)
-        (K.failures sink.new) (S.is_known source.old) (S.left source.old) (S.left source.new) }
+    ensures reason { HasReason result (S.failures source.old) (S.failures source.new)
+        (K.failures sink.old) (K.failures sink.new) (S.is_known source.old) (S.left source.old)
+        (S.left source.new) }
     ensures source_is_known { S.is_known source.old → S.is_known source.new }
     ensures sink_is_known { K.is_known sink.old → K.is_known sink.new }
 {

@@ -2,9 +2,10 @@
 //! too many for memory are sorted in parts.
 
 ghost use Rattle.std.specs.Prelude.{◌≡◌, ◌++◌, [], ◌∷◌, List, false, IfErr, IfOk, OnErr, OnOk, option_copied};
-ghost use Rattle.tv_base.specs.Stop.{Counts};
+ghost use Rattle.tv_base.specs.Stop.{CountsStop};
 ghost use Rattle.tv_base.specs.Take.{TakesBy, read_stop};
 ghost use Rattle.tv_base.specs.Writing.{Writes};
+ghost use Rattle.tv_lines.specs.Streams.{ReportsReads};
 ghost use Rattle.tv_lines.specs.TermRuns.{CountsMerge, HasLeft, HaveLeft, IsAtMost, IsLeastRead, IsLesser, IsRun, MergesNext, Pair, RefusesRun, TakesFrom};
 ghost use Rattle.tv_lines.specs.TermRuns.{TakesFromEach, TakesPair, pair_at, pair_bytes, pair_of};
 
@@ -86,9 +87,7 @@ impl<S: ByteSource> RunReader<S> {
             → TakesPair (S.left self.old.source) (S.left self.new.source) (pair_of self.new) result }
         ensures has_pair { IfOk result (λ more. self.new.has_pair ≡ more) }
         ensures none { OnErr result (self.new.has_pair ≡ false) }
-        ensures failures { Counts read_stop result (S.failures self.old.source)
-            (S.failures self.new.source) }
-        ensures is_known { S.is_known self.old.source → S.is_known self.new.source }
+        ensures source { ReportsReads S.ByteSource read_stop self.old.source self.new.source result }
     {
         let mut taken = 0;
         self.has_pair = false;
@@ -122,9 +121,7 @@ impl<S: ByteSource> RunReader<S> {
         ensures takes { S.is_known self.old.source → (pairs : List Pair)
             → HasLeft S.ByteSource self.old pairs
             → TakesFrom S.ByteSource term.now self.new pairs result }
-        ensures failures { Counts read_stop result (S.failures self.old.source)
-            (S.failures self.new.source) }
-        ensures is_known { S.is_known self.old.source → S.is_known self.new.source }
+        ensures source { ReportsReads S.ByteSource read_stop self.old.source self.new.source result }
     {
         if !self.has_pair || self.term.as_slice() != term {
             return Ok(0);
@@ -246,6 +243,8 @@ impl<S: ByteSource + Drop> Merge<S> {
             → OnOk result (HaveLeft S.ByteSource self.new.readers.items (runs ++ pairs ∷ [])) }
         ensures err { OnErr result (self.new.readers.items ≡ self.old.readers.items) }
         ensures errors { S.is_known source → IfErr result (RefusesRun (S.left source)) }
+        ensures failed { IfErr result (λ e. (after : S)
+            × CountsStop (read_stop e) (S.failures source) (S.failures after)) }
         ensures term { self.new.term ≡ self.old.term }
         ensures count { self.new.count ≡ self.old.count }
     {

@@ -11,16 +11,16 @@ loop-outcome-init c = record {
 
 pub answer_of-answer-requires : goal.answer_of-answer-requires
 answer_of-answer-requires c =
-    is_lenient _ _ _ _ _ c.in-Ok-Some.outcome (rw (c.in-Ok-Some.field-0-is, c.loop-outcome.invariant.rules) at c.in-Ok-Some.ensures.ok tt tt)
+    is_lenient _ _ _ _ _ c.in-Ok-Some.outcome (rw (c.in-Ok-Some.field-0-is, c.loop-outcome.invariant.rules) at c.in-Ok-Some.ensures.imports tt tt)
 
 pub loop-outcome-preserved : goal.loop-outcome-preserved
 loop-outcome-preserved c =
     let i = c.loop-outcome.invariant in
     record {
       rules = c.in-Ok-Some.ensures.rules ∙ i.rules;
-      so_far = imported_more c.in-Ok-Some.outcome i.so_far (rw (c.in-Ok-Some.field-0-is, i.rules) at c.in-Ok-Some.ensures.ok tt tt)
+      so_far = imported_more c.in-Ok-Some.outcome i.so_far (rw (c.in-Ok-Some.field-0-is, i.rules) at c.in-Ok-Some.ensures.imports tt tt)
           (c.in_ok-push-in-Ok-Some.ensures.items ∙ ap (λ a. c.loop-outcome.answers.items ++ a ∷ []) c.answer_of-answer.ensures);
     }
 
 pub returns-in-Ok-None : goal.returns-in-Ok-None
-returns-in-Ok-None c = imported_all c.loop-outcome.invariant.so_far (rw c.in-Ok-None.field-0-is at c.in-Ok-None.ensures.ok tt tt)
+returns-in-Ok-None c = imported_all c.loop-outcome.invariant.so_far (rw c.in-Ok-None.field-0-is at c.in-Ok-None.ensures.imports tt tt)

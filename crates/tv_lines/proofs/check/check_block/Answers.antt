@@ -30,25 +30,22 @@ loop-documents-preserved g c =
       so_far = λ s. read_next (i.so_far s) i.not_failed (i.stays_known s) (ap version_of i.version) steps reads;
     }
 
-pub returns-in-Ok-false-clause-ok : goal.returns-in-Ok-false-clause-ok
-returns-in-Ok-false-clause-ok g c =
+pub returns-in-Ok-false-clause-tests : goal.returns-in-Ok-false-clause-tests
+returns-in-Ok-false-clause-tests g c =
     let i = c.loop-documents.invariant in
     let reads = rw c.in-Ok-false.field-0-test at (c.in-Ok-false.ensures.reads i.not_failed) in
-    λ s few. is_block (i.so_far s) i.projection (reads.one (i.stays_known s)).0
+    λ s few.
+    let none = reads.one (i.stays_known s) in
+    (is_block (i.so_far s) i.projection none.0, none.1)
 
-pub returns-in-Ok-false-clause-failures : goal.returns-in-Ok-false-clause-failures
-returns-in-Ok-false-clause-failures g c =
+pub returns-in-Ok-false-clause-source : goal.returns-in-Ok-false-clause-source
+returns-in-Ok-false-clause-source g c =
     let i = c.loop-documents.invariant in
     let reads = rw c.in-Ok-false.field-0-test at (c.in-Ok-false.ensures.reads i.not_failed) in
-    reads.failures ∙ i.failures
+    record { failures = reads.failures ∙ i.failures; is_known = λ s. reads.stays_known (i.stays_known s) }
 
-pub returns-in-Ok-false-clause-is_known : goal.returns-in-Ok-false-clause-is_known
-returns-in-Ok-false-clause-is_known g c =
-    let i = c.loop-documents.invariant in
-    λ s. (c.in-Ok-false.ensures.reads i.not_failed).stays_known (i.stays_known s)
-
-pub returns-in-Err-clause-err : goal.returns-in-Err-clause-err
-returns-in-Err-clause-err g c =
+pub returns-in-Err-clause-tests : goal.returns-in-Err-clause-tests
+returns-in-Err-clause-tests g c =
     let i = c.loop-documents.invariant in
     let steps = c.in-Err.ensures.steps in
     let reads = c.in-Err.ensures.reads i.not_failed in
@@ -56,19 +53,14 @@ returns-in-Err-clause-err g c =
     let m = i.so_far s in
     refuses_block m i.projection (refused_number steps reads ∙ i.counted) (refused_next m i.not_failed (i.stays_known s) (ap version_of i.version) steps reads)
 
-pub returns-in-Err-clause-failures : goal.returns-in-Err-clause-failures
-returns-in-Err-clause-failures g c =
+pub returns-in-Err-clause-source : goal.returns-in-Err-clause-source
+returns-in-Err-clause-source g c =
     let i = c.loop-documents.invariant in
     let reads = c.in-Err.ensures.reads i.not_failed in
-    counts_source c.in-Err.error _ i.failures reads.failures
+    record { failures = counts_source c.in-Err.error _ i.failures reads.failures; is_known = λ s. reads.stays_known (i.stays_known s) }
 
-pub returns-in-Err-clause-is_known : goal.returns-in-Err-clause-is_known
-returns-in-Err-clause-is_known g c =
-    let i = c.loop-documents.invariant in
-    λ s. (c.in-Err.ensures.reads i.not_failed).stays_known (i.stays_known s)
-
-pub returns-clause-err : goal.returns-clause-err
-returns-clause-err g c =
+pub returns-clause-tests : goal.returns-clause-tests
+returns-clause-tests g c =
     let i = c.loop-documents.invariant in
     λ s few.
     let m = i.so_far s in

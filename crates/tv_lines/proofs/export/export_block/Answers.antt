@@ -33,15 +33,15 @@ loop-documents-preserved g c =
       version = steps.version ∙ i.version;
       counted = omega (arith, steps.counted.documents, i.counted, c.loop-documents-test.true);
       source_is_known = λ s. reads.stays_known (i.source_is_known s);
-      sink_is_known = λ k. write.is_known (i.sink_is_known k);
+      sink_is_known = λ k. write.sink.is_known (i.sink_is_known k);
       source_failures = reads.failures ∙ i.source_failures;
-      sink_failures = write.failures ∙ i.sink_failures;
+      sink_failures = write.sink.failures ∙ i.sink_failures;
       so_far = λ s k. printed_next (i.so_far s k) (one_read (ap version_of i.version) (i.source_is_known s) reads) (steps.fewer (i.source_is_known s) refl) (start_after steps i.not_failed (i.source_is_known s))
           (subst (λ d. AppendsJson c.args.schema.now c.args.layout (document_of d) (g.K.ByteSink.held c.loop-documents.sink) (g.K.ByteSink.held c.write_json.new.sink)) c.document-document.ensures (write.ok (i.sink_is_known k)));
     }
 
-pub returns-in-Ok-false-clause-ok : goal.returns-in-Ok-false-clause-ok
-returns-in-Ok-false-clause-ok g c =
+pub returns-in-Ok-false-clause-prints : goal.returns-in-Ok-false-clause-prints
+returns-in-Ok-false-clause-prints g c =
     let i = c.loop-documents.invariant in
     let reads = rw c.in-Ok-false.field-0-test at (c.in-Ok-false.ensures.reads i.not_failed) in
     λ s k. printed_all (i.so_far s k) (reads.one (i.source_is_known s)).0
@@ -52,17 +52,14 @@ returns-in-Ok-false-clause-all g c =
     let reads = rw c.in-Ok-false.field-0-test at (c.in-Ok-false.ensures.reads i.not_failed) in
     λ s. (reads.one (i.source_is_known s)).1
 
-pub returns-in-Ok-false-clause-source_failures : goal.returns-in-Ok-false-clause-source_failures
-returns-in-Ok-false-clause-source_failures g c =
+pub returns-in-Ok-false-clause-source : goal.returns-in-Ok-false-clause-source
+returns-in-Ok-false-clause-source g c =
     let i = c.loop-documents.invariant in
     let reads = rw c.in-Ok-false.field-0-test at (c.in-Ok-false.ensures.reads i.not_failed) in
-    reads.failures ∙ i.source_failures
+    record { failures = reads.failures ∙ i.source_failures; is_known = λ s. reads.stays_known (i.source_is_known s) }
 
-pub returns-in-Ok-false-clause-source_is_known : goal.returns-in-Ok-false-clause-source_is_known
-returns-in-Ok-false-clause-source_is_known g c = λ s. (c.in-Ok-false.ensures.reads c.loop-documents.invariant.not_failed).stays_known (c.loop-documents.invariant.source_is_known s)
-
-pub returns-in-Err-clause-err : goal.returns-in-Err-clause-err
-returns-in-Err-clause-err g c =
+pub returns-in-Err-clause-prints : goal.returns-in-Err-clause-prints
+returns-in-Err-clause-prints g c =
     let i = c.loop-documents.invariant in
     let steps = c.in-Err.ensures.steps in
     let reads = c.in-Err.ensures.reads i.not_failed in
@@ -71,21 +68,19 @@ returns-in-Err-clause-err g c =
     printed_stops m (errors.Read c.in-Err.error)
     (refl, refused_number steps reads ∙ i.counted ∙ m.read.counted, refused_next m.read i.not_failed (i.source_is_known s) (ap version_of i.version) steps reads)
 
-pub returns-in-Err-clause-source_failures : goal.returns-in-Err-clause-source_failures
-returns-in-Err-clause-source_failures g c =
+pub returns-in-Err-clause-source : goal.returns-in-Err-clause-source
+returns-in-Err-clause-source g c =
     let i = c.loop-documents.invariant in
-    counts_source c.in-Err.error _ i.source_failures (c.in-Err.ensures.reads i.not_failed).failures
+    let reads = c.in-Err.ensures.reads i.not_failed in
+    record { failures = counts_source c.in-Err.error _ i.source_failures reads.failures; is_known = λ s. reads.stays_known (i.source_is_known s) }
 
-pub returns-in-Err-clause-source_is_known : goal.returns-in-Err-clause-source_is_known
-returns-in-Err-clause-source_is_known g c = λ s. (c.in-Err.ensures.reads c.loop-documents.invariant.not_failed).stays_known (c.loop-documents.invariant.source_is_known s)
-
-pub returns-clause-err : goal.returns-clause-err
-returns-clause-err g c = λ s k.
+pub returns-clause-prints : goal.returns-clause-prints
+returns-clause-prints g c = λ s k.
     let m = c.loop-documents.invariant.so_far s k in
     printed_stops m errors.TooMany (refl, omega (arith, m.read.counted, c.loop-documents.auto.documents-end, c.loop-documents-test.false))
 
-pub returns-in-Err-write_json-clause-err : goal.returns-in-Err-write_json-clause-err
-returns-in-Err-write_json-clause-err g c =
+pub returns-in-Err-write_json-clause-prints : goal.returns-in-Err-write_json-clause-prints
+returns-in-Err-write_json-clause-prints g c =
     let i = c.loop-documents.invariant in
     let reads = rw c.in-Ok-true.field-0-test at (c.in-Ok-true.ensures.reads i.not_failed) in
     let error = c.in-Err-write_json.error in
@@ -95,18 +90,14 @@ returns-in-Err-write_json-clause-err g c =
     (printed_begun m error (one_read (ap version_of i.version) (i.source_is_known s) reads) c.in-Err-write_json.ensures.errors
     (subst (λ x. AppendsBegun c.args.schema.now c.args.layout (document_of x) (g.K.ByteSink.held c.loop-documents.sink) (g.K.ByteSink.held c.write_json.new.sink)) c.document-document.ensures (c.in-Err-write_json.ensures.err (i.sink_is_known k))))
 
-pub returns-in-Err-write_json-clause-sink_failures : goal.returns-in-Err-write_json-clause-sink_failures
-returns-in-Err-write_json-clause-sink_failures g c =
-    counts_sink c.in-Err-write_json.error _ c.loop-documents.invariant.sink_failures c.in-Err-write_json.ensures.failures
+pub returns-in-Err-write_json-clause-sink : goal.returns-in-Err-write_json-clause-sink
+returns-in-Err-write_json-clause-sink g c =
+    let i = c.loop-documents.invariant in
+    let sink = c.in-Err-write_json.ensures.sink in
+    record { failures = counts_sink c.in-Err-write_json.error _ i.sink_failures sink.failures; is_known = λ k. sink.is_known (i.sink_is_known k) }
 
-pub returns-in-Err-write_json-clause-source_failures : goal.returns-in-Err-write_json-clause-source_failures
-returns-in-Err-write_json-clause-source_failures g c =
+pub returns-in-Err-write_json-clause-source : goal.returns-in-Err-write_json-clause-source
+returns-in-Err-write_json-clause-source g c =
     let i = c.loop-documents.invariant in
     let reads = rw c.in-Ok-true.field-0-test at (c.in-Ok-true.ensures.reads i.not_failed) in
-    not_source c.in-Err-write_json.error c.in-Err-write_json.ensures.errors (reads.failures ∙ i.source_failures)
-
-pub returns-in-Err-write_json-clause-source_is_known : goal.returns-in-Err-write_json-clause-source_is_known
-returns-in-Err-write_json-clause-source_is_known g c =
-    let i = c.loop-documents.invariant in
-    let reads = rw c.in-Ok-true.field-0-test at (c.in-Ok-true.ensures.reads i.not_failed) in
-    λ s. reads.stays_known (i.source_is_known s)
+    record { failures = not_source c.in-Err-write_json.error c.in-Err-write_json.ensures.errors (reads.failures ∙ i.source_failures); is_known = λ s. reads.stays_known (i.source_is_known s) }

@@ -22,10 +22,10 @@ lines-preserved g c =
           (rw c.in-Some.is at c.in_ok-take_line.ensures.takes (before.source_is_known s))
           (rw c.as_slice.ensures.value at c.in_ok-answer_line.ensures)
           (c.in_ok-append.ensures.ok (before.sink_is_known k) ∙ ap (λ l. g.K.ByteSink.held c.lines.sink ++ l) c.as_slice-in-lines.ensures.value);
-      source_is_known = λ s. c.in_ok-take_line.ensures.is_known (before.source_is_known s);
-      sink_is_known = λ k. c.in_ok-append.ensures.is_known (before.sink_is_known k);
-      source_failures = c.in_ok-take_line.ensures.failures ∙ before.source_failures;
-      sink_failures = c.in_ok-append.ensures.failures ∙ before.sink_failures;
+      source_is_known = λ s. c.in_ok-take_line.ensures.source.is_known (before.source_is_known s);
+      sink_is_known = λ k. c.in_ok-append.ensures.sink.is_known (before.sink_is_known k);
+      source_failures = c.in_ok-take_line.ensures.source.failures ∙ before.source_failures;
+      sink_failures = c.in_ok-append.ensures.sink.failures ∙ before.sink_failures;
       taken = λ s. taken_more _ _ _ _ _ _ (before.taken s) (c.in_ok-take_line.ensures.taken (before.source_is_known s));
     }
 

@@ -18,8 +18,8 @@ loop-run-preserved g c =
       so_far = λ runs h.
           let f = l.invariant.so_far runs h in
           let known = f.known l.run d within in
-          taken_more source c.args.term.now l.readers runs l.run l.total f within c.take.new.self c.in-Ok.count c.saturating_add-total.result (c.in-Ok.ensures.is_known known) (c.in-Ok.ensures.takes known (get_or runs l.run []) (f.ahead l.run d (omega arith) within)) c.saturating_add-total.ensures;
-      none_fails = none_more source c.args.readers.now l.readers l.run c.take.new.self d l.invariant.none_fails within c.in-Ok.ensures.failures;
+          taken_more source c.args.term.now l.readers runs l.run l.total f within c.take.new.self c.in-Ok.count c.saturating_add-total.result (c.in-Ok.ensures.source.is_known known) (c.in-Ok.ensures.takes known (get_or runs l.run []) (f.ahead l.run d (omega arith) within)) c.saturating_add-total.ensures;
+      none_fails = none_more source c.args.readers.now l.readers l.run c.take.new.self d l.invariant.none_fails within c.in-Ok.ensures.source.failures;
     }
 
 pub returns-in-Err-clause-takes : goal.returns-in-Err-clause-takes

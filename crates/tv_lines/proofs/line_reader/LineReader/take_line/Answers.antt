@@ -62,8 +62,8 @@ pieces-preserved g c =
       cut = λ s.
           let known = i.stays_known s in
           cut-more _ _ _ _ _ _ (i.cut s) (moves known) (more-read (unread c.take_ready.new.self) (g.S.ByteSource.left c.take_ready.new.source) (unread c.fill.new.self) (g.S.ByteSource.left c.fill.new.source) none (rw c.if-not-branch.false at c.in_ok-fill.ensures.fills (c.in_ok-take_ready.ensures.is_known known)));
-      stays_known = λ s. c.in_ok-fill.ensures.is_known (c.in_ok-take_ready.ensures.is_known (i.stays_known s));
-      same_failures = c.in_ok-fill.ensures.failures ∙ c.in_ok-take_ready.ensures.failures ∙ i.same_failures;
+      stays_known = λ s. c.in_ok-fill.ensures.source.is_known (c.in_ok-take_ready.ensures.is_known (i.stays_known s));
+      same_failures = c.in_ok-fill.ensures.source.failures ∙ c.in_ok-take_ready.ensures.failures ∙ i.same_failures;
       taken = λ s.
           let known = i.stays_known s in
           taken_more _ _ _ _ _ _ (i.taken s) (taken_more _ _ _ _ _ _ (c.in_ok-take_ready.ensures.taken known) (c.in_ok-fill.ensures.taken (c.in_ok-take_ready.ensures.is_known known)));

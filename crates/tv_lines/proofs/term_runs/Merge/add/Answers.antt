@@ -12,4 +12,4 @@ returns-clause-ok g c = λ known pairs run runs h.
     let there = subst (λ s. source.is_known s) (sym is) known in
     let bytes = subst (λ s. IsRun (source.left s) pairs) (sym is) run in
     let left = next_left source r (source.left c.new-reader.result.source) pairs c.in_ok-advance.field-0 bytes (read.takes there) read.has_pair in
-    rw c.in_ok-push.ensures.items (left_more source c.args.self.now.readers.items runs h r pairs (read.is_known there) left)
+    rw c.in_ok-push.ensures.items (left_more source c.args.self.now.readers.items runs h r pairs (read.source.is_known there) left)
