@@ -5,5 +5,7 @@ mod by_schema;
 mod documents;
 mod facet_counts;
 mod handles;
+mod lines;
 mod queries;
 mod schemas;
+mod terms;

@@ -6,6 +6,7 @@ mod Layouts
 mod LineSteps
 mod Lines
 mod Merging
+mod OneCutting
 pub mod Prints
 mod Progress
 mod ReadingBack

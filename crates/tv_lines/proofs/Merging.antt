@@ -22,7 +22,7 @@ use Rattle.tv_lines.specs.declared.term_runs.RunReader.{RunReader}
 
 -- ---- one run
 
-no_pair : (bytes : List ℕ) (pairs : List Pair) → IsRun bytes pairs → RefusesRun bytes (Corrupted UnexpectedEnd) → ⊥
+pub no_pair : (bytes : List ℕ) (pairs : List Pair) → IsRun bytes pairs → RefusesRun bytes (Corrupted UnexpectedEnd) → ⊥
 no_pair bytes [] run h = h.0 run.1
 no_pair bytes (p ∷ ps) run h = h.1 p (run_bytes ps) (All-head FitsRun p ps run.0) run.1
 

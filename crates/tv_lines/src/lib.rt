@@ -10,6 +10,7 @@ pub mod export;
 pub mod find;
 pub mod import;
 pub mod imports;
+pub mod laws;
 pub mod line_document;
 pub mod line_reader;
 mod refused_value;

@@ -5,7 +5,9 @@ ghost use Rattle.std.specs.Prelude.{◌≡◌, ◌↔◌, IsTrue};
 use std::cmp::Ordering;
 use std::test::Fail;
 use tv_options::laws::{comparisons_of_flag_options_agree, comparisons_of_textual_options_agree};
-use tv_options::{COERCE, Coercion, FAST, NumericOptions, STRING, TEXT, TextOptions};
+use tv_options::{
+    COERCE, Coercion, FAST, IndexRecordOption, NumericOptions, STRING, TEXT, TextOptions,
+};
 use tv_term::laws::{
     appended_fast_values_compare_as_values, appended_numbers_are_read_back,
     appended_texts_are_read_back, json_paths_are_read_back, signed_terms_compare_as_numbers,
@@ -72,4 +74,15 @@ fn values_are_read_back(rt: HostRuntime) -> Result<(), Fail> {
     let refused = json_paths_are_read_back(alloc, field, "a\0b", false, "c").err();
     assert!(rt; refused == Some(TermError::NulInPath));
     Ok(())
+}
+
+#[test]
+fn an_index_keeps_frequencies_before_positions(rt: HostRuntime) {
+    let (least, middle, most) = (
+        IndexRecordOption::Basic,
+        IndexRecordOption::WithFreqs,
+        IndexRecordOption::WithFreqsAndPositions,
+    );
+    assert!(rt; !least.has_freq() && middle.has_freq() && most.has_freq());
+    assert!(rt; !least.has_positions() && !middle.has_positions() && most.has_positions());
 }

@@ -1,5 +1,6 @@
 //! Documents that are made of JSON in place of one that is there.
 
+use serde_json::Value;
 use std::alloc::{AllocError, Global};
 use std::test::Fail;
 use tv_doc::document::CompactDoc;
@@ -55,6 +56,20 @@ fn documents_are_parsed_in_place(rt: HostRuntime) -> Result<(), Fail> {
         pairs = document.len().max(pairs);
     }
     assert!(rt; pairs == 3 && document.len() == 2);
+    Ok(())
+}
+
+#[test]
+fn an_object_that_was_read_makes_the_same_document(rt: HostRuntime) -> Result<(), Fail> {
+    let alloc = rt.alloc();
+    let schema = schema(alloc)?;
+    for text in TEXTS {
+        let Ok(Value::Object(object)) = Value::from_str(alloc, text) else {
+            panic!(rt; "no object");
+        };
+        let document = CompactDoc::from_json_object(alloc, &schema, object)?;
+        assert!(rt; is_made_anew(alloc, &schema, text, &document)?);
+    }
     Ok(())
 }
 

@@ -99,3 +99,37 @@ fn lists_past_the_limit_are_written_where_that_is_asked_for(rt: HostRuntime) -> 
     assert!(rt; only_at_any_depth(alloc, 100000)?);
     Ok(())
 }
+
+// What each serializer answers for a value, by itself, as an element and as an entry, where `depth` lists may be open in it.
+fn answers<'a, V: Value<'a>>(
+    alloc: Global,
+    value: &V,
+    depth: u32,
+) -> Result<[Result<(), SerializeError>; 3], Fail> {
+    let mut alone = VecSink::new(alloc);
+    let first = BinaryValueSerializer::new(&mut alone)
+        .limit_depth(depth)
+        .serialize_value(value);
+    let mut element = VecSink::new(alloc);
+    let second = BinaryArraySerializer::begin(1, &mut element)?
+        .limit_depth(depth)
+        .serialize_value(value);
+    let mut entry = VecSink::new(alloc);
+    let third = BinaryObjectSerializer::begin(1, &mut entry)?
+        .limit_depth(depth)
+        .serialize_entry("key", value);
+    Ok([first, second, third])
+}
+
+#[test]
+fn lists_are_refused_past_the_limit_that_is_asked_for(rt: HostRuntime) -> Result<(), Fail> {
+    let alloc = rt.alloc();
+    let bytes = lists(alloc, 5)?;
+    let document = document(alloc, bytes.as_slice())?;
+    let value = document
+        .get_first(Field::from_field_id(0))
+        .expect(&rt, "a value");
+    assert!(rt; answers(alloc, &value, 5)? == [Ok(()); 3]);
+    assert!(rt; answers(alloc, &value, 4)? == [Err(SerializeError::TooDeep); 3]);
+    Ok(())
+}
