@@ -23,7 +23,8 @@ pub record IsExported (schema : List ℕ) (v : Version) (block content : List �
 
 -- the block encodes documents, and these are their lines
 abbrev pub IsPrintedBlock : List Entry → Version → List ℕ → List ℕ → Type 0
-IsPrintedBlock entries v block content = (documents : List Document) × EncodesBlock v block documents × ArePrinted entries Compact documents content
+IsPrintedBlock entries v block content = (documents : List Document) × EncodesBlock v block documents
+    × ArePrinted entries Compact documents content
 
 -- a document of the block is refused, or memory was
 abbrev pub IsRefusedBlock : Version → List ℕ → BlockError → Type 0

@@ -18,8 +18,10 @@ pub record LacksSpace (P : List ℕ → Type 0) (old : List ℕ) (size : ℕ) : 
   pub measured : size ≡ length content
   pub larger : length old < size
 
--- Content of which P holds is written, or its size is returned; or nothing is written for a reason of which R holds, or because memory was refused.
-abbrev pub FillsBuffer : (List ℕ → Type 0) → (BlockError → Type 0) → List ℕ → List ℕ → Result ℕ BlockError → Type 0
+-- Content of which P holds is written, or its size is returned; or nothing is written for a reason of which R
+-- holds, or because memory was refused.
+abbrev pub FillsBuffer : (List ℕ → Type 0) → (BlockError → Type 0) → List ℕ → List ℕ → Result ℕ BlockError
+    → Type 0
 FillsBuffer P R old new (Ok size) = Written P old new size
 FillsBuffer P R old new (Err (errors.TooSmall size lines)) = LacksSpace P old size × (lines ≡ 0) × (new ≡ old)
 FillsBuffer P R old new (Err errors.Memory) = new ≡ old

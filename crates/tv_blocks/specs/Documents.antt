@@ -13,7 +13,7 @@ use Rattle.tv_format.specs.Version.{Version}
 use Rattle.tv_reader.specs.Legacy.{Legacy}
 use Rattle.tv_store.specs.Stored.{stored}
 
--- The first bytes, this many, encode the document.
+-- The first `taken` bytes encode the document.
 pub record ReadsFirst (v : Version) (bytes : List ℕ) (document : Document) (taken : ℕ) : Type 0 where
   pub within : taken ≤ length bytes
   pub encoded : EncodesDocument Legacy v (take taken bytes) document
@@ -42,7 +42,8 @@ IsForeignRefusal schema document (errors.ForeignField field) = IsForeign schema 
 IsForeignRefusal schema document e = ⊥
 
 -- The schema has all fields, and these are the stored pairs in their shortest encoding.
-pub record IsStoredDocument (schema : List Entry) (v : Version) (document : Document) (bytes : List ℕ) : Type 0 where
+pub record IsStoredDocument (schema : List Entry) (v : Version) (document : Document)
+    (bytes : List ℕ) : Type 0 where
   pub belongs : Belongs schema document
   pub written : bytes ≡ short_document v (stored schema document)
 

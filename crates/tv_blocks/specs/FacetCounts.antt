@@ -25,18 +25,22 @@ AreDocumentFacets bytes pairs = AllByRecursion IsDocumentFacet pairs × (bytes �
 
 -- they begin with the record of no pair
 abbrev pub BeginsWithNoPair : List ℕ → Type 0
-BeginsWithNoPair bytes = (pair : List ℕ × ℕ) (rest : List ℕ) → IsDocumentFacet pair → bytes ≢ facet_record pair ++ rest
+BeginsWithNoPair bytes = (pair : List ℕ × ℕ) (rest : List ℕ) → IsDocumentFacet pair
+    → bytes ≢ facet_record pair ++ rest
 
 -- ---- what is written
 
--- The parent is UTF-8. The bytes are the records of pairs, and the content is those of the parent's children and their counts.
+-- The parent is UTF-8. The bytes are the records of pairs, and the content is those of the parent's children
+-- and their counts.
 abbrev pub AreFacetCounts : List ℕ → List ℕ → List ℕ → Type 0
 AreFacetCounts parent bytes content =
-    IsUtf8 parent × (pairs : List (List ℕ × ℕ)) × AreDocumentFacets bytes pairs × (counts : List (List ℕ × ℕ)) × AreDocumentCounts parent pairs counts × (content ≡ flat_map facet_record counts)
+    IsUtf8 parent × (pairs : List (List ℕ × ℕ)) × AreDocumentFacets bytes pairs × (counts : List (List ℕ × ℕ))
+    × AreDocumentCounts parent pairs counts × (content ≡ flat_map facet_record counts)
 
 -- some bytes are the records of pairs, and those after them begin with none
 abbrev pub StopsPairs : List ℕ → ℕ → Type 0
-StopsPairs bytes start = BreaksAt (λ before. (pairs : List (List ℕ × ℕ)) × AreDocumentFacets before pairs) BeginsWithNoPair bytes start
+StopsPairs bytes start = BreaksAt (λ before. (pairs : List (List ℕ × ℕ)) × AreDocumentFacets before pairs)
+    BeginsWithNoPair bytes start
 
 -- the parent is no UTF-8; or it is, and the bytes are no records of pairs
 abbrev pub IsCountsRefusal : List ℕ → List ℕ → BlockError → Type 0

@@ -75,11 +75,13 @@ values_from first field (d ∷ ds) = document_values first field d ++ values_fro
 
 -- the block encodes documents, and these are the records of the field's values, the documents counted from 0
 abbrev pub IsValueList : Version → ℕ → List ℕ → List ℕ → Type 0
-IsValueList v field block content = (documents : List Document) × EncodesBlock v block documents × (content ≡ values_from 0 field documents)
+IsValueList v field block content = (documents : List Document) × EncodesBlock v block documents
+    × (content ≡ values_from 0 field documents)
 
 -- the same of the field that has the name by the schema
 abbrev pub AreNamedValues : List Entry → List ℕ → Version → List ℕ → List ℕ → Type 0
-AreNamedValues schema name v block content = IsUtf8 name × (field : ℕ) × (field_named schema name ≡ Some field) × IsValueList v field block content
+AreNamedValues schema name v block content = IsUtf8 name × (field : ℕ)
+    × (field_named schema name ≡ Some field) × IsValueList v field block content
 
 -- ---- why there are none
 
@@ -93,14 +95,16 @@ EncodeDocuments v whole = (documents : List Document) × EncodesBlock v whole do
 
 -- the document that begins there is the first that is refused
 abbrev pub IsValueListRefusal : Version → ℕ → List ℕ → BlockError → Type 0
-IsValueListRefusal v field block (errors.BadDocument start refusal) = BreaksAt (EncodeDocuments v) (RefusesBlockValues v field refusal) block start
+IsValueListRefusal v field block (errors.BadDocument start refusal) =
+    BreaksAt (EncodeDocuments v) (RefusesBlockValues v field refusal) block start
 IsValueListRefusal v field block e = ⊥
 
 -- the name is no UTF-8, or no field's; or it is, and a document is refused
 abbrev pub IsNamedValuesRefusal : List Entry → List ℕ → Version → List ℕ → BlockError → Type 0
 IsNamedValuesRefusal schema name v block errors.NotUtf8 = ¬ IsUtf8 name
 IsNamedValuesRefusal schema name v block errors.NoField = IsUtf8 name × (field_named schema name ≡ None)
-IsNamedValuesRefusal schema name v block e = IsUtf8 name × (field : ℕ) × (field_named schema name ≡ Some field) × IsValueListRefusal v field block e
+IsNamedValuesRefusal schema name v block e = IsUtf8 name × (field : ℕ)
+    × (field_named schema name ≡ Some field) × IsValueListRefusal v field block e
 
 -- ---- for private clauses
 

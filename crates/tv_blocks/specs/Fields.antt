@@ -16,7 +16,8 @@ pub record FindsAmong (entries : List Entry) (path : List ℕ) (found : FoundFie
 
 -- it names it by the entries of the schema that the text describes
 abbrev pub FindsInText : List ℕ → List ℕ → FoundField → Type 0
-FindsInText schema path found = (entries : List Entry) × ReadsSchema schema entries × FindsAmong entries path found
+FindsInText schema path found = (entries : List Entry) × ReadsSchema schema entries
+    × FindsAmong entries path found
 
 -- it names none, or memory was refused
 abbrev pub IsPathAnswer : List ℕ → List ℕ → BlockError → Type 0

@@ -25,7 +25,8 @@ use Rattle.tv_schema.specs.Schema.{field_named}
 
 -- the line makes a document, which has these pairs
 abbrev pub IsLineDocument : List Entry → List ℕ → Document → Type 0
-IsLineDocument schema line pairs = (made : CompactDoc) × MakesLineDocument schema false line made × (pairs ≡ document_of made)
+IsLineDocument schema line pairs = (made : CompactDoc) × MakesLineDocument schema false line made
+    × (pairs ≡ document_of made)
 
 -- what is said where the type of a field refuses a value
 abbrev pub value_refusal : ValueParsingError → ValueRefusal
@@ -45,13 +46,15 @@ abbrev pub refusal_of : List Entry → LineError → LineRefusal
 refusal_of schema NotUtf8 = lines.NotUtf8
 refusal_of schema (NoObject start fault) = lines.InvalidJson fault
 refusal_of schema (Float name json) = bad_value schema (string_bytes name) refusals.FloatNumber
-refusal_of schema (Refused (Parsing (parsing.ValueError name e))) = bad_value schema (string_bytes name) (value_refusal e)
+refusal_of schema (Refused (Parsing (parsing.ValueError name e))) =
+    bad_value schema (string_bytes name) (value_refusal e)
 refusal_of schema (Refused (Parsing (parsing.Add e))) = lines.HeapFull
 refusal_of schema e = lines.NotUtf8
 
 -- a line makes no document for this reason, which is said so
 abbrev pub RefusesLine : List Entry → List ℕ → LineRefusal → Type 0
-RefusesLine schema line said = (error : LineError) × MakesNone schema false line error × (said ≡ refusal_of schema error)
+RefusesLine schema line said = (error : LineError) × MakesNone schema false line error
+    × (said ≡ refusal_of schema error)
 
 -- the line is refused, or memory was
 abbrev pub IsUnparsed : List Entry → List ℕ → BlockError → Type 0

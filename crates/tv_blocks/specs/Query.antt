@@ -29,29 +29,34 @@ end_bytes (Some end) = end.items
 
 -- the lengths of the range's start and of its end, both in eight bytes, the lowest first, and then both
 abbrev pub range_record : TermRange → List ℕ
-range_record range = to_le_bytes w64 (length range.start.items) ++ to_le_bytes w64 (end_length range.end) ++ range.start.items ++ end_bytes range.end
+range_record range = to_le_bytes w64 (length range.start.items) ++ to_le_bytes w64 (end_length range.end)
+    ++ range.start.items ++ end_bytes range.end
 
 -- ---- what is written
 
 -- path and text are UTF-8, and these are the records of the text's terms there
 abbrev pub AreTextTerms : List Entry → List ℕ → List ℕ → List ℕ → Type 0
 AreTextTerms schema path text content =
-    IsUtf8 path × IsUtf8 text × (terms : List (List ℕ)) × AnswersText schema path text (Ok terms) × (content ≡ flat_map measured_term terms)
+    IsUtf8 path × IsUtf8 text × (terms : List (List ℕ)) × AnswersText schema path text (Ok terms)
+    × (content ≡ flat_map measured_term terms)
 
 -- the same of the ranges that the text bounds
 abbrev pub AreTextRanges : List Entry → List ℕ → List ℕ → List ℕ → Type 0
 AreTextRanges schema path text content =
-    IsUtf8 path × IsUtf8 text × (ranges : List TermRange) × AnswersRanges schema path text (Ok ranges) × (content ≡ flat_map range_record ranges)
+    IsUtf8 path × IsUtf8 text × (ranges : List TermRange) × AnswersRanges schema path text (Ok ranges)
+    × (content ≡ flat_map range_record ranges)
 
 -- ---- why nothing is
 
 -- the path or the text is no UTF-8; or both are, and this is what is said of why the text is refused there
 abbrev pub IsQueryRefusal : (TextTermsError → Type 0) → List ℕ → List ℕ → BlockError → Type 0
 IsQueryRefusal Refuses path text errors.NotUtf8 = ¬ (IsUtf8 path × IsUtf8 text)
-IsQueryRefusal Refuses path text e = IsUtf8 path × IsUtf8 text × (why : TextTermsError) × Refuses why × (e ≡ query_error why)
+IsQueryRefusal Refuses path text e = IsUtf8 path × IsUtf8 text × (why : TextTermsError) × Refuses why
+    × (e ≡ query_error why)
 
 abbrev pub IsTermsRefusal : List Entry → List ℕ → List ℕ → BlockError → Type 0
 IsTermsRefusal schema path text e = IsQueryRefusal (λ why. AnswersText schema path text (Err why)) path text e
 
 abbrev pub IsRangesRefusal : List Entry → List ℕ → List ℕ → BlockError → Type 0
-IsRangesRefusal schema path text e = IsQueryRefusal (λ why. AnswersRanges schema path text (Err why)) path text e
+IsRangesRefusal schema path text e = IsQueryRefusal (λ why. AnswersRanges schema path text (Err why)) path
+    text e

@@ -42,14 +42,17 @@ IsFacetRefusal text e = IsTextRefusal text e
 -- The text is no JSON, or describes no schema: for this key, or else for another reason.
 abbrev pub IsSchemaRefusal : List ℕ → BlockError → Type 0
 IsSchemaRefusal text errors.InvalidJson = (value : Data) → ¬ IsJson text value
-IsSchemaRefusal text (errors.BadSchemaKey entry key) = (value : Data) × IsJson text value × (schema_by_key value ≡ Err (BadKey entry key))
-IsSchemaRefusal text (errors.BadSchemaEntry entry e) = (value : Data) × IsJson text value × (schema_by_key value ≡ Err (Refused entry e))
-IsSchemaRefusal text (errors.BadSchema e) = (value : Data) × IsJson text value × (schema_by_key value ≡ Err (Other e))
+IsSchemaRefusal text (errors.BadSchemaKey entry key) =
+    (value : Data) × IsJson text value × (schema_by_key value ≡ Err (BadKey entry key))
+IsSchemaRefusal text (errors.BadSchemaEntry entry e) =
+    (value : Data) × IsJson text value × (schema_by_key value ≡ Err (Refused entry e))
+IsSchemaRefusal text (errors.BadSchema e) = (value : Data) × IsJson text value
+    × (schema_by_key value ≡ Err (Other e))
 IsSchemaRefusal text e = ⊥
 
 -- ---- bytes that are read from the front
 
--- This many bytes are good, and after them stand others that are refused.
+-- The first `start` bytes are good, and after them stand others that are refused.
 pub record BreaksAt (IsGood IsRefused : List ℕ → Type 0) (bytes : List ℕ) (start : ℕ) : Type 0 where
   pub before : List ℕ
   pub behind : List ℕ
@@ -67,7 +70,8 @@ RefusesDocument v bytes (documents.Corrupted cause) = NoDocument v bytes (corrup
 RefusesDocument v bytes documents.KeyIsNoText = (code : ℕ) × NoDocument v bytes (no_text_key code)
 RefusesDocument v bytes documents.HeapFull = HasNoRoom v bytes
 
--- This many bytes encode documents, and the document that begins after them is refused. Something stands there.
+-- The first `start` bytes encode documents, and the document that begins after them is refused. Something
+-- stands there.
 pub record Breaks (v : Version) (block : List ℕ) (start : ℕ) (refusal : DocumentRefusal) : Type 0 where
   pub before : List ℕ
   pub behind : List ℕ
@@ -82,7 +86,7 @@ abbrev pub IsBlockRefusal : Version → List ℕ → BlockError → Type 0
 IsBlockRefusal v block (errors.BadDocument start refusal) = Breaks v block start refusal
 IsBlockRefusal v block e = ⊥
 
--- what is said where reading a document after this many bytes returns an error
+-- what is said where reading a document after `start` bytes returns an error
 abbrev pub document_refusal : ℕ → DeserializeError → BlockError
 document_refusal start (reads.CorruptedValue cause) = errors.BadDocument start (documents.Corrupted cause)
 document_refusal start (reads.TypeMismatch expected actual) = errors.BadDocument start documents.KeyIsNoText
@@ -109,7 +113,8 @@ export_refusal work.TooMany = errors.Memory
 
 -- the schema is refused, or else a document of the block
 abbrev pub IsExportRefusal : List ℕ → Version → List ℕ → BlockError → Type 0
-IsExportRefusal schema v block (errors.BadDocument start refusal) = ((entries : List Entry) × ReadsSchema schema entries) × Breaks v block start refusal
+IsExportRefusal schema v block (errors.BadDocument start refusal) =
+    ((entries : List Entry) × ReadsSchema schema entries) × Breaks v block start refusal
 IsExportRefusal schema v block e = IsSchemaRefusal schema e
 
 -- ---- paths
@@ -122,6 +127,8 @@ IsUnfound entries path e = ⊥
 
 -- the schema is refused, the path is no UTF-8, or it names no field
 abbrev pub IsPathRefusal : List ℕ → List ℕ → BlockError → Type 0
-IsPathRefusal schema path errors.NotUtf8 = (entries : List Entry) × ReadsSchema schema entries × IsUnfound entries path errors.NotUtf8
-IsPathRefusal schema path errors.NoField = (entries : List Entry) × ReadsSchema schema entries × IsUnfound entries path errors.NoField
+IsPathRefusal schema path errors.NotUtf8 = (entries : List Entry) × ReadsSchema schema entries
+    × IsUnfound entries path errors.NotUtf8
+IsPathRefusal schema path errors.NoField = (entries : List Entry) × ReadsSchema schema entries
+    × IsUnfound entries path errors.NoField
 IsPathRefusal schema path e = IsSchemaRefusal schema e

@@ -1,7 +1,8 @@
--- The terms that documents have by a schema, with the numbers of the documents, and which documents have none.
+-- The terms that documents have by a schema, with the numbers of the documents, and which documents have
+-- none.
 --
--- The words of the public contract. `with_faults` says whether a document that has a value without a term has a record, or is refused.
--- `AreSchemaTerms`: these are the records of the documents of a block.
+-- The words of the public contract. `with_faults` says whether a document that has a value without a term has
+-- a record, or is refused. `AreSchemaTerms`: these are the records of the documents of a block.
 -- `IsSchemaTermsRefusal`: this document of the block is refused.
 use Rattle.std.specs.Prelude.{◌≡◌, ℕ, suc, ◌-◌, ◌^◌, Bool, false, List, [], ◌∷◌, ◌++◌, drop, length, map, nat_eq, Option, Some, None, Ok, Err}
 use Rattle.std.specs.Int.{to_le_bytes, w64}
@@ -29,7 +30,8 @@ common_len before term = common_prefix_len nat_eq before term
 
 -- the record of a term that stands after another
 abbrev pub shared_record : ℕ → List ℕ → List ℕ → List ℕ
-shared_record number before term = numbered_record number (common_len before term) (drop (common_len before term) term)
+shared_record number before term = numbered_record number (common_len before term)
+    (drop (common_len before term) term)
 
 -- those of terms, each after the one before it
 abbrev pub term_records : ℕ → List ℕ → List (List ℕ) → List ℕ
@@ -61,8 +63,10 @@ records_from first (terms ∷ others) = document_records first terms ++ records_
 abbrev pub HasTermRecords : List Entry → Document → Type 0
 HasTermRecords schema d = (terms : List (List ℕ)) × (document_terms schema d ≡ Ok terms)
 
--- The block encodes documents, and these are their records, the documents counted from 0. Without faults each has terms.
-pub record AreSchemaTerms (with_faults : Bool) (schema : List Entry) (v : Version) (block content : List ℕ) : Type 0 where
+-- The block encodes documents, and these are their records, the documents counted from 0. Without faults each
+-- has terms.
+pub record AreSchemaTerms (with_faults : Bool) (schema : List Entry) (v : Version)
+    (block content : List ℕ) : Type 0 where
   pub documents : List Document
   pub encoded : EncodesBlock v block documents
   pub listed : content ≡ records_from 0 (map (document_terms schema) documents)
@@ -72,23 +76,27 @@ pub record AreSchemaTerms (with_faults : Bool) (schema : List Entry) (v : Versio
 
 -- the document has no terms, and this is said of it
 abbrev pub HasNoTerms : List Entry → ℕ → Document → BlockError → Type 0
-HasNoTerms schema start d said = (e : TermValuesError) × (document_terms schema d ≡ Err e) × (said ≡ terms_error start e)
+HasNoTerms schema start d said = (e : TermValuesError) × (document_terms schema d ≡ Err e)
+    × (said ≡ terms_error start e)
 
 -- the bytes begin with a document that has no terms
 abbrev pub BeginsWithoutTerms : List Entry → Version → ℕ → TermsRefusal → List ℕ → Type 0
 BeginsWithoutTerms schema v start refusal bytes =
-    (rest : List ℕ) × (d : Document) × BeginsWithDocument v bytes rest d × HasNoTerms schema start d (errors.NoTerms start refusal)
+    (rest : List ℕ) × (d : Document) × BeginsWithDocument v bytes rest d
+    × HasNoTerms schema start d (errors.NoTerms start refusal)
 
 -- the documents of these bytes have records
 abbrev pub HaveRecords : Bool → List Entry → Version → List ℕ → Type 0
-HaveRecords with_faults schema v bytes = (content : List ℕ) × AreSchemaTerms with_faults schema v bytes content
+HaveRecords with_faults schema v bytes = (content : List ℕ)
+    × AreSchemaTerms with_faults schema v bytes content
 
 -- The document that begins there is the first that can't be read or, without faults, has no terms.
 abbrev pub IsSchemaTermsRefusal : Bool → List Entry → Version → List ℕ → BlockError → Type 0
 IsSchemaTermsRefusal with_faults schema v block (errors.BadDocument start refusal) =
     BreaksAt (HaveRecords with_faults schema v) (λ bytes. RefusesDocument v bytes refusal) block start
 IsSchemaTermsRefusal with_faults schema v block (errors.NoTerms start refusal) =
-    (with_faults ≡ false) × BreaksAt (HaveRecords with_faults schema v) (BeginsWithoutTerms schema v start refusal) block start
+    (with_faults ≡ false) × BreaksAt (HaveRecords with_faults schema v)
+    (BeginsWithoutTerms schema v start refusal) block start
 IsSchemaTermsRefusal with_faults schema v block e = ⊥
 
 -- ---- for private clauses
@@ -100,7 +108,9 @@ last_term before (term ∷ terms) = last_term term terms
 
 -- the records of the document are appended, and without faults it has terms
 abbrev pub AppendsDocument : Bool → List Entry → ℕ → Document → List ℕ → List ℕ → Type 0
-AppendsDocument with_faults schema number d old new = (with_faults ≡ false → HasTermRecords schema d) × (new ≡ old ++ document_records number (document_terms schema d))
+AppendsDocument with_faults schema number d old new =
+    (with_faults ≡ false → HasTermRecords schema d)
+    × (new ≡ old ++ document_records number (document_terms schema d))
 
 -- without faults it has none, or memory was refused
 abbrev pub IsWithoutTerms : Bool → List Entry → ℕ → Document → BlockError → Type 0
@@ -113,7 +123,8 @@ IsTermsBlockRefusal with_faults schema v block errors.Memory = Unit {0}
 IsTermsBlockRefusal with_faults schema v block e = IsSchemaTermsRefusal with_faults schema v block e
 
 -- so far the records of the documents before the rest of the block have been appended
-pub record SchemaTermsSoFar (with_faults : Bool) (schema : List Entry) (v : Version) (block rest content : List ℕ) (number : ℕ) : Type 0 where
+pub record SchemaTermsSoFar (with_faults : Bool) (schema : List Entry) (v : Version)
+    (block rest content : List ℕ) (number : ℕ) : Type 0 where
   pub before : List ℕ
   pub joined : block ≡ before ++ rest
   pub are : AreSchemaTerms with_faults schema v before content

@@ -17,7 +17,13 @@ use Rattle.tv_schema.specs.declared.json.key.SchemaKey.{SchemaKey}
 use Rattle.tv_schema.specs.declared.json.key.SchemaKey.TheVariants as keys
 
 abbrev pub nothing_written : ℕ → ℕ → ℕ → Answer
-nothing_written status detail place = record { status = status; detail = detail; place = place; bytes = 0; lines = 0 }
+nothing_written status detail place = record {
+  status = status;
+  detail = detail;
+  place = place;
+  bytes = 0;
+  lines = 0;
+}
 
 abbrev pub wrong_version : Answer
 wrong_version = nothing_written 9 0 0
@@ -78,7 +84,13 @@ abbrev pub placed : ℕ → Answer → Answer
 placed entry answer = nothing_written answer.status answer.detail (entry_place (Some entry))
 
 abbrev pub error_answer : BlockError → Answer
-error_answer (errors.TooSmall bytes lines) = record { status = 1; detail = 0; place = 0; bytes = bytes; lines = lines }
+error_answer (errors.TooSmall bytes lines) = record {
+  status = 1;
+  detail = 0;
+  place = 0;
+  bytes = bytes;
+  lines = lines;
+}
 error_answer errors.Memory = nothing_written 2 0 0
 error_answer errors.NotUtf8 = nothing_written 3 0 0
 error_answer errors.NotFacet = nothing_written 4 0 0
@@ -89,7 +101,13 @@ error_answer (errors.BadSchemaKey entry key) = nothing_written 6 (key_number key
 error_answer errors.NoField = nothing_written 7 0 0
 error_answer errors.NoEnd = nothing_written 10 0 0
 error_answer (errors.BadDocument start refusal) = nothing_written 8 (refusal_number refusal) start
-error_answer (errors.BadLine why) = record { status = 11; detail = line_number why; place = line_field why; bytes = line_byte why; lines = 0 }
+error_answer (errors.BadLine why) = record {
+  status = 11;
+  detail = line_number why;
+  place = line_field why;
+  bytes = line_byte why;
+  lines = 0;
+}
 error_answer (errors.ForeignField field) = nothing_written 12 0 field
 error_answer (errors.BadQuery why) = nothing_written 13 (query_number why) (query_field why)
 error_answer (errors.NoTerms start refusal) = nothing_written 8 (terms_number refusal) start
@@ -101,5 +119,12 @@ call_answer (Ok bytes) = record { status = 0; detail = 0; place = 0; bytes = byt
 call_answer (Err e) = error_answer e
 
 abbrev pub import_answer : Result Imported BlockError → Answer
-import_answer (Ok count) = record { status = 0; detail = 0; place = 0; bytes = count.bytes; lines = count.lines }
+import_answer (Ok count) = record {
+  status = 0;
+  detail = 0;
+  place = 0;
+  bytes = count.bytes;
+  lines =
+      count.lines;
+}
 import_answer (Err e) = error_answer e

@@ -21,7 +21,8 @@ term_record document field (Some value) = record_of document (term field value)
 
 -- those of a field's values in a document, in order
 abbrev pub document_records : ℕ → ℕ → Document → List ℕ
-document_records document field d = flat_map (λ tree. term_record document field (tree_value tree)) (values_of field d)
+document_records document field d = flat_map (λ tree. term_record document field (tree_value tree))
+    (values_of field d)
 
 -- those of documents, of which the first has this number
 abbrev pub records_from : ℕ → ℕ → List Document → List ℕ
@@ -30,7 +31,8 @@ records_from first field (d ∷ ds) = document_records first field d ++ records_
 
 -- the block encodes documents, and these are the records of the field's values, the documents counted from 0
 abbrev pub IsTermList : Version → ℕ → List ℕ → List ℕ → Type 0
-IsTermList v field block content = (documents : List Document) × EncodesBlock v block documents × (content ≡ records_from 0 field documents)
+IsTermList v field block content = (documents : List Document) × EncodesBlock v block documents
+    × (content ≡ records_from 0 field documents)
 
 -- ---- one term, and the end of a prefix
 
@@ -51,11 +53,13 @@ IsEndRefusal prefix e = ⊥
 
 -- the bytes are a term, and this is the text of its value
 abbrev pub IsTermText : List ℕ → List ℕ → Type 0
-IsTermText bytes content = (field : ℕ) × (value : TermValue) × IsTerm bytes field value × (text_of_value value ≡ Some content)
+IsTermText bytes content = (field : ℕ) × (value : TermValue) × IsTerm bytes field value
+    × (text_of_value value ≡ Some content)
 
 -- they are no term of a value that has a text
 abbrev pub IsTermRefusal : List ℕ → BlockError → Type 0
-IsTermRefusal bytes errors.NotTerm = (field : ℕ) (value : TermValue) → IsTerm bytes field value → text_of_value value ≡ None
+IsTermRefusal bytes errors.NotTerm = (field : ℕ) (value : TermValue) → IsTerm bytes field value
+    → text_of_value value ≡ None
 IsTermRefusal bytes e = ⊥
 
 -- ---- for private clauses

@@ -43,8 +43,10 @@ ReadsSchema line schema = (value : Data) × IsJson line value × (schema_of valu
 
 -- what is answered for a line that describes no schema, or where memory was refused
 pub data SchemaRefusal (line text : List ℕ) : Type 0 where
-  no_json : ((value : Data) → ¬ (IsJson line value)) → text ≡ codes "error InvalidJson" → SchemaRefusal line text
-  no_schema : (value : Data) (error : SchemaError) → IsJson line value → schema_of value ≡ Err error → text ≡ codes "error " ++ schema_error_name error
+  no_json : ((value : Data) → ¬ (IsJson line value)) → text ≡ codes "error InvalidJson"
+      → SchemaRefusal line text
+  no_schema : (value : Data) (error : SchemaError) → IsJson line value → schema_of value ≡ Err error
+      → text ≡ codes "error " ++ schema_error_name error
       → SchemaRefusal line text
   no_memory : text ≡ codes "error Memory" → SchemaRefusal line text
 
@@ -68,18 +70,24 @@ error_text errors.Memory = codes "error Memory"
 -- the bytes of a document in lower-case hexadecimal, a space, and its text of JSON by the names of the fields
 abbrev pub IsDocumentText : List Entry → Document → List ℕ → Type 0
 IsDocumentText schema d text =
-    (json : List ℕ) × IsJsonText (field_names schema) d json × (text ≡ encode_lower (short_document V2 d) ++ 32 ∷ json)
+    (json : List ℕ) × IsJsonText (field_names schema) d json
+    × (text ≡ encode_lower (short_document V2 d) ++ 32 ∷ json)
 
--- What is answered for a document's line: that it is no text, why there is no document of it, or the stored pairs; or that memory was refused, or that there is
--- no room to read them back.
+-- What is answered for a document's line: that it is no text, why there is no document of it, or the stored
+-- pairs; or that memory was refused, or that there is no room to read them back.
 pub data Answer (schema : List Entry) (line text : List ℕ) : Type 0 where
   no_text : ¬ IsUtf8 line → text ≡ codes "error InvalidJson" → Answer schema line text
-  refused : (error : DocParsingError) → IsUtf8 line → Parses schema line (Err error) → text ≡ error_text error → Answer schema line text
-  written : (made : CompactDoc) → IsUtf8 line → Parses schema line (Ok made) → IsDocumentText schema (stored schema (document_of made)) text → Answer schema line text
+  refused : (error : DocParsingError) → IsUtf8 line → Parses schema line (Err error) → text ≡ error_text error
+      → Answer schema line text
+  written : (made : CompactDoc) → IsUtf8 line → Parses schema line (Ok made)
+      → IsDocumentText schema (stored schema (document_of made)) text → Answer schema line text
   no_memory : text ≡ codes "error Memory" → Answer schema line text
-  no_room : (made : CompactDoc) → IsUtf8 line → Parses schema line (Ok made) → 4294967295 < document_room (document_of made) → text ≡ codes "error HeapFull" → Answer schema line text
+  no_room : (made : CompactDoc) → IsUtf8 line → Parses schema line (Ok made)
+      → 4294967295 < document_room (document_of made) → text ≡ codes "error HeapFull"
+      → Answer schema line text
 
 -- an answer for each line, with its line feed
 pub data AreAnswers (schema : List Entry) : List (List ℕ) → List ℕ → Type 0 where
   no_answers : AreAnswers schema [] []
-  next_answer : {line text rest : List ℕ} {lines : List (List ℕ)} → Answer schema line text → AreAnswers schema lines rest → AreAnswers schema (line ∷ lines) (text ++ 10 ∷ rest)
+  next_answer : {line text rest : List ℕ} {lines : List (List ℕ)} → Answer schema line text
+      → AreAnswers schema lines rest → AreAnswers schema (line ∷ lines) (text ++ 10 ∷ rest)

@@ -9,10 +9,12 @@ use Rattle.tv_store.specs.declared.projection.Projection.TheVariants.{All}
 
 -- the bytes encode documents within the limits, one after the other, and this is their number
 abbrev pub IsBlock : Version → ReadLimits → List ℕ → ℕ → Type 0
-IsBlock v limits block number = (documents : List Document) × EncodesBlockWithin v limits block documents × (number ≡ length documents)
+IsBlock v limits block number = (documents : List Document) × EncodesBlockWithin v limits block documents
+    × (number ≡ length documents)
 
 -- The block begins with documents of this number, and the document with which the rest begins is refused.
-pub record RefusesBlock (v : Version) (limits : ReadLimits) (block left : List ℕ) (e : RefusedDocument) : Type 0 where
+pub record RefusesBlock (v : Version) (limits : ReadLimits) (block left : List ℕ)
+    (e : RefusedDocument) : Type 0 where
   pub before : List ℕ
   pub behind : List ℕ
   pub joined : block ≡ before ++ behind

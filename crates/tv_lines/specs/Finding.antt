@@ -34,26 +34,37 @@ use Rattle.tv_store.specs.declared.projection.Projection.{Projection}
 abbrev pub named_terms : List Entry → QueryTree → Document → Terms
 named_terms schema tree d = document_terms schema (filter (λ pair. names_field (steps_of tree) pair.0) d)
 
--- What becomes of a document: these terms match the query, and its line is appended; or they don't, or there are none, and nothing is.
+-- What becomes of a document: these terms match the query, and its line is appended; or they don't, or there
+-- are none, and nothing is.
 abbrev pub FindsDocument : List Entry → QueryTree → Document → List ℕ → List ℕ → DocumentOutcome → Type 0
-FindsDocument schema tree d old new outcome.Found = (terms : List (List ℕ)) × (named_terms schema tree d ≡ Ok terms) × Matches terms tree × AppendsJson schema Compact d old new
-FindsDocument schema tree d old new outcome.NotFound = (terms : List (List ℕ)) × (named_terms schema tree d ≡ Ok terms) × (¬ Matches terms tree) × (new ≡ old)
+FindsDocument schema tree d old new outcome.Found =
+    (terms : List (List ℕ)) × (named_terms schema tree d ≡ Ok terms) × Matches terms tree
+    × AppendsJson schema Compact d old new
+FindsDocument schema tree d old new outcome.NotFound =
+    (terms : List (List ℕ)) × (named_terms schema tree d ≡ Ok terms) × (¬ Matches terms tree) × (new ≡ old)
 FindsDocument schema tree d old new (outcome.Faulty why) = (named_terms schema tree d ≡ Err why) × (new ≡ old)
 
 -- what was appended of a document, and why no more
 abbrev pub LeavesDocument : List Entry → QueryTree → Document → List ℕ → List ℕ → WorkError → Type 0
-LeavesDocument schema tree d old new (errors.Write kind) = (terms : List (List ℕ)) × (named_terms schema tree d ≡ Ok terms) × Matches terms tree × AppendsBegun schema Compact d old new
+LeavesDocument schema tree d old new (errors.Write kind) =
+    (terms : List (List ℕ)) × (named_terms schema tree d ≡ Ok terms) × Matches terms tree
+    × AppendsBegun schema Compact d old new
 LeavesDocument schema tree d old new errors.Memory = AppendsBegun schema Compact d old new
 LeavesDocument schema tree d old new e = ⊥
 
 -- ---- documents
 
--- These bytes encode documents, one after the other, each within the limits, and each of these reports is true of what is kept of one, with its number and the place where it
--- begins. They are the first of the block.
-pub data FindsEach (schema : List Entry) (v : Version) (projection : Projection) (tree : QueryTree) (block old : List ℕ) : List ℕ → List ℕ → List DocumentReport → Type 0 where
+-- These bytes encode documents, one after the other, each within the limits, and each of these reports is
+-- true of what is kept of one, with its number and the place where it begins. They are the first of the
+-- block.
+pub data FindsEach (schema : List Entry) (v : Version) (projection : Projection) (tree : QueryTree)
+    (block old : List ℕ) : List ℕ → List ℕ → List DocumentReport → Type 0 where
   none : FindsEach schema v projection tree block old [] old []
-  one_more : {before middle new : List ℕ} {reports : List DocumentReport} (bytes : List ℕ) (d : Document) (report : DocumentReport) → FindsEach schema v projection tree block old before middle reports
-      → EncodesWithinLimits v (limits_of projection) bytes d → report.document ≡ length reports → (length block < 2 ^ 64 - 1 → report.start ≡ length before) → FindsDocument schema tree (kept projection d) middle new report.outcome
+  one_more : {before middle new : List ℕ} {reports : List DocumentReport} (bytes : List ℕ) (d : Document)
+      (report : DocumentReport) → FindsEach schema v projection tree block old before middle reports
+      → EncodesWithinLimits v (limits_of projection) bytes d → report.document ≡ length reports
+      → (length block < 2 ^ 64 - 1 → report.start ≡ length before)
+      → FindsDocument schema tree (kept projection d) middle new report.outcome
       → FindsEach schema v projection tree block old (before ++ bytes) new (reports ++ report ∷ [])
 
 abbrev pub is_found : DocumentOutcome → Bool
@@ -66,8 +77,11 @@ is_faulty outcome.Found = false
 is_faulty outcome.NotFound = false
 is_faulty (outcome.Faulty why) = true
 
--- The block is documents. Where it is known what was told, that is what became of each, and of each kind there are as many as are said.
-pub record FindsAll (schema : List Entry) (v : Version) (projection : Projection) (tree : QueryTree) (block old new : List ℕ) (IsTold : Type 0) (begun ended : List DocumentReport) (found : Found) : Type 0 where
+-- The block is documents. Where it is known what was told, that is what became of each, and of each kind
+-- there are as many as are said.
+pub record FindsAll (schema : List Entry) (v : Version) (projection : Projection) (tree : QueryTree)
+    (block old new : List ℕ) (IsTold : Type 0) (begun ended : List DocumentReport) (found : Found) :
+    Type 0 where
   pub reports : List DocumentReport
   pub each : FindsEach schema v projection tree block old block new reports
   pub told : IsTold → ended ≡ begun ++ reports
@@ -75,22 +89,32 @@ pub record FindsAll (schema : List Entry) (v : Version) (projection : Projection
   pub matching : found.found ≡ count_by (λ report. is_found report.outcome) reports
   pub faulty : found.faulty ≡ count_by (λ report. is_faulty report.outcome) reports
 
--- What was appended of the document with which `bytes` begin, and why the search went no further: nothing where it can't be read, or isn't. Before it come
--- `number` documents, in `start` bytes.
-abbrev pub LeavesUnsearched : List Entry → Version → Projection → QueryTree → List ℕ → List ℕ → ℕ → ℕ → List ℕ → List ℕ → WorkError → Type 0
-LeavesUnsearched schema v projection tree bytes left number start old new (errors.Read e) = (new ≡ old) × (e.document ≡ number) × IsRefusedAt v projection bytes left start e
-LeavesUnsearched schema v projection tree bytes left number start old new errors.TooMany = (new ≡ old) × (number ≡ 2 ^ 64 - 1)
-LeavesUnsearched schema v projection tree bytes left number start old new e = (d : Document) × (rest : List ℕ) × BeginsWithDocument v bytes rest d × LeavesDocument schema tree (kept projection d) old new e
+-- What was appended of the document with which `bytes` begin, and why the search went no further: nothing
+-- where it can't be read, or isn't. Before it come `number` documents, in `start` bytes.
+abbrev pub LeavesUnsearched : List Entry → Version → Projection → QueryTree → List ℕ → List ℕ → ℕ → ℕ → List ℕ
+    → List ℕ → WorkError → Type 0
+LeavesUnsearched schema v projection tree bytes left number start old new (errors.Read e) =
+    (new ≡ old) × (e.document ≡ number) × IsRefusedAt v projection bytes left start e
+LeavesUnsearched schema v projection tree bytes left number start old new errors.TooMany =
+    (new ≡ old) × (number ≡ 2 ^ 64 - 1)
+LeavesUnsearched schema v projection tree bytes left number start old new e =
+    (d : Document) × (rest : List ℕ) × BeginsWithDocument v bytes rest d
+    × LeavesDocument schema tree (kept projection d) old new e
 
 -- the same, or it was gone over and only the report failed
-abbrev pub LeavesSearch : {E : Type 0} → List Entry → Version → Projection → QueryTree → List ℕ → List ℕ → ℕ → ℕ → List ℕ → List ℕ → FindError E → Type 0
-LeavesSearch schema v projection tree bytes left number start old new (finding.Work e) = LeavesUnsearched schema v projection tree bytes left number start old new e
+abbrev pub LeavesSearch : {E : Type 0} → List Entry → Version → Projection → QueryTree → List ℕ → List ℕ → ℕ
+    → ℕ → List ℕ → List ℕ → FindError E → Type 0
+LeavesSearch schema v projection tree bytes left number start old new (finding.Work e) =
+    LeavesUnsearched schema v projection tree bytes left number start old new e
 LeavesSearch schema v projection tree bytes left number start old new (finding.Report e) =
-    (d : Document) × (rest : List ℕ) × (said : DocumentOutcome) × BeginsWithDocument v bytes rest d × FindsDocument schema tree (kept projection d) old new said
+    (d : Document) × (rest : List ℕ) × (said : DocumentOutcome) × BeginsWithDocument v bytes rest d
+    × FindsDocument schema tree (kept projection d) old new said
 
--- The documents before were gone over, and the one with which the rest of the block begins was not, or not to the end. `left` is what was left of the
--- block.
-pub record StopsFinding {E : Type 0} (schema : List Entry) (v : Version) (projection : Projection) (tree : QueryTree) (block left old new : List ℕ) (IsTold : Type 0) (begun ended : List DocumentReport) (error : FindError E) : Type 0 where
+-- The documents before were gone over, and the one with which the rest of the block begins was not, or not to
+-- the end. `left` is what was left of the block.
+pub record StopsFinding {E : Type 0} (schema : List Entry) (v : Version) (projection : Projection)
+    (tree : QueryTree) (block left old new : List ℕ) (IsTold : Type 0) (begun ended : List DocumentReport)
+    (error : FindError E) : Type 0 where
   pub before : List ℕ
   pub after : List ℕ
   pub joined : block ≡ before ++ after
@@ -98,12 +122,17 @@ pub record StopsFinding {E : Type 0} (schema : List Entry) (v : Version) (projec
   pub reports : List DocumentReport
   pub each : FindsEach schema v projection tree block old before middle reports
   pub told : IsTold → ended ≡ begun ++ reports
-  pub next : LeavesSearch schema v projection tree after left (length reports) (length before) middle new error
+  pub next : LeavesSearch schema v projection tree after left (length reports) (length before) middle new
+      error
 
 -- The block was searched, whole or up to the document at which that broke off.
-abbrev pub SearchesBlock : {E : Type 0} → List Entry → Version → Projection → QueryTree → List ℕ → List ℕ → List ℕ → List ℕ → Type 0 → List DocumentReport → List DocumentReport → Result Found (FindError E) → Type 0
-SearchesBlock schema v projection tree block left old new IsTold begun ended (Ok found) = FindsAll schema v projection tree block old new IsTold begun ended found
-SearchesBlock schema v projection tree block left old new IsTold begun ended (Err e) = StopsFinding schema v projection tree block left old new IsTold begun ended e
+abbrev pub SearchesBlock : {E : Type 0} → List Entry → Version → Projection → QueryTree → List ℕ → List ℕ
+    → List ℕ → List ℕ → Type 0 → List DocumentReport → List DocumentReport → Result Found (FindError E)
+    → Type 0
+SearchesBlock schema v projection tree block left old new IsTold begun ended (Ok found) =
+    FindsAll schema v projection tree block old new IsTold begun ended found
+SearchesBlock schema v projection tree block left old new IsTold begun ended (Err e) =
+    StopsFinding schema v projection tree block left old new IsTold begun ended e
 
 -- why a search broke off, as its source and its sink see it
 abbrev pub find_source_stop : {E : Type 0} → FindError E → Stop Refusal
@@ -117,17 +146,22 @@ find_sink_stop (finding.Report e) = Short
 -- ---- for private clauses
 
 -- a document was searched, and its line appended if it is found, whole or in part
-abbrev pub SearchesDocument : List Entry → QueryTree → Document → List ℕ → List ℕ → Result DocumentOutcome WorkError → Type 0
+abbrev pub SearchesDocument : List Entry → QueryTree → Document → List ℕ → List ℕ
+    → Result DocumentOutcome WorkError → Type 0
 SearchesDocument schema tree d old new (Ok said) = FindsDocument schema tree d old new said
 SearchesDocument schema tree d old new (Err e) = LeavesDocument schema tree d old new e
 
 -- one document more is counted
 abbrev pub CountsFound : Found → DocumentOutcome → Found → Type 0
-CountsFound old outcome.Found new = (new.documents ≡ old.documents + 1) × (new.found ≡ old.found + 1) × (new.faulty ≡ old.faulty)
-CountsFound old outcome.NotFound new = (new.documents ≡ old.documents + 1) × (new.found ≡ old.found) × (new.faulty ≡ old.faulty)
-CountsFound old (outcome.Faulty why) new = (new.documents ≡ old.documents + 1) × (new.found ≡ old.found) × (new.faulty ≡ old.faulty + 1)
+CountsFound old outcome.Found new = (new.documents ≡ old.documents + 1) × (new.found ≡ old.found + 1)
+    × (new.faulty ≡ old.faulty)
+CountsFound old outcome.NotFound new = (new.documents ≡ old.documents + 1) × (new.found ≡ old.found)
+    × (new.faulty ≡ old.faulty)
+CountsFound old (outcome.Faulty why) new = (new.documents ≡ old.documents + 1) × (new.found ≡ old.found)
+    × (new.faulty ≡ old.faulty + 1)
 
 -- whether these terms match the query, or why there are none
 abbrev pub TellsMatch : Terms → QueryTree → Result Bool TermValuesError → Type 0
-TellsMatch terms tree (Ok truth) = (made : List (List ℕ)) × (terms ≡ Ok made) × (IsTrue truth ↔ Matches made tree)
+TellsMatch terms tree (Ok truth) = (made : List (List ℕ)) × (terms ≡ Ok made)
+    × (IsTrue truth ↔ Matches made tree)
 TellsMatch terms tree (Err why) = terms ≡ Err why

@@ -1,4 +1,5 @@
--- Why a run over lines broke off, seen from the source and from the sink: a read or a write failed with this kind, or none did.
+-- Why a run over lines broke off, seen from the source and from the sink: a read or a write failed with this
+-- kind, or none did.
 use Rattle.tv_base.specs.Stop.{Stop}
 use Rattle.tv_base.specs.Stop.Stop.{Failed, Short}
 use Rattle.tv_lines.specs.declared.errors.Halt.{Halt}

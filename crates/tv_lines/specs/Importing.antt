@@ -1,4 +1,5 @@
--- What becomes of the next line of an input: its document is stored, or there is a reason why it makes none, or why it isn't to be stored.
+-- What becomes of the next line of an input: its document is stored, or there is a reason why it makes none,
+-- or why it isn't to be stored.
 use Rattle.std.specs.Prelude.{◌≡◌, ◌≢◌, ◌+◌, ◌⊎◌, ℕ, List, [], ◌++◌, Option, Some, None, Result, Ok, Err, length, string_bytes}
 use Rattle.tv_base.specs.Sink.{AppendsPrefix}
 use Rattle.tv_doc.specs.Belongs.{Belongs}
@@ -38,36 +39,47 @@ RefusesFault _ fault why = ⊥
 -- why a line makes no document, or one that isn't to be stored
 abbrev pub IsLineError : List Entry → ImportRules → List ℕ → LineError → Type 0
 IsLineError schema rules line (Unsearchable name why) =
-    (made : CompactDoc) × MakesLineDocument schema rules.strict line made × RefusesFault rules.faults (document_fault schema (document_of made)) why × (string_bytes name ≡ faulty_name schema why)
+    (made : CompactDoc) × MakesLineDocument schema rules.strict line made
+    × RefusesFault rules.faults (document_fault schema (document_of made)) why
+    × (string_bytes name ≡ faulty_name schema why)
 IsLineError schema rules line e = MakesNone schema rules.strict line e
 
 -- The line makes a document. This is its stored encoding, and what is said of why it can't be searched.
 abbrev pub IsStoredLine : List Entry → ImportRules → List ℕ → List ℕ → Option TermValuesError → Type 0
 IsStoredLine schema rules line text fault =
-    (made : CompactDoc) × MakesLineDocument schema rules.strict line made × (text ≡ short_document (written_version rules.version) (stored schema (document_of made)))
+    (made : CompactDoc) × MakesLineDocument schema rules.strict line made
+    × (text ≡ short_document (written_version rules.version) (stored schema (document_of made)))
     × SaysFault rules.faults (document_fault schema (document_of made)) fault
 
--- what becomes of a line, and what is appended: as many bytes as are said
+-- what becomes of a line, and what is appended: `size` bytes, if its document is stored
 abbrev pub IsOutcome : List Entry → ImportRules → List ℕ → List ℕ → LineOutcome → Type 0
-IsOutcome schema rules line text (outcome.Stored size fault) = IsStoredLine schema rules line text fault × (size ≡ length text)
+IsOutcome schema rules line text (outcome.Stored size fault) =
+    IsStoredLine schema rules line text fault × (size ≡ length text)
 IsOutcome schema rules line text (outcome.Refused e) = IsLineError schema rules line e × (text ≡ [])
 
 -- what becomes of the next line, if there is one, with what follows it and what is appended
 abbrev pub ImportsNext : List Entry → ImportRules → List ℕ → List ℕ → List ℕ → Option LineOutcome → Type 0
 ImportsNext schema rules input rest text None = (input ≡ []) × (rest ≡ []) × (text ≡ [])
-ImportsNext schema rules input rest text (Some said) = (input ≢ []) × (line : List ℕ) × FirstLine input line rest × IsOutcome schema rules line text said
+ImportsNext schema rules input rest text (Some said) =
+    (input ≢ []) × (line : List ℕ) × FirstLine input line rest × IsOutcome schema rules line text said
 
--- The next line of an input was taken, and this became of it: what follows it is left, and the sink has what is appended for it.
-abbrev pub Imports : List Entry → ImportRules → List ℕ → List ℕ → List ℕ → List ℕ → Option LineOutcome → Type 0
-Imports schema rules input rest old new said = (text : List ℕ) × ImportsNext schema rules input rest text said × (new ≡ old ++ text)
+-- The next line of an input was taken, and this became of it: what follows it is left, and the sink has what
+-- is appended for it.
+abbrev pub Imports : List Entry → ImportRules → List ℕ → List ℕ → List ℕ → List ℕ → Option LineOutcome
+    → Type 0
+Imports schema rules input rest old new said = (text : List ℕ) × ImportsNext schema rules input rest text said
+    × (new ≡ old ++ text)
 
 -- The sink holds what it held, or also a beginning of the document of the next line.
 abbrev pub LeavesBegun : List Entry → ImportRules → List ℕ → List ℕ → List ℕ → Type 0
 LeavesBegun schema rules input old new =
-    (new ≡ old) ⊎ ((rest : List ℕ) × (text : List ℕ) × (fault : Option TermValuesError) × ImportsNext schema rules input rest text (Some (outcome.Stored (length text) fault)) × AppendsPrefix old new text)
+    (new ≡ old) ⊎ ((rest : List ℕ) × (text : List ℕ) × (fault : Option TermValuesError)
+    × ImportsNext schema rules input rest text (Some (outcome.Stored (length text) fault))
+    × AppendsPrefix old new text)
 
 -- The next line of an input was taken, or that broke off.
-abbrev pub ImportsLine : List Entry → ImportRules → List ℕ → List ℕ → List ℕ → List ℕ → Result (Option LineOutcome) Halt → Type 0
+abbrev pub ImportsLine : List Entry → ImportRules → List ℕ → List ℕ → List ℕ → List ℕ
+    → Result (Option LineOutcome) Halt → Type 0
 ImportsLine schema rules input rest old new (Ok said) = Imports schema rules input rest old new said
 ImportsLine schema rules input rest old new (Err e) = LeavesBegun schema rules input old new
 
@@ -81,16 +93,21 @@ most_to importer = most_left importer.lines
 
 -- what the importer says it took is what it had left to read before and not after
 abbrev pub CountsTaken : LineImporter → List ℕ → LineImporter → List ℕ → Type 0
-CountsTaken old old_left new new_left = length (left_to old old_left) ≡ new.taken + length (left_to new new_left)
+CountsTaken old old_left new new_left = length (left_to old old_left)
+    ≡ new.taken + length (left_to new new_left)
 
 -- ---- for private clauses
 
 -- the document is the line's, with what is said of why it can't be searched; or the line is refused
-abbrev pub IsJudged : List Entry → ImportRules → List ℕ → CompactDoc → Result (Option TermValuesError) LineError → Type 0
-IsJudged schema rules line made (Ok fault) = MakesLineDocument schema rules.strict line made × Belongs schema (document_of made) × SaysFault rules.faults (document_fault schema (document_of made)) fault
+abbrev pub IsJudged : List Entry → ImportRules → List ℕ → CompactDoc
+    → Result (Option TermValuesError) LineError → Type 0
+IsJudged schema rules line made (Ok fault) = MakesLineDocument schema rules.strict line made
+    × Belongs schema (document_of made) × SaysFault rules.faults (document_fault schema (document_of made))
+    fault
 IsJudged schema rules line made (Err e) = IsLineError schema rules line e
 
 -- this is told of a document that is refused since it can't be searched
 abbrev pub TellsUnsearchable : List Entry → TermValuesError → LineError → Type 0
-TellsUnsearchable schema why (Unsearchable name said) = (said ≡ why) × (string_bytes name ≡ faulty_name schema why)
+TellsUnsearchable schema why (Unsearchable name said) =
+    (said ≡ why) × (string_bytes name ≡ faulty_name schema why)
 TellsUnsearchable schema why e = ⊥

@@ -26,7 +26,8 @@ ParsesBy schema false text (Ok made) = Parses schema text (Ok made)
 ParsesBy schema false text (Err (Parsing e)) = Parses schema text (Err e)
 ParsesBy schema false text (Err e) = ⊥
 
--- the error has all that is told of it: it is not a text that is no object, whose place is told too, nor a float, nor want of memory
+-- the error has all that is told of it: it is not a text that is no object, whose place is told too, nor a
+-- float, nor want of memory
 abbrev pub IsToldWhole : StrictParsingError → Type 0
 IsToldWhole (Parsing (parsing.InvalidJson start)) = ⊥
 IsToldWhole (Parsing (parsing.ValueError name FloatNumber)) = ⊥
@@ -40,22 +41,28 @@ MakesLineDocument schema strict line made = IsUtf8 line × ParsesBy schema stric
 -- why a line makes no document
 abbrev pub MakesNone : List Entry → Bool → List ℕ → LineError → Type 0
 MakesNone schema strict line NotUtf8 = ¬ IsUtf8 line
-MakesNone schema strict line (NoObject start fault) = IsUtf8 line × ParsesBy schema strict line (Err (Parsing (parsing.InvalidJson start))) × IsFault line fault
+MakesNone schema strict line (NoObject start fault) =
+    IsUtf8 line × ParsesBy schema strict line (Err (Parsing (parsing.InvalidJson start))) × IsFault line fault
 MakesNone schema strict line (Float name json) =
-    IsUtf8 line × ParsesBy schema strict line (Err (Parsing (parsing.ValueError name FloatNumber))) × IsFloatOf schema line (string_bytes name) (view json)
+    IsUtf8 line × ParsesBy schema strict line (Err (Parsing (parsing.ValueError name FloatNumber)))
+    × IsFloatOf schema line (string_bytes name) (view json)
 MakesNone schema strict line (Refused e) = IsUtf8 line × ParsesBy schema strict line (Err e) × IsToldWhole e
 MakesNone schema strict line (Unsearchable name why) = ⊥
 
--- what comes of a line: its document, whose fields are those of the schema, or why there is none, and then the document has no pairs
+-- what comes of a line: its document, whose fields are those of the schema, or why there is none, and then
+-- the document has no pairs
 abbrev pub IsParsed : List Entry → Bool → List ℕ → CompactDoc → Option LineError → Type 0
-IsParsed schema strict line made None = MakesLineDocument schema strict line made × Belongs schema (document_of made)
+IsParsed schema strict line made None = MakesLineDocument schema strict line made
+    × Belongs schema (document_of made)
 IsParsed schema strict line made (Some e) = MakesNone schema strict line e × (document_of made ≡ [])
 
 -- ---- for private clauses
 
 -- the line is refused for this error, and this is told of it
 abbrev pub Tells : List Entry → List ℕ → DocParsingError → LineError → Type 0
-Tells schema line (parsing.InvalidJson start) said = (fault : JsonFault) × (said ≡ NoObject start fault) × IsFault line fault
-Tells schema line (parsing.ValueError name FloatNumber) said = (json : Value) × (said ≡ Float name json) × IsFloatOf schema line (string_bytes name) (view json)
+Tells schema line (parsing.InvalidJson start) said =
+    (fault : JsonFault) × (said ≡ NoObject start fault) × IsFault line fault
+Tells schema line (parsing.ValueError name FloatNumber) said =
+    (json : Value) × (said ≡ Float name json) × IsFloatOf schema line (string_bytes name) (view json)
 Tells schema line parsing.Memory said = ⊥
 Tells schema line e said = said ≡ Refused (Parsing e)

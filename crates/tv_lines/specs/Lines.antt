@@ -14,12 +14,14 @@ pub data FirstLine (input line rest : List ℕ) : Type 0 where
 -- The lines of an input. After the last line feed there is a line only if bytes stand there.
 pub data Lines : List ℕ → List (List ℕ) → Type 0 where
   no_lines : Lines [] []
-  next_line : {input line rest : List ℕ} {lines : List (List ℕ)} → input ≢ [] → FirstLine input line rest → Lines rest lines → Lines input (line ∷ lines)
+  next_line : {input line rest : List ℕ} {lines : List (List ℕ)} → input ≢ [] → FirstLine input line rest
+      → Lines rest lines → Lines input (line ∷ lines)
 
 -- ---- for private clauses
 
 -- a piece was appended to the line: up to its first line feed, which stands at this place, or whole
 abbrev pub CutsPiece : List ℕ → List ℕ → List ℕ → Option ℕ → Type 0
 CutsPiece piece before after (Some len) =
-    (len < length piece) × IsUnbroken (take len piece) × (piece ≡ take len piece ++ 10 ∷ drop (len + 1) piece) × (after ≡ before ++ take len piece)
+    (len < length piece) × IsUnbroken (take len piece) × (piece ≡ take len piece ++ 10 ∷ drop (len + 1) piece)
+    × (after ≡ before ++ take len piece)
 CutsPiece piece before after None = IsUnbroken piece × (after ≡ before ++ piece)

@@ -15,7 +15,8 @@ abbrev pub is_bad : Token → Bool
 is_bad bad = true
 is_bad t = false
 
--- The same text of JSON in a layout: pretty, its tokens stand on a line for each item and member. What is no JSON stays as it is.
+-- The same text of JSON in a layout: pretty, its tokens stand on a line for each item and member. What is no
+-- JSON stays as it is.
 abbrev pub laid_out : JsonLayout → List ℕ → List ℕ
 laid_out Compact json = json
 laid_out Pretty json = if list_any is_bad (tokens json) then json else pretty (tokens json)
@@ -23,9 +24,12 @@ laid_out Pretty json = if list_any is_bad (tokens json) then json else pretty (t
 -- the text of JSON of each document, by the names of the fields, and a line feed after each
 pub data ArePrinted (schema : List Entry) (layout : JsonLayout) : List Document → List ℕ → Type 0 where
   none_printed : ArePrinted schema layout [] []
-  next_printed : {document : Document} {documents : List Document} {json rest : List ℕ} → IsJsonText (field_names schema) document json
-      → ArePrinted schema layout documents rest → ArePrinted schema layout (document ∷ documents) (laid_out layout json ++ 10 ∷ rest)
+  next_printed : {document : Document} {documents : List Document} {json rest : List ℕ}
+      → IsJsonText (field_names schema) document json
+      → ArePrinted schema layout documents rest → ArePrinted schema layout (document ∷ documents)
+      (laid_out layout json ++ 10 ∷ rest)
 
 -- the document is appended, and a line feed
 abbrev pub AppendsJson : List Entry → JsonLayout → Document → List ℕ → List ℕ → Type 0
-AppendsJson entries layout document old new = (json : List ℕ) × IsJsonText (field_names entries) document json × (new ≡ old ++ (laid_out layout json ++ 10 ∷ []))
+AppendsJson entries layout document old new = (json : List ℕ) × IsJsonText (field_names entries) document json
+    × (new ≡ old ++ (laid_out layout json ++ 10 ∷ []))

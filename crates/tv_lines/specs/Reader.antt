@@ -7,9 +7,11 @@ use Rattle.tv_lines.specs.declared.line_reader.LineReader.{LineReader}
 abbrev pub unread : LineReader → List ℕ
 unread r = slice_range r.piece.items r.from r.to
 
--- The next line of an input and what stands after it: with its line feed it takes this many bytes. Or there is none.
+-- The next line of an input and what stands after it: with its line feed it takes `count` bytes. Or there is
+-- none.
 abbrev pub TakesLine : List ℕ → List ℕ → List ℕ → Option ℕ → Type 0
-TakesLine input line rest (Some count) = (input ≢ []) × FirstLine input line rest × (length input ≡ count + length rest)
+TakesLine input line rest (Some count) = (input ≢ []) × FirstLine input line rest
+    × (length input ≡ count + length rest)
 TakesLine input line rest None = (input ≡ []) × (line ≡ []) × (rest ≡ [])
 
 -- ---- for private clauses
@@ -18,10 +20,13 @@ TakesLine input line rest None = (input ≡ []) × (line ≡ []) × (rest ≡ []
 abbrev pub most_left : LineReader → ℕ
 most_left r = (2 ^ 64 - 1 - r.count) + length (unread r)
 
--- what went from some bytes to the line: all before the first line feed, which was passed, or some that have none
+-- what went from some bytes to the line: all before the first line feed, which was passed, or some that have
+-- none
 abbrev pub MovesLine : List ℕ → List ℕ → List ℕ → List ℕ → Bool → Type 0
-MovesLine old new before after true = (piece : List ℕ) × IsUnbroken piece × (old ≡ piece ++ 10 ∷ new) × (after ≡ before ++ piece)
-MovesLine old new before after false = (piece : List ℕ) × IsUnbroken piece × (old ≡ piece ++ new) × (after ≡ before ++ piece)
+MovesLine old new before after true = (piece : List ℕ) × IsUnbroken piece × (old ≡ piece ++ 10 ∷ new)
+    × (after ≡ before ++ piece)
+MovesLine old new before after false = (piece : List ℕ) × IsUnbroken piece × (old ≡ piece ++ new)
+    × (after ≡ before ++ piece)
 
 -- what was read, or that there was nothing left
 abbrev pub ReadsSome : List ℕ → List ℕ → List ℕ → Bool → Type 0

@@ -24,7 +24,8 @@ pub record FirstRefused (values : List FieldJson) (d : Data) : Type 0 where
   pub refused : Table at.field_type at.value (Err refusal)
   pub value : d ≡ at.value
 
--- The first value of the line's object that its field's type refuses: it is of the field with this name, and a number in it isn't whole.
+-- The first value of the line's object that its field's type refuses: it is of the field with this name, and
+-- a number in it isn't whole.
 pub record IsFloatOf (schema : List Entry) (line name : List ℕ) (d : Data) : Type 0 where
   pub members : Members
   pub reads : read line ≡ Some (object members)

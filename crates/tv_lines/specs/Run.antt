@@ -66,9 +66,10 @@ abbrev pub RunsOver : List ℕ → List ℕ → List ℕ → Result RunEnd Halt 
 RunsOver input old new (Ok end) = EndsWith end input old new
 RunsOver input old new (Err _) = EndsWith Broken input old new
 
--- A run broke off for some reason: a read or a write failed exactly where the reason says so, with its kind, and `TooLong` comes after the
--- most bytes that are counted.
-pub record Halted (read new_read written new_written : Failures) (is_known : Type 0) (left new_left : List ℕ) : Type 0 where
+-- A run broke off for some reason: a read or a write failed exactly where the reason says so, with its kind,
+-- and `TooLong` comes after the most bytes that are counted.
+pub record Halted (read new_read written new_written : Failures) (is_known : Type 0)
+    (left new_left : List ℕ) : Type 0 where
   pub halt : Halt
   pub source : CountsStop (source_stop halt) read new_read
   pub sink : CountsStop (sink_stop halt) written new_written
@@ -76,5 +77,7 @@ pub record Halted (read new_read written new_written : Failures) (is_known : Typ
 
 -- why a run ended so: where it is whole, no read and no write failed
 abbrev pub HasReason : RunEnd → Failures → Failures → Failures → Failures → Type 0 → List ℕ → List ℕ → Type 0
-HasReason Broken read new_read written new_written is_known left new_left = Halted read new_read written new_written is_known left new_left
-HasReason _ read new_read written new_written is_known left new_left = (new_read ≡ read) × (new_written ≡ written)
+HasReason Broken read new_read written new_written is_known left new_left =
+    Halted read new_read written new_written is_known left new_left
+HasReason _ read new_read written new_written is_known left new_left =
+    (new_read ≡ read) × (new_written ≡ written)

@@ -44,9 +44,11 @@ IsRun bytes pairs = All FitsRun pairs × (bytes ≡ run_bytes pairs)
 
 -- ---- the next pair
 
--- Why no pair can be read: something is left, and it begins with none; more bytes are left than are counted; a read failed; or memory was refused.
+-- Why no pair can be read: something is left, and it begins with none; more bytes are left than are counted;
+-- a read failed; or memory was refused.
 abbrev pub RefusesRun : List ℕ → ReadError → Type 0
-RefusesRun bytes (Corrupted UnexpectedEnd) = (bytes ≢ []) × ((p : Pair) (rest : List ℕ) → FitsRun p → bytes ≢ pair_bytes p ++ rest)
+RefusesRun bytes (Corrupted UnexpectedEnd) = (bytes ≢ [])
+    × ((p : Pair) (rest : List ℕ) → FitsRun p → bytes ≢ pair_bytes p ++ rest)
 RefusesRun bytes (Corrupted TooLong) = 2 ^ 64 - 1 ≤ length bytes
 RefusesRun bytes (Corrupted _) = ⊥
 RefusesRun bytes (Io kind) = Unit {0}
@@ -65,16 +67,19 @@ module _ {S : Type 0} where
   abbrev pub pair_of : RunReader S → Pair
   pair_of r = (r.term.items, r.count)
 
-  -- What a reader has left: the pair that was read, and those that its source has left. Where none was read, none is left.
+  -- What a reader has left: the pair that was read, and those that its source has left. Where none was read,
+  -- none is left.
   abbrev pub HasLeft : Ghosts S → RunReader S → List Pair → Type 0
   HasLeft source r [] = (r.has_pair ≡ false) × (source.left r.source ≡ [])
   HasLeft source r (p ∷ ps) = (r.has_pair ≡ true) × (pair_of r ≡ p) × IsRun (source.left r.source) ps
 
   -- the same of each of several, whose sources are known
-  pub record HaveLeft (source : Ghosts S) (readers : List (RunReader S)) (runs : List (List Pair)) : Type 0 where
+  pub record HaveLeft (source : Ghosts S) (readers : List (RunReader S))
+      (runs : List (List Pair)) : Type 0 where
     pub as_many : length runs ≡ length readers
     pub known : All (λ r. source.is_known r.source) readers
-    pub each : (k : ℕ) (d : RunReader S) → k < length readers → HasLeft source (slice_index_or readers k d) (slice_index_or runs k [])
+    pub each : (k : ℕ) (d : RunReader S) → k < length readers
+        → HasLeft source (slice_index_or readers k d) (slice_index_or runs k [])
 
 -- whether the pair has this term
 abbrev pub is_of : List ℕ → Pair → Bool
@@ -113,7 +118,8 @@ IsAfter term pairs = All (λ p. slice_cmp nat_cmp term p.0 ≡ Less) pairs
 
 -- Where the runs rise, what is left of them without the term rises and comes after it.
 abbrev pub RisesOn : List ℕ → List (List Pair) → Type 0
-RisesOn term runs = All IsSortedRun runs → All (λ pairs. IsSortedRun pairs × IsAfter term pairs) (map (without term) runs)
+RisesOn term runs = All IsSortedRun runs → All (λ pairs. IsSortedRun pairs × IsAfter term pairs)
+    (map (without term) runs)
 
 -- a read failed, memory was refused, or a pair has more bytes than are counted
 abbrev pub IsOfReading : ReadError → Type 0
@@ -122,25 +128,33 @@ IsOfReading Memory = Unit {0}
 IsOfReading (Corrupted TooLong) = Unit {0}
 IsOfReading (Corrupted _) = ⊥
 
--- The least term was taken from each run that begins with it, and the sum of its counts: 2^64 - 1 where that is more. Or none was left. Or the run of
--- this number couldn't be read.
-abbrev pub MergesNext : {S : Type 0} → Ghosts S → List (RunReader S) → List (List Pair) → Pair → Result Bool MergeError → Type 0
-MergesNext source readers runs pair (Ok true) = IsLeast pair.0 runs × (pair.1 ≡ min (sum_by (count_of pair.0) runs) (2 ^ 64 - 1)) × HaveLeft source readers (map (without pair.0) runs) × RisesOn pair.0 runs
+-- The least term was taken from each run that begins with it, and the sum of its counts: 2^64 - 1 where that
+-- is more. Or none was left. Or the run of this number couldn't be read.
+abbrev pub MergesNext : {S : Type 0} → Ghosts S → List (RunReader S) → List (List Pair) → Pair
+    → Result Bool MergeError → Type 0
+MergesNext source readers runs pair (Ok true) = IsLeast pair.0 runs
+    × (pair.1 ≡ min (sum_by (count_of pair.0) runs) (2 ^ 64 - 1))
+    × HaveLeft source readers (map (without pair.0) runs) × RisesOn pair.0 runs
 MergesNext source readers runs pair (Ok false) = All (λ pairs. pairs ≡ []) runs × HaveLeft source readers runs
 MergesNext source readers runs pair (Err (merging.Read run e)) = (run < length runs) × IsOfReading e
 MergesNext source readers runs pair (Err merging.Memory) = Unit {0}
 
 -- no source failed
 abbrev pub NoneFails : {S : Type 0} → Ghosts S → List (RunReader S) → List (RunReader S) → Type 0
-NoneFails {S} source old new = (k : ℕ) (d : RunReader S) → k < length old → source.failures (slice_index_or new k d).source ≡ source.failures (slice_index_or old k d).source
+NoneFails {S} source old new = (k : ℕ) (d : RunReader S) → k < length old
+    → source.failures (slice_index_or new k d).source ≡ source.failures (slice_index_or old k d).source
 
 -- the source of this reader failed as the error says, and no other
-pub record FailsAt {S : Type 0} (source : Ghosts S) (old new : List (RunReader S)) (run : ℕ) (e : ReadError) : Type 0 where
+pub record FailsAt {S : Type 0} (source : Ghosts S) (old new : List (RunReader S)) (run : ℕ)
+    (e : ReadError) : Type 0 where
   pub within : run < length old
-  pub there : (d : RunReader S) → CountsStop (read_stop e) (source.failures (slice_index_or old run d).source) (source.failures (slice_index_or new run d).source)
-  pub others : (k : ℕ) (d : RunReader S) → k < length old → k ≢ run → source.failures (slice_index_or new k d).source ≡ source.failures (slice_index_or old k d).source
+  pub there : (d : RunReader S) → CountsStop (read_stop e) (source.failures (slice_index_or old run d).source)
+      (source.failures (slice_index_or new run d).source)
+  pub others : (k : ℕ) (d : RunReader S) → k < length old → k ≢ run
+      → source.failures (slice_index_or new k d).source ≡ source.failures (slice_index_or old k d).source
 
-abbrev pub CountsMerge : {S T : Type 0} → Ghosts S → List (RunReader S) → List (RunReader S) → Result T MergeError → Type 0
+abbrev pub CountsMerge : {S T : Type 0} → Ghosts S → List (RunReader S) → List (RunReader S)
+    → Result T MergeError → Type 0
 CountsMerge source old new (Ok x) = NoneFails source old new
 CountsMerge source old new (Err (merging.Read run e)) = FailsAt source old new run e
 CountsMerge source old new (Err merging.Memory) = NoneFails source old new
@@ -149,22 +163,29 @@ CountsMerge source old new (Err merging.Memory) = NoneFails source old new
 
 -- what is read of the bytes of a pair
 unfoldable pub pair_at : List ℕ → Result (Pair × List ℕ) (Cause × List ℕ)
-pair_at bytes = u64_at bytes >>= λ len. bytes_at len.0 len.1 >>= λ term. u64_at term.1 >>= λ count. Ok ((term.0, count.0), count.1)
+pair_at bytes = u64_at bytes >>= λ len. bytes_at len.0 len.1 >>= λ term. u64_at term.1 >>= λ count. Ok
+    ((term.0, count.0), count.1)
 
 -- the least of the terms that were read and not yet taken
 abbrev pub IsLeastRead : {S : Type 0} → List (RunReader S) → Option (List ℕ) → Type 0
 IsLeastRead readers None = All (λ r. r.has_pair ≡ false) readers
-IsLeastRead readers (Some term) = Any (λ r. (r.has_pair ≡ true) × (r.term.items ≡ term)) readers × All (λ r. r.has_pair ≡ true → IsAtMost term r.term.items) readers
+IsLeastRead readers (Some term) = Any (λ r. (r.has_pair ≡ true) × (r.term.items ≡ term)) readers
+    × All (λ r. r.has_pair ≡ true → IsAtMost term r.term.items) readers
 
 -- the term was taken from each run that begins with it, with the sum of its counts
-abbrev pub TakesFromEach : {S : Type 0} → Ghosts S → List ℕ → List (RunReader S) → List (List Pair) → Result ℕ MergeError → Type 0
-TakesFromEach source term readers runs (Ok total) = (total ≡ min (sum_by (count_of term) runs) (2 ^ 64 - 1)) × HaveLeft source readers (map (without term) runs)
+abbrev pub TakesFromEach : {S : Type 0} → Ghosts S → List ℕ → List (RunReader S) → List (List Pair)
+    → Result ℕ MergeError → Type 0
+TakesFromEach source term readers runs (Ok total) =
+    (total ≡ min (sum_by (count_of term) runs) (2 ^ 64 - 1))
+    × HaveLeft source readers (map (without term) runs)
 TakesFromEach source term readers runs (Err (merging.Read run e)) = (run < length runs) × IsOfReading e
 TakesFromEach source term readers runs (Err merging.Memory) = ⊥
 
 -- the same of one run
-abbrev pub TakesFrom : {S : Type 0} → Ghosts S → List ℕ → RunReader S → List Pair → Result ℕ ReadError → Type 0
-TakesFrom source term reader pairs (Ok count) = (count ≡ count_of term pairs) × HasLeft source reader (without term pairs)
+abbrev pub TakesFrom : {S : Type 0} → Ghosts S → List ℕ → RunReader S → List Pair → Result ℕ ReadError
+    → Type 0
+TakesFrom source term reader pairs (Ok count) = (count ≡ count_of term pairs)
+    × HasLeft source reader (without term pairs)
 TakesFrom source term reader pairs (Err e) = IsOfReading e
 
 -- which term is the lesser of this one and another, if there is another

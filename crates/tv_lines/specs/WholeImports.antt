@@ -17,13 +17,17 @@ use Rattle.tv_lines.specs.Lines.{FirstLine, Lines}
 -- these are the first lines of an input, and this is what stands after them
 pub data FirstLines : List ℕ → List (List ℕ) → List ℕ → Type 0 where
   none_first : {input : List ℕ} → FirstLines input [] input
-  one_first : {input line rest behind : List ℕ} {lines : List (List ℕ)} → input ≢ [] → FirstLine input line rest → FirstLines rest lines behind → FirstLines input (line ∷ lines) behind
+  one_first : {input line rest behind : List ℕ} {lines : List (List ℕ)} → input ≢ []
+      → FirstLine input line rest → FirstLines rest lines behind → FirstLines input (line ∷ lines) behind
 
 -- what becomes of each line, and what is stored of all
-pub data Outcomes (schema : List Entry) (rules : ImportRules) : List (List ℕ) → List ℕ → List LineOutcome → Type 0 where
+pub data Outcomes (schema : List Entry) (rules : ImportRules) : List (List ℕ) → List ℕ → List LineOutcome
+    → Type 0 where
   no_outcomes : Outcomes schema rules [] [] []
-  next_outcome : {line block : List ℕ} {said : LineOutcome} {lines : List (List ℕ)} {outcomes : List LineOutcome} (text : List ℕ)
-      → IsOutcome schema rules line text said → Outcomes schema rules lines block outcomes → Outcomes schema rules (line ∷ lines) (text ++ block) (said ∷ outcomes)
+  next_outcome : {line block : List ℕ} {said : LineOutcome} {lines : List (List ℕ)} {outcomes : List
+      LineOutcome} (text : List ℕ)
+      → IsOutcome schema rules line text said → Outcomes schema rules lines block outcomes
+      → Outcomes schema rules (line ∷ lines) (text ++ block) (said ∷ outcomes)
 
 -- the reports of lines with these outcomes: each with its number, of which this is the first
 abbrev pub numbered : ℕ → List LineOutcome → List LineReport
@@ -44,16 +48,19 @@ is_unsearchable (Stored size None) = false
 is_unsearchable (Stored size (Some why)) = true
 is_unsearchable (Refused e) = false
 
--- Of the lines, one after the other, a sink that held `old` holds what is stored, and where it is known what was told, it is what became of each.
-pub record ImportsEach (schema : List Entry) (rules : ImportRules) (lines : List (List ℕ)) (old new : List ℕ) (IsTold : Type 0) (begun ended : List LineReport) : Type 0 where
+-- Of the lines, one after the other, a sink that held `old` holds what is stored, and where it is known what
+-- was told, it is what became of each.
+pub record ImportsEach (schema : List Entry) (rules : ImportRules) (lines : List (List ℕ)) (old new : List ℕ)
+    (IsTold : Type 0) (begun ended : List LineReport) : Type 0 where
   pub outcomes : List LineOutcome
   pub block : List ℕ
   pub each : Outcomes schema rules lines block outcomes
   pub held : new ≡ old ++ block
   pub told : IsTold → ended ≡ begun ++ numbered 1 outcomes
 
--- All lines of the input were imported, and of each kind there are as many as are said.
-pub record ImportsAll (schema : List Entry) (rules : ImportRules) (input old new : List ℕ) (IsTold : Type 0) (begun ended : List LineReport) (said : Imported) : Type 0 where
+-- All lines of the input were imported, and `said` has the number of each kind.
+pub record ImportsAll (schema : List Entry) (rules : ImportRules) (input old new : List ℕ) (IsTold : Type 0)
+    (begun ended : List LineReport) (said : Imported) : Type 0 where
   pub lines : List (List ℕ)
   pub all : Lines input lines
   pub imported : ImportsEach schema rules lines old new IsTold begun ended
@@ -61,16 +68,19 @@ pub record ImportsAll (schema : List Entry) (rules : ImportRules) (input old new
   pub unsearchable : said.unsearchable ≡ count_by is_unsearchable imported.outcomes
   pub refused : said.refused ≡ count_by is_refused imported.outcomes
 
--- What a sink that held `old` holds of the next line, before which there were `number`: maybe a beginning of its document where that wasn't stored, and
--- all of it where only the report failed.
-abbrev pub LeavesLine : {E : Type 0} → List Entry → ImportRules → List ℕ → ℕ → List ℕ → List ℕ → ImportLinesError E → Type 0
+-- What a sink that held `old` holds of the next line, before which there were `number`: maybe a beginning of
+-- its document where that wasn't stored, and all of it where only the report failed.
+abbrev pub LeavesLine : {E : Type 0} → List Entry → ImportRules → List ℕ → ℕ → List ℕ → List ℕ
+    → ImportLinesError E → Type 0
 LeavesLine schema rules rest number old new (errors.Import e) = LeavesBegun schema rules rest old new
 LeavesLine schema rules rest number old new (errors.Report e) =
-    (behind : List ℕ) × (text : List ℕ) × (said : LineOutcome) × ImportsNext schema rules rest behind text (Some said) × (new ≡ old ++ text)
+    (behind : List ℕ) × (text : List ℕ) × (said : LineOutcome)
+    × ImportsNext schema rules rest behind text (Some said) × (new ≡ old ++ text)
 LeavesLine schema rules rest number old new errors.TooMany = (new ≡ old) × (number ≡ 2 ^ 64 - 1)
 
 -- The first lines of the input were imported, and what stands after them was not, or not whole.
-pub record StopsImport {E : Type 0} (schema : List Entry) (rules : ImportRules) (input old new : List ℕ) (IsTold : Type 0) (begun ended : List LineReport) (e : ImportLinesError E) : Type 0 where
+pub record StopsImport {E : Type 0} (schema : List Entry) (rules : ImportRules) (input old new : List ℕ)
+    (IsTold : Type 0) (begun ended : List LineReport) (e : ImportLinesError E) : Type 0 where
   pub lines : List (List ℕ)
   pub rest : List ℕ
   pub first : FirstLines input lines rest
@@ -79,9 +89,12 @@ pub record StopsImport {E : Type 0} (schema : List Entry) (rules : ImportRules) 
   pub next : LeavesLine schema rules rest (length lines) middle new e
 
 -- The input was imported, whole or up to the line at which that broke off.
-abbrev pub ImportsInput : {E : Type 0} → List Entry → ImportRules → List ℕ → List ℕ → List ℕ → Type 0 → List LineReport → List LineReport → Result Imported (ImportLinesError E) → Type 0
-ImportsInput schema rules input old new IsTold begun ended (Ok said) = ImportsAll schema rules input old new IsTold begun ended said
-ImportsInput schema rules input old new IsTold begun ended (Err e) = StopsImport schema rules input old new IsTold begun ended e
+abbrev pub ImportsInput : {E : Type 0} → List Entry → ImportRules → List ℕ → List ℕ → List ℕ → Type 0
+    → List LineReport → List LineReport → Result Imported (ImportLinesError E) → Type 0
+ImportsInput schema rules input old new IsTold begun ended (Ok said) =
+    ImportsAll schema rules input old new IsTold begun ended said
+ImportsInput schema rules input old new IsTold begun ended (Err e) =
+    StopsImport schema rules input old new IsTold begun ended e
 
 -- why an import of lines broke off, as its source and its sink see it
 abbrev pub lines_source_stop : {E : Type 0} → ImportLinesError E → Stop ⊥
@@ -96,6 +109,9 @@ lines_sink_stop _ = Short
 
 -- one line more is counted
 abbrev pub CountsOutcome : Imported → LineOutcome → Imported → Type 0
-CountsOutcome old (Stored size None) new = (new.stored ≡ old.stored + 1) × (new.unsearchable ≡ old.unsearchable) × (new.refused ≡ old.refused)
-CountsOutcome old (Stored size (Some why)) new = (new.stored ≡ old.stored + 1) × (new.unsearchable ≡ old.unsearchable + 1) × (new.refused ≡ old.refused)
-CountsOutcome old (Refused e) new = (new.stored ≡ old.stored) × (new.unsearchable ≡ old.unsearchable) × (new.refused ≡ old.refused + 1)
+CountsOutcome old (Stored size None) new = (new.stored ≡ old.stored + 1)
+    × (new.unsearchable ≡ old.unsearchable) × (new.refused ≡ old.refused)
+CountsOutcome old (Stored size (Some why)) new = (new.stored ≡ old.stored + 1)
+    × (new.unsearchable ≡ old.unsearchable + 1) × (new.refused ≡ old.refused)
+CountsOutcome old (Refused e) new = (new.stored ≡ old.stored) × (new.unsearchable ≡ old.unsearchable)
+    × (new.refused ≡ old.refused + 1)

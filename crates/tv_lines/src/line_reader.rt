@@ -10,7 +10,7 @@ use std::alloc::{AllocError, Global};
 use std::io;
 use tv_base::ByteSource;
 
-// A source that has nothing buffered is asked for this many bytes at first, and then for up to as many as a large piece has.
+// How many bytes a source that has nothing buffered is asked for at first; then it is asked for up to `LARGE_PIECE`.
 const SMALL_PIECE: usize = 512;
 
 const LARGE_PIECE: usize = 65536;

@@ -180,7 +180,7 @@ pub(crate) fn schema_of_line(alloc: Global, line: &[u8]) -> Result<Schema, &'sta
     }
 }
 
-// This many bytes of answers are collected before they are written.
+// How many bytes of answers are collected before they are written.
 const BUFFERED: usize = 65536;
 
 /// Answers the lines of a reader on a writer, and gives the exit status of a program that does only that: `RunEnd::status` of how the
