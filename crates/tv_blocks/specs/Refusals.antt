@@ -1,5 +1,5 @@
 -- Why a call writes nothing.
-use Rattle.std.specs.Prelude.{◌≡◌, ◌≢◌, ℕ, List, [], ◌++◌, length, None, Err, IsUtf8}
+use Rattle.std.specs.Prelude.{◌≡◌, ◌≢◌, ℕ, List, [], ◌++◌, length, None, Result, Err, IsErrOf, IsUtf8}
 use Rattle.serde_json.specs.Data.{Data}
 use Rattle.tv_base.specs.Facet.{parse}
 use Rattle.tv_blocks.specs.declared.block_error.BlockError.{BlockError}
@@ -16,6 +16,7 @@ use Rattle.tv_lines.specs.declared.errors.WorkError.TheVariants as work
 use Rattle.tv_reader.specs.declared.error.DeserializeError.{DeserializeError}
 use Rattle.tv_reader.specs.declared.error.DeserializeError.TheVariants as reads
 use Rattle.tv_schema.specs.Path.{find}
+use Rattle.tv_schema.specs.Schema.{field_named}
 use Rattle.tv_schema.specs.SchemaJsonReading.{schema_by_key}
 use Rattle.tv_schema.specs.declared.json.error.SchemaJsonError.TheVariants.{BadKey, Refused, Other}
 use Rattle.tv_store.specs.BlockMigration.{EncodesBlock}
@@ -36,6 +37,15 @@ IsTextRefusal text e = ⊥
 abbrev pub IsFacetRefusal : List ℕ → BlockError → Type 0
 IsFacetRefusal text errors.NotFacet = IsUtf8 text × (parse text ≡ None)
 IsFacetRefusal text e = IsTextRefusal text e
+
+-- bytes that aren't UTF-8 are refused as that, whether or not there is memory
+abbrev pub TellsNotUtf8 : {T : Type 0} → List ℕ → Result T BlockError → Type 0
+TellsNotUtf8 bytes result = ¬ IsUtf8 bytes → IsErrOf result errors.NotUtf8
+
+-- and so is a name that no field has
+abbrev pub TellsNoField : {T : Type 0} → List Entry → List ℕ → Result T BlockError → Type 0
+TellsNoField entries name result = IsUtf8 name → field_named entries name ≡ None
+    → IsErrOf result errors.NoField
 
 -- ---- schemas
 

@@ -4,6 +4,7 @@ ghost use Rattle.std.specs.Prelude.{◌≡◌, ◌++◌, map, MatchOption, OnOk}
 ghost use Rattle.std.specs.List.{flat_map};
 ghost use Rattle.tv_blocks.specs.Buffer.{FillsBuffer};
 ghost use Rattle.tv_blocks.specs.FacetCounts.{AreFacetCounts, BeginsWithNoPair, IsCountsRefusal, IsDocumentFacet, ReadsDocumentFacets, facet_record};
+ghost use Rattle.tv_blocks.specs.Refusals.{TellsNotUtf8};
 ghost use Rattle.tv_base.specs.DocumentCounting.{facet_of};
 ghost use Rattle.tv_base.specs.FacetCounting.{entry_of};
 
@@ -78,6 +79,7 @@ pub fn count_facets(
 ) -> Result<u64, BlockError>
     ensures { FillsBuffer (AreFacetCounts parent.now pairs.now)
         (IsCountsRefusal parent.now pairs.now) counts.old counts.new result }
+    ensures not_utf8 { TellsNotUtf8 parent.now result }
 {
     if str::from_utf8(parent).is_err() {
         return Err(BlockError::NotUtf8);

@@ -3,7 +3,7 @@
 ghost use Rattle.std.specs.Prelude.{◌≡◌, Some, IsUtf8};
 ghost use Rattle.tv_base.specs.Facet.{parse, printed};
 ghost use Rattle.tv_blocks.specs.Buffer.{FillsBuffer};
-ghost use Rattle.tv_blocks.specs.Refusals.{IsFacetRefusal, IsTextRefusal};
+ghost use Rattle.tv_blocks.specs.Refusals.{IsFacetRefusal, IsTextRefusal, TellsNotUtf8};
 
 use crate::block_error::BlockError;
 use crate::buffer::put_whole;
@@ -16,6 +16,7 @@ use tv_base::Facet;
 pub fn facet_of_text(alloc: Global, text: &[u8], encoded: &mut [u8]) -> Result<u64, BlockError>
     ensures { FillsBuffer (λ content. IsUtf8 text.now × (parse text.now ≡ Some content))
         (IsFacetRefusal text.now) encoded.old encoded.new result }
+    ensures not_utf8 { TellsNotUtf8 text.now result }
 {
     let Ok(text) = str::from_utf8(text) else {
         return Err(BlockError::NotUtf8);
@@ -33,6 +34,7 @@ pub fn facet_of_text(alloc: Global, text: &[u8], encoded: &mut [u8]) -> Result<u
 pub fn text_of_facet(alloc: Global, encoded: &[u8], text: &mut [u8]) -> Result<u64, BlockError>
     ensures { FillsBuffer (λ content. IsUtf8 encoded.now × (content ≡ printed encoded.now))
         (IsTextRefusal encoded.now) text.old text.new result }
+    ensures not_utf8 { TellsNotUtf8 encoded.now result }
 {
     let Ok(encoded) = str::from_utf8(encoded) else {
         return Err(BlockError::NotUtf8);

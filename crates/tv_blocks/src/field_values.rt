@@ -4,6 +4,7 @@ ghost use Rattle.std.specs.Prelude.{◌≡◌, ◌++◌, [], IfErr, OnOk};
 ghost use Rattle.tv_blocks.specs.Buffer.{FillsBuffer};
 ghost use Rattle.tv_blocks.specs.FieldValues.{AreNamedValues, IsNamedValuesRefusal, IsValueList, IsValueListRefusal, IsValuesBlockRefusal, content_record};
 ghost use Rattle.tv_blocks.specs.FieldValues.{document_values, json_content, kind_number, value_record};
+ghost use Rattle.tv_blocks.specs.Refusals.{TellsNoField, TellsNotUtf8};
 ghost use Rattle.tv_doc.specs.Document.{document_of};
 ghost use Rattle.tv_reader.specs.Version.{version_of};
 
@@ -218,6 +219,8 @@ pub fn values_of_block(
     ensures { FillsBuffer (AreNamedValues schema.now name.now (version_of version) block.now)
         (IsNamedValuesRefusal schema.now name.now (version_of version) block.now) values.old values.new
         result }
+    ensures not_utf8 { TellsNotUtf8 name.now result }
+    ensures no_field { TellsNoField schema.now name.now result }
 {
     let Ok(name) = str::from_utf8(name) else {
         return Err(BlockError::NotUtf8);

@@ -5,6 +5,7 @@ ghost use Rattle.std.specs.List.{flat_map};
 ghost use Rattle.tv_blocks.specs.Buffer.{FillsBuffer};
 ghost use Rattle.tv_blocks.specs.Query.{AreTextRanges, AreTextTerms, IsRangesRefusal, IsTermsRefusal, end_bytes, end_length, measured_term, range_record};
 ghost use Rattle.tv_blocks.specs.QueryRefusals.{query_error, text_refusal};
+ghost use Rattle.tv_blocks.specs.Refusals.{TellsNotUtf8};
 
 use crate::block_error::BlockError;
 use crate::buffer::put_whole;
@@ -128,6 +129,8 @@ pub fn terms_of_text(
 ) -> Result<u64, BlockError>
     ensures { FillsBuffer (AreTextTerms schema.now path.now text.now)
         (IsTermsRefusal schema.now path.now text.now) terms.old terms.new result }
+    ensures path_not_utf8 { TellsNotUtf8 path.now result }
+    ensures text_not_utf8 { TellsNotUtf8 text.now result }
 {
     let Ok(path) = str::from_utf8(path) else {
         return Err(BlockError::NotUtf8);
@@ -160,6 +163,8 @@ pub fn ranges_of_text(
 ) -> Result<u64, BlockError>
     ensures { FillsBuffer (AreTextRanges schema.now path.now text.now)
         (IsRangesRefusal schema.now path.now text.now) ranges.old ranges.new result }
+    ensures path_not_utf8 { TellsNotUtf8 path.now result }
+    ensures text_not_utf8 { TellsNotUtf8 text.now result }
 {
     let Ok(path) = str::from_utf8(path) else {
         return Err(BlockError::NotUtf8);

@@ -3,7 +3,7 @@
 ghost use Rattle.std.specs.Prelude.{◌≡◌, ◌++◌, [], IfErr, OnOk};
 ghost use Rattle.tv_blocks.specs.Blocks.{IsRefusedBlock};
 ghost use Rattle.tv_blocks.specs.Buffer.{FillsBuffer};
-ghost use Rattle.tv_blocks.specs.Refusals.{IsBlockRefusal, IsTextRefusal};
+ghost use Rattle.tv_blocks.specs.Refusals.{IsBlockRefusal, IsTextRefusal, TellsNotUtf8};
 ghost use Rattle.tv_blocks.specs.Terms.{document_records, term_record, IsEnd, IsEndRefusal, IsTermList, IsTermRefusal, IsTermText, IsTextTerm};
 ghost use Rattle.tv_doc.specs.Document.{document_of};
 ghost use Rattle.tv_indexing.specs.LeafTerms.{tree_value};
@@ -122,6 +122,7 @@ pub fn term_of_text(
     term: &mut [u8],
 ) -> Result<u64, BlockError>
     ensures { FillsBuffer (IsTextTerm field text.now) (IsTextRefusal text.now) term.old term.new result }
+    ensures not_utf8 { TellsNotUtf8 text.now result }
 {
     let Ok(text) = str::from_utf8(text) else {
         return Err(BlockError::NotUtf8);

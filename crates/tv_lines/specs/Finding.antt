@@ -77,8 +77,8 @@ is_faulty outcome.Found = false
 is_faulty outcome.NotFound = false
 is_faulty (outcome.Faulty why) = true
 
--- The block is documents. Where it is known what was told, that is what became of each, and of each kind
--- there are as many as are said.
+-- The block is documents. Where it is known what was told, that is what became of each, and `found` has the
+-- number of each kind.
 pub record FindsAll (schema : List Entry) (v : Version) (projection : Projection) (tree : QueryTree)
     (block old new : List ℕ) (IsTold : Type 0) (begun ended : List DocumentReport) (found : Found) :
     Type 0 where
