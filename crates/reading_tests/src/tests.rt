@@ -6,6 +6,7 @@ mod counts;
 mod depth;
 mod failing;
 mod indexed;
+mod leaves;
 mod list_visitors;
 mod plain_visitors;
 mod skipped;
