@@ -25,4 +25,4 @@ abbrev pub FillsBuffer : (List ℕ → Type 0) → (BlockError → Type 0) → L
 FillsBuffer P R old new (Ok size) = Written P old new size
 FillsBuffer P R old new (Err (errors.TooSmall size lines)) = LacksSpace P old size × (lines ≡ 0) × (new ≡ old)
 FillsBuffer P R old new (Err errors.Memory) = new ≡ old
-FillsBuffer P R old new (Err e) = R e × (new ≡ old)
+FillsBuffer P R old new (Err error) = R error × (new ≡ old)

@@ -14,15 +14,16 @@ use Rattle.tv_reader.specs.Legacy.{Legacy}
 use Rattle.tv_store.specs.Stored.{stored}
 
 -- The first `taken` bytes encode the document.
-pub record ReadsFirst (v : Version) (bytes : List ℕ) (document : Document) (taken : ℕ) : Type 0 where
+pub record ReadsFirst (version : Version) (bytes : List ℕ) (document : Document) (taken : ℕ) : Type 0 where
   pub within : taken ≤ length bytes
-  pub encoded : EncodesDocument Legacy v (take taken bytes) document
+  pub encoded : EncodesDocument Legacy version (take taken bytes) document
 
 -- the document that begins there is refused, or memory was
 abbrev pub IsUnread : Version → List ℕ → BlockError → Type 0
-IsUnread v bytes (errors.BadDocument start refusal) = RefusesDocument v bytes refusal × (start ≡ 0)
-IsUnread v bytes errors.Memory = Unit {0}
-IsUnread v bytes e = ⊥
+IsUnread version bytes (errors.BadDocument start refusal) =
+    RefusesDocument version bytes refusal × (start ≡ 0)
+IsUnread version bytes errors.Memory = Unit {0}
+IsUnread version bytes error = ⊥
 
 -- the text is the document's JSON, by the names of the fields
 abbrev pub IsPrintedBy : List Entry → Document → List ℕ → Type 0
@@ -39,13 +40,13 @@ pub record IsForeign (schema : List Entry) (document : Document) (field : ℕ) :
 
 abbrev pub IsForeignRefusal : List Entry → Document → BlockError → Type 0
 IsForeignRefusal schema document (errors.ForeignField field) = IsForeign schema document field
-IsForeignRefusal schema document e = ⊥
+IsForeignRefusal schema document error = ⊥
 
 -- The schema has all fields, and these are the stored pairs in their shortest encoding.
-pub record IsStoredDocument (schema : List Entry) (v : Version) (document : Document)
+pub record IsStoredDocument (schema : List Entry) (version : Version) (document : Document)
     (bytes : List ℕ) : Type 0 where
   pub belongs : Belongs schema document
-  pub written : bytes ≡ short_document v (stored schema document)
+  pub written : bytes ≡ short_document version (stored schema document)
 
 -- ---- for private clauses
 

@@ -46,7 +46,7 @@ StopsPairs bytes start = BreaksAt (λ before. (pairs : List (List ℕ × ℕ)) �
 abbrev pub IsCountsRefusal : List ℕ → List ℕ → BlockError → Type 0
 IsCountsRefusal parent bytes errors.NotUtf8 = ¬ IsUtf8 parent
 IsCountsRefusal parent bytes (errors.BadPair start) = IsUtf8 parent × StopsPairs bytes start
-IsCountsRefusal parent bytes e = ⊥
+IsCountsRefusal parent bytes error = ⊥
 
 -- ---- for private clauses
 
@@ -55,7 +55,7 @@ abbrev pub ReadsDocumentFacets : List ℕ → Result (Vec DocumentFacet) BlockEr
 ReadsDocumentFacets bytes (Ok pairs) = AreDocumentFacets bytes (map facet_of pairs.items)
 ReadsDocumentFacets bytes (Err (errors.BadPair start)) = StopsPairs bytes start
 ReadsDocumentFacets bytes (Err errors.Memory) = Unit {0}
-ReadsDocumentFacets bytes (Err e) = ⊥
+ReadsDocumentFacets bytes (Err error) = ⊥
 
 -- so far the records before the rest have been read
 pub record PairsSoFar (bytes rest : List ℕ) (pairs : List (List ℕ × ℕ)) : Type 0 where

@@ -66,58 +66,61 @@ value_record number tree = content_record number (value_content tree)
 
 -- those of a field's values in a document, in order
 abbrev pub document_values : ℕ → ℕ → Document → List ℕ
-document_values number field d = flat_map (value_record number) (values_of field d)
+document_values number field document = flat_map (value_record number) (values_of field document)
 
 -- those of documents, of which the first has this number
 abbrev pub values_from : ℕ → ℕ → List Document → List ℕ
 values_from first field [] = []
-values_from first field (d ∷ ds) = document_values first field d ++ values_from (suc first) field ds
+values_from first field (document ∷ more) = document_values first field document
+    ++ values_from (suc first) field more
 
 -- the block encodes documents, and these are the records of the field's values, the documents counted from 0
 abbrev pub IsValueList : Version → ℕ → List ℕ → List ℕ → Type 0
-IsValueList v field block content = (documents : List Document) × EncodesBlock v block documents
+IsValueList version field block content = (documents : List Document) × EncodesBlock version block documents
     × (content ≡ values_from 0 field documents)
 
 -- the same of the field that has the name by the schema
 abbrev pub AreNamedValues : List Entry → List ℕ → Version → List ℕ → List ℕ → Type 0
-AreNamedValues schema name v block content = IsUtf8 name × (field : ℕ)
-    × (field_named schema name ≡ Some field) × IsValueList v field block content
+AreNamedValues schema name version block content = IsUtf8 name × (field : ℕ)
+    × (field_named schema name ≡ Some field) × IsValueList version field block content
 
 -- ---- why there are none
 
 -- the bytes begin with no document, or the field's values need too much room in the one with which they begin
 abbrev pub RefusesBlockValues : Version → ℕ → DocumentRefusal → List ℕ → Type 0
-RefusesBlockValues v field documents.HeapFull whole = HasNoRoomChosen v (field_of field ∷ []) whole
-RefusesBlockValues v field refusal whole = RefusesDocument v whole refusal
+RefusesBlockValues version field documents.HeapFull whole =
+    HasNoRoomChosen version (field_of field ∷ []) whole
+RefusesBlockValues version field refusal whole = RefusesDocument version whole refusal
 
 abbrev pub EncodeDocuments : Version → List ℕ → Type 0
-EncodeDocuments v whole = (documents : List Document) × EncodesBlock v whole documents
+EncodeDocuments version whole = (documents : List Document) × EncodesBlock version whole documents
 
 -- the document that begins there is the first that is refused
 abbrev pub IsValueListRefusal : Version → ℕ → List ℕ → BlockError → Type 0
-IsValueListRefusal v field block (errors.BadDocument start refusal) =
-    BreaksAt (EncodeDocuments v) (RefusesBlockValues v field refusal) block start
-IsValueListRefusal v field block e = ⊥
+IsValueListRefusal version field block (errors.BadDocument start refusal) =
+    BreaksAt (EncodeDocuments version) (RefusesBlockValues version field refusal) block start
+IsValueListRefusal version field block error = ⊥
 
 -- the name is no UTF-8, or no field's; or it is, and a document is refused
 abbrev pub IsNamedValuesRefusal : List Entry → List ℕ → Version → List ℕ → BlockError → Type 0
-IsNamedValuesRefusal schema name v block errors.NotUtf8 = ¬ IsUtf8 name
-IsNamedValuesRefusal schema name v block errors.NoField = IsUtf8 name × (field_named schema name ≡ None)
-IsNamedValuesRefusal schema name v block e = IsUtf8 name × (field : ℕ)
-    × (field_named schema name ≡ Some field) × IsValueListRefusal v field block e
+IsNamedValuesRefusal schema name version block errors.NotUtf8 = ¬ IsUtf8 name
+IsNamedValuesRefusal schema name version block errors.NoField = IsUtf8 name × (field_named schema name ≡ None)
+IsNamedValuesRefusal schema name version block error = IsUtf8 name × (field : ℕ)
+    × (field_named schema name ≡ Some field) × IsValueListRefusal version field block error
 
 -- ---- for private clauses
 
 -- a document of the block is refused, or memory was
 abbrev pub IsValuesBlockRefusal : Version → ℕ → List ℕ → BlockError → Type 0
-IsValuesBlockRefusal v field block errors.Memory = Unit {0}
-IsValuesBlockRefusal v field block e = IsValueListRefusal v field block e
+IsValuesBlockRefusal version field block errors.Memory = Unit {0}
+IsValuesBlockRefusal version field block error = IsValueListRefusal version field block error
 
 -- so far the records of the documents before the rest of the block have been appended
-pub record ValuesSoFar (v : Version) (field : ℕ) (block rest content : List ℕ) (number : ℕ) : Type 0 where
+pub record ValuesSoFar (version : Version) (field : ℕ) (block rest content : List ℕ)
+    (number : ℕ) : Type 0 where
   pub before : List ℕ
   pub joined : block ≡ before ++ rest
   pub documents : List Document
   pub counted : number ≡ length documents
-  pub encoded : EncodesBlock v before documents
+  pub encoded : EncodesBlock version before documents
   pub listed : content ≡ values_from 0 field documents

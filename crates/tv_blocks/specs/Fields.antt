@@ -22,4 +22,4 @@ FindsInText schema path found = (entries : List Entry) × ReadsSchema schema ent
 -- it names none, or memory was refused
 abbrev pub IsPathAnswer : List ℕ → List ℕ → BlockError → Type 0
 IsPathAnswer schema path errors.Memory = Unit {0}
-IsPathAnswer schema path e = IsPathRefusal schema path e
+IsPathAnswer schema path error = IsPathRefusal schema path error

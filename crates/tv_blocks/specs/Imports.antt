@@ -81,13 +81,13 @@ FillsBoth P R old_bytes new_bytes old_answers new_answers (Err (errors.TooSmall 
     × LackBoth block answers old_bytes new_bytes old_answers new_answers bytes lines
 FillsBoth P R old_bytes new_bytes old_answers new_answers (Err errors.Memory) =
     (new_bytes ≡ old_bytes) × (new_answers ≡ old_answers)
-FillsBoth P R old_bytes new_bytes old_answers new_answers (Err e) =
-    R e × (new_bytes ≡ old_bytes) × (new_answers ≡ old_answers)
+FillsBoth P R old_bytes new_bytes old_answers new_answers (Err error) =
+    R error × (new_bytes ≡ old_bytes) × (new_answers ≡ old_answers)
 
 -- what a call returns that imports lines by these entries, and by the schema that a text describes
 abbrev pub ImportsBy : List Entry → List ℕ → List ℕ → List ℕ → List LineAnswer → List LineAnswer
     → Result Imported BlockError → Type 0
-ImportsBy entries input = FillsBoth (ImportsLines entries input) (λ e. ⊥)
+ImportsBy entries input = FillsBoth (ImportsLines entries input) (λ error. ⊥)
 
 abbrev pub ImportsInto : List ℕ → List ℕ → List ℕ → List ℕ → List LineAnswer → List LineAnswer
     → Result Imported BlockError → Type 0
@@ -101,9 +101,9 @@ PutsBoth block answers old_bytes new_bytes old_answers new_answers (Ok count) =
     PutBoth block answers old_bytes new_bytes old_answers new_answers count
 PutsBoth block answers old_bytes new_bytes old_answers new_answers (Err (errors.TooSmall bytes lines)) =
     LackBoth block answers old_bytes new_bytes old_answers new_answers bytes lines
-PutsBoth block answers old_bytes new_bytes old_answers new_answers (Err e) = ⊥
+PutsBoth block answers old_bytes new_bytes old_answers new_answers (Err error) = ⊥
 
 -- what becomes of a line by these rules
 abbrev pub IsLenientOutcome : LineOutcome → Type 0
 IsLenientOutcome (outcome.Stored size fault) = Unit {0}
-IsLenientOutcome (outcome.Refused e) = IsLenient e
+IsLenientOutcome (outcome.Refused error) = IsLenient error

@@ -46,10 +46,10 @@ abbrev pub refusal_of : List Entry → LineError → LineRefusal
 refusal_of schema NotUtf8 = lines.NotUtf8
 refusal_of schema (NoObject start fault) = lines.InvalidJson fault
 refusal_of schema (Float name json) = bad_value schema (string_bytes name) refusals.FloatNumber
-refusal_of schema (Refused (Parsing (parsing.ValueError name e))) =
-    bad_value schema (string_bytes name) (value_refusal e)
-refusal_of schema (Refused (Parsing (parsing.Add e))) = lines.HeapFull
-refusal_of schema e = lines.NotUtf8
+refusal_of schema (Refused (Parsing (parsing.ValueError name error))) =
+    bad_value schema (string_bytes name) (value_refusal error)
+refusal_of schema (Refused (Parsing (parsing.Add error))) = lines.HeapFull
+refusal_of schema error = lines.NotUtf8
 
 -- a line makes no document for this reason, which is said so
 abbrev pub RefusesLine : List Entry → List ℕ → LineRefusal → Type 0
@@ -60,7 +60,7 @@ RefusesLine schema line said = (error : LineError) × MakesNone schema false lin
 abbrev pub IsUnparsed : List Entry → List ℕ → BlockError → Type 0
 IsUnparsed schema line (errors.BadLine why) = RefusesLine schema line why
 IsUnparsed schema line errors.Memory = Unit {0}
-IsUnparsed schema line e = ⊥
+IsUnparsed schema line error = ⊥
 
 -- ---- as numbers
 
@@ -101,8 +101,8 @@ abbrev pub fault_number : JsonFaultKind → ℕ
 fault_number faults.TooDeep = 1
 fault_number faults.NumberTooLarge = 2
 fault_number faults.NoObject = 3
-fault_number (faults.EndsEarly e) = expected_number e
-fault_number (faults.Unexpected e) = expected_number e
+fault_number (faults.EndsEarly error) = expected_number error
+fault_number (faults.Unexpected error) = expected_number error
 
 -- the field whose value is refused, or what is wrong with the JSON, or 0
 abbrev pub line_field : LineRefusal → ℕ
@@ -125,6 +125,6 @@ abbrev pub IsLenient : LineError → Type 0
 IsLenient NotUtf8 = Unit {0}
 IsLenient (NoObject start fault) = Unit {0}
 IsLenient (Float name json) = Unit {0}
-IsLenient (Refused (Parsing (parsing.ValueError name e))) = Unit {0}
-IsLenient (Refused (Parsing (parsing.Add e))) = Unit {0}
-IsLenient e = ⊥
+IsLenient (Refused (Parsing (parsing.ValueError name error))) = Unit {0}
+IsLenient (Refused (Parsing (parsing.Add error))) = Unit {0}
+IsLenient error = ⊥

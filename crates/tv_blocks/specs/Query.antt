@@ -51,12 +51,13 @@ AreTextRanges schema path text content =
 -- the path or the text is no UTF-8; or both are, and this is what is said of why the text is refused there
 abbrev pub IsQueryRefusal : (TextTermsError → Type 0) → List ℕ → List ℕ → BlockError → Type 0
 IsQueryRefusal Refuses path text errors.NotUtf8 = ¬ (IsUtf8 path × IsUtf8 text)
-IsQueryRefusal Refuses path text e = IsUtf8 path × IsUtf8 text × (why : TextTermsError) × Refuses why
-    × (e ≡ query_error why)
+IsQueryRefusal Refuses path text error = IsUtf8 path × IsUtf8 text × (why : TextTermsError) × Refuses why
+    × (error ≡ query_error why)
 
 abbrev pub IsTermsRefusal : List Entry → List ℕ → List ℕ → BlockError → Type 0
-IsTermsRefusal schema path text e = IsQueryRefusal (λ why. AnswersText schema path text (Err why)) path text e
+IsTermsRefusal schema path text error = IsQueryRefusal (λ why. AnswersText schema path text (Err why)) path
+    text error
 
 abbrev pub IsRangesRefusal : List Entry → List ℕ → List ℕ → BlockError → Type 0
-IsRangesRefusal schema path text e = IsQueryRefusal (λ why. AnswersRanges schema path text (Err why)) path
-    text e
+IsRangesRefusal schema path text error = IsQueryRefusal (λ why. AnswersRanges schema path text (Err why)) path
+    text error

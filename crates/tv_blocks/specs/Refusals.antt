@@ -31,12 +31,12 @@ use Rattle.tv_store.specs.declared.limits.LimitedReadError.TheVariants as limite
 -- the text is no UTF-8
 abbrev pub IsTextRefusal : List ℕ → BlockError → Type 0
 IsTextRefusal text errors.NotUtf8 = ¬ IsUtf8 text
-IsTextRefusal text e = ⊥
+IsTextRefusal text error = ⊥
 
 -- or it names no facet
 abbrev pub IsFacetRefusal : List ℕ → BlockError → Type 0
 IsFacetRefusal text errors.NotFacet = IsUtf8 text × (parse text ≡ None)
-IsFacetRefusal text e = IsTextRefusal text e
+IsFacetRefusal text error = IsTextRefusal text error
 
 -- bytes that aren't UTF-8 are refused as that, whether or not there is memory
 abbrev pub TellsNotUtf8 : {T : Type 0} → List ℕ → Result T BlockError → Type 0
@@ -54,11 +54,11 @@ abbrev pub IsSchemaRefusal : List ℕ → BlockError → Type 0
 IsSchemaRefusal text errors.InvalidJson = (value : Data) → ¬ IsJson text value
 IsSchemaRefusal text (errors.BadSchemaKey entry key) =
     (value : Data) × IsJson text value × (schema_by_key value ≡ Err (BadKey entry key))
-IsSchemaRefusal text (errors.BadSchemaEntry entry e) =
-    (value : Data) × IsJson text value × (schema_by_key value ≡ Err (Refused entry e))
-IsSchemaRefusal text (errors.BadSchema e) = (value : Data) × IsJson text value
-    × (schema_by_key value ≡ Err (Other e))
-IsSchemaRefusal text e = ⊥
+IsSchemaRefusal text (errors.BadSchemaEntry entry error) =
+    (value : Data) × IsJson text value × (schema_by_key value ≡ Err (Refused entry error))
+IsSchemaRefusal text (errors.BadSchema error) = (value : Data) × IsJson text value
+    × (schema_by_key value ≡ Err (Other error))
+IsSchemaRefusal text error = ⊥
 
 -- ---- bytes that are read from the front
 
@@ -76,56 +76,56 @@ pub record BreaksAt (IsGood IsRefused : List ℕ → Type 0) (bytes : List ℕ) 
 
 -- the document that begins there is refused for this
 abbrev pub RefusesDocument : Version → List ℕ → DocumentRefusal → Type 0
-RefusesDocument v bytes (documents.Corrupted cause) = NoDocument v bytes (corrupted cause)
-RefusesDocument v bytes documents.KeyIsNoText = (code : ℕ) × NoDocument v bytes (no_text_key code)
-RefusesDocument v bytes documents.HeapFull = HasNoRoom v bytes
+RefusesDocument version bytes (documents.Corrupted cause) = NoDocument version bytes (corrupted cause)
+RefusesDocument version bytes documents.KeyIsNoText = (code : ℕ) × NoDocument version bytes (no_text_key code)
+RefusesDocument version bytes documents.HeapFull = HasNoRoom version bytes
 
 -- The first `start` bytes encode documents, and the document that begins after them is refused. Something
 -- stands there.
-pub record Breaks (v : Version) (block : List ℕ) (start : ℕ) (refusal : DocumentRefusal) : Type 0 where
+pub record Breaks (version : Version) (block : List ℕ) (start : ℕ) (refusal : DocumentRefusal) : Type 0 where
   pub before : List ℕ
   pub behind : List ℕ
   pub joined : block ≡ before ++ behind
   pub measured : start ≡ length before
   pub some : behind ≢ []
   pub documents : List Document
-  pub encoded : EncodesBlock v before documents
-  pub refused : RefusesDocument v behind refusal
+  pub encoded : EncodesBlock version before documents
+  pub refused : RefusesDocument version behind refusal
 
 abbrev pub IsBlockRefusal : Version → List ℕ → BlockError → Type 0
-IsBlockRefusal v block (errors.BadDocument start refusal) = Breaks v block start refusal
-IsBlockRefusal v block e = ⊥
+IsBlockRefusal version block (errors.BadDocument start refusal) = Breaks version block start refusal
+IsBlockRefusal version block error = ⊥
 
 -- what is said where reading a document after `start` bytes returns an error
 abbrev pub document_refusal : ℕ → DeserializeError → BlockError
 document_refusal start (reads.CorruptedValue cause) = errors.BadDocument start (documents.Corrupted cause)
 document_refusal start (reads.TypeMismatch expected actual) = errors.BadDocument start documents.KeyIsNoText
 document_refusal start reads.HeapFull = errors.BadDocument start documents.HeapFull
-document_refusal start e = errors.Memory
+document_refusal start error = errors.Memory
 
 -- the same of reading it where no limits are set
 abbrev pub refusal_within : ℕ → LimitedReadError → BlockError
-refusal_within start (limited.Read e) = document_refusal start e
+refusal_within start (limited.Read error) = document_refusal start error
 refusal_within start (limited.Limit l) = errors.Memory
 
 -- the same of migrating a block: that a document isn't written is because memory was refused
 abbrev pub migration_refusal : MigrateBlockError → BlockError
-migration_refusal (Read e) = refusal_within e.start e.error
-migration_refusal (Write document start e) = errors.Memory
+migration_refusal (Read error) = refusal_within error.start error.error
+migration_refusal (Write document start error) = errors.Memory
 migration_refusal TooMany = errors.Memory
 
 -- the same of printing a block
 abbrev pub export_refusal : WorkError → BlockError
-export_refusal (work.Read e) = refusal_within e.start e.error
-export_refusal (work.Write e) = errors.Memory
+export_refusal (work.Read error) = refusal_within error.start error.error
+export_refusal (work.Write error) = errors.Memory
 export_refusal work.Memory = errors.Memory
 export_refusal work.TooMany = errors.Memory
 
 -- the schema is refused, or else a document of the block
 abbrev pub IsExportRefusal : List ℕ → Version → List ℕ → BlockError → Type 0
-IsExportRefusal schema v block (errors.BadDocument start refusal) =
-    ((entries : List Entry) × ReadsSchema schema entries) × Breaks v block start refusal
-IsExportRefusal schema v block e = IsSchemaRefusal schema e
+IsExportRefusal schema version block (errors.BadDocument start refusal) =
+    ((entries : List Entry) × ReadsSchema schema entries) × Breaks version block start refusal
+IsExportRefusal schema version block error = IsSchemaRefusal schema error
 
 -- ---- paths
 
@@ -133,7 +133,7 @@ IsExportRefusal schema v block e = IsSchemaRefusal schema e
 abbrev pub IsUnfound : List Entry → List ℕ → BlockError → Type 0
 IsUnfound entries path errors.NotUtf8 = ¬ IsUtf8 path
 IsUnfound entries path errors.NoField = IsUtf8 path × (find entries path ≡ None)
-IsUnfound entries path e = ⊥
+IsUnfound entries path error = ⊥
 
 -- the schema is refused, the path is no UTF-8, or it names no field
 abbrev pub IsPathRefusal : List ℕ → List ℕ → BlockError → Type 0
@@ -141,4 +141,4 @@ IsPathRefusal schema path errors.NotUtf8 = (entries : List Entry) × ReadsSchema
     × IsUnfound entries path errors.NotUtf8
 IsPathRefusal schema path errors.NoField = (entries : List Entry) × ReadsSchema schema entries
     × IsUnfound entries path errors.NoField
-IsPathRefusal schema path e = IsSchemaRefusal schema e
+IsPathRefusal schema path error = IsSchemaRefusal schema error

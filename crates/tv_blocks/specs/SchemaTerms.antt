@@ -45,12 +45,12 @@ fault_bytes None = []
 
 -- the record of a document that has no terms
 abbrev pub fault_record : ℕ → TermValuesError → List ℕ
-fault_record number e = numbered_record number (2 ^ 64 - 1) (fault_bytes (refusal_of e))
+fault_record number error = numbered_record number (2 ^ 64 - 1) (fault_bytes (refusal_of error))
 
 -- those of a document: of its terms, the first of which shares nothing, or the one of why it has none
 abbrev pub document_records : ℕ → Terms → List ℕ
 document_records number (Ok terms) = term_records number [] terms
-document_records number (Err e) = fault_record number e
+document_records number (Err error) = fault_record number error
 
 -- those of documents, of which the first has this number
 abbrev pub records_from : ℕ → List Terms → List ℕ
@@ -61,14 +61,14 @@ records_from first (terms ∷ others) = document_records first terms ++ records_
 
 -- each of its values has its terms
 abbrev pub HasTermRecords : List Entry → Document → Type 0
-HasTermRecords schema d = (terms : List (List ℕ)) × (document_terms schema d ≡ Ok terms)
+HasTermRecords schema document = (terms : List (List ℕ)) × (document_terms schema document ≡ Ok terms)
 
 -- The block encodes documents, and these are their records, the documents counted from 0. Without faults each
 -- has terms.
-pub record AreSchemaTerms (with_faults : Bool) (schema : List Entry) (v : Version)
+pub record AreSchemaTerms (with_faults : Bool) (schema : List Entry) (version : Version)
     (block content : List ℕ) : Type 0 where
   pub documents : List Document
-  pub encoded : EncodesBlock v block documents
+  pub encoded : EncodesBlock version block documents
   pub listed : content ≡ records_from 0 (map (document_terms schema) documents)
   pub have_terms : with_faults ≡ false → All (HasTermRecords schema) documents
 
@@ -76,28 +76,30 @@ pub record AreSchemaTerms (with_faults : Bool) (schema : List Entry) (v : Versio
 
 -- the document has no terms, and this is said of it
 abbrev pub HasNoTerms : List Entry → ℕ → Document → BlockError → Type 0
-HasNoTerms schema start d said = (e : TermValuesError) × (document_terms schema d ≡ Err e)
-    × (said ≡ terms_error start e)
+HasNoTerms schema start document said = (error : TermValuesError)
+    × (document_terms schema document ≡ Err error)
+    × (said ≡ terms_error start error)
 
 -- the bytes begin with a document that has no terms
 abbrev pub BeginsWithoutTerms : List Entry → Version → ℕ → TermsRefusal → List ℕ → Type 0
-BeginsWithoutTerms schema v start refusal bytes =
-    (rest : List ℕ) × (d : Document) × BeginsWithDocument v bytes rest d
-    × HasNoTerms schema start d (errors.NoTerms start refusal)
+BeginsWithoutTerms schema version start refusal bytes =
+    (rest : List ℕ) × (document : Document) × BeginsWithDocument version bytes rest document
+    × HasNoTerms schema start document (errors.NoTerms start refusal)
 
 -- the documents of these bytes have records
 abbrev pub HaveRecords : Bool → List Entry → Version → List ℕ → Type 0
-HaveRecords with_faults schema v bytes = (content : List ℕ)
-    × AreSchemaTerms with_faults schema v bytes content
+HaveRecords with_faults schema version bytes = (content : List ℕ)
+    × AreSchemaTerms with_faults schema version bytes content
 
 -- The document that begins there is the first that can't be read or, without faults, has no terms.
 abbrev pub IsSchemaTermsRefusal : Bool → List Entry → Version → List ℕ → BlockError → Type 0
-IsSchemaTermsRefusal with_faults schema v block (errors.BadDocument start refusal) =
-    BreaksAt (HaveRecords with_faults schema v) (λ bytes. RefusesDocument v bytes refusal) block start
-IsSchemaTermsRefusal with_faults schema v block (errors.NoTerms start refusal) =
-    (with_faults ≡ false) × BreaksAt (HaveRecords with_faults schema v)
-    (BeginsWithoutTerms schema v start refusal) block start
-IsSchemaTermsRefusal with_faults schema v block e = ⊥
+IsSchemaTermsRefusal with_faults schema version block (errors.BadDocument start refusal) =
+    BreaksAt (HaveRecords with_faults schema version) (λ bytes. RefusesDocument version bytes refusal) block
+    start
+IsSchemaTermsRefusal with_faults schema version block (errors.NoTerms start refusal) =
+    (with_faults ≡ false) × BreaksAt (HaveRecords with_faults schema version)
+    (BeginsWithoutTerms schema version start refusal) block start
+IsSchemaTermsRefusal with_faults schema version block error = ⊥
 
 -- ---- for private clauses
 
@@ -108,24 +110,26 @@ last_term before (term ∷ terms) = last_term term terms
 
 -- the records of the document are appended, and without faults it has terms
 abbrev pub AppendsDocument : Bool → List Entry → ℕ → Document → List ℕ → List ℕ → Type 0
-AppendsDocument with_faults schema number d old new =
-    (with_faults ≡ false → HasTermRecords schema d)
-    × (new ≡ old ++ document_records number (document_terms schema d))
+AppendsDocument with_faults schema number document old new =
+    (with_faults ≡ false → HasTermRecords schema document)
+    × (new ≡ old ++ document_records number (document_terms schema document))
 
 -- without faults it has none, or memory was refused
 abbrev pub IsWithoutTerms : Bool → List Entry → ℕ → Document → BlockError → Type 0
-IsWithoutTerms with_faults schema start d errors.Memory = Unit {0}
-IsWithoutTerms with_faults schema start d e = (with_faults ≡ false) × HasNoTerms schema start d e
+IsWithoutTerms with_faults schema start document errors.Memory = Unit {0}
+IsWithoutTerms with_faults schema start document error =
+    (with_faults ≡ false) × HasNoTerms schema start document error
 
 -- a document of the block is refused, or memory was
 abbrev pub IsTermsBlockRefusal : Bool → List Entry → Version → List ℕ → BlockError → Type 0
-IsTermsBlockRefusal with_faults schema v block errors.Memory = Unit {0}
-IsTermsBlockRefusal with_faults schema v block e = IsSchemaTermsRefusal with_faults schema v block e
+IsTermsBlockRefusal with_faults schema version block errors.Memory = Unit {0}
+IsTermsBlockRefusal with_faults schema version block error =
+    IsSchemaTermsRefusal with_faults schema version block error
 
 -- so far the records of the documents before the rest of the block have been appended
-pub record SchemaTermsSoFar (with_faults : Bool) (schema : List Entry) (v : Version)
+pub record SchemaTermsSoFar (with_faults : Bool) (schema : List Entry) (version : Version)
     (block rest content : List ℕ) (number : ℕ) : Type 0 where
   pub before : List ℕ
   pub joined : block ≡ before ++ rest
-  pub are : AreSchemaTerms with_faults schema v before content
+  pub are : AreSchemaTerms with_faults schema version before content
   pub counted : number ≡ length are.documents

@@ -13,7 +13,7 @@ use Rattle.tv_schema.specs.declared.json.error.SchemaJsonError.TheVariants.{BadK
 -- the text describes no schema, or memory was refused
 abbrev pub IsRefusedSchema : List ℕ → BlockError → Type 0
 IsRefusedSchema text errors.Memory = Unit {0}
-IsRefusedSchema text e = IsSchemaRefusal text e
+IsRefusedSchema text error = IsSchemaRefusal text error
 
 -- the text of the schema's JSON, without spaces
 abbrev pub IsSchemaText : List Entry → List ℕ → Type 0

@@ -95,8 +95,8 @@ error_answer errors.Memory = nothing_written 2 0 0
 error_answer errors.NotUtf8 = nothing_written 3 0 0
 error_answer errors.NotFacet = nothing_written 4 0 0
 error_answer errors.InvalidJson = nothing_written 5 0 0
-error_answer (errors.BadSchema e) = schema_answer e
-error_answer (errors.BadSchemaEntry entry e) = placed entry (schema_answer e)
+error_answer (errors.BadSchema error) = schema_answer error
+error_answer (errors.BadSchemaEntry entry error) = placed entry (schema_answer error)
 error_answer (errors.BadSchemaKey entry key) = nothing_written 6 (key_number key) (entry_place (Some entry))
 error_answer errors.NoField = nothing_written 7 0 0
 error_answer errors.NoEnd = nothing_written 10 0 0
@@ -116,7 +116,7 @@ error_answer errors.NotTerm = nothing_written 17 0 0
 
 abbrev pub call_answer : Result ℕ BlockError → Answer
 call_answer (Ok bytes) = record { status = 0; detail = 0; place = 0; bytes = bytes; lines = 0 }
-call_answer (Err e) = error_answer e
+call_answer (Err error) = error_answer error
 
 abbrev pub import_answer : Result Imported BlockError → Answer
 import_answer (Ok count) = record {
@@ -127,4 +127,4 @@ import_answer (Ok count) = record {
   lines =
       count.lines;
 }
-import_answer (Err e) = error_answer e
+import_answer (Err error) = error_answer error

@@ -27,11 +27,12 @@ document_records document field d = flat_map (λ tree. term_record document fiel
 -- those of documents, of which the first has this number
 abbrev pub records_from : ℕ → ℕ → List Document → List ℕ
 records_from first field [] = []
-records_from first field (d ∷ ds) = document_records first field d ++ records_from (suc first) field ds
+records_from first field (document ∷ more) = document_records first field document
+    ++ records_from (suc first) field more
 
 -- the block encodes documents, and these are the records of the field's values, the documents counted from 0
 abbrev pub IsTermList : Version → ℕ → List ℕ → List ℕ → Type 0
-IsTermList v field block content = (documents : List Document) × EncodesBlock v block documents
+IsTermList version field block content = (documents : List Document) × EncodesBlock version block documents
     × (content ≡ records_from 0 field documents)
 
 -- ---- one term, and the end of a prefix
@@ -47,7 +48,7 @@ IsEnd prefix content = (end : Vec ℕ) × (end.items ≡ content) × EndsPrefix 
 -- all from the prefix on begin with it
 abbrev pub IsEndRefusal : List ℕ → BlockError → Type 0
 IsEndRefusal prefix errors.NoEnd = EndsPrefix prefix None
-IsEndRefusal prefix e = ⊥
+IsEndRefusal prefix error = ⊥
 
 -- ---- the text of a term
 
@@ -60,15 +61,16 @@ IsTermText bytes content = (field : ℕ) × (value : TermValue) × IsTerm bytes 
 abbrev pub IsTermRefusal : List ℕ → BlockError → Type 0
 IsTermRefusal bytes errors.NotTerm = (field : ℕ) (value : TermValue) → IsTerm bytes field value
     → text_of_value value ≡ None
-IsTermRefusal bytes e = ⊥
+IsTermRefusal bytes error = ⊥
 
 -- ---- for private clauses
 
 -- so far the records of the documents before the rest of the block have been appended
-pub record TermsSoFar (v : Version) (field : ℕ) (block rest content : List ℕ) (number : ℕ) : Type 0 where
+pub record TermsSoFar (version : Version) (field : ℕ) (block rest content : List ℕ)
+    (number : ℕ) : Type 0 where
   pub before : List ℕ
   pub joined : block ≡ before ++ rest
   pub documents : List Document
   pub counted : number ≡ length documents
-  pub encoded : EncodesBlock v before documents
+  pub encoded : EncodesBlock version before documents
   pub listed : content ≡ records_from 0 field documents

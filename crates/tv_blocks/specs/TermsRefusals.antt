@@ -22,7 +22,7 @@ said_at start (Some why) = errors.NoTerms start why.0
 said_at start None = errors.Memory
 
 abbrev pub terms_error : ℕ → TermValuesError → BlockError
-terms_error start e = said_at start (refusal_of e)
+terms_error start error = said_at start (refusal_of error)
 
 abbrev pub terms_number : TermsRefusal → ℕ
 terms_number refusals.ForeignField = 15

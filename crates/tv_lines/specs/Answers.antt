@@ -69,9 +69,9 @@ error_text errors.Memory = codes "error Memory"
 
 -- the bytes of a document in lower-case hexadecimal, a space, and its text of JSON by the names of the fields
 abbrev pub IsDocumentText : List Entry → Document → List ℕ → Type 0
-IsDocumentText schema d text =
-    (json : List ℕ) × IsJsonText (field_names schema) d json
-    × (text ≡ encode_lower (short_document V2 d) ++ 32 ∷ json)
+IsDocumentText schema document text =
+    (json : List ℕ) × IsJsonText (field_names schema) document json
+    × (text ≡ encode_lower (short_document V2 document) ++ 32 ∷ json)
 
 -- What is answered for a document's line: that it is no text, why there is no document of it, or the stored
 -- pairs; or that memory was refused, or that there is no room to read them back.

@@ -32,40 +32,44 @@ use Rattle.tv_store.specs.declared.projection.Projection.{Projection}
 
 -- the terms of the fields that the query names, or why there are none
 abbrev pub named_terms : List Entry → QueryTree → Document → Terms
-named_terms schema tree d = document_terms schema (filter (λ pair. names_field (steps_of tree) pair.0) d)
+named_terms schema tree document = document_terms schema
+    (filter (λ pair. names_field (steps_of tree) pair.0) document)
 
 -- What becomes of a document: these terms match the query, and its line is appended; or they don't, or there
 -- are none, and nothing is.
 abbrev pub FindsDocument : List Entry → QueryTree → Document → List ℕ → List ℕ → DocumentOutcome → Type 0
-FindsDocument schema tree d old new outcome.Found =
-    (terms : List (List ℕ)) × (named_terms schema tree d ≡ Ok terms) × Matches terms tree
-    × AppendsJson schema Compact d old new
-FindsDocument schema tree d old new outcome.NotFound =
-    (terms : List (List ℕ)) × (named_terms schema tree d ≡ Ok terms) × (¬ Matches terms tree) × (new ≡ old)
-FindsDocument schema tree d old new (outcome.Faulty why) = (named_terms schema tree d ≡ Err why) × (new ≡ old)
+FindsDocument schema tree document old new outcome.Found =
+    (terms : List (List ℕ)) × (named_terms schema tree document ≡ Ok terms) × Matches terms tree
+    × AppendsJson schema Compact document old new
+FindsDocument schema tree document old new outcome.NotFound =
+    (terms : List (List ℕ)) × (named_terms schema tree document ≡ Ok terms) × (¬ Matches terms tree)
+    × (new ≡ old)
+FindsDocument schema tree document old new (outcome.Faulty why) =
+    (named_terms schema tree document ≡ Err why) × (new ≡ old)
 
 -- what was appended of a document, and why no more
 abbrev pub LeavesDocument : List Entry → QueryTree → Document → List ℕ → List ℕ → WorkError → Type 0
-LeavesDocument schema tree d old new (errors.Write kind) =
-    (terms : List (List ℕ)) × (named_terms schema tree d ≡ Ok terms) × Matches terms tree
-    × AppendsBegun schema Compact d old new
-LeavesDocument schema tree d old new errors.Memory = AppendsBegun schema Compact d old new
-LeavesDocument schema tree d old new e = ⊥
+LeavesDocument schema tree document old new (errors.Write kind) =
+    (terms : List (List ℕ)) × (named_terms schema tree document ≡ Ok terms) × Matches terms tree
+    × AppendsBegun schema Compact document old new
+LeavesDocument schema tree document old new errors.Memory = AppendsBegun schema Compact document old new
+LeavesDocument schema tree document old new error = ⊥
 
 -- ---- documents
 
 -- These bytes encode documents, one after the other, each within the limits, and each of these reports is
 -- true of what is kept of one, with its number and the place where it begins. They are the first of the
 -- block.
-pub data FindsEach (schema : List Entry) (v : Version) (projection : Projection) (tree : QueryTree)
+pub data FindsEach (schema : List Entry) (version : Version) (projection : Projection) (tree : QueryTree)
     (block old : List ℕ) : List ℕ → List ℕ → List DocumentReport → Type 0 where
-  none : FindsEach schema v projection tree block old [] old []
-  one_more : {before middle new : List ℕ} {reports : List DocumentReport} (bytes : List ℕ) (d : Document)
-      (report : DocumentReport) → FindsEach schema v projection tree block old before middle reports
-      → EncodesWithinLimits v (limits_of projection) bytes d → report.document ≡ length reports
+  none : FindsEach schema version projection tree block old [] old []
+  one_more : {before middle new : List ℕ} {reports : List DocumentReport} (bytes : List ℕ)
+      (document : Document)
+      (report : DocumentReport) → FindsEach schema version projection tree block old before middle reports
+      → EncodesWithinLimits version (limits_of projection) bytes document → report.document ≡ length reports
       → (length block < 2 ^ 64 - 1 → report.start ≡ length before)
-      → FindsDocument schema tree (kept projection d) middle new report.outcome
-      → FindsEach schema v projection tree block old (before ++ bytes) new (reports ++ report ∷ [])
+      → FindsDocument schema tree (kept projection document) middle new report.outcome
+      → FindsEach schema version projection tree block old (before ++ bytes) new (reports ++ report ∷ [])
 
 abbrev pub is_found : DocumentOutcome → Bool
 is_found outcome.Found = true
@@ -79,11 +83,11 @@ is_faulty (outcome.Faulty why) = true
 
 -- The block is documents. Where it is known what was told, that is what became of each, and `found` has the
 -- number of each kind.
-pub record FindsAll (schema : List Entry) (v : Version) (projection : Projection) (tree : QueryTree)
+pub record FindsAll (schema : List Entry) (version : Version) (projection : Projection) (tree : QueryTree)
     (block old new : List ℕ) (IsTold : Type 0) (begun ended : List DocumentReport) (found : Found) :
     Type 0 where
   pub reports : List DocumentReport
-  pub each : FindsEach schema v projection tree block old block new reports
+  pub each : FindsEach schema version projection tree block old block new reports
   pub told : IsTold → ended ≡ begun ++ reports
   pub documents : found.documents ≡ length reports
   pub matching : found.found ≡ count_by (λ report. is_found report.outcome) reports
@@ -93,26 +97,27 @@ pub record FindsAll (schema : List Entry) (v : Version) (projection : Projection
 -- where it can't be read, or isn't. Before it come `number` documents, in `start` bytes.
 abbrev pub LeavesUnsearched : List Entry → Version → Projection → QueryTree → List ℕ → List ℕ → ℕ → ℕ → List ℕ
     → List ℕ → WorkError → Type 0
-LeavesUnsearched schema v projection tree bytes left number start old new (errors.Read e) =
-    (new ≡ old) × (e.document ≡ number) × IsRefusedAt v projection bytes left start e
-LeavesUnsearched schema v projection tree bytes left number start old new errors.TooMany =
+LeavesUnsearched schema version projection tree bytes left number start old new (errors.Read error) =
+    (new ≡ old) × (error.document ≡ number) × IsRefusedAt version projection bytes left start error
+LeavesUnsearched schema version projection tree bytes left number start old new errors.TooMany =
     (new ≡ old) × (number ≡ 2 ^ 64 - 1)
-LeavesUnsearched schema v projection tree bytes left number start old new e =
-    (d : Document) × (rest : List ℕ) × BeginsWithDocument v bytes rest d
-    × LeavesDocument schema tree (kept projection d) old new e
+LeavesUnsearched schema version projection tree bytes left number start old new error =
+    (document : Document) × (rest : List ℕ) × BeginsWithDocument version bytes rest document
+    × LeavesDocument schema tree (kept projection document) old new error
 
 -- the same, or it was gone over and only the report failed
 abbrev pub LeavesSearch : {E : Type 0} → List Entry → Version → Projection → QueryTree → List ℕ → List ℕ → ℕ
     → ℕ → List ℕ → List ℕ → FindError E → Type 0
-LeavesSearch schema v projection tree bytes left number start old new (finding.Work e) =
-    LeavesUnsearched schema v projection tree bytes left number start old new e
-LeavesSearch schema v projection tree bytes left number start old new (finding.Report e) =
-    (d : Document) × (rest : List ℕ) × (said : DocumentOutcome) × BeginsWithDocument v bytes rest d
-    × FindsDocument schema tree (kept projection d) old new said
+LeavesSearch schema version projection tree bytes left number start old new (finding.Work error) =
+    LeavesUnsearched schema version projection tree bytes left number start old new error
+LeavesSearch schema version projection tree bytes left number start old new (finding.Report error) =
+    (document : Document) × (rest : List ℕ) × (said : DocumentOutcome)
+    × BeginsWithDocument version bytes rest document
+    × FindsDocument schema tree (kept projection document) old new said
 
 -- The documents before were gone over, and the one with which the rest of the block begins was not, or not to
 -- the end. `left` is what was left of the block.
-pub record StopsFinding {E : Type 0} (schema : List Entry) (v : Version) (projection : Projection)
+pub record StopsFinding {E : Type 0} (schema : List Entry) (version : Version) (projection : Projection)
     (tree : QueryTree) (block left old new : List ℕ) (IsTold : Type 0) (begun ended : List DocumentReport)
     (error : FindError E) : Type 0 where
   pub before : List ℕ
@@ -120,36 +125,37 @@ pub record StopsFinding {E : Type 0} (schema : List Entry) (v : Version) (projec
   pub joined : block ≡ before ++ after
   pub middle : List ℕ
   pub reports : List DocumentReport
-  pub each : FindsEach schema v projection tree block old before middle reports
+  pub each : FindsEach schema version projection tree block old before middle reports
   pub told : IsTold → ended ≡ begun ++ reports
-  pub next : LeavesSearch schema v projection tree after left (length reports) (length before) middle new
+  pub next : LeavesSearch schema version projection tree after left (length reports) (length before) middle
+      new
       error
 
 -- The block was searched, whole or up to the document at which that broke off.
 abbrev pub SearchesBlock : {E : Type 0} → List Entry → Version → Projection → QueryTree → List ℕ → List ℕ
     → List ℕ → List ℕ → Type 0 → List DocumentReport → List DocumentReport → Result Found (FindError E)
     → Type 0
-SearchesBlock schema v projection tree block left old new IsTold begun ended (Ok found) =
-    FindsAll schema v projection tree block old new IsTold begun ended found
-SearchesBlock schema v projection tree block left old new IsTold begun ended (Err e) =
-    StopsFinding schema v projection tree block left old new IsTold begun ended e
+SearchesBlock schema version projection tree block left old new IsTold begun ended (Ok found) =
+    FindsAll schema version projection tree block old new IsTold begun ended found
+SearchesBlock schema version projection tree block left old new IsTold begun ended (Err error) =
+    StopsFinding schema version projection tree block left old new IsTold begun ended error
 
 -- why a search broke off, as its source and its sink see it
 abbrev pub find_source_stop : {E : Type 0} → FindError E → Stop Refusal
-find_source_stop (finding.Work e) = source_stop e
-find_source_stop (finding.Report e) = Short
+find_source_stop (finding.Work error) = source_stop error
+find_source_stop (finding.Report error) = Short
 
 abbrev pub find_sink_stop : {E : Type 0} → FindError E → Stop Refusal
-find_sink_stop (finding.Work e) = sink_stop e
-find_sink_stop (finding.Report e) = Short
+find_sink_stop (finding.Work error) = sink_stop error
+find_sink_stop (finding.Report error) = Short
 
 -- ---- for private clauses
 
 -- a document was searched, and its line appended if it is found, whole or in part
 abbrev pub SearchesDocument : List Entry → QueryTree → Document → List ℕ → List ℕ
     → Result DocumentOutcome WorkError → Type 0
-SearchesDocument schema tree d old new (Ok said) = FindsDocument schema tree d old new said
-SearchesDocument schema tree d old new (Err e) = LeavesDocument schema tree d old new e
+SearchesDocument schema tree document old new (Ok said) = FindsDocument schema tree document old new said
+SearchesDocument schema tree document old new (Err error) = LeavesDocument schema tree document old new error
 
 -- one document more is counted
 abbrev pub CountsFound : Found → DocumentOutcome → Found → Type 0

@@ -42,7 +42,7 @@ IsLineError schema rules line (Unsearchable name why) =
     (made : CompactDoc) × MakesLineDocument schema rules.strict line made
     × RefusesFault rules.faults (document_fault schema (document_of made)) why
     × (string_bytes name ≡ faulty_name schema why)
-IsLineError schema rules line e = MakesNone schema rules.strict line e
+IsLineError schema rules line error = MakesNone schema rules.strict line error
 
 -- The line makes a document. This is its stored encoding, and what is said of why it can't be searched.
 abbrev pub IsStoredLine : List Entry → ImportRules → List ℕ → List ℕ → Option TermValuesError → Type 0
@@ -55,7 +55,7 @@ IsStoredLine schema rules line text fault =
 abbrev pub IsOutcome : List Entry → ImportRules → List ℕ → List ℕ → LineOutcome → Type 0
 IsOutcome schema rules line text (outcome.Stored size fault) =
     IsStoredLine schema rules line text fault × (size ≡ length text)
-IsOutcome schema rules line text (outcome.Refused e) = IsLineError schema rules line e × (text ≡ [])
+IsOutcome schema rules line text (outcome.Refused error) = IsLineError schema rules line error × (text ≡ [])
 
 -- what becomes of the next line, if there is one, with what follows it and what is appended
 abbrev pub ImportsNext : List Entry → ImportRules → List ℕ → List ℕ → List ℕ → Option LineOutcome → Type 0
@@ -81,7 +81,7 @@ LeavesBegun schema rules input old new =
 abbrev pub ImportsLine : List Entry → ImportRules → List ℕ → List ℕ → List ℕ → List ℕ
     → Result (Option LineOutcome) Halt → Type 0
 ImportsLine schema rules input rest old new (Ok said) = Imports schema rules input rest old new said
-ImportsLine schema rules input rest old new (Err e) = LeavesBegun schema rules input old new
+ImportsLine schema rules input rest old new (Err error) = LeavesBegun schema rules input old new
 
 -- what an importer has left to read of a source that has these bytes left
 abbrev pub left_to : LineImporter → List ℕ → List ℕ
@@ -104,10 +104,10 @@ abbrev pub IsJudged : List Entry → ImportRules → List ℕ → CompactDoc
 IsJudged schema rules line made (Ok fault) = MakesLineDocument schema rules.strict line made
     × Belongs schema (document_of made) × SaysFault rules.faults (document_fault schema (document_of made))
     fault
-IsJudged schema rules line made (Err e) = IsLineError schema rules line e
+IsJudged schema rules line made (Err error) = IsLineError schema rules line error
 
 -- this is told of a document that is refused since it can't be searched
 abbrev pub TellsUnsearchable : List Entry → TermValuesError → LineError → Type 0
 TellsUnsearchable schema why (Unsearchable name said) =
     (said ≡ why) × (string_bytes name ≡ faulty_name schema why)
-TellsUnsearchable schema why e = ⊥
+TellsUnsearchable schema why error = ⊥

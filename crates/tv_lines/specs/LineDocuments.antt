@@ -23,8 +23,8 @@ use Rattle.tv_lines.specs.declared.line_document.LineError.TheVariants.{Float, N
 abbrev pub ParsesBy : List Entry → Bool → List ℕ → Result CompactDoc StrictParsingError → Type 0
 ParsesBy schema true text r = ParsesStrictly schema text r
 ParsesBy schema false text (Ok made) = Parses schema text (Ok made)
-ParsesBy schema false text (Err (Parsing e)) = Parses schema text (Err e)
-ParsesBy schema false text (Err e) = ⊥
+ParsesBy schema false text (Err (Parsing error)) = Parses schema text (Err error)
+ParsesBy schema false text (Err error) = ⊥
 
 -- the error has all that is told of it: it is not a text that is no object, whose place is told too, nor a
 -- float, nor want of memory
@@ -46,7 +46,8 @@ MakesNone schema strict line (NoObject start fault) =
 MakesNone schema strict line (Float name json) =
     IsUtf8 line × ParsesBy schema strict line (Err (Parsing (parsing.ValueError name FloatNumber)))
     × IsFloatOf schema line (string_bytes name) (view json)
-MakesNone schema strict line (Refused e) = IsUtf8 line × ParsesBy schema strict line (Err e) × IsToldWhole e
+MakesNone schema strict line (Refused error) = IsUtf8 line × ParsesBy schema strict line (Err error)
+    × IsToldWhole error
 MakesNone schema strict line (Unsearchable name why) = ⊥
 
 -- what comes of a line: its document, whose fields are those of the schema, or why there is none, and then
@@ -54,7 +55,7 @@ MakesNone schema strict line (Unsearchable name why) = ⊥
 abbrev pub IsParsed : List Entry → Bool → List ℕ → CompactDoc → Option LineError → Type 0
 IsParsed schema strict line made None = MakesLineDocument schema strict line made
     × Belongs schema (document_of made)
-IsParsed schema strict line made (Some e) = MakesNone schema strict line e × (document_of made ≡ [])
+IsParsed schema strict line made (Some error) = MakesNone schema strict line error × (document_of made ≡ [])
 
 -- ---- for private clauses
 
@@ -65,4 +66,4 @@ Tells schema line (parsing.InvalidJson start) said =
 Tells schema line (parsing.ValueError name FloatNumber) said =
     (json : Value) × (said ≡ Float name json) × IsFloatOf schema line (string_bytes name) (view json)
 Tells schema line parsing.Memory said = ⊥
-Tells schema line e said = said ≡ Refused (Parsing e)
+Tells schema line error said = said ≡ Refused (Parsing error)

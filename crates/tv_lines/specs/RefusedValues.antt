@@ -14,7 +14,7 @@ abbrev pub AreAccepted : List FieldJson → Type 0
 AreAccepted values = (pairs : Document) × Pairs values pairs
 
 -- The first of these values that its field's type refuses, as a value of JSON.
-pub record FirstRefused (values : List FieldJson) (d : Data) : Type 0 where
+pub record FirstRefused (values : List FieldJson) (json : Data) : Type 0 where
   pub before : List FieldJson
   pub at : FieldJson
   pub behind : List FieldJson
@@ -22,14 +22,14 @@ pub record FirstRefused (values : List FieldJson) (d : Data) : Type 0 where
   pub accepted : AreAccepted before
   pub refusal : TableRefusal
   pub refused : Table at.field_type at.value (Err refusal)
-  pub value : d ≡ at.value
+  pub value : json ≡ at.value
 
 -- The first value of the line's object that its field's type refuses: it is of the field with this name, and
 -- a number in it isn't whole.
-pub record IsFloatOf (schema : List Entry) (line name : List ℕ) (d : Data) : Type 0 where
+pub record IsFloatOf (schema : List Entry) (line name : List ℕ) (json : Data) : Type 0 where
   pub members : Members
   pub reads : read line ≡ Some (object members)
-  pub first : FirstRefused (object_values schema members) d
+  pub first : FirstRefused (object_values schema members) json
   pub named : name ≡ first.at.name
   pub float : first.refusal ≡ float_number
 

@@ -58,7 +58,7 @@ RefusesRun bytes Memory = Unit {0}
 abbrev pub TakesPair : List ℕ → List ℕ → Pair → Result Bool ReadError → Type 0
 TakesPair bytes left pair (Ok true) = FitsRun pair × (bytes ≡ pair_bytes pair ++ left)
 TakesPair bytes left pair (Ok false) = (bytes ≡ []) × (left ≡ [])
-TakesPair bytes left pair (Err e) = RefusesRun bytes e
+TakesPair bytes left pair (Err error) = RefusesRun bytes error
 
 -- ---- several runs
 
@@ -78,8 +78,8 @@ module _ {S : Type 0} where
       (runs : List (List Pair)) : Type 0 where
     pub as_many : length runs ≡ length readers
     pub known : All (λ r. source.is_known r.source) readers
-    pub each : (k : ℕ) (d : RunReader S) → k < length readers
-        → HasLeft source (slice_index_or readers k d) (slice_index_or runs k [])
+    pub each : (k : ℕ) (default : RunReader S) → k < length readers
+        → HasLeft source (slice_index_or readers k default) (slice_index_or runs k [])
 
 -- whether the pair has this term
 abbrev pub is_of : List ℕ → Pair → Bool
@@ -136,27 +136,30 @@ MergesNext source readers runs pair (Ok true) = IsLeast pair.0 runs
     × (pair.1 ≡ min (sum_by (count_of pair.0) runs) (2 ^ 64 - 1))
     × HaveLeft source readers (map (without pair.0) runs) × RisesOn pair.0 runs
 MergesNext source readers runs pair (Ok false) = All (λ pairs. pairs ≡ []) runs × HaveLeft source readers runs
-MergesNext source readers runs pair (Err (merging.Read run e)) = (run < length runs) × IsOfReading e
+MergesNext source readers runs pair (Err (merging.Read run error)) = (run < length runs) × IsOfReading error
 MergesNext source readers runs pair (Err merging.Memory) = Unit {0}
 
 -- no source failed
 abbrev pub NoneFails : {S : Type 0} → Ghosts S → List (RunReader S) → List (RunReader S) → Type 0
-NoneFails {S} source old new = (k : ℕ) (d : RunReader S) → k < length old
-    → source.failures (slice_index_or new k d).source ≡ source.failures (slice_index_or old k d).source
+NoneFails {S} source old new = (k : ℕ) (default : RunReader S) → k < length old
+    → source.failures (slice_index_or new k default).source
+    ≡ source.failures (slice_index_or old k default).source
 
 -- the source of this reader failed as the error says, and no other
 pub record FailsAt {S : Type 0} (source : Ghosts S) (old new : List (RunReader S)) (run : ℕ)
-    (e : ReadError) : Type 0 where
+    (error : ReadError) : Type 0 where
   pub within : run < length old
-  pub there : (d : RunReader S) → CountsStop (read_stop e) (source.failures (slice_index_or old run d).source)
-      (source.failures (slice_index_or new run d).source)
-  pub others : (k : ℕ) (d : RunReader S) → k < length old → k ≢ run
-      → source.failures (slice_index_or new k d).source ≡ source.failures (slice_index_or old k d).source
+  pub there : (default : RunReader S) → CountsStop (read_stop error)
+      (source.failures (slice_index_or old run default).source)
+      (source.failures (slice_index_or new run default).source)
+  pub others : (k : ℕ) (default : RunReader S) → k < length old → k ≢ run
+      → source.failures (slice_index_or new k default).source
+      ≡ source.failures (slice_index_or old k default).source
 
 abbrev pub CountsMerge : {S T : Type 0} → Ghosts S → List (RunReader S) → List (RunReader S)
     → Result T MergeError → Type 0
 CountsMerge source old new (Ok x) = NoneFails source old new
-CountsMerge source old new (Err (merging.Read run e)) = FailsAt source old new run e
+CountsMerge source old new (Err (merging.Read run error)) = FailsAt source old new run error
 CountsMerge source old new (Err merging.Memory) = NoneFails source old new
 
 -- ---- for private clauses
@@ -178,7 +181,8 @@ abbrev pub TakesFromEach : {S : Type 0} → Ghosts S → List ℕ → List (RunR
 TakesFromEach source term readers runs (Ok total) =
     (total ≡ min (sum_by (count_of term) runs) (2 ^ 64 - 1))
     × HaveLeft source readers (map (without term) runs)
-TakesFromEach source term readers runs (Err (merging.Read run e)) = (run < length runs) × IsOfReading e
+TakesFromEach source term readers runs (Err (merging.Read run error)) =
+    (run < length runs) × IsOfReading error
 TakesFromEach source term readers runs (Err merging.Memory) = ⊥
 
 -- the same of one run
@@ -186,7 +190,7 @@ abbrev pub TakesFrom : {S : Type 0} → Ghosts S → List ℕ → RunReader S �
     → Type 0
 TakesFrom source term reader pairs (Ok count) = (count ≡ count_of term pairs)
     × HasLeft source reader (without term pairs)
-TakesFrom source term reader pairs (Err e) = IsOfReading e
+TakesFrom source term reader pairs (Err error) = IsOfReading error
 
 -- which term is the lesser of this one and another, if there is another
 abbrev pub IsLesser : Option (List ℕ) → List ℕ → List ℕ → Type 0

@@ -9,10 +9,10 @@ use Rattle.tv_format.specs.Tree.{Document}
 
 -- memory was refused, or the pairs have no room
 abbrev pub IsRefusalText : Document → List ℕ → Type 0
-IsRefusalText d text = (text ≡ codes "error Memory")
-    ⊎ ((4294967295 < document_room d) × (text ≡ codes "error HeapFull"))
+IsRefusalText document text = (text ≡ codes "error Memory")
+    ⊎ ((4294967295 < document_room document) × (text ≡ codes "error HeapFull"))
 
 -- these bytes in hexadecimal, a space, and the text of JSON of the document
 abbrev pub IsTexts : List Entry → List ℕ → Document → List ℕ → Type 0
-IsTexts schema bytes d text = (json : List ℕ) × IsJsonText (field_names schema) d json
+IsTexts schema bytes document text = (json : List ℕ) × IsJsonText (field_names schema) document json
     × (text ≡ encode_lower bytes ++ 32 ∷ json)

@@ -36,17 +36,17 @@ numbered first (said ∷ more) = record { line = first; outcome = said } ∷ num
 
 abbrev pub is_stored : LineOutcome → Bool
 is_stored (Stored size fault) = true
-is_stored (Refused e) = false
+is_stored (Refused error) = false
 
 abbrev pub is_refused : LineOutcome → Bool
 is_refused (Stored size fault) = false
-is_refused (Refused e) = true
+is_refused (Refused error) = true
 
 -- it is stored, and can't be searched
 abbrev pub is_unsearchable : LineOutcome → Bool
 is_unsearchable (Stored size None) = false
 is_unsearchable (Stored size (Some why)) = true
-is_unsearchable (Refused e) = false
+is_unsearchable (Refused error) = false
 
 -- Of the lines, one after the other, a sink that held `old` holds what is stored, and where it is known what
 -- was told, it is what became of each.
@@ -72,37 +72,37 @@ pub record ImportsAll (schema : List Entry) (rules : ImportRules) (input old new
 -- its document where that wasn't stored, and all of it where only the report failed.
 abbrev pub LeavesLine : {E : Type 0} → List Entry → ImportRules → List ℕ → ℕ → List ℕ → List ℕ
     → ImportLinesError E → Type 0
-LeavesLine schema rules rest number old new (errors.Import e) = LeavesBegun schema rules rest old new
-LeavesLine schema rules rest number old new (errors.Report e) =
+LeavesLine schema rules rest number old new (errors.Import error) = LeavesBegun schema rules rest old new
+LeavesLine schema rules rest number old new (errors.Report error) =
     (behind : List ℕ) × (text : List ℕ) × (said : LineOutcome)
     × ImportsNext schema rules rest behind text (Some said) × (new ≡ old ++ text)
 LeavesLine schema rules rest number old new errors.TooMany = (new ≡ old) × (number ≡ 2 ^ 64 - 1)
 
 -- The first lines of the input were imported, and what stands after them was not, or not whole.
 pub record StopsImport {E : Type 0} (schema : List Entry) (rules : ImportRules) (input old new : List ℕ)
-    (IsTold : Type 0) (begun ended : List LineReport) (e : ImportLinesError E) : Type 0 where
+    (IsTold : Type 0) (begun ended : List LineReport) (error : ImportLinesError E) : Type 0 where
   pub lines : List (List ℕ)
   pub rest : List ℕ
   pub first : FirstLines input lines rest
   pub middle : List ℕ
   pub imported : ImportsEach schema rules lines old middle IsTold begun ended
-  pub next : LeavesLine schema rules rest (length lines) middle new e
+  pub next : LeavesLine schema rules rest (length lines) middle new error
 
 -- The input was imported, whole or up to the line at which that broke off.
 abbrev pub ImportsInput : {E : Type 0} → List Entry → ImportRules → List ℕ → List ℕ → List ℕ → Type 0
     → List LineReport → List LineReport → Result Imported (ImportLinesError E) → Type 0
 ImportsInput schema rules input old new IsTold begun ended (Ok said) =
     ImportsAll schema rules input old new IsTold begun ended said
-ImportsInput schema rules input old new IsTold begun ended (Err e) =
-    StopsImport schema rules input old new IsTold begun ended e
+ImportsInput schema rules input old new IsTold begun ended (Err error) =
+    StopsImport schema rules input old new IsTold begun ended error
 
 -- why an import of lines broke off, as its source and its sink see it
 abbrev pub lines_source_stop : {E : Type 0} → ImportLinesError E → Stop ⊥
-lines_source_stop (errors.Import e) = source_stop e
+lines_source_stop (errors.Import error) = source_stop error
 lines_source_stop _ = Short
 
 abbrev pub lines_sink_stop : {E : Type 0} → ImportLinesError E → Stop ⊥
-lines_sink_stop (errors.Import e) = sink_stop e
+lines_sink_stop (errors.Import error) = sink_stop error
 lines_sink_stop _ = Short
 
 -- ---- for private clauses
@@ -113,5 +113,5 @@ CountsOutcome old (Stored size None) new = (new.stored ≡ old.stored + 1)
     × (new.unsearchable ≡ old.unsearchable) × (new.refused ≡ old.refused)
 CountsOutcome old (Stored size (Some why)) new = (new.stored ≡ old.stored + 1)
     × (new.unsearchable ≡ old.unsearchable + 1) × (new.refused ≡ old.refused)
-CountsOutcome old (Refused e) new = (new.stored ≡ old.stored) × (new.unsearchable ≡ old.unsearchable)
+CountsOutcome old (Refused error) new = (new.stored ≡ old.stored) × (new.unsearchable ≡ old.unsearchable)
     × (new.refused ≡ old.refused + 1)

@@ -8,7 +8,7 @@ use Rattle.tv_store.specs.Projections.{refused_stop}
 
 -- as its source sees it
 abbrev pub source_stop : WorkError → Stop Refusal
-source_stop (errors.Read e) = refused_stop e
+source_stop (errors.Read error) = refused_stop error
 source_stop _ = Short
 
 -- and as its sink does
