@@ -8,11 +8,11 @@ use Rattle.tv_lines.specs.declared.runs.RunEnd.{RunEnd}
 use Rattle.tv_lines.specs.declared.runs.RunEnd.TheVariants.{Done, BadSchema, Broken}
 
 -- in a whole run no read and no write failed
-pub has_reason : {read new_read written new_written : Failures} {is_known : Type 0} {left new_left : List ℕ} (end : RunEnd) → IsWhole end → new_read ≡ read → new_written ≡ written
+pub has_reason : {read new_read written new_written : Failures} (is_known : Type 0) (left new_left : List ℕ) (end : RunEnd) → IsWhole end → new_read ≡ read → new_written ≡ written
     → HasReason end read new_read written new_written is_known left new_left
-has_reason Done whole reads writes = (reads, writes)
-has_reason BadSchema whole reads writes = (reads, writes)
-has_reason Broken whole reads writes = absurd whole
+has_reason is_known left new_left Done whole reads writes = (reads, writes)
+has_reason is_known left new_left BadSchema whole reads writes = (reads, writes)
+has_reason is_known left new_left Broken whole reads writes = absurd whole
 
 -- all bytes that are counted were taken
 pub most_taken : (a b : List ℕ) (m n : ℕ) → Taken a b m n → m ≡ 0 → n ≡ 2 ^ 64 - 1 → TakesMost a b

@@ -41,13 +41,9 @@ pub stores : (schema : List Entry) (rules : ImportRules) (input rest line text h
 stores schema rules input rest line text held new made fault size count took is written sized appends =
     (text, (took.0, line, took.1, ((made, is.0, written, is.2), sized)), appends)
 
-pub on_err : {A E P : Type 0} (result : Result A E) → P → OnErr result P
-on_err (Ok x) p = tt
-on_err (Err e) p = p
-
-pub leaves : {A E : Type 0} (result : Result A E) (schema : List Entry) (rules : ImportRules) (input rest line text held new : List ℕ) (made : CompactDoc) (fault : Option TermValuesError) (count : ℕ) → TakesLine input line rest (Some count)
-    → IsJudged schema rules line made (Ok fault) → text ≡ encoded schema rules made → AppendsPrefix held new text → OnErr result (LeavesBegun schema rules input held new)
-leaves result schema rules input rest line text held new made fault count took is written appends =
-    on_err result (inr (rest, text, fault, (took.0, line, took.1, ((made, is.0, written, is.2), refl)), appends))
+pub leaves : (schema : List Entry) (rules : ImportRules) (input rest line text held new : List ℕ) (made : CompactDoc) (fault : Option TermValuesError) (count : ℕ) → TakesLine input line rest (Some count)
+    → IsJudged schema rules line made (Ok fault) → text ≡ encoded schema rules made → AppendsPrefix held new text → LeavesBegun schema rules input held new
+leaves schema rules input rest line text held new made fault count took is written appends =
+    inr (rest, text, fault, (took.0, line, took.1, ((made, is.0, written, is.2), refl)), appends)
 
 -- ---- failures

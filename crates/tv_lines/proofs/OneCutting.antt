@@ -30,9 +30,9 @@ pub one_cutting : {input : List ℕ} {lines others : List (List ℕ)} → Lines 
 one_cutting no_lines no_lines = refl
 one_cutting no_lines (next_line some first more) = absurd (some refl)
 one_cutting (next_line some first more) no_lines = absurd (some refl)
-one_cutting (next_line some first more) (next_line any begin rest) =
+one_cutting (next_line some first more) (next_line {lines = others} any begin rest) =
     let one = one_first first begin in
-    let lines = one_cutting more (subst (λ (l : List ℕ). Lines l _) (sym one.1) rest) in
+    let lines = one_cutting more (subst (λ (l : List ℕ). Lines l others) (sym one.1) rest) in
     cc (one.0, lines)
 
 pub one_run : (pairs others : List Pair) → All FitsRun pairs → All FitsRun others → run_bytes pairs ≡ run_bytes others → pairs ≡ others

@@ -5,7 +5,7 @@ use Rattle.tv_lines.proofs.Halting.{has_reason}
 use Rattle.tv_lines.proofs.runs.run.Goals as goal
 
 pub returns-in-Ok-clause-reason : goal.returns-in-Ok-clause-reason
-returns-in-Ok-clause-reason g c = has_reason c.in-Ok.end c.in-Ok.ensures.whole c.in-Ok.ensures.source.failures c.in-Ok.ensures.sink.failures
+returns-in-Ok-clause-reason g c = has_reason _ _ _ c.in-Ok.end c.in-Ok.ensures.whole c.in-Ok.ensures.source.failures c.in-Ok.ensures.sink.failures
 
 pub returns-in-Err-clause-reason : goal.returns-in-Err-clause-reason
 returns-in-Err-clause-reason g c = record {
