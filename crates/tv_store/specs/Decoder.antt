@@ -15,7 +15,7 @@ use Rattle.tv_base.specs.ReadsAs.{Errors}
 use Rattle.tv_builder.specs.Prefix.{Encoded}
 use Rattle.tv_reading.specs.Paid.{PaidBy}
 use Rattle.tv_reading.specs.Prefix.{parts_read, IsDone, IsMalformedNext, NoRoomBehind}
-use Rattle.tv_reading.specs.Steps.{Stepped}
+use Rattle.tv_reading.specs.Steps.{IsFew, Sees, Stepped}
 use Rattle.tv_format.specs.Encoding.{NoLegacy}
 use Rattle.tv_format.specs.InputError.{Refusal}
 use Rattle.tv_reader.specs.Error.{StoreMayStop}
@@ -52,6 +52,15 @@ pub record Steps {E S : Type 0} (kind : Errors Refusal E) (MayStop : E → ℕ �
 -- a step without limits
 abbrev pub ReadsStep : {S : Type 0} (source : Ghosts S) (source_old source_new : S) (old new : DirectDecoder) (result : Result Step DeserializeError) → Type 0
 ReadsStep source source_old source_new old new result = Steps reading StoreMayStop AlreadyFailed source source_old source_new old new result
+
+-- at most 4096 bytes were taken, also where they are refused, unless a value is taken whole
+abbrev pub TakesFew : {S : Type 0} (source : Ghosts S) (begun : S) (old new : DirectDecoder) → Type 0
+TakesFew source begun old new = source.is_known begun → IsFew old.reading (source.left begun) old.count new.count
+
+-- whether an object as older stores hold it was met
+abbrev pub MeetsLegacy : {S : Type 0} (source : Ghosts S) (begun : S) (old new : DirectDecoder) → Type 0
+MeetsLegacy source begun old new =
+    source.is_known begun → Sees old.reading (source.left begun) old.legacy_seen new.legacy_seen
 
 -- What has come is paid for by any bytes that encode what had come, with those that were taken then, unless an object as older stores hold
 -- it was met.

@@ -1,5 +1,5 @@
 -- What reading a document within limits returns.
-use Rattle.std.specs.Prelude.{◌≡◌, ◌≢◌, ◌⊎◌, ℕ, zero, Bool, true, IsTrue, ◌-◌, ◌^◌, ◌<◌, List, [], ◌++◌, length, Option, Some, None, Result, Ok, Err, IsErrOf, IsSome, false}
+use Rattle.std.specs.Prelude.{◌≡◌, ◌≢◌, ◌⊎◌, ℕ, zero, Bool, true, false, IsTrue, ◌-◌, ◌^◌, ◌<◌, ◌≤◌, List, [], ◌++◌, length, Option, Some, None, Result, Ok, Err, IsErrOf, IsSome}
 use Rattle.tv_base.specs.declared.cause.Cause.TheVariants.{UnexpectedEnd, TooLong}
 use Rattle.tv_base.specs.declared.source.ByteSource.{Ghosts}
 use Rattle.tv_base.specs.Parts.{Begins}
@@ -10,13 +10,16 @@ use Rattle.tv_base.specs.Stop.Stop.{Short}
 use Rattle.tv_builder.specs.Behind.{open_parts}
 use Rattle.tv_builder.specs.Builder.{state_of, heap_so_far}
 use Rattle.tv_builder.specs.Prefix.{Encoded}
-use Rattle.tv_builder.specs.State.{State, IsState, lists_of}
+use Rattle.tv_builder.specs.State.{State, IsState, awaited, lists_of}
+use Rattle.tv_builder.specs.declared.kinds.Awaits.TheVariants as awaits
 use Rattle.tv_builder.specs.StateHeap.{state_heap}
 use Rattle.tv_builder.specs.TreeBytes.{document_heap}
 use Rattle.tv_reading.specs.Kept.{Grows, KeepsPairs}
-use Rattle.tv_reading.specs.Prefix.{parts_at, IsDone, IsPlace, HasNoRoom, IsMalformedNext}
+use Rattle.tv_reading.specs.Prefix.{parts_at, HasField, IsDone, IsPlace, HasNoRoom, IsMalformedNext}
+use Rattle.tv_reading.specs.Skip.{IsValueEncoding}
+use Rattle.tv_reading.specs.Steps.{HasFirstByte}
 use Rattle.tv_reading.specs.declared.reading.Reading.{Reading}
-use Rattle.tv_doc.specs.Document.{document_of}
+use Rattle.tv_doc.specs.Document.{document_of, heap_of}
 use Rattle.tv_doc.specs.declared.document.CompactDoc.{CompactDoc}
 use Rattle.tv_reader.specs.Legacy.{Legacy}
 use Rattle.tv_reader.specs.Error.{store_stop}
@@ -119,6 +122,11 @@ abbrev pub AllNestWithinLimit : Option ℕ → Document → Type 0
 AllNestWithinLimit None d = Unit {0}
 AllNestWithinLimit (Some most) d = AllNestWithin most d
 
+-- each tree of the document and its heap are within their limits
+pub record FitsLimits (limits : ReadLimits) (document : CompactDoc) : Type 0 where
+  pub shallow : AllNestWithinLimit limits.depth (document_of document)
+  pub small : ¬ IsPast limits.heap_bytes (length (heap_of document))
+
 -- What is returned where a document was read: itself, if its trees nest within the limit, and else that they don't. Or memory was refused.
 abbrev pub TestsDepth : Option ℕ → CompactDoc → Result CompactDoc LimitedReadError → Type 0
 TestsDepth most read (Ok d) = (d ≡ read) × AllNestWithinLimit most (document_of read)
@@ -157,6 +165,54 @@ pub record IsLarge (v : Version) (most : Option ℕ) (taken : List ℕ) : Type 0
   pub place : IsPlace announced finished field state
   pub encoded : Encoded Legacy v taken (parts_at announced finished field state)
   pub large : IsPast most (length (state_heap (document_heap [] finished) state))
+
+-- ---- that limits are tested as bytes come
+
+-- The bytes encode what has come of a document, and that passes neither the limit of the open lists nor that of the heap.
+pub record StandsWithin (v : Version) (limits : ReadLimits) (bytes : List ℕ) : Type 0 where
+  pub announced : Option ℕ
+  pub finished : Document
+  pub field : Option ℕ
+  pub state : State
+  pub is : IsState state
+  pub place : IsPlace announced finished field state
+  pub encoded : Encoded Legacy v bytes (parts_at announced finished field state)
+  pub tested : Checks limits (length (state_heap (document_heap [] finished) state)) (length (lists_of state)) None
+
+-- where a value is awaited, the code of a pre-tokenized text or of an object of an older store, which are taken whole
+abbrev pub BeginsWhole : {v : Version} {limits : ReadLimits} {bytes : List ℕ} → StandsWithin v limits bytes → List ℕ → Type 0
+BeginsWhole within part = HasField within.field × (awaited within.state ≡ awaits.Value) × (HasFirstByte 7 part ⊎ HasFirstByte 8 part)
+
+-- after what has come, a part, or a beginning of one: at most 4096 bytes, unless a value is taken whole
+abbrev pub IsNextPart : {v : Version} {limits : ReadLimits} {bytes : List ℕ} → Bool → StandsWithin v limits bytes → List ℕ → Type 0
+IsNextPart {v = v} true within part = (length part ≤ 4096) ⊎ (BeginsWhole within part × IsValueEncoding v part)
+IsNextPart false within part = (length part ≤ 4096) ⊎ BeginsWhole within part
+
+-- The bytes came part by part, and before each part what had come was within the limits.
+pub data CameWithin (v : Version) (limits : ReadLimits) : List ℕ → Type 0 where
+  nothing : CameWithin v limits []
+  and_part : (before part : List ℕ) → CameWithin v limits before → (within : StandsWithin v limits before) → IsNextPart true within part
+      → CameWithin v limits (before ++ part)
+
+-- The bytes came in this way, and then one more part came, or a beginning of one. So no limit is passed before that last part.
+pub record TakenWithin (v : Version) (limits : ReadLimits) (is_whole : Bool) (taken : List ℕ) : Type 0 where
+  pub before : List ℕ
+  pub last : List ℕ
+  pub joined : taken ≡ before ++ last
+  pub came : CameWithin v limits before
+  pub within : StandsWithin v limits before
+  pub part : IsNextPart is_whole within last
+
+-- whether the last part has come: not where it can't be read, nor where more bytes are needed for it than may be taken
+abbrev pub ends_part : LimitedReadError → Bool
+ends_part (limited.Read e) = false
+ends_part (limited.Limit limit.Bytes) = false
+ends_part (limited.Limit limit.HeapBytes) = true
+ends_part (limited.Limit limit.Depth) = true
+
+abbrev pub has_come : {X : Type 0} → Result X LimitedReadError → Bool
+has_come (Ok x) = true
+has_come (Err e) = ends_part e
 
 -- as many bytes as may be taken
 abbrev pub IsAll : Option ℕ → List ℕ → Type 0
@@ -216,6 +272,8 @@ pub record StopsWithin {S X : Type 0} (v : Version) (limits : ReadLimits) (sourc
   -- a document needs more
   pub ends : source.is_known old → IsErrOf result (limited.Limit limit.Bytes) → EndsEarly (corrupted UnexpectedEnd) (NoDocument v) (source.left old) (source.left new)
   pub most : source.is_known old → Begins (λ b. ¬ IsPast limits.bytes (length b)) (source.left old) (source.left new)
+  -- the limits of the heap and of the open lists are tested after each part
+  pub parts : source.is_known old → Begins (TakenWithin v limits (has_come result)) (source.left old) (source.left new)
 
 -- ---- the next document of a block within limits
 
@@ -236,6 +294,8 @@ pub record StopsNextWithin {S : Type 0} (v : Version) (limits : ReadLimits) (sou
   pub bytes : source.is_known old → IsErrOf result (limited.Limit limit.Bytes) → PassesBytesLimit v limits.bytes (source.left old) (source.left new)
   pub small : source.is_known old → result ≡ Ok true → Begins (λ b. ¬ IsPast limits.bytes (length b)) (source.left old) (source.left new)
   pub most : source.is_known old → Begins (λ b. ¬ IsPast (at_least_one limits.bytes) (length b)) (source.left old) (source.left new)
+  -- the limits of the heap and of the open lists are tested after each part
+  pub parts : source.is_known old → Begins (TakenWithin v limits (has_come (as_read_within result (tt {0})))) (source.left old) (source.left new)
 
 -- ---- a step within limits
 
@@ -252,6 +312,10 @@ EndsPart limits source source_old source_new old result =
 abbrev pub TestsPart : ReadLimits → DirectDecoder → DirectDecoder → Result Step LimitedReadError → Type 0
 TestsPart limits old new result =
     old.failed ≡ false → ¬ IsDone old.reading → TestsLimits limits old.count new.count (length (heap_so_far new.reading.builder)) (length (lists_of (state_of new.reading.builder))) result
+
+-- where not more bytes were taken than may be, not more are
+abbrev pub KeepsMost : ReadLimits → DirectDecoder → DirectDecoder → Type 0
+KeepsMost limits old new = ¬ IsPast limits.bytes old.count → ¬ IsPast limits.bytes new.count
 
 abbrev pub LeavesPart : DirectDecoder → DirectDecoder → Result Step LimitedReadError → Type 0
 LeavesPart old new result = old.failed ≡ false → ¬ IsDone old.reading → KeepsOrGrows old.reading new.reading result

@@ -4,6 +4,7 @@
 -- A document that was read is written in the other version, in the shortest encoding. After an error of writing the sink holds a beginning of
 -- that, and the source stands after the document.
 use Rattle.std.specs.Prelude.{◌≡◌, Result, Ok, Err, IfErr}
+use Rattle.std.specs.declared.io.ErrorKind.TheVariants.{OutOfMemory}
 use Rattle.tv_base.specs.declared.sink.ByteSink.{Ghosts as Sink}
 use Rattle.tv_base.specs.declared.source.ByteSource.{Ghosts as Source}
 use Rattle.tv_base.specs.Sink.{WritesBy}
@@ -41,9 +42,9 @@ pub record Migrates {S K : Type 0} (from to : Version) (source : Source S) (sour
   pub reads : ReadsDocument from source source_old source_new document_of read
   pub rewrites : Rewrites to sink sink_old sink_new read result
 
--- no more memory could be had
+-- memory was refused, in reading or in writing: a sink that keeps its bytes in memory fails then, and tells so
 abbrev pub IsMemory : MigrateError → Type 0
 IsMemory (Read errors.Memory) = Unit {0}
-IsMemory (Write (writes.Io kind)) = Unit {0}
+IsMemory (Write (writes.Io kind)) = kind ≡ OutOfMemory
 IsMemory (Write writes.Memory) = Unit {0}
 IsMemory _ = ⊥
