@@ -103,10 +103,16 @@ module _ (v : Version) (limits : ReadLimits) {old mid new : List ℕ} (r : Readi
   begun : {i k : ℕ} (part : List ℕ) → mid ≡ part ++ new → k ≡ i + length part → IsFew r mid i k → IsNextPart false within part
   begun part joined counted (inl most) = inl (omega (arith, most, counted))
   begun [] joined counted (inr whole) = inl (omega arith)
-  begun (b ∷ bs) joined counted (inr whole) = inr (whole.0.0, (whole.0.1, elim whole.1 [
-    | inl seven ↦ inl (subst (HasFirstByte 7) joined seven)
-    | inr eight ↦ inr (subst (HasFirstByte 8) joined eight)
-  ]))
+  begun (b ∷ bs) joined counted (inr whole) = inr (
+    whole.0.0,
+    (
+      whole.0.1,
+      elim whole.1 [
+        | inl seven ↦ inl (subst (HasFirstByte 7) joined seven)
+        | inr eight ↦ inr (subst (HasFirstByte 8) joined eight)
+      ],
+    ),
+  )
 
   -- it was refused
   pub part_breaks : {i k : ℕ} → Taken mid new i k → IsFew r mid i k → Begins (TakenWithin v limits false) old new

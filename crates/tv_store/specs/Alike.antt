@@ -17,7 +17,8 @@ IsDecided (Ok x) = Unit {0}
 IsDecided (Err e) = (¬ SaysNothing e) × (e ≢ HeapFull)
 
 -- the same is seen of both, and the same bytes are left; or both are the same error
-abbrev pub AreAlike : {X Y : Type 0} → (X → Y) → (left other : List ℕ) → (result twin : Result X DeserializeError) → Type 0
+abbrev pub AreAlike : {X Y : Type 0} → (X → Y) → (left other : List ℕ)
+    → (result twin : Result X DeserializeError) → Type 0
 AreAlike view left other (Ok x) (Ok y) = (view x ≡ view y) × (left ≡ other)
 AreAlike view left other (Err e) (Err f) = e ≡ f
 AreAlike view left other result twin = ⊥
@@ -25,7 +26,8 @@ AreAlike view left other result twin = ⊥
 -- two calls that read by this grammar return alike what the bytes decide
 abbrev pub Decides : {S X Y : Type 0} → Grammar Refusal Y → Ghosts S → (X → Y) → Type 0
 Decides {S} {X} grammar source view =
-    (old new other : S) (result twin : Result X DeserializeError) → Known source old → IsDecided result → IsDecided twin
+    (old new other : S) (result twin : Result X DeserializeError) → Known source old → IsDecided result
+    → IsDecided twin
     → Reads reading grammar source old new view result → Reads reading grammar source old other view twin
     → AreAlike view (source.left new) (source.left other) result twin
 
@@ -39,7 +41,8 @@ pub record ReadsDecided {S : Type 0} (source : Ghosts S) (source_old source_new 
   pub reads : ReadsNext source source_old source_new old new result
 
 -- the same is returned, and where there was a document it is the same, and the same bytes are left
-pub record AreNextAlike (left other : List ℕ) (new twin : BlockReader) (result answer : Result Bool DeserializeError) : Type 0 where
+pub record AreNextAlike (left other : List ℕ) (new twin : BlockReader)
+    (result answer : Result Bool DeserializeError) : Type 0 where
   pub same : result ≡ answer
   pub document : result ≡ Ok true → document_of new.document ≡ document_of twin.document
   pub rest : result ≡ Ok true → left ≡ other

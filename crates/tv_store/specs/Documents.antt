@@ -22,7 +22,8 @@ BeginsWithDocument v bytes rest d = Begins (λ prefix. EncodesDocument Legacy v 
 
 -- the same of a document that has room
 abbrev pub BeginsWithRoom : Version → List ℕ → Document → Type 0
-BeginsWithRoom v bytes d = (rest : List ℕ) × (BeginsWithDocument v bytes rest d × (document_room d ≤ 4294967295))
+BeginsWithRoom v bytes d = (rest : List ℕ)
+    × (BeginsWithDocument v bytes rest d × (document_room d ≤ 4294967295))
 
 -- these bytes encode the document
 abbrev pub EncodesReadPairs : Version → List ℕ → CompactDoc → Type 0

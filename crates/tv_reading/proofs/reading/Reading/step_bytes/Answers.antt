@@ -14,7 +14,7 @@ returns-in_err-take_pieces g c = λ v seen.
     let old = c.args.self.now in
     let h = c.in_err-take_pieces.ensures in
     let fails = finds_part_fails {Z = Unit {0}} (λ b _. Stepped v seen old old b) (IsMalformedNext v old) raised_roomy g.met.S.ByteSource.are_bytes (more_agrees c.clear.new.self.items c.from.result)
-        (λ w e f. piece_ends v old c.from.result c.args.missing w e c.requires.awaiting (omega (arith, c.from.ensures, c.min-len.ensures)) f) h.takes in
+    (λ w e f. piece_ends v old c.from.result c.args.missing w e c.requires.awaiting (omega (arith, c.from.ensures, c.min-len.ensures)) f) h.takes in
     rw (p.1, p.2) (part_fails g.S.ByteSource v seen seen old (λ e n may. may) (λ w e f. f) fails (λ known. still_seen old _ seen) (λ known. inl (omega (arith, h.at_most, c.from.ensures, c.min-len.ensures))))
 
 pub returns : goal.returns
