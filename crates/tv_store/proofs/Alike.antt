@@ -24,7 +24,19 @@ use Rattle.tv_store.specs.declared.block.BlockReader.{BlockReader}
 -- ---- one error for one refusal
 
 code_back : (kind : ValueType) → value_type_with (value_type_code kind) ≡ Some kind
-code_back _ = refl
+code_back types.String = refl
+code_back types.U64 = refl
+code_back types.I64 = refl
+code_back types.Facet = refl
+code_back types.Bytes = refl
+code_back types.DateTime = refl
+code_back types.PreTokStr = refl
+code_back types.JSONObject = refl
+code_back types.Bool = refl
+code_back types.IpAddr = refl
+code_back types.Null = refl
+code_back types.Array = refl
+code_back types.Object = refl
 
 same_kind : (a b : ValueType) → value_type_code a ≡ value_type_code b → a ≡ b
 same_kind a b same = let both : Some a ≡ Some b = sym (code_back a) ∙ ap value_type_with same ∙ code_back b in cc

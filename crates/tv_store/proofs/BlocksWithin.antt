@@ -273,6 +273,17 @@ module _ {S : Type 0} (source : Ghosts S) (v : Version) (limits : ReadLimits) {o
   }
   stops_seen (Err (limited.Limit l)) says = absurd says
 
+-- a reader that has failed takes nothing
+pub stops_failed : {S : Type 0} (source : Ghosts S) (v : Version) (limits : ReadLimits) (at_rest : S) (e : DeserializeError) → StopsNextWithin v limits source at_rest at_rest (Err (limited.Read e))
+stops_failed source v limits at_rest e = record {
+  depth = λ known is. absurd (cc);
+  heap = λ known is. absurd (cc);
+  bytes = λ known is. absurd (cc);
+  small = λ known is. absurd (cc);
+  most = λ known. nothing_taken (at_least_one limits.bytes) _ _ refl;
+  parts = λ known. record { prefix = []; joined = refl; encoded = few_taken v limits [] (omega arith) };
+}
+
 -- some byte may be taken
 pub some_may : (none : Bool) (P : Type 0) → IsTrue none ↔ P → none ≡ false → P → ⊥
 some_may none P same is p = let true_too = same.1 p in absurd (cc)

@@ -56,14 +56,14 @@ pub none_came : (v : Version) (limits : ReadLimits) (r : Reading) (bytes : List 
 none_came v limits r bytes none = record { taken = []; joined = refl; came = nothing; encoded = subst (Encoded Legacy v []) (sym none) refl }
 
 -- where no limit was found to be passed
-pub passed_none : {limits : ReadLimits} {r : Reading} (passed : Option ReadLimit) → Checks limits (length (heap_so_far r.builder)) (length (lists_of (state_of r.builder))) passed → is_some passed ≡ false → Passes limits r
-passed_none None checks none = checks
-passed_none (Some l) checks none = absurd (cc)
+pub passed_none : (limits : ReadLimits) (r : Reading) (passed : Option ReadLimit) → Checks limits (length (heap_so_far r.builder)) (length (lists_of (state_of r.builder))) passed → is_some passed ≡ false → Passes limits r
+passed_none limits r None checks none = checks
+passed_none limits r (Some l) checks none = absurd (cc)
 
 -- ---- a part more
 
-module _ (v : Version) (limits : ReadLimits) {old mid new : List ℕ} (r : Reading) (sound : IsSound r) (passes : Passes limits r) (c : Came v limits r old mid) where
-  within : StandsWithin v limits c.taken
+module _ (v : Version) (limits : ReadLimits) {old mid : List ℕ} (r : Reading) (sound : IsSound r) (passes : Passes limits r) (c : Came v limits r old mid) where
+  abbrev within : StandsWithin v limits c.taken
   within = record {
     announced = r.announced;
     finished = built r.builder;
@@ -78,45 +78,43 @@ module _ (v : Version) (limits : ReadLimits) {old mid new : List ℕ} (r : Readi
   next_part : (seen : Bool) (after : Reading) (part : List ℕ) → Stepped v seen r after part → IsNextPart true within part
   next_part seen after part s = elim s.in_pieces [
     | inl few ↦ inl few
-    | inr whole ↦ inr ((whole.0.0.0, (whole.0.0.1, whole.0.1)), whole.1)
+    | inr whole ↦ inr ((whole.0.0.0, whole.0.0.1, whole.0.1), whole.1)
   ]
 
-  pub part_came : (w : Version) → w ≡ v → (seen : Bool) (after : Reading) → Begins (λ b. Stepped w seen r after b) mid new → Came v limits after old new
-  part_came w same seen after h = let s = subst (λ z. Begins (λ b. Stepped z seen r after b) mid new) same h in record {
+  pub part_came : {new : List ℕ} (w : Version) → w ≡ v → (seen : Bool) (after : Reading) → Begins (λ b. Stepped w seen r after b) mid new → Came v limits after old new
+  part_came {new = new} w same seen after h = let s = subst (λ z. Begins (λ b. Stepped z seen r after b) mid new) same h in record {
     taken = c.taken ++ s.prefix;
     joined = c.joined ∙ ap (λ z. c.taken ++ z) s.joined ∙ sym (append_assoc c.taken s.prefix new);
     came = and_part c.taken s.prefix c.came within (next_part seen after s.prefix s.encoded);
     encoded = s.encoded.goes c.taken c.encoded;
   }
 
-  behind : (is_whole : Bool) (part : List ℕ) → mid ≡ part ++ new → IsNextPart is_whole within part → Begins (TakenWithin v limits is_whole) old new
-  behind is_whole part joined next = record {
+  behind : {new : List ℕ} (is_whole : Bool) (part : List ℕ) → mid ≡ part ++ new → IsNextPart is_whole within part → Begins (TakenWithin v limits is_whole) old new
+  behind {new = new} is_whole part joined next = record {
     prefix = c.taken ++ part;
     joined = c.joined ∙ ap (λ z. c.taken ++ z) joined ∙ sym (append_assoc c.taken part new);
     encoded = record { before = c.taken; last = part; joined = refl; came = c.came; within = within; part = next };
   }
 
   -- it was the last
-  pub part_ends : (w : Version) → w ≡ v → (seen : Bool) (after : Reading) → Begins (λ b. Stepped w seen r after b) mid new → Begins (TakenWithin v limits true) old new
-  part_ends w same seen after h = let s = subst (λ z. Begins (λ b. Stepped z seen r after b) mid new) same h in behind true s.prefix s.joined (next_part seen after s.prefix s.encoded)
+  pub part_ends : {new : List ℕ} (w : Version) → w ≡ v → (seen : Bool) (after : Reading) → Begins (λ b. Stepped w seen r after b) mid new → Begins (TakenWithin v limits true) old new
+  part_ends {new = new} w same seen after h = let s = subst (λ z. Begins (λ b. Stepped z seen r after b) mid new) same h in behind true s.prefix s.joined (next_part seen after s.prefix s.encoded)
 
-  begun : {i k : ℕ} (part : List ℕ) → mid ≡ part ++ new → k ≡ i + length part → IsFew r mid i k → IsNextPart false within part
-  begun part joined counted (inl most) = inl (omega (arith, most, counted))
-  begun [] joined counted (inr whole) = inl (omega arith)
-  begun (b ∷ bs) joined counted (inr whole) = inr (
+  begun : (new : List ℕ) (i k : ℕ) (part : List ℕ) → mid ≡ part ++ new → k ≡ i + length part → IsFew r mid i k → IsNextPart false within part
+  begun new i k part joined counted (inl most) = inl (omega (arith, most, counted))
+  begun new i k [] joined counted (inr whole) = inl (omega arith)
+  begun new i k (b ∷ bs) joined counted (inr whole) = inr (
     whole.0.0,
-    (
-      whole.0.1,
-      elim whole.1 [
-        | inl seven ↦ inl (subst (HasFirstByte 7) joined seven)
-        | inr eight ↦ inr (subst (HasFirstByte 8) joined eight)
-      ],
-    ),
+    whole.0.1,
+    elim whole.1 [
+      | inl seven ↦ inl (subst (HasFirstByte 7) joined seven)
+      | inr eight ↦ inr (subst (HasFirstByte 8) joined eight)
+    ],
   )
 
   -- it was refused
-  pub part_breaks : {i k : ℕ} → Taken mid new i k → IsFew r mid i k → Begins (TakenWithin v limits false) old new
-  part_breaks t few = behind false t.prefix t.joined (begun t.prefix t.joined t.counted few)
+  pub part_breaks : {new : List ℕ} {i k : ℕ} → Taken mid new i k → IsFew r mid i k → Begins (TakenWithin v limits false) old new
+  part_breaks {new = new} {i = i} {k = k} t few = behind false t.prefix t.joined (begun new i k t.prefix t.joined t.counted few)
 
 -- none was read
 pub no_part : (v : Version) (limits : ReadLimits) {old mid : List ℕ} (r : Reading) → IsSound r → Passes limits r → Came v limits r old mid → Begins (TakenWithin v limits false) old mid

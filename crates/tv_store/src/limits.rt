@@ -1,7 +1,7 @@
 //! Reading a document within limits.
 
 ghost use Rattle.std.specs.Prelude.{◌≡◌, ◌↔◌, ◌<◌, ◌+◌, ◌-◌, ◌^◌, [], ℕ, None, length, IsTrue, OnOk, OnErr, Ok, Err, true, false};
-ghost use Rattle.std.specs.Prelude.{IfOk, IfErr, IsErrOf, IsSome, Some};
+ghost use Rattle.std.specs.Prelude.{IfOk, IfErr, IsErrOf, IsSome, Some, is_ok};
 ghost use Rattle.tv_base.specs.declared.cause.Cause.TheVariants.{UnexpectedEnd, TooLong};
 ghost use Rattle.tv_base.specs.Parts.{Begins};
 ghost use Rattle.tv_base.specs.ReadsAs.{EndsEarly};
@@ -381,7 +381,8 @@ impl DirectDecoder {
 /// so a text with its tokens is one part, and so is an object as stores of versions 1 and 2 may hold it, a JSON text with code 8. In such an
 /// object no list is open while it is read, and it nests at most 127 levels by itself: how deep the values nest is tested once more when the
 /// document has come. The test takes memory for values that nest deeper than `MAX_DEPTH` levels. Without limits `read_document` is faster. Never more
-/// than `bytes` bytes are taken of the source, also within a part. (Not in tantivy.)
+/// than `bytes` bytes are taken of the source, also within a part. The other limits are tested after each part, so at most one part is taken after
+/// what passes no limit: 4096 bytes, or a value that is taken whole. (Not in tantivy.)
 ///
 /// Errors: `Limit(Bytes)` where all these were taken and the document needs more, so no prefix of them encodes one; `Limit(Depth)` right
 /// after the head of the list with which more than `depth` lists are open, `Limit(HeapBytes)` right after the part with which the

@@ -124,10 +124,7 @@ fn a_refused_document_has_its_number_and_places(rt: HostRuntime) -> Result<(), F
 }
 
 // Whether a block is read of which the pairs of field 1 are kept: the number 20 of the first document.
-fn reads_numbers<S: ByteSource>(
-    alloc: Global,
-    source: &mut S,
-) -> Result<bool, DeserializeError> {
+fn reads_numbers<S: ByteSource>(alloc: Global, source: &mut S) -> Result<bool, DeserializeError> {
     let chosen = [Field::from_field_id(1)];
     let mut reader = BlockReader::new(alloc, DocStoreVersion::V2);
     let first = reader.advance_fields(source, &chosen)?;

@@ -8,6 +8,9 @@ use Rattle.tv_reader.specs.declared.error.DeserializeError.TheVariants.{HeapFull
 use Rattle.tv_reader.proofs.Finding.{finds_as}
 use Rattle.tv_reading.proofs.WholeDocuments.{no_room}
 use Rattle.tv_store.proofs.RoundTrips.{err_is}
+use Rattle.std.specs.Result.{is_ok}
+use Rattle.tv_base.specs.Parts.{Begins}
+use Rattle.tv_store.specs.Limits.{TakenWithin}
 use Rattle.tv_store.proofs.TestedParts.{fresh, no_part, none_came, part_breaks, part_came, part_ends, passed_none}
 use Rattle.tv_store.proofs.WithinLimits.{begins, goes_on, takes_one, too_many, fails}
 use Rattle.tv_store.proofs.limits.take_within.Goals as goal
@@ -31,10 +34,12 @@ returns-in_err-step-clause-no_room g c = λ told is.
 pub returns-in_err-step-clause-parts : goal.returns-in_err-step-clause-parts
 returns-in_err-step-clause-parts g c = λ told.
     let p = err_from_is_err_and c.from_residual.result c.from_residual.ensures.1 in
+    let left = g.S.ByteSource.left in
     let l = c.loop in
     let h = c.in_err-step.ensures in
     let known = l.invariant.finds.stays_known told in
-    rw (p.1, p.2) (part_breaks (version_of c.args.decoder.now.version) c.args.limits l.decoder.reading (l.decoder.sound l.invariant.not_failed) l.invariant.passes (l.invariant.came told) ((h.steps.finds l.invariant.not_failed l.invariant.more).taken known) (h.at_most known))
+    subst (λ whole. Begins (TakenWithin (version_of c.args.decoder.now.version) c.args.limits whole) (left c.args.source.now) (left c.step.new.source)) (ap is_ok (sym p.1))
+    (part_breaks (version_of c.args.decoder.now.version) c.args.limits l.decoder.reading (l.decoder.sound l.invariant.not_failed) l.invariant.passes (l.invariant.came told) ((h.steps.finds l.invariant.not_failed l.invariant.more).taken known) (h.at_most known))
 
 pub returns-then-is_some-clause-parts : goal.returns-then-is_some-clause-parts
 returns-then-is_some-clause-parts g c = λ told.
@@ -86,7 +91,7 @@ loop-preserved g c =
       more = search rules;
       version = c.in_ok-step.ensures.steps.version ∙ l.invariant.version;
       finds = goes_on v (version_of l.decoder.version) (ap version_of l.invariant.version) c.args.decoder.now.reading l.decoder.reading c.in_ok-step.step c.step.new.self.legacy_seen c.step.new.self.reading l.invariant.finds did;
-      passes = passed_none c.passed_limit-passed.result c.passed_limit-passed.ensures (sym c.is_some.ensures ∙ c.if-is_some.false);
+      passes = passed_none c.args.limits c.step.new.self.reading c.passed_limit-passed.result c.passed_limit-passed.ensures (sym c.is_some.ensures ∙ c.if-is_some.false);
       came = λ told. part_came v c.args.limits l.decoder.reading (l.decoder.sound l.invariant.not_failed) l.invariant.passes (l.invariant.came told) (version_of l.decoder.version) (ap version_of l.invariant.version) c.step.new.self.legacy_seen c.step.new.self.reading (did.found (l.invariant.finds.stays_known told));
       counted = λ told. omega (arith, l.invariant.counted told, takes_one v (version_of l.decoder.version) (ap version_of l.invariant.version) c.args.decoder.now.reading l.decoder.reading c.in_ok-step.step c.step.new.self.legacy_seen c.step.new.self.reading did (l.invariant.finds.stays_known told));
     }

@@ -6,7 +6,7 @@ use Rattle.tv_store.specs.Blocks.{as_read_within}
 use Rattle.tv_store.specs.Limits.{FitsLimits, IsLimitedError, ReadsNextWithin, within}
 use Rattle.tv_store.specs.declared.limits.LimitedReadError.TheVariants.{Read}
 use Rattle.tv_store.proofs.BlockSteps.{leaves_none, says_more}
-use Rattle.tv_store.proofs.BlocksWithin.{reads_seen, said_comes, said_counts, said_errors, said_parts, said_stops, says_next, some_may, steps_seen, steps_within, stops_seen}
+use Rattle.tv_store.proofs.BlocksWithin.{reads_seen, said_comes, said_counts, said_errors, said_parts, said_stops, says_next, some_may, steps_seen, steps_within, stops_failed, stops_seen}
 use Rattle.tv_store.proofs.Resuming.{reads_on}
 use Rattle.tv_store.proofs.WithinLimits.{reads_within, stops_within}
 use Rattle.tv_store.proofs.block.BlockReader.advance_within.Goals as goal
@@ -56,3 +56,6 @@ pub returns-then-takes_none-clause-stops : goal.returns-then-takes_none-clause-s
 returns-then-takes_none-clause-stops g c =
     let next = c.finish in
     stops_seen g.S.ByteSource (version_of c.args.self.now.version) c.args.limits (c.takes_none.ensures.0 c.if-takes_none.true) next.result (says_next _ _ _ next.ensures c.see_next-seen.ensures.sees)
+
+pub returns-then-self-clause-stops : goal.returns-then-self-clause-stops
+returns-then-self-clause-stops g c = stops_failed g.S.ByteSource (version_of c.args.self.now.version) c.args.limits c.args.source.now AlreadyFailed
