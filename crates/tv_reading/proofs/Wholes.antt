@@ -12,11 +12,11 @@ use Rattle.tv_builder.specs.Parts.{Part, some_bytes}
 use Rattle.tv_builder.specs.State.{State, complete, in_lists, in_bytes, awaited}
 use Rattle.tv_builder.specs.Builder.{built, state_of}
 use Rattle.tv_reader.specs.Legacy.{Legacy}
-use Rattle.tv_reader.specs.Finds.{ShowsRefusal, Found, FindsIf}
+use Rattle.tv_reader.specs.Finds.{ShowsRefusal, FindsIf}
 use Rattle.tv_reader.specs.HeadReading.{head_part}
 use Rattle.tv_reader.specs.Heads.{EncodesHead}
 use Rattle.tv_reader.specs.Trees.{NoValue, NoneBehind}
-use Rattle.tv_reader.specs.Error.{store_stop, StoreMayStop, StoreMayStopRoomy, StoreMayStopLean}
+use Rattle.tv_reader.specs.Error.{StoreMayStop, StoreMayStopRoomy, StoreMayStopLean}
 use Rattle.tv_reader.specs.ValueType.{type_prefix}
 use Rattle.tv_reader.specs.declared.error.DeserializeError.{DeserializeError}
 use Rattle.tv_reader.specs.declared.error.DeserializeError.TheVariants as errors
