@@ -2,6 +2,7 @@
 
 mod buffers;
 mod by_schema;
+mod checked;
 mod documents;
 mod facet_counts;
 mod handles;

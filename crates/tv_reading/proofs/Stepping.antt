@@ -33,7 +33,7 @@ use Rattle.tv_format.specs.declared.leaf_type.LeafType.TheVariants as leaves
 use Rattle.tv_reading.proofs.Putting.{same_grows}
 use Rattle.tv_reading.specs.Prefix.{parts_at, parts_read, IsBetweenParts, IsPlace, IsSound, LacksPair, IsMalformedNext, NoRoomBehind, ValueNext}
 use Rattle.tv_reading.specs.Puts.{PartsPut, LacksRoom, PutsParts, IsParts, head_parts}
-use Rattle.tv_reading.specs.Steps.{Advances, HasFirstByte, IsTakenWhole, Stepped}
+use Rattle.tv_reading.specs.Steps.{Advances, HasFirstByte, TakesWhole, Stepped}
 use Rattle.tv_reading.specs.declared.reading.Reading.{Reading}
 use Rattle.tv_reader.specs.Error.{StoreMayStop}
 
@@ -46,11 +46,8 @@ one_part L v b p h = record { prefix = b; rest = []; joined = sym (append-nil b)
 pub advances : (L : List ℕ → Entries → Type 0) (v : Version) (old new : Reading) (ps : List Part) (taken : List ℕ) → Trades (parts_read old ++ ps) (parts_read new) → EncodesIn L v taken ps → Advances L v old new taken
 advances L v old new ps taken t h = λ bytes p. trades_sound L v (parts_read old ++ ps) (parts_read new) (bytes ++ taken) t (each_append (EncodesPart L v) (parts_read old) ps bytes taken p h)
 
-pub stepped : (v : Version) (legacy : Bool) (old new : Reading) (ps : List Part) (taken : List ℕ) → PartsPut old new ps → 0 < length taken → (length taken ≤ 4096) ⊎ IsTakenWhole old taken → EncodesIn Legacy v taken ps → (legacy ≡ false → EncodesIn NoLegacy v taken ps) → Stepped v legacy old new taken
+stepped : (v : Version) (legacy : Bool) (old new : Reading) (ps : List Part) (taken : List ℕ) → PartsPut old new ps → 0 < length taken → (length taken ≤ 4096) ⊎ TakesWhole v old taken → EncodesIn Legacy v taken ps → (legacy ≡ false → EncodesIn NoLegacy v taken ps) → Stepped v legacy old new taken
 stepped v legacy old new ps taken p some few encoded plain = record { some = some; in_pieces = few; goes = advances Legacy v old new ps taken p.trades encoded; plain = λ e. advances NoLegacy v old new ps taken p.trades (plain e) }
-
-pub none_seen : (v : Version) (legacy : Bool) (old new : Reading) (taken : List ℕ) → Stepped v false old new taken → Stepped v legacy old new taken
-none_seen v legacy old new taken h = record { some = h.some; in_pieces = h.in_pieces; goes = h.goes; plain = λ _. h.plain refl }
 
 -- ---- the number of the pairs
 
@@ -118,7 +115,7 @@ field_put r new f sound none lacks announced finished field_is builder =
 -- what a part's bytes are
 pub record IsPart (v : Version) (legacy : Bool) (old : Reading) (taken : List ℕ) (ps : List Part) : Type 0 where
   pub some : 0 < length taken
-  pub in_pieces : (length taken ≤ 4096) ⊎ IsTakenWhole old taken
+  pub in_pieces : (length taken ≤ 4096) ⊎ TakesWhole v old taken
   pub encoded : EncodesIn Legacy v taken ps
   pub plain : legacy ≡ false → EncodesIn NoLegacy v taken ps
 
@@ -166,10 +163,10 @@ puts_full {left = left} {os = os} {ns = ns} v legacy old new ps result part h p 
 
 -- ---- the head of a key
 
-pub key_part : (v : Version) (old : Reading) (n : ℕ) (a : List ℕ) → EncodesKeyHead v a n → IsPart v false old a (bytes_head kinds.Key n ∷ [])
-key_part V1 old n a h = record { some = omega (arith, ap length h.joined); in_pieces = inl (omega (arith, ap length h.joined, h.encoded.at_most_ten)); encoded = one_part Legacy V1 a (bytes_head kinds.Key n) h; plain = λ _. one_part NoLegacy V1 a (bytes_head kinds.Key n) h }
-key_part V2 old n a h = record { some = omega (arith, ap length h.joined); in_pieces = inl (omega (arith, ap length h.joined, h.encoded.at_most_ten)); encoded = one_part Legacy V2 a (bytes_head kinds.Key n) h; plain = λ _. one_part NoLegacy V2 a (bytes_head kinds.Key n) h }
-key_part V3 old n a h = record { some = some_number h; in_pieces = inl (omega (arith, h.at_most_ten)); encoded = one_part Legacy V3 a (bytes_head kinds.Key n) h; plain = λ _. one_part NoLegacy V3 a (bytes_head kinds.Key n) h }
+pub key_part : (v : Version) (legacy : Bool) (old : Reading) (n : ℕ) (a : List ℕ) → EncodesKeyHead v a n → IsPart v legacy old a (bytes_head kinds.Key n ∷ [])
+key_part V1 legacy old n a h = record { some = omega (arith, ap length h.joined); in_pieces = inl (omega (arith, ap length h.joined, h.encoded.at_most_ten)); encoded = one_part Legacy V1 a (bytes_head kinds.Key n) h; plain = λ _. one_part NoLegacy V1 a (bytes_head kinds.Key n) h }
+key_part V2 legacy old n a h = record { some = omega (arith, ap length h.joined); in_pieces = inl (omega (arith, ap length h.joined, h.encoded.at_most_ten)); encoded = one_part Legacy V2 a (bytes_head kinds.Key n) h; plain = λ _. one_part NoLegacy V2 a (bytes_head kinds.Key n) h }
+key_part V3 legacy old n a h = record { some = some_number h; in_pieces = inl (omega (arith, h.at_most_ten)); encoded = one_part Legacy V3 a (bytes_head kinds.Key n) h; plain = λ _. one_part NoLegacy V3 a (bytes_head kinds.Key n) h }
 
 -- ---- the head of a value
 
@@ -225,7 +222,7 @@ plain_leaf v a (object es) h = elim h [
 pub tokenized_part : (v : Version) (legacy : Bool) (old : Reading) (t : Tree) (a : List ℕ) → ValueNext old → (b : List ℕ) → a ≡ 7 ∷ 0 ∷ b → Encodes Legacy v a t → IsPart v legacy old a (value t ∷ [])
 tokenized_part v legacy old t a next b is h = record {
   some = omega (arith, ap length is);
-  in_pieces = inr (next, inl (subst (HasFirstByte 7) (sym is) refl));
+  in_pieces = inr ((next, inl (subst (HasFirstByte 7) (sym is) refl)), (t, h));
   encoded = one_part Legacy v a (value t) h;
   plain = λ _. one_part NoLegacy v a (value t) (subst (λ z. Encodes NoLegacy v z t) (sym is) (plain_leaf v (0 ∷ b) t (subst (λ z. Encodes Legacy v z t) is h)));
 }
@@ -233,7 +230,7 @@ tokenized_part v legacy old t a next b is h = record {
 pub legacy_part : (v : Version) (old : Reading) (t : Tree) (a : List ℕ) → ValueNext old → (b : List ℕ) → a ≡ 8 ∷ b → Encodes Legacy v a t → IsPart v true old a (value t ∷ [])
 legacy_part v old t a next b is h = record {
   some = omega (arith, ap length is);
-  in_pieces = inr (next, inr (subst (HasFirstByte 8) (sym is) refl));
+  in_pieces = inr ((next, inr (subst (HasFirstByte 8) (sym is) refl)), (t, h));
   encoded = one_part Legacy v a (value t) h;
   plain = λ e. absurd (let f : true ≡ false = e in cc);
 }

@@ -1,20 +1,19 @@
 //! What has been read of a document, and what its next part does to that.
 
-ghost use Rattle.std.specs.Prelude.{◌≡◌, ◌↔◌, ◌≤◌, ◌<◌, ◌^◌, [], ◌∷◌, ◌+◌, length, take, IsTrue, IsErrOf, Ok, OnOk, OnErr, Some, None, false};
+ghost use Rattle.std.specs.Prelude.{◌≡◌, ◌↔◌, ◌≤◌, ◌<◌, ◌^◌, [], ◌∷◌, ◌+◌, Bool, length, take, IsTrue, Ok, OnErr, Some, None};
 ghost use Rattle.tv_builder.specs.Behind.{document_parts, open_parts};
 ghost use Rattle.tv_builder.specs.Parts.{value as value_part, some_bytes, bytes_head};
 ghost use Rattle.tv_builder.specs.State.{awaited, head_awaits, list_head, lists_of, children_of, in_lists};
 ghost use Rattle.tv_builder.specs.declared.kinds.Awaits.TheVariants.{Value as ValueAwaited, Key as KeyAwaited, Bytes as BytesAwaited};
-ghost use Rattle.tv_reading.specs.Prefix.{parts_read, IsSound, IsDone, LacksPair, IsMalformedNext, NoRoomBehind};
+ghost use Rattle.tv_reading.specs.Prefix.{parts_read, IsSound, IsDone, LacksPair};
 ghost use Rattle.tv_reading.specs.Puts.{IsOpen, AtEnd, Awaiting, PutsParts, PutsEnd, PutsBytes, IsParts, bytes_kind, head_parts};
-ghost use Rattle.tv_reading.specs.Kept.{Grows, LetGo, KeepsPairs};
-ghost use Rattle.tv_reading.specs.Steps.{Advances, Stepped, Sees, IsFew};
+ghost use Rattle.tv_reading.specs.Kept.{LetGo};
+ghost use Rattle.tv_reading.specs.Steps.{Advances, ReadsPart};
 ghost use Rattle.tv_reading.specs.Errors.{ComesInPlace, build_error};
 ghost use Rattle.tv_builder.specs.Builder.{built, state_of, heap_so_far};
 ghost use Rattle.tv_builder.specs.HeldPairs.{document_of, heap_of};
-ghost use Rattle.tv_reader.specs.Finds.{Finds, FindsLean, Nothing};
+ghost use Rattle.tv_reader.specs.Finds.{Finds, Nothing};
 ghost use Rattle.tv_reader.specs.HeadReading.{head_part};
-ghost use Rattle.tv_reader.specs.declared.error.DeserializeError.TheVariants.{HeapFull};
 ghost use Rattle.tv_reader.specs.Legacy.{Legacy};
 ghost use Rattle.tv_reader.specs.Version.{version_of};
 ghost use Rattle.tv_value.specs.Lent.{leaf_of};
@@ -326,13 +325,8 @@ impl Reading {
     ) -> Result<(), DeserializeError>
         requires sound { IsSound self.old }
         requires none { self.old.announced ≡ None }
-        ensures sound { OnOk result (IsSound self.new) }
-        ensures grows { OnOk result (Grows self.old self.new) }
-        ensures after_error { OnErr result (KeepsPairs self.old self.new) }
-        ensures finds { (v : Version)
-            → FindsLean S.ByteSource source.old count.old source.new count.new
-            result (λ b _. Stepped v false self.old self.new b) (IsMalformedNext v self.old) }
-        ensures at_most { count.new ≤ count.old + 4096 }
+        ensures { (version : Version) (seen : Bool) → ReadsPart version S.ByteSource source.old
+            source.new count.old count.new seen seen self.old self.new result }
     {
         let announced = take_document_head(source, count)?;
         self.announced = Some(announced);
@@ -348,13 +342,8 @@ impl Reading {
         requires sound { IsSound self.old }
         requires none { self.old.field ≡ None }
         requires lacks { LacksPair self.old.announced self.old.finished }
-        ensures sound { OnOk result (IsSound self.new) }
-        ensures grows { OnOk result (Grows self.old self.new) }
-        ensures after_error { OnErr result (KeepsPairs self.old self.new) }
-        ensures finds { (v : Version)
-            → FindsLean S.ByteSource source.old count.old source.new count.new
-            result (λ b _. Stepped v false self.old self.new b) (IsMalformedNext v self.old) }
-        ensures at_most { count.new ≤ count.old + 4096 }
+        ensures { (version : Version) (seen : Bool) → ReadsPart version S.ByteSource source.old
+            source.new count.old count.new seen seen self.old self.new result }
     {
         let field = take_field(source, count)?;
         self.field = Some(field);
@@ -371,18 +360,8 @@ impl Reading {
         legacy_seen: &mut bool,
     ) -> Result<(), DeserializeError>
         requires { Awaiting self.old ValueAwaited }
-        ensures sound { OnOk result (IsSound self.new) }
-        ensures grows { OnOk result (Grows self.old self.new) }
-        ensures after_error { OnErr result (KeepsPairs self.old self.new) }
-        ensures finds { Finds S.ByteSource source.old count.old source.new count.new
-            result (λ b _. Stepped (version_of version) legacy_seen.new self.old self.new b)
-            (IsMalformedNext (version_of version) self.old) }
-        ensures no_room { S.is_known source.old → IsErrOf result HeapFull
-            → NoRoomBehind (version_of version) self.old (S.left source.old) }
-        ensures seen { S.is_known source.old
-            → Sees self.old (S.left source.old) legacy_seen.old legacy_seen.new }
-        ensures at_most { S.is_known source.old
-            → IsFew self.old (S.left source.old) count.old count.new }
+        ensures { ReadsPart (version_of version) S.ByteSource source.old source.new count.old
+            count.new legacy_seen.old legacy_seen.new self.old self.new result }
     {
         let head = take_head(source, count, version)?;
         match head {
@@ -407,15 +386,8 @@ impl Reading {
         version: DocStoreVersion,
     ) -> Result<(), DeserializeError>
         requires { Awaiting self.old KeyAwaited }
-        ensures sound { OnOk result (IsSound self.new) }
-        ensures grows { OnOk result (Grows self.old self.new) }
-        ensures after_error { OnErr result (KeepsPairs self.old self.new) }
-        ensures finds { Finds S.ByteSource source.old count.old source.new count.new
-            result (λ b _. Stepped (version_of version) false self.old self.new b)
-            (IsMalformedNext (version_of version) self.old) }
-        ensures no_room { S.is_known source.old → IsErrOf result HeapFull
-            → NoRoomBehind (version_of version) self.old (S.left source.old) }
-        ensures at_most { count.new ≤ count.old + 4096 }
+        ensures { (seen : Bool) → ReadsPart (version_of version) S.ByteSource source.old source.new
+            count.old count.new seen seen self.old self.new result }
     {
         let len = take_key_head(source, count, version)?;
         self.put_bytes_head(BytesKind::Key, len)
@@ -430,15 +402,8 @@ impl Reading {
         bytes: &mut Vec<u8>,
     ) -> Result<(), DeserializeError>
         requires awaiting { Awaiting self.old (BytesAwaited missing) }
-        ensures sound { OnOk result (IsSound self.new) }
-        ensures grows { OnOk result (Grows self.old self.new) }
-        ensures after_error { OnErr result (KeepsPairs self.old self.new) }
-        ensures finds { (v : Version)
-            → Finds S.ByteSource source.old count.old source.new count.new result
-            (λ b _. Stepped v false self.old self.new b) (IsMalformedNext v self.old) }
-        ensures no_room { (v : Version) → S.is_known source.old → IsErrOf result HeapFull
-            → NoRoomBehind v self.old (S.left source.old) }
-        ensures at_most { count.new ≤ count.old + 4096 }
+        ensures { (version : Version) (seen : Bool) → ReadsPart version S.ByteSource source.old
+            source.new count.old count.new seen seen self.old self.new result }
     {
         let len = missing.min(PIECE);
         bytes.clear();
@@ -464,18 +429,8 @@ impl Reading {
     ) -> Result<(), DeserializeError>
         requires sound { IsSound self.old }
         requires more { ¬ IsDone self.old }
-        ensures sound { OnOk result (IsSound self.new) }
-        ensures grows { OnOk result (Grows self.old self.new) }
-        ensures after_error { OnErr result (KeepsPairs self.old self.new) }
-        ensures finds { Finds S.ByteSource source.old count.old source.new count.new
-            result (λ b _. Stepped (version_of version) legacy_seen.new self.old self.new b)
-            (IsMalformedNext (version_of version) self.old) }
-        ensures no_room { S.is_known source.old → IsErrOf result HeapFull
-            → NoRoomBehind (version_of version) self.old (S.left source.old) }
-        ensures seen { S.is_known source.old
-            → Sees self.old (S.left source.old) legacy_seen.old legacy_seen.new }
-        ensures at_most { S.is_known source.old
-            → IsFew self.old (S.left source.old) count.old count.new }
+        ensures { ReadsPart (version_of version) S.ByteSource source.old source.new count.old
+            count.new legacy_seen.old legacy_seen.new self.old self.new result }
     {
         if self.announced.is_none() {
             return self.step_number(source, count);

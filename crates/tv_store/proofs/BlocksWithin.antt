@@ -27,7 +27,7 @@ use Rattle.tv_reader.specs.declared.error.DeserializeError.TheVariants as errors
 use Rattle.tv_store.specs.BlockSteps.{FinishesBlock, StepsBlock}
 use Rattle.tv_store.specs.Blocks.{NextOf, SaysNothingWithin, SeesNext, as_read_within, next_if}
 use Rattle.tv_store.specs.Documents.{NoDocument, SaysNothing, in_place}
-use Rattle.tv_store.specs.Limits.{IsAll, IsPast, PassesDepth, ReadsByLimits, StopsNextWithin, StopsWithin, Unread, at_least_one, limited_stop, within}
+use Rattle.tv_store.specs.Limits.{IsAll, IsPast, PassesDepth, ReadsByLimits, StopsNextWithin, StopsWithin, TakenWithin, Unread, at_least_one, has_come, limited_stop, within}
 use Rattle.tv_store.specs.Reading.{documents}
 use Rattle.tv_store.specs.declared.block.BlockReader.{BlockReader}
 use Rattle.tv_store.specs.declared.limits.LimitedReadError.{LimitedReadError}
@@ -37,6 +37,7 @@ use Rattle.tv_store.specs.declared.limits.ReadLimits.{ReadLimits}
 use Rattle.tv_store.proofs.Blocks.{cut_off, never_full, no_document, no_number, none_before, nothing_ends, placed}
 use Rattle.tv_store.proofs.BlockSteps.{EndsOnly, next_fewer, only_error, steps_block}
 use Rattle.tv_store.proofs.Promises.{end}
+use Rattle.tv_store.proofs.TestedParts.{few_taken, same_come}
 use Rattle.tv_store.proofs.WithinLimits.{past_none, reads_within}
 
 -- ---- what was read in a place, and what the call says of it
@@ -63,6 +64,13 @@ module _ {count : ℕ} {before after : BlockReader} {read : Result (Unit {0}) Li
       counts_placed (Ok x) h = h
       counts_placed (Err e) h = h
 
+  pub said_parts : (v : Version) (limits : ReadLimits) (old new : List ℕ) → Begins (TakenWithin v limits (has_come read)) old new → Begins (TakenWithin v limits (has_come (as_read_within next before.document))) old new
+  said_parts v limits old new h = subst (λ (r : Result CompactDoc LimitedReadError). Begins (TakenWithin v limits (has_come r)) old new) (sym (placed f before.document)) (parts_placed read h)
+    where
+      parts_placed : (read : Result (Unit {0}) LimitedReadError) → Begins (TakenWithin v limits (has_come read)) old new → Begins (TakenWithin v limits (has_come (in_place read before.document))) old new
+      parts_placed (Ok x) h = h
+      parts_placed (Err e) h = h
+
 same_most : (most : Option ℕ) → most ≢ Some 0 → at_least_one most ≡ most
 same_most None some = refl
 same_most (Some zero) some = absurd (some refl)
@@ -78,6 +86,7 @@ said_stops source v limits {old = old} {new = new} next document some h = record
       (subst (λ (m : Option ℕ). Begins (IsAll m) (source.left old) (source.left new)) (sym (same_most limits.bytes some)) (h.bytes known limited_by), λ other. h.ends known limited_by);
   small = λ known is. h.most known;
   most = λ known. subst (λ (m : Option ℕ). Begins (λ b. ¬ IsPast m (length b)) (source.left old) (source.left new)) (sym (same_most limits.bytes some)) (h.most known);
+  parts = λ known. subst (λ whole. Begins (TakenWithin v limits whole) (source.left old) (source.left new)) (same_come next document) (h.parts known);
 }
 
 -- ---- the promise of a call
@@ -244,6 +253,7 @@ module _ {S : Type 0} (source : Ghosts S) (v : Version) (limits : ReadLimits) {o
     bytes = λ known is. absurd (cc);
     small = λ known is. absurd (cc);
     most = λ known. nothing_taken (at_least_one limits.bytes) _ _ (sym (says known));
+    parts = λ known. record { prefix = []; joined = sym (says known); encoded = few_taken v limits [] (omega arith) };
   }
   stops_seen (Err (limited.Limit limit.Bytes)) says = record {
     depth = λ known is. absurd (cc);
@@ -251,6 +261,7 @@ module _ {S : Type 0} (source : Ghosts S) (v : Version) (limits : ReadLimits) {o
     bytes = λ known is. (first_taken (IsAll (at_least_one limits.bytes)) _ _ (λ byte. ap at_least_one no_byte) (says known), λ some. absurd (some no_byte));
     small = λ known is. absurd (cc);
     most = λ known. first_taken (λ b. ¬ IsPast (at_least_one limits.bytes) (length b)) _ _ (λ byte. subst (λ (m : Option ℕ). ¬ IsPast (at_least_one m) 1) (sym no_byte) (λ past. omega (arith, past))) (says known);
+    parts = λ known. first_taken (TakenWithin v limits false) _ _ (λ byte. few_taken v limits (byte ∷ []) (omega arith)) (says known);
   }
   stops_seen (Err (limited.Read e)) says = record {
     depth = λ known is. absurd (cc);
@@ -258,8 +269,20 @@ module _ {S : Type 0} (source : Ghosts S) (v : Version) (limits : ReadLimits) {o
     bytes = λ known is. absurd (cc);
     small = λ known is. absurd (cc);
     most = λ known. nothing_taken (at_least_one limits.bytes) _ _ (sym (says known));
+    parts = λ known. record { prefix = []; joined = sym (says known); encoded = few_taken v limits [] (omega arith) };
   }
   stops_seen (Err (limited.Limit l)) says = absurd says
+
+-- a reader that has failed takes nothing
+pub stops_failed : {S : Type 0} (source : Ghosts S) (v : Version) (limits : ReadLimits) (at_rest : S) (e : DeserializeError) → StopsNextWithin v limits source at_rest at_rest (Err (limited.Read e))
+stops_failed source v limits at_rest e = record {
+  depth = λ known is. absurd (cc);
+  heap = λ known is. absurd (cc);
+  bytes = λ known is. absurd (cc);
+  small = λ known is. absurd (cc);
+  most = λ known. nothing_taken (at_least_one limits.bytes) _ _ refl;
+  parts = λ known. record { prefix = []; joined = refl; encoded = few_taken v limits [] (omega arith) };
+}
 
 -- some byte may be taken
 pub some_may : (none : Bool) (P : Type 0) → IsTrue none ↔ P → none ≡ false → P → ⊥

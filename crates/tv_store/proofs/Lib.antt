@@ -17,4 +17,6 @@ pub mod Nesting
 pub mod NestedSteps
 pub mod WithinDepth
 pub mod WithinLimits
+pub mod TestedParts
 pub mod StepsPaid
+pub mod Alike

@@ -1,6 +1,8 @@
 -- What comes of a document that is read in one version and written in another.
 use Rattle.std.proofs.Common.{◌≡◌, ℕ, ◌≤◌, List, ◌++◌, Result, Ok, Err, Some, None, refl, sym, ◌∙◌, ap, subst}
+use Rattle.std.specs.Option.{ForSome}
 use Rattle.std.specs.Prelude.{IsErrOf}
+use Rattle.std.specs.declared.io.ErrorKind.TheVariants.{OutOfMemory}
 use Rattle.tv_base.specs.declared.sink.ByteSink.{Ghosts as Sink}
 use Rattle.tv_base.specs.declared.source.ByteSource.{Ghosts as Source}
 use Rattle.tv_base.specs.ReadsAs.{Known, IsReadUnless}
@@ -62,8 +64,8 @@ module _ {S K : Type 0} (from to : Version) (source : Source S) (old new : S) (s
   all_at (Ok d) x e rest left told a w = (a.1, w.1.appends told ∙ ap (λ z. sink.held begun ++ short_document to z) a.0)
   all_at (Err f) x e rest left told a w = absurd (cc)
 
-  written_at : (read : Result CompactDoc DeserializeError) (e : SerializeError) → Rewrites to sink begun ended read (Err (Write e)) → IsIoOrMemory e
-  written_at (Ok d) e w = w.2
+  written_at : (read : Result CompactDoc DeserializeError) (e : SerializeError) → Rewrites to sink begun ended read (Err (Write e)) → IsIoOrMemory e × CountsStop (write_stop e) (sink.failures begun) (sink.failures ended)
+  written_at (Ok d) e w = (w.2, w.1.counts)
   written_at (Err f) e w = absurd (cc)
 
 module _ {S K : Type 0} {from to : Version} {source : Source S} {old new : S} {sink : Sink K} {begun ended : K} {result : Result (Unit {0}) MigrateError} (m : Migrates from to source old new sink begun ended result) where
@@ -81,14 +83,15 @@ module _ {S K : Type 0} {from to : Version} {source : Source S} {old new : S} {s
       all_at from to source old new sink begun ended m.read x d rest (source.left new) told (m.reads.only known d prefix rest joined encoded small) (subst (λ z. Rewrites to sink begun ended m.read z) is m.rewrites)
 
   -- where no read fails and what is encoded has room, only memory is left
-  pub only_memory : (e : MigrateError) → result ≡ Err e → Known source old → (d : Document) (prefix rest : List ℕ) → source.left old ≡ prefix ++ rest → EncodesDocument Legacy from prefix d → document_room d ≤ 4294967295 → (source.failures new).last ≡ None → IsMemory e
-  only_memory (Write e) is known d prefix rest joined encoded small last = written e (written_at from to source old new sink begun ended m.read e (subst (λ z. Rewrites to sink begun ended m.read z) is m.rewrites))
+  pub only_memory : (e : MigrateError) → result ≡ Err e → Known source old → (d : Document) (prefix rest : List ℕ) → source.left old ≡ prefix ++ rest → EncodesDocument Legacy from prefix d → document_room d ≤ 4294967295 → (source.failures new).last ≡ None
+      → ForSome (sink.failures ended).last (λ kind. kind ≡ OutOfMemory) → IsMemory e
+  only_memory (Write e) is known d prefix rest joined encoded small last kinds = written e (written_at from to source old new sink begun ended m.read e (subst (λ z. Rewrites to sink begun ended m.read z) is m.rewrites))
     where
-      written : (e : SerializeError) → IsIoOrMemory e → IsMemory (Write e)
-      written (writes.Io k) may = tt
+      written : (e : SerializeError) → IsIoOrMemory e × CountsStop (write_stop e) (sink.failures begun) (sink.failures ended) → IsMemory (Write e)
+      written (writes.Io k) may = kinds k may.1.kept
       written writes.Memory may = tt
-      written _ may = absurd may
-  only_memory (Read e) is known d prefix rest joined encoded small last = let r = (unread e is).0 in left e (source.failures old) (source.failures new) (r.only known d prefix rest joined encoded small) last r.failures
+      written _ may = absurd may.0
+  only_memory (Read e) is known d prefix rest joined encoded small last kinds = let r = (unread e is).0 in left e (source.failures old) (source.failures new) (r.only known d prefix rest joined encoded small) last r.failures
     where
       none_is : {A : Type 0} {x : A} → None ≡ Some x → ⊥
       none_is e = cc

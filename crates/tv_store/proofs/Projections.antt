@@ -8,7 +8,7 @@ use Rattle.tv_base.specs.Stop.{Counts, CountsBy, CountsStop}
 use Rattle.tv_base.specs.declared.cause.Cause.{Cause}
 use Rattle.tv_base.specs.declared.cause.Cause.TheVariants.{TooLong, UnexpectedEnd}
 use Rattle.tv_base.specs.declared.source.ByteSource.{Ghosts}
-use Rattle.tv_doc.specs.Document.{document_of, heap_of}
+use Rattle.tv_doc.specs.Document.{document_of}
 use Rattle.tv_doc.specs.declared.document.CompactDoc.{CompactDoc}
 use Rattle.tv_format.specs.Encoding.{EncodesDocument}
 use Rattle.tv_format.specs.InputError.{Refusal, corrupted, no_text_key}
@@ -27,7 +27,7 @@ use Rattle.tv_reading.specs.Skip.{IsDocumentEncoding}
 use Rattle.tv_store.specs.BlockSteps.{CountsNext, LeavesNone, StepsBlock, place_of, refusal_of}
 use Rattle.tv_store.specs.Blocks.{SaysEndBut, SaysNothingWithin, as_passed, as_read, as_read_within}
 use Rattle.tv_store.specs.Documents.{IsReadingError, NoDocument, SaysNothing}
-use Rattle.tv_store.specs.Limits.{AllNestWithinLimit, IsPast, StopsNextWithin, limited_stop, within}
+use Rattle.tv_store.specs.Limits.{FitsLimits, IsPast, StopsNextWithin, limited_stop, within}
 use Rattle.tv_store.specs.Projections.{EncodesWithinLimits, IsReason, IsRefusedBy, NoRoomFor, ReadsNextOf, ReadsOne, ReadsProjected, error_of, kept, limits_of, no_limits, refused_stop, with_error}
 use Rattle.tv_store.specs.Reading.{chosen_pairs, documents, passed, reading}
 use Rattle.tv_store.specs.declared.block.BlockReader.{BlockReader}
@@ -119,9 +119,9 @@ refused_within v limits known few reads _ _ is (is_no_text {actual = actual}) = 
 
 module _ {S : Type 0} (source : Ghosts S) {old new : S} (v : Version) (limits : ReadLimits) where
   pub one_within : (result : Result Bool LimitedReadError) (document : CompactDoc) → Reads (within limits) (documents v) source old new document_of (as_read_within result document) → StopsNextWithin v limits source old new result
-      → (result ≡ Ok true → AllNestWithinLimit limits.depth (document_of document)) → (result ≡ Ok true → ¬ IsPast limits.heap_bytes (length (heap_of document))) → (source.is_known old → result ≡ Ok false → source.left old ≡ [])
+      → (result ≡ Ok true → FitsLimits limits document) → (source.is_known old → result ≡ Ok false → source.left old ≡ [])
       → (source.is_known old → source.left old ≡ [] → SaysEndBut SaysNothingWithin result) → source.is_known old → ReadsOne v (All limits) (λ d. document_of document ≡ d) (source.left old) (source.left new) result
-  one_within (Ok true) document reads stops shallow small end ends known =
+  one_within (Ok true) document reads stops fits end ends known =
       let h = reads.found known in
       let most = stops.small known refl in
       let same : length most.prefix ≡ length h.prefix = omega (arith, ap length most.joined, ap length h.joined, length-append most.prefix (source.left new), length-append h.prefix (source.left new)) in (
@@ -132,21 +132,21 @@ module _ {S : Type 0} (source : Ghosts S) {old new : S} (v : Version) (limits : 
           encoded = record {
             encoded = h.encoded;
             small = subst (λ (n : ℕ). ¬ IsPast limits.bytes n) same most.encoded;
-            light = subst (λ (l : List ℕ). ¬ IsPast limits.heap_bytes (length l)) document.values.bytes (small refl);
-            shallow = shallow refl;
+            light = subst (λ (l : List ℕ). ¬ IsPast limits.heap_bytes (length l)) document.values.bytes (fits refl).small;
+            shallow = (fits refl).shallow;
           };
         },
         refl,
       )
-  one_within (Ok false) document reads stops shallow small end ends known = let t = reads.taken known in (end known refl, none_after t.0 (source.left new) (sym (end known refl) ∙ t.1))
-  one_within (Err (limited.Read e)) document reads stops shallow small end ends known = record {
+  one_within (Ok false) document reads stops fits end ends known = let t = reads.taken known in (end known refl, none_after t.0 (source.left new) (sym (end known refl) ∙ t.1))
+  one_within (Err (limited.Read e)) document reads stops fits end ends known = record {
     true_of = λ few.
         is_refused_by (NoRoomFor v (All limits)) v (source.left old) e (λ r refusal. refused_within v limits known few reads e r refl refusal) (λ full. reads.no_room known (limited.Read e) refl (ap limited.Read full)) reads.errors;
     at_end = ends known;
   }
-  one_within (Err (limited.Limit limit.Bytes)) document reads stops shallow small end ends known = record { true_of = stops.bytes known refl; at_end = ends known }
-  one_within (Err (limited.Limit limit.HeapBytes)) document reads stops shallow small end ends known = record { true_of = stops.heap known refl; at_end = ends known }
-  one_within (Err (limited.Limit limit.Depth)) document reads stops shallow small end ends known = record { true_of = stops.depth known refl; at_end = ends known }
+  one_within (Err (limited.Limit limit.Bytes)) document reads stops fits end ends known = record { true_of = stops.bytes known refl; at_end = ends known }
+  one_within (Err (limited.Limit limit.HeapBytes)) document reads stops fits end ends known = record { true_of = stops.heap known refl; at_end = ends known }
+  one_within (Err (limited.Limit limit.Depth)) document reads stops fits end ends known = record { true_of = stops.depth known refl; at_end = ends known }
 
 -- what is kept needn't be said
 pub any_document : (v : Version) (projection : Projection) (IsKept : Document → Type 0) (old new : List ℕ) (result : Result Bool LimitedReadError) → ReadsOne v projection IsKept old new result → ReadsOne v projection (λ d. Unit {0}) old new result

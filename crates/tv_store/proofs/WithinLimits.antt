@@ -13,7 +13,7 @@ use Rattle.tv_base.specs.Stop.{Stop, CountsStop, Counts, Taken}
 use Rattle.tv_base.specs.Stop.Stop.{InputError, Uncounted, Short}
 use Rattle.tv_builder.specs.Builder.{built, state_of, heap_so_far}
 use Rattle.tv_builder.specs.State.{State, in_lists, IsState, lists_of}
-use Rattle.tv_doc.specs.Document.{document_of}
+use Rattle.tv_doc.specs.Document.{document_of, heap_of}
 use Rattle.tv_doc.specs.declared.document.CompactDoc.{CompactDoc}
 use Rattle.tv_builder.specs.Prefix.{Encoded}
 use Rattle.tv_reader.specs.Legacy.{Legacy}
@@ -38,7 +38,7 @@ use Rattle.tv_reading.proofs.WholeDocuments.{Goes, step_more, step_fails, step_t
 use Rattle.tv_store.proofs.Promises.{only_by, excluded, excused, single_documents}
 use Rattle.tv_store.specs.Reading.{documents}
 use Rattle.tv_store.specs.Documents.{BeginsWithDocument, NoDocument, HasNoRoom, IsReadingError}
-use Rattle.tv_store.specs.Limits.{IsPast, Checks, FindsWithinBy, IsDeep, PassesDepth, IsLarge, IsAll, Unread, ReadsByLimits, IsLimitedError, MayPass, ReadsWithin, StopsWithin, AllNestWithinLimit, TestsDepth}
+use Rattle.tv_store.specs.Limits.{IsPast, Checks, FindsWithinBy, IsDeep, PassesDepth, IsLarge, IsAll, Unread, ReadsByLimits, IsLimitedError, MayPass, ReadsWithin, StopsWithin, TakenWithin, AllNestWithinLimit, FitsLimits, TestsDepth, has_come}
 use Rattle.tv_store.specs.Limits.{first_count, limited_stop, FindsPartBy, Told}
 use Rattle.tv_store.specs.declared.limits.ReadLimits.{ReadLimits}
 use Rattle.tv_store.specs.declared.limits.ReadLimit.{ReadLimit}
@@ -203,9 +203,14 @@ tested v limits old new d (Err (limited.Limit limit.Depth)) test h =
 tested v limits old new d (Err (limited.Limit limit.Bytes)) test h = absurd test
 tested v limits old new d (Err (limited.Limit limit.HeapBytes)) test h = absurd test
 
-pub tested_shallow : (most : Option ℕ) (d : CompactDoc) (result : Result CompactDoc LimitedReadError) → TestsDepth most d result → IfOk result (λ x. AllNestWithinLimit most (document_of x))
-tested_shallow most d (Ok x) test = subst (λ z. AllNestWithinLimit most (document_of z)) (sym test.0) test.1
-tested_shallow most d (Err e) test = tt
+-- what takes no more passes no limit either
+pub less_past : (most : Option ℕ) (m n : ℕ) → m ≤ n → ¬ IsPast most n → ¬ IsPast most m
+less_past None m n less none past = past
+less_past (Some k) m n less none past = none (omega (arith, less, past))
+
+pub tested_fits : (limits : ReadLimits) (d : CompactDoc) (result : Result CompactDoc LimitedReadError) → TestsDepth limits.depth d result → ¬ IsPast limits.heap_bytes (length (heap_of d)) → IfOk result (FitsLimits limits)
+tested_fits limits d (Ok x) test small = subst (FitsLimits limits) (sym test.0) (record { shallow = test.1; small = small })
+tested_fits limits d (Err e) test small = tt
 
 limited_depth : (most : Option ℕ) (d : Document) → ¬ AllNestWithinLimit most d → IsSome most
 limited_depth None d deeper = absurd (deeper tt)
@@ -365,11 +370,13 @@ module _ {S : Type 0} (source : Ghosts S) (v : Version) (limits : ReadLimits) {o
   }
 
   -- what was taken where a limit was passed
-  pub stops_within : (result : Result CompactDoc LimitedReadError) → (source.is_known old → ReadsByLimits v limits (source.left old) (source.left new) result) → StopsWithin v limits source old new result
-  stops_within result comes = record {
+  pub stops_within : (result : Result CompactDoc LimitedReadError) → (source.is_known old → ReadsByLimits v limits (source.left old) (source.left new) result)
+      → (source.is_known old → Begins (TakenWithin v limits (has_come result)) (source.left old) (source.left new)) → StopsWithin v limits source old new result
+  stops_within result comes parts = record {
     depth = λ known is. deep_in v limits (source.left old) (source.left new) result (comes known) is;
     heap = λ known is. large_in v limits (source.left old) (source.left new) result (comes known) is;
     bytes = λ known is. all_in v limits (source.left old) (source.left new) result (comes known) is;
     ends = λ known is. early_in v limits (source.left old) (source.left new) result (comes known) is;
     most = λ known. let t = comes known in record { prefix = t.taken; joined = t.joined; encoded = t.most };
+    parts = parts;
   }

@@ -1,8 +1,10 @@
--- What comes of a block, whose documents stand one after the other, when these are carried over to another version of the store.
+-- What comes of a block, whose documents stand one after the other, when these are carried over to
+-- another version of the store.
 --
--- A call that makes this promise carries over the documents that a source has left from the first on, each as `migrate` does. Where it succeeds,
--- these are all that the source has left, and it tells their number. After an error it tells the number of the first document that wasn't carried
--- over, the byte at which it begins, and why. After what the sink held stand the shortest encodings of those that were, and then a beginning of
+-- A call that makes this promise carries over the documents that a source has left from the first on, each as
+-- `migrate` does. Where it succeeds, these are all that the source has left, and it tells their number. After
+-- an error it tells the number of the first document that wasn't carried over, the byte at which it begins,
+-- and why. After what the sink held stand the shortest encodings of those that were, and then a beginning of
 -- the encoding of that document, but nothing of it where it couldn't be read.
 use Rattle.std.specs.Prelude.{◌≡◌, ◌+◌, ◌-◌, ◌^◌, ◌<◌, ℕ, List, [], ◌++◌, length}
 use Rattle.std.specs.List.{flat_map}
@@ -35,39 +37,48 @@ pub record IsMigrated (from to : Version) (block content : List ℕ) : Type 0 wh
   pub encoded : EncodesBlock from block documents
   pub written : content ≡ flat_map (short_document to) documents
 
--- A prefix of the bytes encodes a document in the one version, and the rest is left. The document has an encoding in the other, and this
--- text is its shortest.
+-- A prefix of the bytes encodes a document in the one version, and the rest is left. The document has an
+-- encoding in the other, and this text is its shortest.
 pub record Transcribes (from to : Version) (bytes rest text : List ℕ) : Type 0 where
   pub document : Document
   pub read : BeginsWithDocument from bytes rest document
   pub valid : IsDocument document
   pub written : text ≡ short_document to document
 
--- Of the document with which the bytes begin this text was to be written, which couldn't be. `left` follows it. Before it come this many documents, in
--- this number of bytes.
-pub record IsUnwritten (from to : Version) (bytes left : List ℕ) (number before : ℕ) (text : List ℕ) (document start : ℕ) (e : SerializeError) : Type 0 where
+-- Of the document with which the bytes begin this text was to be written, which couldn't be. `left` follows
+-- it. Before it come this many documents, in this number of bytes.
+pub record IsUnwritten (from to : Version) (bytes left : List ℕ) (number before : ℕ) (text : List ℕ)
+    (document start : ℕ) (e : SerializeError) : Type 0 where
   pub transcribed : Transcribes from to bytes left text
   pub counted : document ≡ number
   pub begins : before + length bytes < 2 ^ 64 - 1 → start ≡ before
   pub reason : IsIoOrMemory e
 
--- Why the document with which these bytes begin isn't carried over, and the text that was to be written of it: none where it couldn't be read, else its
--- shortest encoding. Before it come this many documents, in this number of bytes. `left` is what is left of the bytes.
+-- Why the document with which these bytes begin isn't carried over, and the text that was to be written of
+-- it: none where it couldn't be read, else its shortest encoding. Before it come this many documents, in this
+-- number of bytes. `left` is what is left of the bytes.
 abbrev pub IsUnmigrated : Version → Version → List ℕ → List ℕ → ℕ → ℕ → List ℕ → MigrateBlockError → Type 0
-IsUnmigrated from to bytes left number before text (Read e) = (text ≡ []) × (e.document ≡ number) × IsRefusedAt from (All no_limits) bytes left before e
-IsUnmigrated from to bytes left number before text (Write document start e) = IsUnwritten from to bytes left number before text document start e
-IsUnmigrated from to bytes left number before text TooMany = (text ≡ []) × (left ≡ bytes) × (number ≡ 2 ^ 64 - 1)
+IsUnmigrated from to bytes left number before text (Read e) = (text ≡ []) × (e.document ≡ number)
+    × IsRefusedAt from (All no_limits) bytes left before e
+IsUnmigrated from to bytes left number before text (Write document start e) =
+    IsUnwritten from to bytes left number before text document start e
+IsUnmigrated from to bytes left number before text TooMany = (text ≡ []) × (left ≡ bytes)
+    × (number ≡ 2 ^ 64 - 1)
 
--- All documents of the block, of this number, were carried over, and `text` is what they are in the other version.
-pub record MigratesAll {K : Type 0} (from to : Version) (block : List ℕ) (sink : Sink K) (old new : K) (number : ℕ) : Type 0 where
+-- All documents of the block, of this number, were carried over, and `text` is what they
+-- are in the other version.
+pub record MigratesAll {K : Type 0} (from to : Version) (block : List ℕ) (sink : Sink K) (old new : K)
+    (number : ℕ) : Type 0 where
   pub text : List ℕ
   pub migrated : IsMigrated from to block text
   pub counted : number ≡ length migrated.documents
   pub held : sink.is_known old → sink.held new ≡ sink.held old ++ text
 
--- The documents before the one that is reported were carried over, and `text` is what they are in the other version. The document with which the rest
--- of the block begins wasn't, for the reason that is reported: `next` was to be written of it. `left` is what is left of the block.
-pub record MigratesBefore {K : Type 0} (from to : Version) (block left : List ℕ) (sink : Sink K) (old new : K) (error : MigrateBlockError) : Type 0 where
+-- The documents before the one that is reported were carried over, and `text` is what they are in the other
+-- version. The document with which the rest of the block begins wasn't, for the reason that is reported:
+-- `next` was to be written of it. `left` is what is left of the block.
+pub record MigratesBefore {K : Type 0} (from to : Version) (block left : List ℕ) (sink : Sink K) (old new : K)
+    (error : MigrateBlockError) : Type 0 where
   pub before : List ℕ
   pub behind : List ℕ
   pub joined : block ≡ before ++ behind

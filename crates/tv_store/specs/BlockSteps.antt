@@ -1,4 +1,5 @@
--- The promise of a call that reads or passes over the next document of a block, whatever it keeps of it and whatever its errors are.
+-- The promise of a call that reads or passes over the next document of a block, whatever it keeps of it and
+-- whatever its errors are.
 --
 -- A call that makes this promise does the following.
 --   refused     After an error it returns that the reader has failed, and nothing happens.
@@ -7,11 +8,14 @@
 --   taken       It says how many bytes it took.
 --   fewer       A document has a byte at least.
 --   end         It says that there is no further document only where nothing is left.
---   ended       Where nothing is left it says nothing else, unless an error comes that says nothing of the bytes.
---   counted     A document is counted, and the next one begins after the bytes that were taken. Else the numbers of documents and bytes stay.
+--   ended       Where nothing is left it says nothing else, unless an error comes that says nothing of
+--               the bytes.
+--   counted     A document is counted, and the next one begins after the bytes that were taken. Else the
+--               numbers of documents and bytes stay.
 --   version     The version stays.
 -- Documents and bytes are counted up to 2 ^ 64 - 1, where the number stays.
-use Rattle.std.specs.Prelude.{◌≡◌, ◌≢◌, ◌+◌, ◌-◌, ◌^◌, ◌<◌, min, cond, ℕ, Bool, true, false, [], length, Result, Ok, Err, OnOk, OnErr}
+use Rattle.std.specs.Prelude.{◌≡◌, ◌≢◌, ◌+◌, ◌-◌, ◌^◌, ◌<◌, min, cond, ℕ, Bool, true, false, [], length}
+use Rattle.std.specs.Prelude.{Result, Ok, Err, OnOk, OnErr}
 use Rattle.tv_base.specs.Stop.{Taken}
 use Rattle.tv_base.specs.declared.source.ByteSource.{Ghosts}
 use Rattle.tv_doc.specs.Document.{document_of}
@@ -39,7 +43,8 @@ place_of reader = cond reader.failed (min (reader.start + reader.taken) (2 ^ 64 
 
 -- the next document, refused for this reason
 abbrev pub refusal_of : BlockReader → LimitedReadError → RefusedDocument
-refusal_of reader e = record { document = reader.documents; start = reader.start; place = place_of reader; error = e }
+refusal_of reader e =
+    record { document = reader.documents; start = reader.start; place = place_of reader; error = e }
 
 -- both numbers stay
 pub record KeepsCounts (old new : BlockReader) : Type 0 where
@@ -58,15 +63,20 @@ CountsNext old new (Err e) = KeepsCounts old new
 
 -- ---- the promise
 
--- `SaysNothing e` holds of the errors that say nothing of the bytes, and `again` is that of a reader that has failed.
-pub record StepsBlock {E S : Type 0} (SaysNothing : E → Type 0) (again : E) (source : Ghosts S) (source_old source_new : S) (old new : BlockReader) (result : Result Bool E) : Type 0 where
+-- `SaysNothing e` holds of the errors that say nothing of the bytes, and `again` is that of a
+-- reader that has failed.
+pub record StepsBlock {E S : Type 0} (SaysNothing : E → Type 0) (again : E) (source : Ghosts S)
+    (source_old source_new : S) (old new : BlockReader) (result : Result Bool E) : Type 0 where
   pub refused : old.failed ≡ true → Rests old new source_old source_new result (Err again)
   pub not_failed : OnOk result (new.failed ≡ false)
   pub marked : OnErr result (new.failed ≡ true)
-  pub taken : old.failed ≡ false → source.is_known source_old → Taken (source.left source_old) (source.left source_new) 0 new.taken
-  pub fewer : source.is_known source_old → result ≡ Ok true → length (source.left source_new) < length (source.left source_old)
+  pub taken : old.failed ≡ false → source.is_known source_old
+      → Taken (source.left source_old) (source.left source_new) 0 new.taken
+  pub fewer : source.is_known source_old → result ≡ Ok true
+      → length (source.left source_new) < length (source.left source_old)
   pub end : old.failed ≡ false → source.is_known source_old → result ≡ Ok false → source.left source_old ≡ []
-  pub ended : old.failed ≡ false → source.is_known source_old → source.left source_old ≡ [] → SaysEndBut SaysNothing result
+  pub ended : old.failed ≡ false → source.is_known source_old → source.left source_old ≡ []
+      → SaysEndBut SaysNothing result
   pub counted : CountsNext old new result
   pub version : new.version ≡ old.version
 
@@ -77,7 +87,8 @@ LeavesNone old new result = old.failed ≡ false → result ≢ Ok true → docu
 -- ---- for private clauses
 
 -- What is counted, by what reading a document returned and how many bytes that took, and that there was one.
-pub record FinishesBlock {E : Type 0} (end : E) (old new : BlockReader) (read : Result (Unit {0}) E) (count : ℕ) (result : Result Bool E) : Type 0 where
+pub record FinishesBlock {E : Type 0} (end : E) (old new : BlockReader) (read : Result (Unit {0}) E)
+    (count : ℕ) (result : Result Bool E) : Type 0 where
   pub next : NextOf end read count (next_if result)
   pub taken : new.taken ≡ count
   pub not_failed : OnOk result (new.failed ≡ old.failed)

@@ -1,5 +1,6 @@
 -- What is read of documents that stand one after the other.
-use Rattle.std.specs.Prelude.{◌≡◌, ◌<◌, ℕ, Bool, true, false, List, [], ◌∷◌, Option, Some, None, Result, Ok, Err}
+use Rattle.std.specs.Prelude.{◌≡◌, ◌<◌, ℕ, Bool, true, false, List, [], ◌∷◌, Option, Some, None, Result, Ok}
+use Rattle.std.specs.Prelude.{Err}
 use Rattle.tv_base.specs.declared.cause.Cause.TheVariants.{UnexpectedEnd}
 use Rattle.tv_reader.specs.declared.error.DeserializeError.{DeserializeError}
 use Rattle.tv_reader.specs.declared.error.DeserializeError.TheVariants as errors
@@ -34,13 +35,14 @@ SaysEndBut MayCome (Ok true) = ⊥
 SaysEndBut MayCome (Ok false) = Unit {0}
 SaysEndBut MayCome (Err e) = MayCome e
 
--- the same where the source failed or memory was refused, whatever the limits are: only a document that is there passes one
+-- the same where the source failed or memory was refused, whatever the limits are: only a
+-- document that is there passes one
 abbrev pub SaysNothingWithin : LimitedReadError → Type 0
 SaysNothingWithin (limited.Read e) = SaysNothing e
 SaysNothingWithin (limited.Limit l) = ⊥
 
--- What was read, or nothing, by what reading it returned, which error says that the bytes end early, and how many were taken: there was nothing where
--- they end early and none was taken. Any other error is returned.
+-- What was read, or nothing, by what reading it returned, which error says that the bytes end early, and how
+-- many were taken: there was nothing where they end early and none was taken. Any other error is returned.
 abbrev pub NextOf : {T E : Type 0} → E → Result T E → ℕ → Result (Option T) E → Type 0
 NextOf end (Ok x) taken result = result ≡ Ok (Some x)
 NextOf end (Err e) taken (Ok (Some x)) = ⊥
@@ -55,10 +57,12 @@ next_if (Ok true) = Ok (Some (tt {0}))
 next_if (Ok false) = Ok None
 next_if (Err e) = Err e
 
--- What is seen where no byte of a document may be taken: there is none, or one, whose first byte was taken; or the source failed.
+-- What is seen where no byte of a document may be taken: there is none, or one, whose first byte was
+-- taken; or the source failed.
 abbrev pub SeesNext : Type 0 → List ℕ → List ℕ → Result (Unit {0}) LimitedReadError → Type 0
 SeesNext IsKnown old new (Ok x) = ⊥
 SeesNext IsKnown old new (Err (limited.Limit limit.Bytes)) = IsKnown → (byte : ℕ) × (old ≡ byte ∷ new)
-SeesNext IsKnown old new (Err (limited.Read (errors.CorruptedValue UnexpectedEnd))) = IsKnown → (old ≡ []) × (new ≡ [])
+SeesNext IsKnown old new (Err (limited.Read (errors.CorruptedValue UnexpectedEnd))) = IsKnown → (old ≡ [])
+    × (new ≡ [])
 SeesNext IsKnown old new (Err (limited.Read (errors.Io kind))) = IsKnown → new ≡ old
 SeesNext IsKnown old new (Err e) = ⊥

@@ -1,5 +1,5 @@
 -- What reading a document returns.
-use Rattle.std.specs.Prelude.{◌≡◌, ℕ, List, Result}
+use Rattle.std.specs.Prelude.{◌≡◌, ◌≤◌, ℕ, List, Result}
 use Rattle.tv_base.specs.Parts.{Begins}
 use Rattle.tv_base.specs.ReadsAs.{IsReadUnless}
 use Rattle.tv_doc.specs.declared.document.CompactDoc.{CompactDoc}
@@ -11,6 +11,7 @@ use Rattle.tv_reader.specs.declared.value_type.ValueType.TheVariants.{String}
 use Rattle.tv_format.specs.Encoding.{EncodesDocument}
 use Rattle.tv_format.specs.Tree.{Document}
 use Rattle.tv_format.specs.Version.{Version}
+use Rattle.tv_heap.specs.Room.{document_room}
 pub use Rattle.tv_reading.specs.Documents.{NoDocument}
 pub use Rattle.tv_reading.specs.Prefix.{HasNoRoom}
 pub use Rattle.tv_doc.specs.InPlace.{in_place}
@@ -18,6 +19,11 @@ pub use Rattle.tv_doc.specs.InPlace.{in_place}
 -- a prefix of the bytes encodes the document, and the rest is left
 abbrev pub BeginsWithDocument : Version → List ℕ → List ℕ → Document → Type 0
 BeginsWithDocument v bytes rest d = Begins (λ prefix. EncodesDocument Legacy v prefix d) bytes rest
+
+-- the same of a document that has room
+abbrev pub BeginsWithRoom : Version → List ℕ → Document → Type 0
+BeginsWithRoom v bytes d = (rest : List ℕ)
+    × (BeginsWithDocument v bytes rest d × (document_room d ≤ 4294967295))
 
 -- these bytes encode the document
 abbrev pub EncodesReadPairs : Version → List ℕ → CompactDoc → Type 0

@@ -12,3 +12,4 @@ pub mod Nested
 pub mod Limits
 pub mod Projections
 pub use Rattle.tv_writer.specs.Serialized
+pub mod Alike

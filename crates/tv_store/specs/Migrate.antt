@@ -1,9 +1,11 @@
 -- What comes of a document that is read in one version and written in another.
 --
--- A call that makes this promise reads a document as `read_document` does, and returns its error if there is none; then nothing is written.
--- A document that was read is written in the other version, in the shortest encoding. After an error of writing the sink holds a beginning of
--- that, and the source stands after the document.
+-- A call that makes this promise reads a document as `read_document` does, and returns its error if there is
+-- none; then nothing is written. A document that was read is written in the other version, in the shortest
+-- encoding. After an error of writing the sink holds a beginning of that, and the source
+-- stands after the document.
 use Rattle.std.specs.Prelude.{◌≡◌, Result, Ok, Err, IfErr}
+use Rattle.std.specs.declared.io.ErrorKind.TheVariants.{OutOfMemory}
 use Rattle.tv_base.specs.declared.sink.ByteSink.{Ghosts as Sink}
 use Rattle.tv_base.specs.declared.source.ByteSource.{Ghosts as Source}
 use Rattle.tv_base.specs.Sink.{WritesBy}
@@ -32,18 +34,23 @@ IsWriteError (Read e) = ⊥
 IsWriteError (Write e) = IsIoOrMemory e
 
 -- what is written of what was read
-abbrev pub Rewrites : {K : Type 0} → Version → Sink K → K → K → Result CompactDoc DeserializeError → Result (Unit {0}) MigrateError → Type 0
-Rewrites to sink old new (Ok d) result = IsDocument (document_of d) × WritesBy sink_stop sink.is_known sink.held sink.failures old new result (Ok (short_document to (document_of d))) × IfErr result IsWriteError
+abbrev pub Rewrites : {K : Type 0} → Version → Sink K → K → K → Result CompactDoc DeserializeError
+    → Result (Unit {0}) MigrateError → Type 0
+Rewrites to sink old new (Ok d) result = IsDocument (document_of d)
+    × WritesBy sink_stop sink.is_known sink.held sink.failures old new result
+    (Ok (short_document to (document_of d))) × IfErr result IsWriteError
 Rewrites to sink old new (Err e) result = (result ≡ Err (Read e)) × (new ≡ old)
 
-pub record Migrates {S K : Type 0} (from to : Version) (source : Source S) (source_old source_new : S) (sink : Sink K) (sink_old sink_new : K) (result : Result (Unit {0}) MigrateError) : Type 0 where
+pub record Migrates {S K : Type 0} (from to : Version) (source : Source S) (source_old source_new : S)
+    (sink : Sink K) (sink_old sink_new : K) (result : Result (Unit {0}) MigrateError) : Type 0 where
   pub read : Result CompactDoc DeserializeError
   pub reads : ReadsDocument from source source_old source_new document_of read
   pub rewrites : Rewrites to sink sink_old sink_new read result
 
--- no more memory could be had
+-- memory was refused, in reading or in writing: a sink that keeps its bytes in memory
+-- fails then, and tells so
 abbrev pub IsMemory : MigrateError → Type 0
 IsMemory (Read errors.Memory) = Unit {0}
-IsMemory (Write (writes.Io kind)) = Unit {0}
+IsMemory (Write (writes.Io kind)) = kind ≡ OutOfMemory
 IsMemory (Write writes.Memory) = Unit {0}
 IsMemory _ = ⊥

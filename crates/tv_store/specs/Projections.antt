@@ -1,12 +1,17 @@
 -- What is read of the next document of a block, by what is kept of it.
 --
--- A call that reads the next document promises the following by the record `ReadsProjected`, beside `StepsBlock`.
---   one          The bytes that it took encode a document within the limits, of which is kept what is wanted; or none was left; or they are
+-- A call that reads the next document promises the following by the record
+-- `ReadsProjected`, beside `StepsBlock`.
+--   one          The bytes that it took encode a document within the limits, of which is kept what is wanted;
+--                or none was left; or they are
 --                refused, for a reason that is true of them.
---   placed       An error says how many documents come before the one that is refused, where it begins, and where reading stopped.
---   failures     It says that the source failed exactly where the source did, with the kind that the source returned.
+--   placed       An error says how many documents come before the one that is refused, where it begins, and
+--                where reading stopped.
+--   failures     It says that the source failed exactly where the source did, with the kind that the source
+--                returned.
 --   stays_known  What is known of the source stays known.
-use Rattle.std.specs.Prelude.{◌≡◌, ◌+◌, ◌-◌, ◌^◌, ◌<◌, ℕ, Bool, true, false, List, [], length, None, Result, Ok, Err, IfErr}
+use Rattle.std.specs.Prelude.{◌≡◌, ◌+◌, ◌-◌, ◌^◌, ◌<◌, ℕ, Bool, true, false, List, [], length, None, Result}
+use Rattle.std.specs.Prelude.{Ok, Err, IfErr}
 use Rattle.tv_base.specs.Parts.{Begins, Each}
 use Rattle.tv_base.specs.Stop.{Counts, Stop}
 use Rattle.tv_base.specs.declared.source.ByteSource.{Ghosts}
@@ -25,7 +30,8 @@ use Rattle.tv_reading.specs.ChosenFields.{HasNoRoomChosen, chosen}
 use Rattle.tv_store.specs.BlockSteps.{refusal_of}
 use Rattle.tv_store.specs.Blocks.{SaysNothingWithin}
 use Rattle.tv_store.specs.Documents.{HasNoRoom, NoDocument}
-use Rattle.tv_store.specs.Limits.{AllNestWithinLimit, IsLarge, IsPast, PassesBytesLimit, PassesDepth, limited_stop}
+use Rattle.tv_store.specs.Limits.{AllNestWithinLimit, IsLarge, IsPast, PassesBytesLimit, PassesDepth}
+use Rattle.tv_store.specs.Limits.{limited_stop}
 use Rattle.tv_store.specs.declared.block.BlockReader.{BlockReader}
 use Rattle.tv_store.specs.declared.block.RefusedDocument.{RefusedDocument}
 use Rattle.tv_store.specs.declared.limits.LimitedReadError.{LimitedReadError}
@@ -57,8 +63,10 @@ NoRoomFor v (Fields fields) bytes = HasNoRoomChosen v fields.items bytes
 
 -- ---- documents within limits
 
--- The bytes encode the document. They are within the limits, and so are its heap and the lists in which its values nest.
-pub record EncodesWithinLimits (v : Version) (limits : ReadLimits) (bytes : List ℕ) (d : Document) : Type 0 where
+-- The bytes encode the document. They are within the limits, and so are its heap and the lists in
+-- which its values nest.
+pub record EncodesWithinLimits (v : Version) (limits : ReadLimits) (bytes : List ℕ)
+    (d : Document) : Type 0 where
   pub encoded : EncodesDocument Legacy v bytes d
   pub small : ¬ IsPast limits.bytes (length bytes)
   pub light : ¬ IsPast limits.heap_bytes (length (document_heap [] d))
@@ -68,7 +76,8 @@ pub record EncodesWithinLimits (v : Version) (limits : ReadLimits) (bytes : List
 abbrev pub EncodesBlockWithin : Version → ReadLimits → List ℕ → List Document → Type 0
 EncodesBlockWithin v limits block documents = Each (EncodesWithinLimits v limits) block documents
 
--- the document with which the bytes begin passes this limit, as those of them show that were taken: `left` follows them
+-- the document with which the bytes begin passes this limit, as those of them show that were
+-- taken: `left` follows them
 abbrev pub PassesLimit : Version → ReadLimits → List ℕ → List ℕ → ReadLimit → Type 0
 PassesLimit v limits bytes left limit.Bytes = PassesBytesLimit v limits.bytes bytes left
 PassesLimit v limits bytes left limit.HeapBytes = Begins (IsLarge v limits.heap_bytes) bytes left
@@ -79,7 +88,8 @@ PassesLimit v limits bytes left limit.Depth = Begins (PassesDepth v limits.depth
 -- the bytes begin with no document, or with one that has no room, unless a read failed or memory was refused
 abbrev pub IsRefusedBy : (List ℕ → Type 0) → Version → List ℕ → DeserializeError → Type 0
 IsRefusedBy NoRoom v bytes (errors.CorruptedValue cause) = NoDocument v bytes (corrupted cause)
-IsRefusedBy NoRoom v bytes (errors.TypeMismatch String actual) = NoDocument v bytes (no_text_key (value_type_code actual))
+IsRefusedBy NoRoom v bytes (errors.TypeMismatch String actual) =
+    NoDocument v bytes (no_text_key (value_type_code actual))
 IsRefusedBy NoRoom v bytes errors.HeapFull = NoRoom bytes
 IsRefusedBy NoRoom v bytes (errors.Io kind) = Unit {0}
 IsRefusedBy NoRoom v bytes errors.Memory = Unit {0}
@@ -87,17 +97,20 @@ IsRefusedBy NoRoom v bytes _ = ⊥
 
 -- the error is true of the bytes
 abbrev pub IsTrueOf : Version → Projection → List ℕ → List ℕ → LimitedReadError → Type 0
-IsTrueOf v projection bytes left (limited.Read e) = length bytes < 2 ^ 64 - 1 → IsRefusedBy (NoRoomFor v projection) v bytes e
+IsTrueOf v projection bytes left (limited.Read e) = length bytes < 2 ^ 64 - 1
+    → IsRefusedBy (NoRoomFor v projection) v bytes e
 IsTrueOf v projection bytes left (limited.Limit l) = PassesLimit v (limits_of projection) bytes left l
 
 -- Why the next document can't be read. The end of the bytes is no reason.
-pub record IsReason (v : Version) (projection : Projection) (bytes left : List ℕ) (e : LimitedReadError) : Type 0 where
+pub record IsReason (v : Version) (projection : Projection) (bytes left : List ℕ)
+    (e : LimitedReadError) : Type 0 where
   pub true_of : IsTrueOf v projection bytes left e
   pub at_end : bytes ≡ [] → SaysNothingWithin e
 
--- The document with which the bytes begin is refused, after this number of bytes: the reason is true of it, and the places are right. `left` is
--- what was left of the bytes.
-pub record IsRefusedAt (v : Version) (projection : Projection) (bytes left : List ℕ) (start : ℕ) (e : RefusedDocument) : Type 0 where
+-- The document with which the bytes begin is refused, after this number of bytes: the reason is true of it,
+-- and the places are right. `left` is what was left of the bytes.
+pub record IsRefusedAt (v : Version) (projection : Projection) (bytes left : List ℕ) (start : ℕ)
+    (e : RefusedDocument) : Type 0 where
   pub reason : IsReason v projection bytes left e.error
   pub begins : start + length bytes < 2 ^ 64 - 1 → e.start ≡ start
   pub placed : start + length bytes < 2 ^ 64 - 1 → e.place + length left ≡ start + length bytes
@@ -105,8 +118,10 @@ pub record IsRefusedAt (v : Version) (projection : Projection) (bytes left : Lis
 -- ---- the next document
 
 -- a document was read, of which this is kept; or there was none; or there is a reason why not
-abbrev pub ReadsOne : Version → Projection → (Document → Type 0) → List ℕ → List ℕ → Result Bool LimitedReadError → Type 0
-ReadsOne v projection IsKept bytes left (Ok true) = (d : Document) × Begins (λ b. EncodesWithinLimits v (limits_of projection) b d) bytes left × IsKept d
+abbrev pub ReadsOne : Version → Projection → (Document → Type 0) → List ℕ → List ℕ
+    → Result Bool LimitedReadError → Type 0
+ReadsOne v projection IsKept bytes left (Ok true) = (d : Document)
+    × Begins (λ b. EncodesWithinLimits v (limits_of projection) b d) bytes left × IsKept d
 ReadsOne v projection IsKept bytes left (Ok false) = (bytes ≡ []) × (left ≡ [])
 ReadsOne v projection IsKept bytes left (Err e) = IsReason v projection bytes left e
 
@@ -118,8 +133,12 @@ error_of (Err e) = Err e.error
 abbrev pub refused_stop : RefusedDocument → Stop Refusal
 refused_stop e = limited_stop e.error
 
-pub record ReadsProjected {S : Type 0} (projection : Projection) (IsKept : Document → Type 0) (source : Ghosts S) (source_old source_new : S) (old new : BlockReader) (result : Result Bool RefusedDocument) : Type 0 where
-  pub one : source.is_known source_old → ReadsOne (version_of old.version) projection IsKept (source.left source_old) (source.left source_new) (error_of result)
+pub record ReadsProjected {S : Type 0} (projection : Projection) (IsKept : Document → Type 0)
+    (source : Ghosts S) (source_old source_new : S) (old new : BlockReader)
+    (result : Result Bool RefusedDocument) : Type 0 where
+  pub one : source.is_known source_old
+      → ReadsOne (version_of old.version) projection IsKept (source.left source_old) (source.left source_new)
+      (error_of result)
   pub placed : IfErr result (λ e. e ≡ refusal_of new e.error)
   pub failures : Counts refused_stop result (source.failures source_old) (source.failures source_new)
   pub stays_known : source.is_known source_old → source.is_known source_new
@@ -132,7 +151,10 @@ with_error told (Ok more) = Ok more
 with_error told (Err e) = Err (told e)
 
 -- what was read of the next document, without its number and its places
-pub record ReadsNextOf {S : Type 0} (projection : Projection) (IsKept : Document → Type 0) (source : Ghosts S) (source_old source_new : S) (old : BlockReader) (result : Result Bool LimitedReadError) : Type 0 where
-  pub one : source.is_known source_old → ReadsOne (version_of old.version) projection IsKept (source.left source_old) (source.left source_new) result
+pub record ReadsNextOf {S : Type 0} (projection : Projection) (IsKept : Document → Type 0) (source : Ghosts S)
+    (source_old source_new : S) (old : BlockReader) (result : Result Bool LimitedReadError) : Type 0 where
+  pub one : source.is_known source_old
+      → ReadsOne (version_of old.version) projection IsKept (source.left source_old)
+      (source.left source_new) result
   pub failures : Counts limited_stop result (source.failures source_old) (source.failures source_new)
   pub stays_known : source.is_known source_old → source.is_known source_new

@@ -1,4 +1,5 @@
--- What is read of a store: documents, chosen pairs of them, and what is passed over. Each call that reads promises it by the record `Reads`.
+-- What is read of a store: documents, chosen pairs of them, and what is passed over. Each call that reads
+-- promises it by the record `Reads`.
 use Rattle.std.specs.Prelude.{◌≡◌, ◌≤◌, ◌⊎◌, ℕ, List, Bool, true, Result}
 use Rattle.tv_base.specs.declared.cause.Cause.TheVariants.{UnexpectedEnd}
 use Rattle.tv_base.specs.declared.source.ByteSource.{Ghosts}
@@ -26,9 +27,17 @@ use Rattle.tv_value.specs.declared.field.Field.{Field}
 
 -- the errors of reading without limits
 abbrev pub reading : Errors Refusal DeserializeError
-reading = record { end = corrupted UnexpectedEnd; stop = store_stop; IsFull = λ e. e ≡ HeapFull; MayCome = IsReadingError; MayComeStill = λ prefix. SaysNothing; IsCounted = λ e. CountsStop (store_stop e) }
+reading = record {
+  end = corrupted UnexpectedEnd;
+  stop = store_stop;
+  IsFull = λ e. e ≡ HeapFull;
+  MayCome = IsReadingError;
+  MayComeStill = λ prefix. SaysNothing;
+  IsCounted = λ e. CountsStop (store_stop e);
+}
 
--- The errors of a reader that may have failed before. Then it returns this one error and leaves the source as it is.
+-- The errors of a reader that may have failed before. Then it returns this one error and
+-- leaves the source as it is.
 abbrev pub resumed : {R E : Type 0} → Bool → E → Errors R E → Errors R E
 resumed failed again kind = record {
   end = kind.end;
@@ -42,44 +51,80 @@ resumed failed again kind = record {
 -- ---- documents
 
 abbrev pub documents : Version → Grammar Refusal Document
-documents v = record { Encodes = EncodesDocument Legacy v; HasError = NoDocument v; HasRoom = λ d. document_room d ≤ 4294967295; NoRoom = HasNoRoom v }
+documents v =
+    record {
+      Encodes = EncodesDocument Legacy v;
+      HasError = NoDocument v;
+      HasRoom = λ d. document_room d ≤ 4294967295;
+      NoRoom = HasNoRoom v;
+    }
 
-abbrev pub ReadsDocument : Version → {S X : Type 0} (source : Ghosts S) (old new : S) (view : X → Document) (result : Result X DeserializeError) → Type 0
+abbrev pub ReadsDocument : Version
+    → {S X : Type 0} (source : Ghosts S) (old new : S) (view : X → Document)
+    (result : Result X DeserializeError) → Type 0
 ReadsDocument v source old new view result = Reads reading (documents v) source old new view result
 
 -- ---- the chosen pairs of documents
 
 -- the bytes encode a document, of which the chosen pairs are these
 abbrev pub EncodesChosenPairs : Version → List Field → List ℕ → Document → Type 0
-EncodesChosenPairs v fields bytes pairs = (d : Document) × EncodesDocument Legacy v bytes d × (pairs ≡ chosen fields d)
+EncodesChosenPairs v fields bytes pairs = (d : Document) × EncodesDocument Legacy v bytes d
+    × (pairs ≡ chosen fields d)
 
 abbrev pub chosen_pairs : Version → List Field → Grammar Refusal Document
-chosen_pairs v fields = record { Encodes = EncodesChosenPairs v fields; HasError = NoDocument v; HasRoom = λ d. document_room d ≤ 4294967295; NoRoom = HasNoRoomChosen v fields }
+chosen_pairs v fields =
+    record {
+      Encodes = EncodesChosenPairs v fields;
+      HasError = NoDocument v;
+      HasRoom = λ d. document_room d ≤ 4294967295;
+      NoRoom = HasNoRoomChosen v fields;
+    }
 
-abbrev pub ReadsFields : Version → List Field → {S X : Type 0} (source : Ghosts S) (old new : S) (view : X → Document) (result : Result X DeserializeError) → Type 0
-ReadsFields v fields source old new view result = Reads reading (chosen_pairs v fields) source old new view result
+abbrev pub ReadsFields : Version → List Field
+    → {S X : Type 0} (source : Ghosts S) (old new : S) (view : X → Document)
+    (result : Result X DeserializeError) → Type 0
+ReadsFields v fields source old new view result =
+    Reads reading (chosen_pairs v fields) source old new view result
 
 -- ---- what is passed over: nothing is kept, so there is always room
 
 abbrev pub passed : (List ℕ → Type 0) → (List ℕ → Refusal → Type 0) → Grammar Refusal (Unit {0})
-passed IsOne HasError = record { Encodes = λ bytes _. IsOne bytes; HasError = HasError; HasRoom = λ _. Unit {0}; NoRoom = λ _. ⊥ }
+passed IsOne HasError =
+    record { Encodes = λ bytes _. IsOne bytes; HasError = HasError; HasRoom = λ _. Unit {0}; NoRoom = λ _. ⊥ }
 
-abbrev pub PassesDocument : Version → {S : Type 0} (source : Ghosts S) (old new : S) (result : Result (Unit {0}) DeserializeError) → Type 0
-PassesDocument v source old new result = Reads reading (passed (IsDocumentEncoding v) (NoDocument v)) source old new (λ x. x) result
+abbrev pub PassesDocument : Version
+    → {S : Type 0} (source : Ghosts S) (old new : S) (result : Result (Unit {0}) DeserializeError) → Type 0
+PassesDocument v source old new result =
+    Reads reading (passed (IsDocumentEncoding v) (NoDocument v)) source old new (λ x. x) result
 
-abbrev pub PassesValue : Version → {S : Type 0} (source : Ghosts S) (old new : S) (result : Result (Unit {0}) DeserializeError) → Type 0
-PassesValue v source old new result = Reads reading (passed (IsValueEncoding v) (NoValue v)) source old new (λ x. x) result
+abbrev pub PassesValue : Version
+    → {S : Type 0} (source : Ghosts S) (old new : S) (result : Result (Unit {0}) DeserializeError) → Type 0
+PassesValue v source old new result =
+    Reads reading (passed (IsValueEncoding v) (NoValue v)) source old new (λ x. x) result
 
 -- ---- the documents of a block, where the end of the block is read as a document that is cut off
 
 -- a reader of blocks read the next document
-abbrev pub ReadsNext : {S : Type 0} (source : Ghosts S) (source_old source_new : S) (old new : BlockReader) (result : Result Bool DeserializeError) → Type 0
-ReadsNext source source_old source_new old new result = Reads (resumed old.failed AlreadyFailed reading) (documents (version_of old.version)) source source_old source_new document_of (as_read result new.document)
+abbrev pub ReadsNext : {S : Type 0} (source : Ghosts S) (source_old source_new : S) (old new : BlockReader)
+    (result : Result Bool DeserializeError) → Type 0
+ReadsNext source source_old source_new old new result =
+    Reads (resumed old.failed AlreadyFailed reading)
+    (documents (version_of old.version)) source source_old source_new document_of
+    (as_read result new.document)
 
 -- it read the chosen pairs of the next document
-abbrev pub ReadsNextFields : List Field → {S : Type 0} (source : Ghosts S) (source_old source_new : S) (old new : BlockReader) (result : Result Bool DeserializeError) → Type 0
-ReadsNextFields fields source source_old source_new old new result = Reads (resumed old.failed AlreadyFailed reading) (chosen_pairs (version_of old.version) fields) source source_old source_new document_of (as_read result new.document)
+abbrev pub ReadsNextFields : List Field
+    → {S : Type 0} (source : Ghosts S) (source_old source_new : S) (old new : BlockReader)
+    (result : Result Bool DeserializeError) → Type 0
+ReadsNextFields fields source source_old source_new old new result =
+    Reads (resumed old.failed AlreadyFailed reading)
+    (chosen_pairs (version_of old.version) fields) source source_old source_new document_of
+    (as_read result new.document)
 
 -- it passed over the next document
-abbrev pub PassesNext : {S : Type 0} (source : Ghosts S) (source_old source_new : S) (old : BlockReader) (result : Result Bool DeserializeError) → Type 0
-PassesNext source source_old source_new old result = Reads (resumed old.failed AlreadyFailed reading) (passed (IsDocumentEncoding (version_of old.version)) (NoDocument (version_of old.version))) source source_old source_new (λ x. x) (as_passed result)
+abbrev pub PassesNext : {S : Type 0} (source : Ghosts S) (source_old source_new : S) (old : BlockReader)
+    (result : Result Bool DeserializeError) → Type 0
+PassesNext source source_old source_new old result =
+    Reads (resumed old.failed AlreadyFailed reading)
+    (passed (IsDocumentEncoding (version_of old.version)) (NoDocument (version_of old.version))) source
+    source_old source_new (λ x. x) (as_passed result)

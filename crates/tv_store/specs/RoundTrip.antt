@@ -18,7 +18,8 @@ asked addition = (addition.field, addition.tree)
 
 -- each of the values was added, and returned what it had to
 abbrev pub IsCalled : List (Field × OwnedValue) → CompactDoc → CompactDoc → Type 0
-IsCalled values old new = (additions : List Addition) × (map asked additions ≡ map pair_of_value values) × Runs additions old new
+IsCalled values old new = (additions : List Addition) × (map asked additions ≡ map pair_of_value values)
+    × Runs additions old new
 
 -- the values were added to an empty document, which then has the pairs that were accepted
 pub record IsKept (values : List (Field × OwnedValue)) (new : CompactDoc) : Type 0 where

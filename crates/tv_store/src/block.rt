@@ -2,13 +2,13 @@
 
 ghost use Rattle.std.specs.Prelude.{◌≡◌, ◌↔◌, [], length, true, false, Some, Ok, Err, IsErrOf, IsTrue};
 ghost use Rattle.tv_base.specs.Stop.{Counts, Taken};
-ghost use Rattle.tv_doc.specs.Document.{document_of, heap_of};
+ghost use Rattle.tv_doc.specs.Document.{document_of};
 ghost use Rattle.tv_reader.specs.Version.{version_of};
 ghost use Rattle.tv_reader.specs.declared.error.DeserializeError.TheVariants.{AlreadyFailed, HeapFull};
 ghost use Rattle.tv_store.specs.BlockSteps.{FinishesBlock, LeavesNone, StartsAt, StepsBlock, place_of, refusal_of};
 ghost use Rattle.tv_store.specs.Blocks.{SaysNothingWithin, SeesNext};
 ghost use Rattle.tv_store.specs.Documents.{SaysNothing};
-ghost use Rattle.tv_store.specs.Limits.{AllNestWithinLimit, IsPast, ReadsNextWithin, StopsNextWithin, limited_stop};
+ghost use Rattle.tv_store.specs.Limits.{FitsLimits, ReadsNextWithin, StopsNextWithin, limited_stop};
 ghost use Rattle.tv_store.specs.Reading.{PassesNext, ReadsNext, ReadsNextFields};
 ghost use Rattle.tv_store.specs.declared.limits.LimitedReadError.TheVariants.{Read};
 
@@ -204,11 +204,8 @@ impl BlockReader {
             result }
         ensures none { LeavesNone self.old self.new result }
 
-        // each tree and the heap are within their limits, and what was taken passes the limit that is reported
-        ensures shallow { result ≡ Ok true
-            → AllNestWithinLimit limits.depth (document_of self.new.document) }
-        ensures small { result ≡ Ok true
-            → ¬ IsPast limits.heap_bytes (length (heap_of self.new.document)) }
+        // each tree and the heap are within their limits, and what was taken passes the limit that is reported, not sooner than with its last part
+        ensures fits { result ≡ Ok true → FitsLimits limits self.new.document }
         ensures stops { StopsNextWithin (version_of self.old.version) limits S.ByteSource source.old
             source.new result }
     {

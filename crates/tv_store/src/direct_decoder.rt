@@ -4,7 +4,6 @@ ghost use Rattle.std.specs.Prelude.{◌≡◌, ◌↔◌, [], length, true, fals
 ghost use Rattle.tv_reading.specs.Prefix.{parts_read, IsSound, IsDone};
 ghost use Rattle.tv_reading.specs.Kept.{Grows, KeepsPairs};
 ghost use Rattle.tv_reading.specs.Sound.{SoundUnless-prop};
-ghost use Rattle.tv_reading.specs.Steps.{Sees, IsFew};
 ghost use Rattle.tv_builder.specs.Builder.{built, state_of, heap_so_far, kept_heap};
 ghost use Rattle.tv_builder.specs.HeldPairs.{document_of as pairs_of};
 ghost use Rattle.tv_doc.specs.Document.{document_of, heap_of};
@@ -58,7 +57,7 @@ pub struct DirectDecoder {
 }
 
 impl DirectDecoder {
-    ghost use Rattle.tv_store.specs.Decoder.{ReadsStep, StaysPaid};
+    ghost use Rattle.tv_store.specs.Decoder.{MeetsLegacy, ReadsStep, StaysPaid, TakesFew};
 
     /// A decoder of a document of this version. It reads nothing and takes no memory.
     pub fn new(alloc: Global, version: DocStoreVersion) -> DirectDecoder
@@ -108,16 +107,14 @@ impl DirectDecoder {
         ensures steps { ReadsStep S.ByteSource source.old source.new self.old self.new result }
 
         // at most 4096 bytes were taken, also where they are refused, unless a value is taken whole
-        ensures at_most { S.is_known source.old
-            → IsFew self.old.reading (S.left source.old) self.old.count self.new.count }
+        ensures at_most { TakesFew S.ByteSource source.old self.old self.new }
 
         // the heap grows at its end, and ends after the finished pairs after a refusal; these are kept
         ensures grows { OnOk result (Grows self.old.reading self.new.reading) }
         ensures kept { OnErr result (KeepsPairs self.old.reading self.new.reading) }
 
         // objects of older stores, and what is paid for by the bytes that were read
-        ensures seen { S.is_known source.old
-            → Sees self.old.reading (S.left source.old) self.old.legacy_seen self.new.legacy_seen }
+        ensures seen { MeetsLegacy S.ByteSource source.old self.old self.new }
         ensures paid { S.is_known source.old → StaysPaid self.old self.new }
     {
         if self.failed {

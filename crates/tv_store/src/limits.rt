@@ -1,24 +1,25 @@
 //! Reading a document within limits.
 
 ghost use Rattle.std.specs.Prelude.{◌≡◌, ◌↔◌, ◌<◌, ◌+◌, ◌-◌, ◌^◌, [], ℕ, None, length, IsTrue, OnOk, OnErr, Ok, Err, true, false};
-ghost use Rattle.std.specs.Prelude.{IfOk, IfErr, IsErrOf, IsSome, Some};
+ghost use Rattle.std.specs.Prelude.{IfOk, IfErr, IsErrOf, IsSome, Some, is_ok};
 ghost use Rattle.tv_base.specs.declared.cause.Cause.TheVariants.{UnexpectedEnd, TooLong};
+ghost use Rattle.tv_base.specs.Parts.{Begins};
 ghost use Rattle.tv_base.specs.ReadsAs.{EndsEarly};
 ghost use Rattle.tv_base.specs.Stop.{Counts, Taken};
 ghost use Rattle.tv_builder.specs.Builder.{state_of, heap_so_far};
 ghost use Rattle.tv_builder.specs.HeldPairs.{document_of as pairs_of};
 ghost use Rattle.tv_builder.specs.State.{lists_of};
-ghost use Rattle.tv_doc.specs.Document.{document_of, heap_of};
-ghost use Rattle.tv_reading.specs.Prefix.{IsDone, IsMalformedNext, NoRoomBehind};
-ghost use Rattle.tv_reading.specs.Steps.{Advances, IsFew, Sees, Stepped};
+ghost use Rattle.tv_doc.specs.Document.{document_of};
+ghost use Rattle.tv_reading.specs.Prefix.{IsDone, IsMalformedNext, NoRoomBehind, parts_read};
+ghost use Rattle.tv_reading.specs.Steps.{Advances, Stepped};
 ghost use Rattle.tv_reader.specs.Legacy.{Legacy};
 ghost use Rattle.tv_reader.specs.declared.error.DeserializeError.{DeserializeError};
 ghost use Rattle.tv_reader.specs.Version.{version_of};
 ghost use Rattle.tv_reader.specs.declared.error.DeserializeError.TheVariants.{CorruptedValue, HeapFull, AlreadyFailed};
 ghost use Rattle.tv_format.specs.InputError.{corrupted};
-ghost use Rattle.tv_store.specs.Limits.{Checks, FindsWithin, IsPast, AllNestWithinLimit, TestsDepth, ReadsByLimits, IsLimitedError, limited_stop, first_count};
-ghost use Rattle.tv_store.specs.Limits.{FindsPart, IsCapped, ReadsWithin, StopsWithin, Told, EndsPart, LeavesPart, ReadsStepWithin, TestsPart};
-ghost use Rattle.tv_store.specs.Decoder.{SaysDone, StaysPaid};
+ghost use Rattle.tv_store.specs.Limits.{Checks, FindsWithin, IsPast, FitsLimits, TestsDepth, ReadsByLimits, IsLimitedError, TakenWithin, has_come, limited_stop, first_count};
+ghost use Rattle.tv_store.specs.Limits.{FindsPart, IsCapped, ReadsWithin, StopsWithin, Told, EndsPart, KeepsMost, LeavesPart, ReadsStepWithin, TestsPart};
+ghost use Rattle.tv_store.specs.Decoder.{MeetsLegacy, SaysDone, StaysPaid, TakesFew};
 ghost use Rattle.tv_reading.specs.Kept.{Grows, KeepsPairs};
 ghost use Rattle.tv_store.specs.Documents.{in_place};
 ghost use Rattle.tv_store.specs.declared.limits.LimitedReadError.{LimitedReadError};
@@ -185,11 +186,8 @@ fn step_capped<S: ByteSource>(
     ensures grows { OnOk result (Grows decoder.old.reading decoder.new.reading) }
     ensures kept { OnErr result (KeepsPairs decoder.old.reading decoder.new.reading) }
     ensures version { decoder.new.version ≡ decoder.old.version }
-    ensures at_most { S.is_known source.old
-        → IsFew decoder.old.reading (S.left source.old) decoder.old.count decoder.new.count }
-    ensures seen { S.is_known source.old
-        → Sees decoder.old.reading (S.left source.old) decoder.old.legacy_seen
-        decoder.new.legacy_seen }
+    ensures at_most { TakesFew S.ByteSource source.old decoder.old decoder.new }
+    ensures seen { MeetsLegacy S.ByteSource source.old decoder.old decoder.new }
     ensures paid { S.is_known source.old → StaysPaid decoder.old decoder.new }
 {
     let first = first_count(most);
@@ -212,6 +210,7 @@ fn take_within<S: ByteSource>(
 ) -> Result<Option<ReadLimit>, DeserializeError>
     requires not_failed { decoder.old.failed ≡ false }
     requires more { ¬ IsDone decoder.old.reading }
+    requires nothing { parts_read decoder.old.reading ≡ [] }
     ensures finds { FindsWithin S.ByteSource source.old decoder.old.count source.new
         decoder.new.count result
         (λ b _. Advances Legacy (version_of decoder.old.version) decoder.old.reading
@@ -224,6 +223,9 @@ fn take_within<S: ByteSource>(
     ensures done { IfOk result (λ passed. passed ≡ None → IsDone decoder.new.reading) }
     ensures not_failed { IfOk result (λ _. decoder.new.failed ≡ false) }
     ensures version { decoder.new.version ≡ decoder.old.version }
+    ensures parts { S.is_known source.old
+        → Begins (TakenWithin (version_of decoder.old.version) limits (is_ok result))
+        (S.left source.old) (S.left source.new) }
 {
     // each part takes a byte at least
     for _ in 0..u64::MAX {
@@ -270,13 +272,15 @@ fn read_parts<S: ByteSource>(
     requires { pairs_of empty ≡ [] }
     ensures comes { S.is_known source.old
         → ReadsByLimits (version_of version) limits (S.left source.old) (S.left source.new) result }
-    ensures shallow { IfOk result (λ d. AllNestWithinLimit limits.depth (document_of d)) }
-    ensures small { IfOk result (λ d. ¬ IsPast limits.heap_bytes (length (heap_of d))) }
+    ensures fits { IfOk result (FitsLimits limits) }
     ensures errors { IfErr result (IsLimitedError limits) }
     ensures failures { Counts limited_stop result (S.failures source.old) (S.failures source.new) }
     ensures stays_known { S.is_known source.old → S.is_known source.new }
     ensures counted { S.is_known source.old
         → Taken (S.left source.old) (S.left source.new) 0 count.new }
+    ensures parts { S.is_known source.old
+        → Begins (TakenWithin (version_of version) limits (has_come result)) (S.left source.old)
+        (S.left source.new) }
 {
     let first = first_count(limits.bytes);
     let mut decoder = DirectDecoder::counting_from(alloc, empty, version, first);
@@ -305,14 +309,16 @@ pub(crate) fn read_parts_in_place<S: ByteSource>(
     ensures comes { S.is_known source.old
         → ReadsByLimits (version_of version) limits (S.left source.old) (S.left source.new)
         (in_place result document.new) }
-    ensures shallow { OnOk result (AllNestWithinLimit limits.depth (document_of document.new)) }
-    ensures small { OnOk result (¬ IsPast limits.heap_bytes (length (heap_of document.new))) }
+    ensures fits { OnOk result (FitsLimits limits document.new) }
     ensures errors { IfErr result (IsLimitedError limits) }
     ensures none { OnErr result (document_of document.new ≡ []) }
     ensures failures { Counts limited_stop result (S.failures source.old) (S.failures source.new) }
     ensures stays_known { S.is_known source.old → S.is_known source.new }
     ensures counted { S.is_known source.old
         → Taken (S.left source.old) (S.left source.new) 0 count.new }
+    ensures parts { S.is_known source.old
+        → Begins (TakenWithin (version_of version) limits (has_come result)) (S.left source.old)
+        (S.left source.new) }
 {
     let mut empty = replace(document, CompactDoc::new(alloc)).into_pairs();
     empty.clear();
@@ -340,17 +346,14 @@ impl DirectDecoder {
         // a limit is passed exactly where it is reported
         ensures ends { EndsPart limits S.ByteSource source.old source.new self.old result }
         ensures limits { TestsPart limits self.old self.new result }
-        ensures most { ¬ IsPast limits.bytes self.old.count
-            → ¬ IsPast limits.bytes self.new.count }
+        ensures most { KeepsMost limits self.old self.new }
 
         // the heap grows at its end, or ends after the finished pairs after a refusal; these are kept
         ensures leaves { LeavesPart self.old self.new result }
 
         // as of `step`: how many bytes are taken, objects of older stores, and what is paid for by the bytes that were read
-        ensures at_most { S.is_known source.old
-            → IsFew self.old.reading (S.left source.old) self.old.count self.new.count }
-        ensures seen { S.is_known source.old
-            → Sees self.old.reading (S.left source.old) self.old.legacy_seen self.new.legacy_seen }
+        ensures at_most { TakesFew S.ByteSource source.old self.old self.new }
+        ensures seen { MeetsLegacy S.ByteSource source.old self.old self.new }
         ensures paid { S.is_known source.old → StaysPaid self.old self.new }
     {
         if self.has_failed() {
@@ -378,7 +381,8 @@ impl DirectDecoder {
 /// so a text with its tokens is one part, and so is an object as stores of versions 1 and 2 may hold it, a JSON text with code 8. In such an
 /// object no list is open while it is read, and it nests at most 127 levels by itself: how deep the values nest is tested once more when the
 /// document has come. The test takes memory for values that nest deeper than `MAX_DEPTH` levels. Without limits `read_document` is faster. Never more
-/// than `bytes` bytes are taken of the source, also within a part. (Not in tantivy.)
+/// than `bytes` bytes are taken of the source, also within a part. The other limits are tested after each part, so at most one part is taken after
+/// what passes no limit: 4096 bytes, or a value that is taken whole. (Not in tantivy.)
 ///
 /// Errors: `Limit(Bytes)` where all these were taken and the document needs more, so no prefix of them encodes one; `Limit(Depth)` right
 /// after the head of the list with which more than `depth` lists are open, `Limit(HeapBytes)` right after the part with which the
@@ -407,8 +411,7 @@ pub fn read_document_within<S: ByteSource>(
         result }
 
     // each tree and the heap are within their limits
-    ensures shallow { IfOk result (λ d. AllNestWithinLimit limits.depth (document_of d)) }
-    ensures small { IfOk result (λ d. ¬ IsPast limits.heap_bytes (length (heap_of d))) }
+    ensures fits { IfOk result (FitsLimits limits) }
 
     // what was taken passes the limit that is reported
     ensures stops { StopsWithin (version_of version) limits S.ByteSource source.old source.new

@@ -1,13 +1,12 @@
 //! What comes of a document that is migrated and read back.
 
-ghost use Rattle.std.specs.Prelude.{◌≡◌, ◌≤◌, [], ℕ, List, IfErr, IfOk};
+ghost use Rattle.std.specs.Prelude.{◌≡◌, [], ℕ, List, IfErr, IfOk};
 ghost use Rattle.tv_doc.specs.Document.{document_of};
 ghost use Rattle.tv_format.specs.Short.{short_document, IsDocument};
 ghost use Rattle.tv_format.specs.Tree.{Document};
 ghost use Rattle.tv_format.specs.WriteVersion.{written_version};
-ghost use Rattle.tv_heap.specs.Room.{document_room};
 ghost use Rattle.tv_reader.specs.Version.{version_of};
-ghost use Rattle.tv_store.specs.Documents.{BeginsWithDocument};
+ghost use Rattle.tv_store.specs.Documents.{BeginsWithDocument, BeginsWithRoom};
 ghost use Rattle.tv_store.specs.Migrate.{IsMemory};
 
 use crate::migration::{MigrateError, migrate};
@@ -38,12 +37,10 @@ fn migrated_bytes(
     from: DocStoreVersion,
     to: WriteVersion,
 ) -> Result<Vec<u8>, RoundTripError>
-    requires { (d : Document) × ((rest : List ℕ) × (BeginsWithDocument (version_of from) bytes.now rest d
-        × (document_room d ≤ 4294967295))) }
+    requires { (d : Document) × BeginsWithRoom (version_of from) bytes.now d }
     ensures valid { (d : Document) (rest : List ℕ) → BeginsWithDocument (version_of from) bytes.now rest d
         → IfOk result (λ _. IsDocument d) }
-    ensures written { (d : Document) (rest : List ℕ) → BeginsWithDocument (version_of from) bytes.now rest d
-        → document_room d ≤ 4294967295
+    ensures written { (d : Document) → BeginsWithRoom (version_of from) bytes.now d
         → IfOk result (λ written. written.items ≡ short_document (written_version to) d) }
     ensures memory { IfErr result (λ error. error ≡ RoundTripError.Memory) }
 {
@@ -79,14 +76,12 @@ pub fn migrations_are_read_back(
     to: WriteVersion,
     back: DocStoreVersion,
 ) -> Result<MigrationTrip, RoundTripError>
-    requires begins { (d : Document) × ((rest : List ℕ)
-        × (BeginsWithDocument (version_of from) bytes.now rest d × (document_room d ≤ 4294967295))) }
+    requires begins { (d : Document) × BeginsWithRoom (version_of from) bytes.now d }
     requires new_version { version_of back ≡ written_version to }
-    ensures written { (d : Document) (rest : List ℕ) → BeginsWithDocument (version_of from) bytes.now rest d
-        → document_room d ≤ 4294967295
+    ensures written { (d : Document) → BeginsWithRoom (version_of from) bytes.now d
         → IfOk result (λ trip. trip.written.items ≡ short_document (written_version to) d) }
-    ensures back { (d : Document) (rest : List ℕ) → BeginsWithDocument (version_of from) bytes.now rest d
-        → document_room d ≤ 4294967295 → IfOk result (λ trip. document_of trip.back ≡ d) }
+    ensures back { (d : Document) → BeginsWithRoom (version_of from) bytes.now d
+        → IfOk result (λ trip. document_of trip.back ≡ d) }
     ensures nothing_left { IfOk result (λ trip. trip.left.items ≡ []) }
     ensures memory { IfErr result (λ error. error ≡ RoundTripError.Memory) }
 {

@@ -3,7 +3,7 @@
 use std::alloc::Global;
 use std::test::Fail;
 use tantivy_schema::common::{BufferedSource, ByteSource, Cause, SliceSource};
-use tantivy_schema::schema::TantivyDocument;
+use tantivy_schema::schema::{Field, TantivyDocument, Value};
 use tantivy_schema::store::{
     BlockReader, DocStoreVersion, LimitedReadError, Projection, ReadLimit, ReadLimits,
     RefusedDocument, read_document,
@@ -120,5 +120,39 @@ fn a_refused_document_has_its_number_and_places(rt: HostRuntime) -> Result<(), F
         format!(in alloc; "{again}")?.as_str()
             == "document 9, which begins at byte 131, is refused at byte 135: the document passes the limit of its open lists"
     );
+    Ok(())
+}
+
+// Whether a block is read of which the pairs of field 1 are kept: the number 20 of the first document.
+fn reads_numbers<S: ByteSource>(alloc: Global, source: &mut S) -> Result<bool, DeserializeError> {
+    let chosen = [Field::from_field_id(1)];
+    let mut reader = BlockReader::new(alloc, DocStoreVersion::V2);
+    let first = reader.advance_fields(source, &chosen)?;
+    let mut pairs = reader.document().field_values();
+    let Some((field, number)) = pairs.next() else {
+        return Ok(false);
+    };
+    if !first || field.field_id() != 1 || number.as_u64() != Some(20) || pairs.next().is_some() {
+        return Ok(false);
+    }
+    for start in [30, 31] {
+        if reader.start() != start || !reader.advance_fields(source, &chosen)? {
+            return Ok(false);
+        }
+        if !reader.document().is_empty() {
+            return Ok(false);
+        }
+    }
+    Ok(!reader.advance_fields(source, &chosen)? && reader.documents() == 3)
+}
+
+#[test]
+fn chosen_fields_of_a_block_are_read(rt: HostRuntime) -> Result<(), Fail> {
+    let alloc = rt.alloc();
+    assert!(rt; reads_numbers(alloc, &mut SliceSource::new(BLOCK)) == Ok(true));
+    for capacity in [0, 1, 8, 64] {
+        let mut source = BufferedSource::with_capacity(alloc, capacity, BLOCK)?;
+        assert!(rt; reads_numbers(alloc, &mut source) == Ok(true));
+    }
     Ok(())
 }

@@ -6,7 +6,8 @@ use std::io::Read;
 use std::test::Fail;
 use tantivy_schema::common::ReadSource;
 use tantivy_schema::laws::{
-    additions_are_stored_and_read_back, stored_pairs_are_read_back, written_documents_are_shortest,
+    additions_are_stored_and_read_back, built_values_are_as_added, stored_pairs_are_read_back,
+    written_documents_are_shortest,
 };
 use tantivy_schema::schema::{
     CompactDoc, Field, OwnedValue, STORED, Schema, SchemaError, TEXT, Value,
@@ -108,5 +109,17 @@ fn additions_in_memory(rt: HostRuntime) -> Result<(), Fail> {
     let trip = additions_are_stored_and_read_back(alloc, &schema, values.as_slice(), b"rest")?;
     assert!(rt; trip.added.len() == 3 && trip.written.as_slice() == PAIRS);
     assert!(rt; trip.left.as_slice() == b"rest".as_slice() && is_read_back(&trip.back));
+    Ok(())
+}
+
+#[test]
+fn built_values_in_memory(rt: HostRuntime) -> Result<(), Fail> {
+    let alloc = rt.alloc();
+    let mut named = CompactDoc::new(alloc);
+    named.add_text(Field::from_field_id(NAME), "ChillFish8")?;
+    let age = OwnedValue::U64(20);
+    let made = built_values_are_as_added(&named, Field::from_field_id(AGE), &&age)?;
+    assert!(rt; is_read_back(&made.0) && is_read_back(&made.1));
+    assert!(rt; made.0.node_data() == made.1.node_data() && named.len() == 1);
     Ok(())
 }

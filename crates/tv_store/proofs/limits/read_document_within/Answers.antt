@@ -8,4 +8,4 @@ returns-clause-reads g c =
     reads_within g.S.ByteSource (version_of c.args.version) c.args.limits read.result read.ensures.comes read.ensures.errors read.ensures.failures read.ensures.stays_known
 
 pub returns-clause-stops : goal.returns-clause-stops
-returns-clause-stops g c = stops_within g.S.ByteSource (version_of c.args.version) c.args.limits c.read_parts.result c.read_parts.ensures.comes
+returns-clause-stops g c = stops_within g.S.ByteSource (version_of c.args.version) c.args.limits c.read_parts.result c.read_parts.ensures.comes c.read_parts.ensures.parts

@@ -1,12 +1,16 @@
-use Rattle.std.proofs.Common.{◌≡◌, ◌+◌, ◌-◌, ◌^◌, ◌<◌, Ok, Err, ◌∙◌, ap, subst, refl, arith}
+use Rattle.std.proofs.lemmas.List.{length-take}
+use Rattle.std.proofs.Common.{◌≡◌, length, ◌+◌, ◌-◌, ◌^◌, ◌<◌, Ok, Err, ◌∙◌, ap, subst, refl, arith}
 use Rattle.std.specs.Prelude.{◌↔◌, IsTrue, IsSome}
 use Rattle.tv_base.specs.Stop.{Taken}
+use Rattle.tv_builder.specs.Builder.{heap_so_far}
+use Rattle.tv_doc.specs.Document.{heap_of}
 use Rattle.tv_reader.specs.Error.{store_stop}
 use Rattle.tv_reader.specs.Version.{version_of}
 use Rattle.tv_reader.specs.declared.error.DeserializeError.{DeserializeError}
-use Rattle.tv_store.specs.Limits.{ReadsByLimits}
+use Rattle.tv_store.proofs.TestedParts.{of_version, taken_part, told_part}
+use Rattle.tv_store.specs.Limits.{ReadsByLimits, ends_part, has_come}
 use Rattle.tv_store.specs.declared.limits.LimitedReadError.TheVariants as limited
-use Rattle.tv_store.proofs.WithinLimits.{ended, passed, told_of, told_counts, tested, tested_shallow, tested_errors, tested_counts, counted_from}
+use Rattle.tv_store.proofs.WithinLimits.{ended, passed, told_of, told_counts, tested, less_past, tested_fits, tested_errors, tested_counts, counted_from}
 use Rattle.tv_store.proofs.limits.read_parts.Goals as goal
 
 pub returns-in-None-clause-comes : goal.returns-in-None-clause-comes
@@ -47,8 +51,12 @@ returns-in-Err-clause-comes g c = λ told.
 pub returns-in-Err-clause-failures : goal.returns-in-Err-clause-failures
 returns-in-Err-clause-failures g c = told_counts c.in-Err.error _ c.refused.result (store_stop c.in-Err.error) _ _ refl c.refused.ensures (c.in-Err.ensures.finds.counts)
 
-pub returns-in-None-clause-shallow : goal.returns-in-None-clause-shallow
-returns-in-None-clause-shallow g c = tested_shallow c.args.limits.depth c.into_doc.result c.tested.result c.tested.ensures
+pub returns-in-None-clause-fits : goal.returns-in-None-clause-fits
+returns-in-None-clause-fits g c =
+    let d = c.into_doc.result in
+    let b = c.take_within-taken.new.decoder.reading.builder in
+    let check = rw c.in-None.is at c.in-Ok.ensures.checked in
+    tested_fits c.args.limits d c.tested.result c.tested.ensures (less_past c.args.limits.heap_bytes (length (heap_of d)) (length (heap_so_far b)) (omega (arith, ap length c.into_doc.ensures.heap, length-take b.kept (heap_so_far b))) check.1)
 
 pub returns-in-None-clause-errors : goal.returns-in-None-clause-errors
 returns-in-None-clause-errors g c = tested_errors c.args.limits c.into_doc.result c.tested.result c.tested.ensures
@@ -64,3 +72,12 @@ returns-in-Some-clause-counted g c = λ told. counted_from _ _ _ _ _ c.counting_
 
 pub returns-in-Err-clause-counted : goal.returns-in-Err-clause-counted
 returns-in-Err-clause-counted g c = λ told. counted_from _ _ _ _ _ c.counting_from-decoder.ensures.count c.bytes_read-last.ensures c.in-Err.ensures.finds.count_grows (c.in-Err.ensures.finds.taken told)
+
+pub returns-in-None-clause-parts : goal.returns-in-None-clause-parts
+returns-in-None-clause-parts g c = λ told. taken_part (has_come c.tested.result) (of_version c.args.version c.counting_from-decoder.ensures.version (c.in-Ok.ensures.parts told))
+
+pub returns-in-Some-clause-parts : goal.returns-in-Some-clause-parts
+returns-in-Some-clause-parts g c = λ told. taken_part (ends_part (limited.Limit c.in-Some.limit)) (of_version c.args.version c.counting_from-decoder.ensures.version (c.in-Ok.ensures.parts told))
+
+pub returns-in-Err-clause-parts : goal.returns-in-Err-clause-parts
+returns-in-Err-clause-parts g c = λ told. told_part c.in-Err.error _ c.refused.result c.refused.ensures (of_version c.args.version c.counting_from-decoder.ensures.version (c.in-Err.ensures.parts told))

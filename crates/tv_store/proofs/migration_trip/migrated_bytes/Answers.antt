@@ -12,13 +12,14 @@ returns-in-Ok-clause-valid c = λ d rest begins.
     subst IsDocument one.1 m.valid
 
 pub returns-in-Ok-clause-written : goal.returns-in-Ok-clause-written
-returns-in-Ok-clause-written c = λ d rest begins small.
+returns-in-Ok-clause-written c = λ d room.
     let left = c.new-source.ensures in
-    let a = all_migrated c.in-Ok.ensures refl (tt, omega (arith, ap length left)) tt d begins.prefix rest (left ∙ begins.joined) begins.encoded small in
+    let begins = room.1.0 in
+    let a = all_migrated c.in-Ok.ensures refl (tt, omega (arith, ap length left)) tt d begins.prefix room.0 (left ∙ begins.joined) begins.encoded room.1.1 in
     search (rules, a.1)
 
 pub memory_error-requires : goal.memory_error-requires
 memory_error-requires c =
     let left = c.new-source.ensures in
     let begins = c.requires.1.1.0 in
-    only_memory c.in-Err.ensures c.in-Err.error refl (tt, omega (arith, ap length left)) c.requires.0 begins.prefix c.requires.1.0 (left ∙ begins.joined) begins.encoded c.requires.1.1.1 refl
+    only_memory c.in-Err.ensures c.in-Err.error refl (tt, omega (arith, ap length left)) c.requires.0 begins.prefix c.requires.1.0 (left ∙ begins.joined) begins.encoded c.requires.1.1.1 refl c.migrate.new.sink.memory

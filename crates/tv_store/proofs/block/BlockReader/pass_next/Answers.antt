@@ -47,5 +47,5 @@ returns-else-is_unlimited-clause-reads g c = λ live.
     (next_within read.result document
     (λ known.
     any_document _ (All c.in-All.limits) (λ d. document_of document ≡ d) _ _ read.result
-    (one_within source (version_of c.args.self.now.version) c.in-All.limits read.result document reads read.ensures.stops read.ensures.shallow read.ensures.small (steps.end live) (steps.ended live) known))
+    (one_within source (version_of c.args.self.now.version) c.in-All.limits read.result document reads read.ensures.stops read.ensures.fits (steps.end live) (steps.ended live) known))
     reads.failures reads.stays_known)

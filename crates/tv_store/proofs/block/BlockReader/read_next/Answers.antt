@@ -54,4 +54,4 @@ returns-else-is_unlimited-clause-reads g c = λ live.
     let reads = reads_live (within c.in-All.limits) (Read AlreadyFailed) live read.ensures.reads in
     subst (λ (p : Projection). ReadsNextOf p (λ d. document_of document ≡ kept p d) source c.args.source.now read.new.source c.args.self.now read.result) (sym c.in-All.is)
     (next_within read.result document
-    (λ known. one_within source (version_of c.args.self.now.version) c.in-All.limits read.result document reads read.ensures.stops read.ensures.shallow read.ensures.small (steps.end live) (steps.ended live) known) reads.failures reads.stays_known)
+    (λ known. one_within source (version_of c.args.self.now.version) c.in-All.limits read.result document reads read.ensures.stops read.ensures.fits (steps.end live) (steps.ended live) known) reads.failures reads.stays_known)
