@@ -7,6 +7,7 @@ mod depth;
 mod failing;
 mod indexed;
 mod list_visitors;
+mod next_items;
 mod plain_visitors;
 mod skipped;
 mod visitors;
