@@ -10,3 +10,4 @@ pub mod LegacySteps
 pub mod DepthSteps
 pub mod NextSteps
 pub mod IntoSteps
+pub mod Agreeing

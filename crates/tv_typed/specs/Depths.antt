@@ -1,6 +1,5 @@
--- How deep a value of any type nests that is read through a reader with a limit. The code of the value was
--- read
--- before.
+-- How deep a value of any type nests that is read through a reader with a limit. The code of the
+-- value was read before.
 use Rattle.std.specs.Prelude.{◌≡◌, ◌≢◌, ◌<◌, false, true, ℕ, zero, suc, List, ◌++◌, length, Option, Result}
 use Rattle.std.specs.Prelude.{IfOk, IsOk, IsErrOf}
 use Rattle.tv_base.specs.declared.source.ByteSource.{Ghosts}
@@ -22,7 +21,8 @@ use Rattle.tv_typed.specs.declared.store_reader.StoreReader.{StoreReader}
 use Rattle.tv_value.specs.Owned.{owned_tree}
 use Rattle.tv_value.specs.declared.owned_value.OwnedValue.{OwnedValue}
 
--- after the code of a type the bytes that were taken end with the code of the first list that is one too many
+-- after the code of a type the bytes that were taken end with the code of the first list that is
+-- one too many
 abbrev pub OpensBehind : Version → ℕ → ValueType → List ℕ → List ℕ → Type 0
 OpensBehind version levels kind old new =
     Begins (λ bytes. Opens version levels (type_prefix kind ++ bytes)) old new
@@ -124,9 +124,8 @@ abbrev pub MembersTooDeep : {X : Type 0} → (Tree → X → Type 0)
 MembersTooDeep is deep version levels kind old new =
     kind ≢ types.JSONObject → ObjectTooDeep is deep version levels kind old new
 
--- Where the result is such a one, this holds of the version, of the depth of the reader, and of the bytes
--- before and
--- after what was read.
+-- Where the result is such a one, this holds of the version, of the depth of the reader, and of the
+-- bytes before and after what was read.
 abbrev pub WhereBy : {S : Type 0} (is_known : S → Type 0) (left : S → List ℕ) (old new : StoreReader S)
     → Type 0 → (Version → ℕ → List ℕ → List ℕ → Type 0) → Type 0
 WhereBy is_known left old new Such shows =

@@ -52,9 +52,8 @@ FieldRefused refused version = InThen FieldEnds (Fixed 4) (λ _. NextRefused ref
 
 -- ---- what gives pairs
 
--- None where all were given, and nothing changes then; else a pair. Where its pairs are known, the value is
--- read of
--- the tree of the pair that is given next.
+-- None where all were given, and nothing changes then; else a pair. Where its pairs are known, the
+-- value is read of the tree of the pair that is given next.
 abbrev pub NextField : {D X : Type 0} → (D → ℕ) → (D → Type 0) → (D → ℕ × Tree → D → Type 0)
     → (Tree → X → Type 0) → D → D → Option (Field × X) → Type 0
 NextField remaining is_known gives is old new None = (remaining old ≡ 0) × (new ≡ old)
@@ -72,9 +71,8 @@ GivesAll {D} gives first (pair ∷ pairs) last = (next : D) × gives first pair 
 abbrev pub WereGiven : {D : Type 0} → (D → ℕ × Tree → D → Type 0) → Document → D → Type 0
 WereGiven {D} gives pairs last = (first : D) × GivesAll gives first pairs last
 
--- False where all were given, and nothing changes then; else true. Where its pairs are known, and those that
--- stand
--- there were given by it, the next one stands after them.
+-- False where all were given, and nothing changes then; else true. Where its pairs are known, and
+-- those that stand there were given by it, the next one stands after them.
 abbrev pub NextPair : {D : Type 0} → (D → ℕ) → (D → Type 0) → (D → ℕ × Tree → D → Type 0)
     → D → D → Document → Document → Bool → Type 0
 NextPair remaining is_known gives old new before after false =
@@ -86,9 +84,8 @@ NextPair remaining is_known gives old new before after true =
 
 -- ---- what a call promises that gives the next pair
 
--- The next pair, its value as one of a type, or why there is none; that each refusal is marked; how many
--- reads failed;
--- that after a refusal nothing is read; and that what is read from stays.
+-- The next pair, its value as one of a type, or why there is none; that each refusal is marked; how
+-- many reads failed; that after a refusal nothing is read; and that what is read from stays.
 pub record GivesField {D X : Type 0} (remaining : D → ℕ) (is_known : D → Type 0)
     (next : D → ℕ × Tree → D → Type 0) (has_failed : D → Bool) (failures : D → Failures) (borrow_name : D → ℕ)
     (is : Tree → X → Type 0) (may_refuse : DeserializeError → Type 0)
@@ -100,8 +97,8 @@ pub record GivesField {D X : Type 0} (remaining : D → ℕ) (is_known : D → T
   pub closed : has_failed old ≡ true → IsErrOf result errors.AlreadyFailed × (failures new ≡ failures old)
   pub same_reader : borrow_name new ≡ borrow_name old
 
--- The same of a call that reads the next pair after others, into a heap. An error comes only where a pair is
--- awaited.
+-- The same of a call that reads the next pair after others, into a heap. An error comes only where
+-- a pair is awaited.
 pub record GivesPairInto {D : Type 0} (remaining : D → ℕ) (is_known : D → Type 0)
     (next : D → ℕ × Tree → D → Type 0) (has_failed : D → Bool) (failures : D → Failures) (borrow_name : D → ℕ)
     (may_refuse : DeserializeError → Type 0)
@@ -126,7 +123,8 @@ pub record GivesPair {S : Type 0} (left : S → List ℕ)
   pub encodes : Begins (λ bytes. EncodesPair Legacy (version_of old.version) bytes pair)
       (left old.source) (left new.source)
 
--- a call that reads a pair may return this error, by what its value's type refuses and where that is too deep
+-- a call that reads a pair may return this error, by what its value's type refuses and where that
+-- is too deep
 pub record RefusesPairBy {S : Type 0} (is_known : S → Type 0) (left : S → List ℕ) (failures : S → Failures)
     (position announced : ℕ) (old : StoreReader S)
     (refused : Version → ValueType → List ℕ → DeserializeError → Type 0)
@@ -144,16 +142,16 @@ abbrev pub RefusesPair : {S : Type 0} → Ghosts S → ℕ → ℕ → StoreRead
 RefusesPair source position announced old refused deep error =
     RefusesPairBy source.is_known source.left source.failures position announced old refused deep error
 
--- Where the bytes that are left are known, and these pairs can stand before, the next pair stands after them.
+-- Where the bytes that are left are known, and these pairs can stand before, the next pair stands
+-- after them.
 abbrev pub GivesIntoBy : {S : Type 0} (is_known : S → Type 0) (left : S → List ℕ)
     (old new : StoreReader S) → Document → Document → Type 0
 GivesIntoBy is_known left old new before after =
     is_known old.source → CanStand (version_of old.version) before
     → is_known new.source × ((pair : ℕ × Tree) × GivesPair left old pair new × (after ≡ before ++ pair ∷ []))
 
--- Why no pair is read into a heap after these ones: no field is read; or one is, and after it no value, for
--- want of
--- room only where what has come of it has none.
+-- Why no pair is read into a heap after these ones: no field is read; or one is, and after it no
+-- value, for want of room only where what has come of it has none.
 pub data RefusesIntoBy {S : Type 0} (is_known : S → Type 0) (left : S → List ℕ) (failures : S → Failures)
     (old : StoreReader S) (before : Document) (error : DeserializeError) : Type 0 where
   in_field : (new : StoreReader S)

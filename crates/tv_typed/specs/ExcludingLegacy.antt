@@ -1,5 +1,5 @@
--- Where an object is refused, a legacy one among them, no prefix of its bytes encodes without legacy objects
--- one of which something is read.
+-- Where an object is refused, a legacy one among them, no prefix of its bytes encodes without
+-- legacy objects one of which something is read.
 use Rattle.std.specs.Prelude.{◌≡◌, List, ℕ, ◌∷◌, ◌++◌, String}
 use Rattle.std.specs.declared.alloc.Global.{Global}
 use Rattle.std.proofs.Common.{subst, inl, inr}

@@ -1,4 +1,5 @@
--- Where an array or an object is refused, no prefix of its bytes encodes one of whose values some are read.
+-- Where an array or an object is refused, no prefix of its bytes encodes one of whose values some
+-- are read.
 use Rattle.std.specs.Prelude.{◌≡◌, ℕ, zero, suc, List, [], ◌∷◌, ◌++◌, length, String, string_bytes}
 use Rattle.std.specs.List.{AllZip}
 use Rattle.std.specs.declared.alloc.Global.{Global}
@@ -144,7 +145,7 @@ array_excludes is refused excludes v kind prefix rest e t xs r p o =
 abbrev pub KeyAndTree : (List ℕ → Entries → Type 0) → Version → List ℕ → List ℕ × Tree → Type 0
 KeyAndTree L v b e = Then (λ w. Key v w e.0) (λ w. Encodes L v w e.1) b
 
-one_entry : (v : Version) → OneReading (KeyAndTree Legacy v)
+pub one_entry : (v : Version) → OneReading (KeyAndTree Legacy v)
 one_entry v = one_from (KeyAndTree Legacy v)
     (λ p q. agree_map (λ h. λ i. (h.0 i, h.1 i))
     (agree_then (agree_key v p.0 q.0) (λ _. agree_tree Legacy v one_legacy p.1 q.1)))

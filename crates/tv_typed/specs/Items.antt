@@ -1,6 +1,5 @@
--- What calls promise that read values as their type says that they are read: the next one, the next of
--- several, and
--- all that are left.
+-- What calls promise that read values as their type says that they are read: the next one, the next
+-- of several, and all that are left.
 use Rattle.std.specs.Prelude.{◌≡◌, ◌-◌, ℕ, [], is_err, List, Option, Result, String, Vec}
 use Rattle.std.specs.declared.alloc.Global.{Global}
 use Rattle.tv_base.specs.declared.source.ByteSource.{Ghosts}
@@ -28,9 +27,8 @@ use Rattle.tv_value.specs.declared.field.Field.{Field}
 
 -- ---- the next value
 
--- The next value, with its code; that it is read wherever one is encoded; and that each refusal is marked,
--- whoever it
--- is of.
+-- The next value, with its code; that it is read wherever one is encoded; and that each refusal is
+-- marked, whoever it is of.
 pub record ReadsNext {S X : Type 0} (source : Ghosts S) (value : ValueGhosts X)
     (old new : StoreReader S) (result : Result X DeserializeError) : Type 0 where
   pub deserializes : Deserializes source old new result

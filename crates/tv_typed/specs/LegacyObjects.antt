@@ -1,6 +1,5 @@
--- Objects that are read as lists or maps, legacy ones among them: what stands in such a one is read of its
--- tree's own
--- encoding.
+-- Objects that are read as lists or maps, legacy ones among them: what stands in such a one is read
+-- of its tree's own encoding.
 use Rattle.std.specs.Prelude.{◌≡◌, ◌≢◌, List, ℕ, ◌++◌, Result, Ok, Err}
 use Rattle.tv_base.specs.declared.cause.Cause.TheVariants.{UnexpectedEnd}
 use Rattle.tv_base.specs.ErrorInPart.{InThen}
@@ -20,9 +19,8 @@ use Rattle.tv_reader.specs.declared.value_type.ValueType.TheVariants as types
 use Rattle.tv_typed.specs.Typed.{typed_stop}
 use Rattle.tv_typed.specs.Values.{TreeRefused, NextRefused}
 
--- A refusal of what a legacy object's tree encodes is reported as it is. To read past the end of that
--- encoding is to
--- ask for what isn't there.
+-- A refusal of what a legacy object's tree encodes is reported as it is. To read past the end of
+-- that encoding is to ask for what isn't there.
 pub data Retold (error : DeserializeError) : DeserializeError → Type 0 where
   as_it_is : error ≢ errors.CorruptedValue UnexpectedEnd → Retold error error
   past_the_end : error ≡ errors.CorruptedValue UnexpectedEnd

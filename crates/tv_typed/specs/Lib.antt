@@ -13,3 +13,4 @@ pub mod Reads
 pub mod Items
 pub mod Pairs
 pub mod Visitors
+pub mod Determined

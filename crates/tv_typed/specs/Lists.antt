@@ -54,7 +54,8 @@ pub record MapOf {X : Type 0} (is : Tree → X → Type 0) (tree : Tree) (get : 
 
 -- ---- what bytes encode
 
--- How many values an array or an object has, after the code of its type. This many are announced by `total`.
+-- How many values an array or an object has, after the code of its type. This many are announced by
+-- `total`.
 abbrev pub Length : ValueType → (ℕ → ℕ) → ValueType → List ℕ → ℕ → Type 0
 Length collection total kind bytes count = (kind ≡ collection) × VNum bytes (total count)
 
@@ -79,7 +80,8 @@ EncodesEntry is version bytes entry =
 
 -- ---- why there is none
 
--- a value of another type stands there, or the number of values is malformed, or no object announces it
+-- a value of another type stands there, or the number of values is malformed, or no object
+-- announces it
 pub data LengthRefused (collection : ValueType) (total : ℕ → ℕ) (kind : ValueType) (whole : List ℕ) :
     DeserializeError → Type 0 where
   other_collection : kind ≢ collection

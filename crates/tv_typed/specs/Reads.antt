@@ -1,6 +1,5 @@
--- What calls promise that read values, whole: what each reads, or why it reads none, and how deep values of
--- any type
--- in it nest.
+-- What calls promise that read values, whole: what each reads, or why it reads none, and how deep
+-- values of any type in it nest.
 use Rattle.std.specs.Prelude.{◌≡◌, ℕ, ◌+◌, is_err, List, Option, Result, if◌then◌else◌}
 use Rattle.std.specs.Borrow.{MutBor}
 use Rattle.tv_base.specs.declared.source.ByteSource.{Ghosts}
@@ -21,8 +20,8 @@ use Rattle.tv_typed.specs.declared.de.BinaryValueDeserializer.{BinaryValueDeseri
 use Rattle.tv_typed.specs.declared.store_reader.StoreReader.{StoreReader}
 use Rattle.tv_value.specs.declared.owned_value.OwnedValue.{OwnedValue}
 
--- What is read, or why nothing is; where it is that a value in it is too deep; and how deep those nest that
--- were read.
+-- What is read, or why nothing is; where it is that a value in it is too deep; and how deep those
+-- nest that were read.
 pub record ReadsValue {S X : Type 0} (source : Ghosts S)
     (Encodes : Version → List ℕ → X → Type 0) (HasError : Version → List ℕ → DeserializeError → Type 0)
     (TooDeep Nests : Version → ℕ → List ℕ → List ℕ → Type 0)
@@ -62,9 +61,8 @@ abbrev pub DeserializesValue : {K S X : Type 0} (source : Ghosts S) (is : Tree �
 DeserializesValue source is refused deep within value left result =
     ReadsBehind source is refused deep within value.kind value.reader.now (value_reader left) result
 
--- A value of any type: what is read; that it is read wherever one is encoded; that it nests within the depth;
--- where it
--- is too deep; and that none is told to be too deep which is not.
+-- A value of any type: what is read; that it is read wherever one is encoded; that it nests within
+-- the depth; where it is too deep; and that none is told to be too deep which is not.
 pub record ReadsTree {S : Type 0} (source : Ghosts S) (kind : ValueType)
     (old new : StoreReader S) (result : Result OwnedValue DeserializeError) : Type 0 where
   pub reads : ReadsDeep source old new result
@@ -94,9 +92,8 @@ ReadsItems source Made Item Refused TooDeep Nests count old new result =
     (λ version levels. AmongRead (Item version) (TooDeep version levels) count)
     (λ version levels. AtEach (Nests version levels) count) old new result
 
--- The next of several items, of which some are announced: the place goes on by one where one was given, the
--- rest of
--- what they are read from stays, and each refusal is marked.
+-- The next of several items, of which some are announced: the place goes on by one where one was
+-- given, the rest of what they are read from stays, and each refusal is marked.
 pub record ReadsItem {S X : Type 0} (source : Ghosts S)
     (Item : Version → List ℕ → X → Type 0) (Refused : Version → List ℕ → DeserializeError → Type 0)
     (TooDeep Nests : Version → ℕ → List ℕ → List ℕ → Type 0)

@@ -14,9 +14,8 @@ use Rattle.tv_reader.specs.declared.error.DeserializeError.TheVariants as errors
 use Rattle.tv_reader.specs.declared.value_type.ValueType.{ValueType}
 use Rattle.tv_typed.specs.declared.store_reader.StoreReader.{StoreReader}
 
--- Why a typed read stopped. What is refused is reported by the error itself. Where no more bytes can be
--- counted,
--- those that were taken end too early.
+-- Why a typed read stopped. What is refused is reported by the error itself. Where no more bytes
+-- can be counted, those that were taken end too early.
 abbrev pub typed_stop : DeserializeError → Stop DeserializeError
 typed_stop (errors.CorruptedValue TooLong) = Uncounted (errors.CorruptedValue UnexpectedEnd)
 typed_stop (errors.CorruptedValue cause) = InputError (errors.CorruptedValue cause)
@@ -30,14 +29,15 @@ typed_stop (errors.UnsupportedVersion least most) = Never
 typed_stop errors.AlreadyFailed = Never
 typed_stop errors.TooDeep = Short
 
--- Why no document is read of pairs that are given: as of one value, but that the pairs may have no room.
+-- Why no document is read of pairs that are given: as of one value, but that the pairs may have no
+-- room.
 abbrev pub document_stop : DeserializeError → Stop DeserializeError
 document_stop errors.HeapFull = Short
 document_stop error = typed_stop error
 
--- After a refusal a reader reads nothing more, and takes nothing. Before one, the bytes that were taken
--- encode what
--- is read, or show why nothing is; a refusal is marked; and an error comes only where it may.
+-- After a refusal a reader reads nothing more, and takes nothing. Before one, the bytes that were
+-- taken encode what is read, or show why nothing is; a refusal is marked; and an error comes only
+-- where it may.
 pub record ReadsIf {S X : Type 0} (May : DeserializeError → ℕ → Type 0)
     (is_known : S → Type 0) (left : S → List ℕ) (failures : S → Failures)
     (old new : StoreReader S) (result : Result X DeserializeError)
@@ -51,9 +51,8 @@ pub record ReadsIf {S X : Type 0} (May : DeserializeError → ℕ → Type 0)
   pub same_version : new.version ≡ old.version
   pub same_levels : new.levels ≡ old.levels
 
--- What a call that reads a value of a type through a reader promises, whoever wrote it: as `ReadsThrough`,
--- but that
--- a refusal may be left unmarked.
+-- What a call that reads a value of a type through a reader promises, whoever wrote it: as
+-- `ReadsThrough`, but that a refusal may be left unmarked.
 pub record DeserializesBy {S X : Type 0}
     (is_known : S → Type 0) (left : S → List ℕ) (failures : S → Failures)
     (old new : StoreReader S) (result : Result X DeserializeError)
@@ -107,7 +106,8 @@ RefusesItems source collection old new result =
 abbrev pub LeftValue : Type 0 → Type 0 → Type 0
 LeftValue K S = K × (MutBor (StoreReader S) × Unit {0})
 
--- what it leaves of the items of an array or of an object: how many are announced, the place, and the reader
+-- what it leaves of the items of an array or of an object: how many are announced, the place, and
+-- the reader
 abbrev pub LeftItems : Type 0 → Type 0
 LeftItems S = ℕ × (ℕ × (MutBor (StoreReader S) × Unit {0}))
 
@@ -126,7 +126,8 @@ abbrev pub raised : {X : Type 0} → Result X ReadError → Result X Deserialize
 raised (Ok value) = Ok value
 raised (Err error) = Err (read_error error)
 
--- the reader was refused before, or the type is another than that which is expected, and this is the refusal
+-- the reader was refused before, or the type is another than that which is expected, and this is
+-- the refusal
 pub data IsMismatch {Kind : Type 0} (has_failed : Bool) (kind expected : Kind) (refusal : DeserializeError) :
     DeserializeError → Type 0 where
   failed_before : has_failed ≡ true → IsMismatch has_failed kind expected refusal errors.AlreadyFailed

@@ -30,7 +30,8 @@ use Rattle.tv_typed.specs.declared.store_reader.StoreReader.{StoreReader}
 
 -- ---- values
 
--- The bytes encode a tree of which this value is read. `is` says which values are read of which trees.
+-- The bytes encode a tree of which this value is read. `is` says which values are read of which
+-- trees.
 abbrev pub EncodesAs : {X : Type 0} → (Tree → X → Type 0) → Version → List ℕ → X → Type 0
 EncodesAs is version bytes value = (tree : Tree) × Encodes Legacy version bytes tree × is tree value
 
@@ -62,8 +63,8 @@ EncodesLeaf version kind make bytes value =
 pub data CodeRefused (whole : List ℕ) : DeserializeError → Type 0 where
   in_code : {cause : Cause} → ErrorInCode whole cause → CodeRefused whole (errors.CorruptedValue cause)
 
--- A value of one type is expected: after the code of its own type stands a value of another, or its bytes are
--- malformed.
+-- A value of one type is expected: after the code of its own type stands a value of another, or its
+-- bytes are malformed.
 pub data LeafRefused (expected : ValueType) (version : Version) (kind : ValueType) (whole : List ℕ) :
     DeserializeError → Type 0 where
   other_type : kind ≢ expected → LeafRefused expected version kind whole (errors.TypeMismatch expected kind)
@@ -88,9 +89,8 @@ NextRefused refused version = InThen CodeRefused IsCoded (λ kind. refused versi
 
 -- ---- what both say of each other
 
--- Where bytes after a code are refused, no prefix of them encodes, without legacy objects, a tree of which a
--- value
--- is read.
+-- Where bytes after a code are refused, no prefix of them encodes, without legacy objects, a tree
+-- of which a value is read.
 abbrev pub RefusalsExclude : {X : Type 0} → (Tree → X → Type 0)
     → (Version → ValueType → List ℕ → DeserializeError → Type 0) → Type 0
 RefusalsExclude {X} is refused =
@@ -98,9 +98,8 @@ RefusalsExclude {X} is refused =
     (value : X) → refused version kind (prefix ++ rest) error
     → Encodes NoLegacy version (type_prefix kind ++ prefix) tree → is tree value → ⊥
 
--- the bytes are not malformed: the source failed, memory was refused, or a value of any type nests too deep
--- for
--- the reader
+-- the bytes are not malformed: the source failed, memory was refused, or a value of any type nests
+-- too deep for the reader
 abbrev pub SparesBytes : Stop DeserializeError → Type 0
 SparesBytes (InputError error) = ⊥
 SparesBytes (Uncounted error) = ⊥
@@ -114,11 +113,10 @@ abbrev pub IsReadOf : {X : Type 0} → (Tree → X → Type 0)
 IsReadOf is tree rest (Ok value) left = is tree value × (left ≡ rest)
 IsReadOf is tree rest (Err error) left = SparesBytes (typed_stop error)
 
--- Wherever a prefix of what is left encodes, without legacy objects, a tree of which a value is read, a value
--- of
--- that tree is read and the rest is left, unless the source failed, memory was refused, or a value of any
--- type in it
--- nests too deep for the reader. The code of the value was read before.
+-- Wherever a prefix of what is left encodes, without legacy objects, a tree of which a value is
+-- read, a value of that tree is read and the rest is left, unless the source failed, memory was
+-- refused, or a value of any type in it nests too deep for the reader. The code of the value was
+-- read before.
 abbrev pub OnlyBy : {S X : Type 0} (is_known : S → Type 0) (left : S → List ℕ)
     (old new : StoreReader S) (result : Result X DeserializeError)
     → (Tree → X → Type 0) → Version → List ℕ → Type 0
@@ -128,9 +126,8 @@ OnlyBy {X = X} is_known left old new result is version code =
     → Encodes NoLegacy version (code ++ prefix) tree → is tree value
     → IsReadOf is tree rest result (left new.source)
 
--- What is promised of a call that reads a value after the code of a type: `is` says which values are read of
--- which
--- trees, and `refused` which refusal bytes have.
+-- What is promised of a call that reads a value after the code of a type: `is` says which values
+-- are read of which trees, and `refused` which refusal bytes have.
 abbrev pub DeserializesAsBy : {S X : Type 0}
     (is_known : S → Type 0) (left : S → List ℕ) (failures : S → Failures)
     → (Tree → X → Type 0) → (Version → ValueType → List ℕ → DeserializeError → Type 0)
@@ -141,11 +138,10 @@ DeserializesAsBy is_known left failures is refused kind old new result =
 
 -- ---- one type of leaves
 
--- A call that expects a leaf of a type and makes a value of what it holds: what it reads, that it reads
--- wherever one
--- is encoded, that memory is refused only where leaves of that type have no known width, and that no leaf is
--- too
--- deep. The code of the value, which is that of some type, was read before.
+-- A call that expects a leaf of a type and makes a value of what it holds: what it reads, that it
+-- reads wherever one is encoded, that memory is refused only where leaves of that type have no
+-- known width, and that no leaf is too deep. The code of the value, which is that of some type, was
+-- read before.
 pub record ReadsLeafBy {S X : Type 0}
     (is_known : S → Type 0) (left : S → List ℕ) (failures : S → Failures)
     (expected : ValueType) (make : X → Leaf) (kind : ValueType)

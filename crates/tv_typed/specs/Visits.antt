@@ -42,9 +42,9 @@ abbrev pub Answered : {A X : Type 0} → (A → Result X DeserializeError → Ty
 Answered answers (Ok read) result = answers read result
 Answered answers (Err error) result = result ≡ Err error
 
--- The leaf after the code of its type was read, and the answer to it is given. Where none was read, its
--- refusal is.
--- The reader is as reading has left it, but that its mark may also tell of an answer that is an error.
+-- The leaf after the code of its type was read, and the answer to it is given. Where none was read,
+-- its refusal is. The reader is as reading has left it, but that its mark may also tell of an
+-- answer that is an error.
 pub record VisitsBy {S X : Type 0} (is_known : S → Type 0) (left : S → List ℕ) (failures : S → Failures)
     (old new : StoreReader S) (kind : ValueType) (answers : Leaf → Result X DeserializeError → Type 0)
     (result : Result X DeserializeError) : Type 0 where
@@ -78,9 +78,8 @@ MakesOfItems source Made Refused count old new result =
     Deserializes source old new result
     (Made (version_of old.version) count) (Refused (version_of old.version) count)
 
--- What was made of this many values, as its maker says it. Where no number was read, nothing was done, and
--- its refusal
--- is given.
+-- What was made of this many values, as its maker says it. Where no number was read, nothing was
+-- done, and its refusal is given.
 abbrev pub Handed : {S X : Type 0} (is_known : S → Type 0) (left : S → List ℕ) (failures : S → Failures)
     (mid new : StoreReader S) → (ℕ → List ℕ → X → Type 0) → (ℕ → List ℕ → DeserializeError → Type 0)
     → Result ℕ DeserializeError → Result X DeserializeError → Type 0
@@ -112,7 +111,8 @@ abbrev pub NextVisitRefused : (ℕ → List ℕ → DeserializeError → Type 0)
 NextVisitRefused Refused =
     InThen CodeRefused IsCoded (λ kind. VisitRefused types.Object (entry_total V2) Refused kind)
 
--- What was made of the encoding of a legacy object's tree. Where the object was refused, that is given.
+-- What was made of the encoding of a legacy object's tree. Where the object was refused, that is
+-- given.
 abbrev pub GivesEntries : {X : Type 0} → (ℕ → List ℕ → X → Type 0)
     → (ℕ → List ℕ → DeserializeError → Type 0)
     → Result OwnedValue DeserializeError → Result X DeserializeError → Type 0
@@ -120,10 +120,9 @@ GivesEntries Made Refused (Ok tree) result =
     OfEncoding (EncodesNextVisited Made) (NextVisitRefused Refused) (short V2 (owned_tree tree)) result
 GivesEntries Made Refused (Err error) result = result ≡ Err error
 
--- A legacy object was read whole after its code, and then the entries that its tree encodes were handed on,
--- or its
--- refusal is given. Nothing more is taken through the reader, whose mark may also tell of an answer that is
--- an error.
+-- A legacy object was read whole after its code, and then the entries that its tree encodes were
+-- handed on, or its refusal is given. Nothing more is taken through the reader, whose mark may also
+-- tell of an answer that is an error.
 pub record VisitsLegacyBy {S X : Type 0} (is_known : S → Type 0) (left : S → List ℕ) (failures : S → Failures)
     (old new : StoreReader S) (Made : ℕ → List ℕ → X → Type 0)
     (Refused : ℕ → List ℕ → DeserializeError → Type 0) (result : Result X DeserializeError) : Type 0 where
@@ -140,9 +139,8 @@ pub record VisitsLegacyBy {S X : Type 0} (is_known : S → Type 0) (left : S →
 
 -- ---- a value of any type
 
--- What stands after the code of a type was handed to the visitor's call for it: a leaf, the values of an
--- array, or the
--- entries of an object or of a legacy one. Each failed read is reported.
+-- What stands after the code of a type was handed to the visitor's call for it: a leaf, the values
+-- of an array, or the entries of an object or of a legacy one. Each failed read is reported.
 pub record VisitsKindBy {S X : Type 0} (is_known : S → Type 0) (left : S → List ℕ) (failures : S → Failures)
     (kind : ValueType) (answers : Leaf → Result X DeserializeError → Type 0)
     (of_array : Version → ℕ → List ℕ → X → Type 0)

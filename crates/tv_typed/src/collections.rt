@@ -59,7 +59,8 @@ impl<'de, S: ByteSource> BinaryValueDeserializer<'de, S> {
         self,
         alloc: Global,
     ) -> Result<C, DeserializeError>
-        ensures { DeserializesMembers S.ByteSource C.is T.ValueDeserialize self.entry self.exit result }
+        ensures { DeserializesMembers S.ByteSource C.is T.ValueDeserialize self.entry self.exit
+            result }
     {
         let BinaryValueDeserializer { kind, reader } = self;
         let answer = read_object::<T, C, S>(alloc, kind, reader);

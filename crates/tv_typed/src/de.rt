@@ -46,7 +46,8 @@ impl<'de, S: ByteSource> BinaryValueDeserializer<'de, S> {
             (RestsIfErr (the_row S.row) reader.entry (λ made. made.reader.ghost_name) result
             (λ now. IfErr result (λ error. ReadsThrough {X = ValueType} S.ByteSource
             reader.entry.now now (Err error) IsCoded CodeRefused))) }
-        ensures same_reader { IfOk result (λ made. made.reader.ghost_name ≡ reader.entry.ghost_name) }
+        ensures same_reader { IfOk result
+            (λ made. made.reader.ghost_name ≡ reader.entry.ghost_name) }
         ensures reads { IfOk result (λ made. ReadsThrough S.ByteSource reader.entry.now
             made.reader.now (Ok made.kind) IsCoded CodeRefused) }
         ensures no_memory { ¬ IsErrOf result errors.Memory }

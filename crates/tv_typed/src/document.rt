@@ -168,7 +168,8 @@ impl<'de, S: ByteSource> BinaryDocumentDeserializer<'de, S> {
             (RestsIfErr (the_row S.row) reader.entry (λ made. made.reader.ghost_name) result
             (λ now. IfErr result (λ error. ReadsThrough {X = ℕ} S.ByteSource
             reader.entry.now now (Err error) VNum NumberRefused))) }
-        ensures same_reader { IfOk result (λ made. made.reader.ghost_name ≡ reader.entry.ghost_name) }
+        ensures same_reader { IfOk result
+            (λ made. made.reader.ghost_name ≡ reader.entry.ghost_name) }
         ensures reads { IfOk result (λ made. ReadsThrough S.ByteSource reader.entry.now
             made.reader.now (Ok made.announced) VNum NumberRefused) }
         ensures first { IfOk result (λ made. made.position ≡ 0) }
@@ -216,8 +217,9 @@ impl<'de, S: ByteSource> DocumentDeserializer for BinaryDocumentDeserializer<'de
         &mut self,
         alloc: Global,
     ) -> Result<Option<(Field, V)>, DeserializeError>
-        ensures gives { GivesNextField ⟦<BinaryDocumentDeserializer<'de, S> as DocumentDeserializer>⟧
-            V.ValueDeserialize self.old self.new result }
+        ensures gives { GivesNextField
+            ⟦<BinaryDocumentDeserializer<'de, S> as DocumentDeserializer>⟧ V.ValueDeserialize
+            self.old self.new result }
         ensures reads { ReadsNextPair S.ByteSource V.ValueDeserialize self.old self.new result }
     {
         self.reader.go_on()?;
@@ -241,7 +243,8 @@ impl<'de, S: ByteSource> DocumentDeserializer for BinaryDocumentDeserializer<'de
         pairs: &mut HeapPairs,
         bytes: &mut Vec<u8>,
     ) -> Result<bool, DeserializeError>
-        ensures gives { GivesNextInto ⟦<BinaryDocumentDeserializer<'de, S> as DocumentDeserializer>⟧
+        ensures gives { GivesNextInto
+            ⟦<BinaryDocumentDeserializer<'de, S> as DocumentDeserializer>⟧
             self.old self.new pairs.old pairs.new result }
         ensures lost { OnErr result (self.old.reader.now.has_failed ≡ false
             → document_of pairs.new ≡ []) }

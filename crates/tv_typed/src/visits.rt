@@ -46,7 +46,8 @@ impl<S: ByteSource> StoreReader<S> {
         visitor: &V,
     ) -> Result<V::Value, DeserializeError>
         requires { IsTrue (is_leaf_type kind) }
-        ensures visits { Visits S.ByteSource V.ValueVisitor visitor.now kind self.old self.new result }
+        ensures visits { Visits S.ByteSource V.ValueVisitor visitor.now kind self.old self.new
+            result }
         ensures unmarked { OnOk result (self.new.has_failed ≡ false) }
     {
         self.go_on()?;
@@ -117,7 +118,8 @@ impl<S: ByteSource> StoreReader<S> {
         alloc: Global,
         visitor: &V,
     ) -> Result<V::Value, DeserializeError>
-        ensures visits { VisitsLegacy S.ByteSource V.ValueVisitor visitor.now self.old self.new result }
+        ensures visits { VisitsLegacy S.ByteSource V.ValueVisitor visitor.now self.old self.new
+            result }
         ensures unmarked { OnOk result (self.new.has_failed ≡ false) }
     {
         let tree = self.legacy_tree(alloc)?;
@@ -159,7 +161,8 @@ impl<'de, S: ByteSource> BinaryValueDeserializer<'de, S> {
         alloc: Global,
         visitor: &V,
     ) -> Result<V::Value, DeserializeError>
-        ensures visits { VisitsValue S.ByteSource V.ValueVisitor visitor.now self.entry self.exit result }
+        ensures visits { VisitsValue S.ByteSource V.ValueVisitor visitor.now self.entry self.exit
+            result }
         ensures marks_failure { (value_reader self.exit).has_failed ≡ is_err result }
     {
         let BinaryValueDeserializer { kind, reader } = self;
