@@ -1,7 +1,6 @@
 -- The next of several items, and what is said of it whole.
 use Rattle.std.proofs.Common.{◌≡◌, ◌+◌, ◌<◌, ◌≤◌, ℕ, List, Option, Some, None, Result, Ok, Err, true, false, refl, arith, sym, ◌∙◌, IsErrOf}
 use Rattle.std.specs.Prelude.{is_err}
-use Rattle.std.specs.Borrow.{MutBor}
 use Rattle.tv_base.specs.declared.source.ByteSource.{Ghosts}
 use Rattle.tv_format.specs.Version.{Version}
 use Rattle.tv_reader.proofs.DepthSteps.{err_of}
@@ -20,28 +19,26 @@ use Rattle.tv_typed.proofs.DeserializeSteps.{goes_as, next_only}
 use Rattle.tv_typed.proofs.ItemSteps.{item_fails}
 
 -- it is refused, and the place stays
-pub item_refused : {S X : Type 0} {source : Ghosts S} {old new : MutBor (StoreReader S)} {e : DeserializeError} (Item : Version → List ℕ → X → Type 0) (Refused : Version → List ℕ → DeserializeError → Type 0) (TooDeep Nests : Version → ℕ → List ℕ → List ℕ → Type 0) (announced position : ℕ)
-    → position < announced → new.ghost_name ≡ old.ghost_name → Deserializes {X = X} source old.now new.now (Err e) (Item (version_of old.now.version)) (Refused (version_of old.now.version)) → WhereTooDeep {X = X} source old.now new.now (Err e) TooDeep → new.now.has_failed ≡ true
+pub item_refused : {S X : Type 0} {source : Ghosts S} {old new : StoreReader S} {e : DeserializeError} (Item : Version → List ℕ → X → Type 0) (Refused : Version → List ℕ → DeserializeError → Type 0) (TooDeep Nests : Version → ℕ → List ℕ → List ℕ → Type 0) (announced position : ℕ)
+    → position < announced → Deserializes {X = X} source old new (Err e) (Item (version_of old.version)) (Refused (version_of old.version)) → WhereTooDeep {X = X} source old new (Err e) TooDeep → new.has_failed ≡ true
     → ReadsItem {X = X} source Item Refused TooDeep Nests announced position old announced position new (Err e)
-item_refused {old = old} {e = e} Item Refused TooDeep Nests announced position fewer same h deep marks = record {
-  same_reader = same;
+item_refused {old = old} {e = e} Item Refused TooDeep Nests announced position fewer h deep marks = record {
   announced = refl;
   position = omega arith;
-  deserializes = item_fails (Item (version_of old.now.version)) (Refused (version_of old.now.version)) position announced fewer h;
+  deserializes = item_fails (Item (version_of old.version)) (Refused (version_of old.version)) position announced fewer h;
   deep = λ o t is. (fewer, deep o t (err_of e _ is));
   within = λ o t is. absurd cc;
   marks_failure = marks;
 }
 
 -- it is read, and the place goes on
-pub item_given : {S X : Type 0} {source : Ghosts S} {old new : MutBor (StoreReader S)} {x : X} (Item : Version → List ℕ → X → Type 0) (Refused : Version → List ℕ → DeserializeError → Type 0) (TooDeep Nests : Version → ℕ → List ℕ → List ℕ → Type 0) (announced position : ℕ)
-    → position < announced → new.ghost_name ≡ old.ghost_name → Deserializes source old.now new.now (Ok x) (Item (version_of old.now.version)) (Refused (version_of old.now.version)) → WhereRead {X = X} source old.now new.now (Ok x) Nests → new.now.has_failed ≡ false
+pub item_given : {S X : Type 0} {source : Ghosts S} {old new : StoreReader S} {x : X} (Item : Version → List ℕ → X → Type 0) (Refused : Version → List ℕ → DeserializeError → Type 0) (TooDeep Nests : Version → ℕ → List ℕ → List ℕ → Type 0) (announced position : ℕ)
+    → position < announced → Deserializes source old new (Ok x) (Item (version_of old.version)) (Refused (version_of old.version)) → WhereRead {X = X} source old new (Ok x) Nests → new.has_failed ≡ false
     → ReadsItem source Item Refused TooDeep Nests announced position old announced (position + 1) new (Ok (Some x))
-item_given {old = old} {x = x} Item Refused TooDeep Nests announced position fewer same h within marks = record {
-  same_reader = same;
+item_given {old = old} {x = x} Item Refused TooDeep Nests announced position fewer h within marks = record {
   announced = refl;
   position = refl;
-  deserializes = goes_as (Some x) (NextItem (Item (version_of old.now.version)) position announced) (NextItemRefused (Refused (version_of old.now.version)) position announced) (λ a s. (fewer, s)) h;
+  deserializes = goes_as (Some x) (NextItem (Item (version_of old.version)) position announced) (NextItemRefused (Refused (version_of old.version)) position announced) (λ a s. (fewer, s)) h;
   deep = λ o t is. absurd cc;
   within = λ o t is. (fewer, within o t refl);
   marks_failure = marks;

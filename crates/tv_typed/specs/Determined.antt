@@ -10,7 +10,8 @@ use Rattle.tv_typed.specs.Values.{EncodesAs}
 use Rattle.tv_value.specs.declared.field.Field.{Field}
 
 -- both values are read of one tree, and the same bytes are left
-pub record AgreeIn {X : Type 0} (is : Tree → X → Type 0) (first second : X) (rest other : List ℕ) : Type 0 where
+pub record AgreeIn {X : Type 0} (is : Tree → X → Type 0) (first second : X) (rest other : List ℕ) :
+    Type 0 where
   pub tree : Tree
   pub of_first : is tree first
   pub of_second : is tree second

@@ -113,7 +113,7 @@ abbrev pub ReadsElement : {S X : Type 0} (source : Ghosts S) (value : ValueGhost
 ReadsElement source value old new result =
     ReadsItem source (EncodesAs value.is) (NextRefused value.refused) (AtValue value.deep)
     (AtValue value.within)
-    old.announced old.position old.reader new.announced new.position new.reader result
+    old.announced old.position old.reader.now new.announced new.position new.reader.now result
 
 -- the next key of an object, and the value after it
 abbrev pub ReadsNextEntry : {S X : Type 0} (source : Ghosts S) (value : ValueGhosts X)
@@ -122,7 +122,7 @@ abbrev pub ReadsNextEntry : {S X : Type 0} (source : Ghosts S) (value : ValueGho
 ReadsNextEntry source value old new result =
     ReadsItem source (EncodesEntry value.is) (EntryRefused value.refused) (AtEntry value.deep)
     (AtEntry value.within)
-    old.announced old.position old.reader new.announced new.position new.reader result
+    old.announced old.position old.reader.now new.announced new.position new.reader.now result
 
 -- the next field of a document, and the value after it
 abbrev pub ReadsNextPair : {S X : Type 0} (source : Ghosts S) (value : ValueGhosts X)
@@ -130,7 +130,7 @@ abbrev pub ReadsNextPair : {S X : Type 0} (source : Ghosts S) (value : ValueGhos
 ReadsNextPair source value old new result =
     ReadsItem source (EncodesField value.is) (FieldRefused value.refused) (AtField value.deep)
     (AtField value.within)
-    old.announced old.position old.reader new.announced new.position new.reader result
+    old.announced old.position old.reader.now new.announced new.position new.reader.now result
 
 -- ---- all that are left
 

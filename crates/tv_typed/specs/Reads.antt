@@ -1,7 +1,6 @@
 -- What calls promise that read values, whole: what each reads, or why it reads none, and how deep
 -- values of any type in it nest.
 use Rattle.std.specs.Prelude.{◌≡◌, ℕ, ◌+◌, is_err, List, Option, Result, if◌then◌else◌}
-use Rattle.std.specs.Borrow.{MutBor}
 use Rattle.tv_base.specs.declared.source.ByteSource.{Ghosts}
 use Rattle.tv_base.specs.ErrorInPart.{InEach}
 use Rattle.tv_format.specs.Tree.{Tree}
@@ -93,21 +92,17 @@ ReadsItems source Made Item Refused TooDeep Nests count old new result =
     (λ version levels. AtEach (Nests version levels) count) old new result
 
 -- The next of several items, of which some are announced: the place goes on by one where one was
--- given, the rest of what they are read from stays, and each refusal is marked.
+-- given, and each refusal is marked.
 pub record ReadsItem {S X : Type 0} (source : Ghosts S)
     (Item : Version → List ℕ → X → Type 0) (Refused : Version → List ℕ → DeserializeError → Type 0)
     (TooDeep Nests : Version → ℕ → List ℕ → List ℕ → Type 0)
-    (old_announced old_position : ℕ) (old_reader : MutBor (StoreReader S))
-    (new_announced new_position : ℕ) (new_reader : MutBor (StoreReader S))
+    (old_announced old_position : ℕ) (old : StoreReader S) (new_announced new_position : ℕ) (new : StoreReader S)
     (result : Result (Option X) DeserializeError) : Type 0 where
-  pub same_reader : new_reader.ghost_name ≡ old_reader.ghost_name
   pub announced : new_announced ≡ old_announced
   pub position : new_position ≡ old_position + (if gives_some result then 1 else 0)
-  pub deserializes : Deserializes source old_reader.now new_reader.now result
-      (NextItem (Item (version_of old_reader.now.version)) old_position old_announced)
-      (NextItemRefused (Refused (version_of old_reader.now.version)) old_position old_announced)
-  pub deep : WhereTooDeep source old_reader.now new_reader.now result
-      (AtItem TooDeep old_position old_announced)
-  pub within : WhereGiven source old_reader.now new_reader.now result
-      (AtItem Nests old_position old_announced)
-  pub marks_failure : new_reader.now.has_failed ≡ is_err result
+  pub deserializes : Deserializes source old new result
+      (NextItem (Item (version_of old.version)) old_position old_announced)
+      (NextItemRefused (Refused (version_of old.version)) old_position old_announced)
+  pub deep : WhereTooDeep source old new result (AtItem TooDeep old_position old_announced)
+  pub within : WhereGiven source old new result (AtItem Nests old_position old_announced)
+  pub marks_failure : new.has_failed ≡ is_err result

@@ -78,7 +78,8 @@ impl<'de, S: ByteSource> BinaryArrayDeserializer<'de, S> {
         &mut self,
         alloc: Global,
     ) -> Result<Option<V>, DeserializeError>
-        ensures { ReadsElement S.ByteSource V.ValueDeserialize self.old self.new result }
+        ensures same_reader { self.new.reader.ghost_name ≡ self.old.reader.ghost_name }
+        ensures reads { ReadsElement S.ByteSource V.ValueDeserialize self.old self.new result }
     {
         self.reader.go_on()?;
         if self.position >= self.announced {

@@ -220,6 +220,7 @@ impl<'de, S: ByteSource> DocumentDeserializer for BinaryDocumentDeserializer<'de
         ensures gives { GivesNextField
             ⟦<BinaryDocumentDeserializer<'de, S> as DocumentDeserializer>⟧ V.ValueDeserialize
             self.old self.new result }
+        ensures same_reader { self.new.reader.ghost_name ≡ self.old.reader.ghost_name }
         ensures reads { ReadsNextPair S.ByteSource V.ValueDeserialize self.old self.new result }
     {
         self.reader.go_on()?;
@@ -246,6 +247,7 @@ impl<'de, S: ByteSource> DocumentDeserializer for BinaryDocumentDeserializer<'de
         ensures gives { GivesNextInto
             ⟦<BinaryDocumentDeserializer<'de, S> as DocumentDeserializer>⟧
             self.old self.new pairs.old pairs.new result }
+        ensures same_reader { self.new.reader.ghost_name ≡ self.old.reader.ghost_name }
         ensures lost { OnErr result (self.old.reader.now.has_failed ≡ false
             → document_of pairs.new ≡ []) }
         ensures announced { self.new.announced ≡ self.old.announced }

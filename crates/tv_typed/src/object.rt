@@ -192,7 +192,8 @@ impl<'de, S: ByteSource> BinaryObjectDeserializer<'de, S> {
         &mut self,
         alloc: Global,
     ) -> Result<Option<(String, V)>, DeserializeError>
-        ensures { ReadsNextEntry S.ByteSource V.ValueDeserialize self.old self.new result }
+        ensures same_reader { self.new.reader.ghost_name ≡ self.old.reader.ghost_name }
+        ensures reads { ReadsNextEntry S.ByteSource V.ValueDeserialize self.old self.new result }
     {
         self.reader.go_on()?;
         if self.position >= self.announced {

@@ -54,11 +54,11 @@ returns-in_err-pair-clause-reads g c =
     let V = g.V.ValueDeserialize in
     let d = c.args.self.now in
     let r = c.in_err-pair.ensures in
-    rw (p.1, p.2) (item_refused (EncodesField V.is) (FieldRefused V.refused) (AtField V.deep) (AtField V.within) d.announced d.position (omega (arith, c)) refl r.deserializes r.deep r.marks_failure)
+    rw (p.1, p.2) (item_refused (EncodesField V.is) (FieldRefused V.refused) (AtField V.deep) (AtField V.within) d.announced d.position (omega (arith, c)) r.deserializes r.deep r.marks_failure)
 
 pub returns-clause-reads : goal.returns-clause-reads
 returns-clause-reads g c =
     let V = g.V.ValueDeserialize in
     let d = c.args.self.now in
     let r = c.in_ok-pair.ensures in
-    item_given (EncodesField V.is) (FieldRefused V.refused) (AtField V.deep) (AtField V.within) d.announced d.position (omega (arith, c)) refl r.deserializes r.within r.marks_failure
+    item_given (EncodesField V.is) (FieldRefused V.refused) (AtField V.deep) (AtField V.within) d.announced d.position (omega (arith, c)) r.deserializes r.within r.marks_failure
