@@ -8,6 +8,7 @@ mod failing;
 mod indexed;
 mod leaves;
 mod list_visitors;
+mod next_items;
 mod plain_visitors;
 mod skipped;
 mod visitors;

@@ -8,4 +8,6 @@ pub mod VisitSteps
 pub mod TreeTypeSteps
 pub mod LegacySteps
 pub mod DepthSteps
+pub mod NextSteps
 pub mod IntoSteps
+pub mod Agreeing

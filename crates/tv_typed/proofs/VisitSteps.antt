@@ -40,7 +40,7 @@ use Rattle.tv_reader.specs.Error.{StoreMayStop}
 
 any_excluded : (v : Version) (kind : ValueType) (prefix rest : List ℕ) (e : DeserializeError) (t : Tree) → LeafRefused kind v kind (prefix ++ rest) e → Encodes NoLegacy v (type_prefix kind ++ prefix) t → ⊥
 any_excluded v kind prefix rest e t (other_type other) p = absurd (other refl)
-any_excluded v kind prefix rest e t (in_body {c} same f) p = malformed_behind v kind prefix rest _ t f p
+any_excluded v kind prefix rest e t (in_body {cause} same f) p = malformed_behind v kind prefix rest _ t f p
 
 -- what was read, and the answer to it
 pub visits : {S X : Type 0} {is_known : S → Type 0} {left : S → List ℕ} {failures : S → Failures} (old new : StoreReader S) (kind : ValueType) (answers : Leaf → Result X DeserializeError → Type 0) (result : Result X DeserializeError) (read : Result Leaf DeserializeError)

@@ -1,4 +1,5 @@
--- Where an object is refused, a legacy one among them, no prefix of its bytes encodes without legacy objects one of which something is read.
+-- Where an object is refused, a legacy one among them, no prefix of its bytes encodes without
+-- legacy objects one of which something is read.
 use Rattle.std.specs.Prelude.{◌≡◌, List, ℕ, ◌∷◌, ◌++◌, String}
 use Rattle.std.specs.declared.alloc.Global.{Global}
 use Rattle.std.proofs.Common.{subst, inl, inr}
@@ -17,19 +18,27 @@ use Rattle.tv_typed.specs.LegacyObjects.{MembersRefused, in_other, in_legacy_obj
 
 -- after the code of a legacy object nothing else is encoded
 no_other : (v : Version) (a : List ℕ) (t : Tree) → Encodes NoLegacy v (8 ∷ a) t → ⊥
-no_other v a (leaf l) p = let e = p.joined in let same : store_code (type_of l) ≡ 8 = cc in (leaf_coded (type_of l)).no_legacy same
+no_other v a (leaf l) p = let e = p.joined in let same : store_code (type_of l) ≡ 8 =
+    cc in (leaf_coded (type_of l)).no_legacy same
 no_other v a (array ts) p = let e = p.joined in absurd cc
 no_other v a (object es) (inl p) = let e = p.joined in absurd cc
 no_other v a (object es) (inr p) = p.encoded
 
-pub members_exclude : (refused : Version → ValueType → List ℕ → DeserializeError → Type 0) (v : Version) (kind : ValueType) (prefix rest : List ℕ) (e : DeserializeError) (t : Tree) → (refused v kind (prefix ++ rest) e → ⊥)
+pub members_exclude : (refused : Version → ValueType → List ℕ → DeserializeError → Type 0) (v : Version)
+    (kind : ValueType) (prefix rest : List ℕ) (e : DeserializeError) (t : Tree)
+    → (refused v kind (prefix ++ rest) e → ⊥)
     → MembersRefused refused v kind (prefix ++ rest) e → Encodes NoLegacy v (type_prefix kind ++ prefix) t → ⊥
 members_exclude refused v kind prefix rest e t none (in_other other f) p = none f
-members_exclude refused v kind prefix rest e t none (in_legacy_object same f) p = no_other v prefix t (subst (λ k. Encodes NoLegacy v (type_prefix k ++ prefix) t) same p)
+members_exclude refused v kind prefix rest e t none (in_legacy_object same f) p =
+    no_other v prefix t (subst (λ k. Encodes NoLegacy v (type_prefix k ++ prefix) t) same p)
 
 -- what is read of the entries of such an object
-pub entries_exclude : {X C : Type 0} (is : Tree → X → Type 0) (refused : Version → ValueType → List ℕ → DeserializeError → Type 0) → RefusalsExclude is refused
-    → (Read : Tree → C → Type 0) → ((t : Tree) (c : C) → Read t c → (pairs : List (String Global × X)) × ObjectOf is t pairs) → RefusalsExclude Read (MembersRefused (ObjectRefused is refused))
+pub entries_exclude : {X C : Type 0} (is : Tree → X → Type 0)
+    (refused : Version → ValueType → List ℕ → DeserializeError → Type 0) → RefusalsExclude is refused
+    → (Read : Tree → C → Type 0)
+    → ((t : Tree) (c : C) → Read t c → (pairs : List (String Global × X)) × ObjectOf is t pairs)
+    → RefusalsExclude Read (MembersRefused (ObjectRefused is refused))
 entries_exclude is refused excludes Read parts v kind prefix rest e t c f encoded read =
     let p = parts t c read in
-    members_exclude (ObjectRefused is refused) v kind prefix rest e t (λ g. object_excludes is refused excludes v kind prefix rest e t p.0 g encoded p.1) f encoded
+    members_exclude (ObjectRefused is refused) v kind prefix rest e t
+    (λ g. object_excludes is refused excludes v kind prefix rest e t p.0 g encoded p.1) f encoded

@@ -9,3 +9,8 @@ pub mod LegacyObjects
 pub mod ExcludingLegacy
 pub mod TreeTypes
 pub mod Depths
+pub mod Reads
+pub mod Items
+pub mod Pairs
+pub mod Visitors
+pub mod Determined

@@ -15,18 +15,29 @@ use Rattle.tv_typed.specs.Excluding.{tree_excludes, with_legacy}
 use Rattle.tv_typed.specs.Values.{TreeRefused, RefusalsExclude}
 
 -- no tree is read, or the tree that was read after the code of a type is refused
-abbrev pub TreeTypeRefused : (ValueType → Tree → DeserializeError → Type 0) → Version → ValueType → List ℕ → DeserializeError → Type 0
-TreeTypeRefused Refuses v kind = InThen (TreeRefused v kind) (λ b t. Encodes Legacy v (type_prefix kind ++ b) t) (λ t _. Refuses kind t)
+abbrev pub TreeTypeRefused :
+    (ValueType → Tree → DeserializeError → Type 0) → Version → ValueType → List ℕ → DeserializeError → Type 0
+TreeTypeRefused Refuses version kind =
+    InThen (TreeRefused version kind) (λ bytes tree. Encodes Legacy version (type_prefix kind ++ bytes) tree)
+    (λ tree _. Refuses kind tree)
 
 -- where no value is of a tree that is refused, refusals exclude values
-pub tree_type_excludes : {X : Type 0} (is : Tree → X → Type 0) (Refuses : ValueType → Tree → DeserializeError → Type 0) → ((kind : ValueType) (t : Tree) (e : DeserializeError) (x : X) → Refuses kind t e → is t x → ⊥)
+pub tree_type_excludes : {X : Type 0} (is : Tree → X → Type 0)
+    (Refuses : ValueType → Tree → DeserializeError → Type 0)
+    → ((kind : ValueType) (tree : Tree) (error : DeserializeError) (value : X)
+    → Refuses kind tree error → is tree value → ⊥)
     → RefusalsExclude is (TreeTypeRefused Refuses)
-tree_type_excludes is Refuses none v kind prefix rest e t x refused p same = elim refused as (λ _. ⊥) [
-  | inl f ↦ tree_excludes is v kind prefix rest e t x f p same
-  | inr f ↦
-      let h = f.1 in
-      let joined : (type_prefix kind ++ h.prefix) ++ h.rest ≡ (type_prefix kind ++ prefix) ++ rest =
-      append_assoc (type_prefix kind) h.prefix h.rest ∙ ap (λ l. type_prefix kind ++ l) (sym h.joined) ∙ sym (append_assoc (type_prefix kind) prefix rest) in
-      let one = one_tree Legacy v one_legacy (type_prefix kind ++ h.prefix) (type_prefix kind ++ prefix) h.rest rest f.0 t h.first (with_legacy v t (type_prefix kind ++ prefix) p) joined in
-      none kind t e x (subst (λ z. Refuses kind z e) one.1 h.second) same
-]
+tree_type_excludes is Refuses none version kind prefix rest error tree value refused encoded same =
+    elim refused as (λ _. ⊥) [
+      | inl f ↦ tree_excludes is version kind prefix rest error tree value f encoded same
+      | inr f ↦
+          let code = type_prefix kind in
+          let h = f.1 in
+          let joined : (code ++ h.prefix) ++ h.rest ≡ (code ++ prefix) ++ rest =
+          append_assoc code h.prefix h.rest ∙ ap (λ l. code ++ l) (sym h.joined)
+          ∙ sym (append_assoc code prefix rest) in
+          let one = one_tree Legacy version one_legacy (code ++ h.prefix)
+          (code ++ prefix) h.rest rest f.0 tree h.first
+          (with_legacy version tree (code ++ prefix) encoded) joined in
+          none kind tree error value (subst (λ z. Refuses kind z error) one.1 h.second) same
+    ]

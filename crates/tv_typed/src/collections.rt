@@ -8,15 +8,14 @@
 //! from there. Its own errors are those of `deserialize_tree` but `TooDeep`; the first refusal of a value in it comes after the whole object.
 //! `UnsupportedType(JSONObject)` where the type of its values reads past the end of that encoding, which none of this library does.
 
-ghost use Rattle.std.specs.Prelude.{◌≡◌, true, OnErr};
-ghost use Rattle.tv_typed.specs.Depths.{ArrayTooDeep, ArrayWithin, MembersTooDeep, MembersWithin, WhereRead, WhereTooDeep};
 ghost use Rattle.std.specs.BTreeMap as tree;
 ghost use Rattle.std.specs.HashMap as hash;
+ghost use Rattle.tv_typed.specs.Depths.{ArrayTooDeep, ArrayWithin, MembersTooDeep, MembersWithin};
 ghost use Rattle.tv_typed.specs.ExcludingLegacy.{entries_exclude};
 ghost use Rattle.tv_typed.specs.ExcludingLists.{array_excludes};
+ghost use Rattle.tv_typed.specs.Items.{DeserializesMarked, DeserializesMembers};
 ghost use Rattle.tv_typed.specs.LegacyObjects.{MembersRefused};
 ghost use Rattle.tv_typed.specs.Lists.{ArrayOf, ObjectOf, MapOf, ArrayRefused, ObjectRefused};
-ghost use Rattle.tv_typed.specs.Values.{DeserializesAs};
 
 use crate::array::read_elements;
 use crate::de::{BinaryValueDeserializer, ValueDeserialize};
@@ -40,16 +39,8 @@ impl<T: ValueDeserialize> ValueDeserialize for Vec<T> {
         alloc: Global,
         deserializer: BinaryValueDeserializer<'_, S>,
     ) -> Result<Vec<T>, DeserializeError>
-        ensures deserializes { DeserializesAs S.ByteSource
-            (λ t list. ArrayOf T.is t list.items) (ArrayRefused T.is T.refused)
-            deserializer.entry.kind deserializer.entry.reader.now deserializer.exit.1.0.now result }
-        ensures marks_failure { OnErr result (deserializer.exit.1.0.now.has_failed ≡ true) }
-        ensures deep { WhereTooDeep S.ByteSource deserializer.entry.reader.now
-            deserializer.exit.1.0.now result
-            (λ v levels. ArrayTooDeep T.is T.deep v levels deserializer.entry.kind) }
-        ensures within { WhereRead S.ByteSource deserializer.entry.reader.now
-            deserializer.exit.1.0.now result
-            (λ v levels. ArrayWithin T.within v levels deserializer.entry.kind) }
+        ensures { DeserializesMarked S.ByteSource ⟦<Vec<T> as ValueDeserialize>⟧
+            deserializer.entry deserializer.exit result }
     {
         let BinaryValueDeserializer { kind, reader } = deserializer;
         let announced = reader.array_length(kind)?;
@@ -68,14 +59,8 @@ impl<'de, S: ByteSource> BinaryValueDeserializer<'de, S> {
         self,
         alloc: Global,
     ) -> Result<C, DeserializeError>
-        ensures deserializes { DeserializesAs S.ByteSource C.is
-            (MembersRefused (ObjectRefused T.is T.refused)) self.entry.kind self.entry.reader.now
-            self.exit.1.0.now result }
-        ensures marks_failure { OnErr result (self.exit.1.0.now.has_failed ≡ true) }
-        ensures deep { WhereTooDeep S.ByteSource self.entry.reader.now self.exit.1.0.now result
-            (λ v levels. MembersTooDeep T.is T.deep v levels self.entry.kind) }
-        ensures within { WhereRead S.ByteSource self.entry.reader.now self.exit.1.0.now result
-            (λ v levels. MembersWithin T.within v levels self.entry.kind) }
+        ensures { DeserializesMembers S.ByteSource C.is T.ValueDeserialize self.entry self.exit
+            result }
     {
         let BinaryValueDeserializer { kind, reader } = self;
         let answer = read_object::<T, C, S>(alloc, kind, reader);
@@ -97,16 +82,8 @@ impl<T: ValueDeserialize> ValueDeserialize for Vec<(String, T)> {
         alloc: Global,
         deserializer: BinaryValueDeserializer<'_, S>,
     ) -> Result<Vec<(String, T)>, DeserializeError>
-        ensures deserializes { DeserializesAs S.ByteSource
-            (λ t list. ObjectOf T.is t list.items) (MembersRefused (ObjectRefused T.is T.refused))
-            deserializer.entry.kind deserializer.entry.reader.now deserializer.exit.1.0.now result }
-        ensures marks_failure { OnErr result (deserializer.exit.1.0.now.has_failed ≡ true) }
-        ensures deep { WhereTooDeep S.ByteSource deserializer.entry.reader.now
-            deserializer.exit.1.0.now result
-            (λ v levels. MembersTooDeep T.is T.deep v levels deserializer.entry.kind) }
-        ensures within { WhereRead S.ByteSource deserializer.entry.reader.now
-            deserializer.exit.1.0.now result
-            (λ v levels. MembersWithin T.within v levels deserializer.entry.kind) }
+        ensures { DeserializesMarked S.ByteSource ⟦<Vec<(String, T)> as ValueDeserialize>⟧
+            deserializer.entry deserializer.exit result }
     {
         deserializer.members::<T, Vec<(String, T)>>(alloc)
     }
@@ -128,17 +105,8 @@ impl<T: ValueDeserialize> ValueDeserialize for BTreeMap<String, T> {
         alloc: Global,
         deserializer: BinaryValueDeserializer<'_, S>,
     ) -> Result<BTreeMap<String, T>, DeserializeError>
-        ensures deserializes { DeserializesAs S.ByteSource
-            (λ t map. MapOf T.is t (λ key. tree.get_by_text map key))
-            (MembersRefused (ObjectRefused T.is T.refused))
-            deserializer.entry.kind deserializer.entry.reader.now deserializer.exit.1.0.now result }
-        ensures marks_failure { OnErr result (deserializer.exit.1.0.now.has_failed ≡ true) }
-        ensures deep { WhereTooDeep S.ByteSource deserializer.entry.reader.now
-            deserializer.exit.1.0.now result
-            (λ v levels. MembersTooDeep T.is T.deep v levels deserializer.entry.kind) }
-        ensures within { WhereRead S.ByteSource deserializer.entry.reader.now
-            deserializer.exit.1.0.now result
-            (λ v levels. MembersWithin T.within v levels deserializer.entry.kind) }
+        ensures { DeserializesMarked S.ByteSource ⟦<BTreeMap<String, T> as ValueDeserialize>⟧
+            deserializer.entry deserializer.exit result }
     {
         deserializer.members::<T, BTreeMap<String, T>>(alloc)
     }
@@ -161,17 +129,8 @@ impl<T: ValueDeserialize> ValueDeserialize for HashMap<String, T> {
         alloc: Global,
         deserializer: BinaryValueDeserializer<'_, S>,
     ) -> Result<HashMap<String, T>, DeserializeError>
-        ensures deserializes { DeserializesAs S.ByteSource
-            (λ t map. MapOf T.is t (λ key. hash.get_by_text map key))
-            (MembersRefused (ObjectRefused T.is T.refused))
-            deserializer.entry.kind deserializer.entry.reader.now deserializer.exit.1.0.now result }
-        ensures marks_failure { OnErr result (deserializer.exit.1.0.now.has_failed ≡ true) }
-        ensures deep { WhereTooDeep S.ByteSource deserializer.entry.reader.now
-            deserializer.exit.1.0.now result
-            (λ v levels. MembersTooDeep T.is T.deep v levels deserializer.entry.kind) }
-        ensures within { WhereRead S.ByteSource deserializer.entry.reader.now
-            deserializer.exit.1.0.now result
-            (λ v levels. MembersWithin T.within v levels deserializer.entry.kind) }
+        ensures { DeserializesMarked S.ByteSource ⟦<HashMap<String, T> as ValueDeserialize>⟧
+            deserializer.entry deserializer.exit result }
     {
         deserializer.members::<T, HashMap<String, T>>(alloc)
     }

@@ -1,20 +1,18 @@
 //! Reading values out of a store: of the type that a type of this program reads, and of any type.
 
-ghost use Rattle.std.specs.Prelude.{◌≡◌, Ok, Err, IfOk, IfErr, false, true, List, [], ℕ, OnErr, IsErrOf};
+ghost use Rattle.std.specs.Prelude.{◌≡◌, Ok, Err, IfOk, IfErr, List, ℕ, IsErrOf};
 ghost use Rattle.std.specs.Borrow.{sem, RestsIfErr};
 ghost use Rattle.tv_format.specs.Tree.{Tree};
 ghost use Rattle.tv_format.specs.Version.{Version};
-ghost use Rattle.tv_reader.specs.Trees.{EncodesBehind};
-ghost use Rattle.tv_reader.specs.ValueType.{type_prefix, IsCoded};
-ghost use Rattle.tv_reader.specs.Version.{version_of};
+ghost use Rattle.tv_reader.specs.ValueType.{IsCoded};
 ghost use Rattle.tv_reader.specs.declared.error.DeserializeError.{DeserializeError};
 ghost use Rattle.tv_reader.specs.declared.error.DeserializeError.TheVariants as errors;
 ghost use Rattle.tv_reader.specs.declared.value_type.ValueType.{ValueType};
+ghost use Rattle.tv_typed.specs.Depths.{NestsBehind, OpensBehind};
 ghost use Rattle.tv_typed.specs.Excluding.{tree_excludes};
-ghost use Rattle.tv_typed.specs.Lists.{EncodesEntry, EntryRefused};
-ghost use Rattle.tv_typed.specs.Depths.{ReadsWithinDepth, IsTooDeep, HasDepth, AtValue, AtEntry, NestsBehind, OpensBehind, WhereRead, WhereTooDeep};
-ghost use Rattle.tv_typed.specs.Typed.{ReadsThrough, ReadsDeep, Deserializes};
-ghost use Rattle.tv_typed.specs.Values.{CodeRefused, IsTree, TreeRefused, Only, EncodesAs, DeserializesAs, NextRefused, RefusalsExclude};
+ghost use Rattle.tv_typed.specs.Reads.{DeserializesTree, DeserializesValue};
+ghost use Rattle.tv_typed.specs.Typed.{ReadsThrough};
+ghost use Rattle.tv_typed.specs.Values.{CodeRefused, IsTree, TreeRefused, RefusalsExclude};
 
 pub use crate::leaf_values::ValueVisitor;
 use crate::store_reader::StoreReader;
@@ -45,14 +43,13 @@ impl<'de, S: ByteSource> BinaryValueDeserializer<'de, S> {
         reader: &'de mut StoreReader<S>,
     ) -> Result<BinaryValueDeserializer<'de, S>, DeserializeError>
         ensures* rests { sem 𝓛
-            (RestsIfErr (the_row S.row) reader.entry (λ d. d.reader.ghost_name) result
-            (λ now. IfErr result
-            (λ e. ReadsThrough {X = ValueType} S.ByteSource reader.entry.now now
-            (Err e) IsCoded CodeRefused))) }
-        ensures same_reader { IfOk result (λ d. d.reader.ghost_name ≡ reader.entry.ghost_name) }
-        ensures reads { IfOk result
-            (λ d. ReadsThrough S.ByteSource reader.entry.now d.reader.now (Ok d.kind)
-            IsCoded CodeRefused) }
+            (RestsIfErr (the_row S.row) reader.entry (λ made. made.reader.ghost_name) result
+            (λ now. IfErr result (λ error. ReadsThrough {X = ValueType} S.ByteSource
+            reader.entry.now now (Err error) IsCoded CodeRefused))) }
+        ensures same_reader { IfOk result
+            (λ made. made.reader.ghost_name ≡ reader.entry.ghost_name) }
+        ensures reads { IfOk result (λ made. ReadsThrough S.ByteSource reader.entry.now
+            made.reader.now (Ok made.kind) IsCoded CodeRefused) }
         ensures no_memory { ¬ IsErrOf result errors.Memory }
     {
         let kind = reader.code()?;
@@ -65,16 +62,7 @@ impl<'de, S: ByteSource> BinaryValueDeserializer<'de, S> {
     /// `TypeMismatch` where in a key's place stands a value that isn't a text; `TooDeep` right after the code of an array or an object that
     /// is one too many; `Io`; `Memory`; `AlreadyFailed`.
     pub fn deserialize_tree(self, alloc: Global) -> Result<OwnedValue, DeserializeError>
-        ensures reads { ReadsDeep S.ByteSource self.entry.reader.now self.exit.1.0.now
-            result (EncodesBehind (version_of self.entry.reader.now.version) self.entry.kind)
-            (TreeRefused (version_of self.entry.reader.now.version) self.entry.kind) }
-        ensures only { Only S.ByteSource self.entry.reader.now self.exit.1.0.now result IsTree
-            (version_of self.entry.reader.now.version) (type_prefix self.entry.kind) }
-        ensures within { ReadsWithinDepth S.ByteSource self.entry.reader.now self.exit.1.0.now result
-            (type_prefix self.entry.kind) }
-        ensures deep { IsTooDeep S.ByteSource self.entry.reader.now self.exit.1.0.now result
-            (type_prefix self.entry.kind) }
-        ensures no_heap_full { HasDepth S.ByteSource self.entry.reader.now result (type_prefix self.entry.kind) }
+        ensures { DeserializesTree S.ByteSource self.entry self.exit result }
     {
         let BinaryValueDeserializer { kind, reader } = self;
         reader.go_on()?;
@@ -114,29 +102,20 @@ pub trait ValueDeserialize: Sized + Drop {
         alloc: Global,
         deserializer: BinaryValueDeserializer<'_, S>,
     ) -> Result<Self, DeserializeError>
-        ensures deserializes { DeserializesAs S.ByteSource is refused
-            deserializer.entry.kind deserializer.entry.reader.now deserializer.exit.1.0.now result }
-        ensures deep { WhereTooDeep S.ByteSource deserializer.entry.reader.now
-            deserializer.exit.1.0.now result (λ v levels. deep v levels deserializer.entry.kind) }
-        ensures within { WhereRead S.ByteSource deserializer.entry.reader.now
-            deserializer.exit.1.0.now result (λ v levels. within v levels deserializer.entry.kind) };
+        ensures { DeserializesValue S.ByteSource is refused deep within deserializer.entry
+            deserializer.exit result };
 
     /// Where bytes after the code of a type are refused, no prefix of them encodes a tree of which a value is read.
     ghost excludes: { RefusalsExclude is refused };
 }
 
 impl<S: ByteSource> StoreReader<S> {
+    ghost use Rattle.tv_typed.specs.Items.{ReadsEntry, ReadsNext};
+
     /// Reads the next value: its code, and what stands after it. Errors: those of `BinaryValueDeserializer::from_reader` and of
     /// the type's own `deserialize`. Each is marked, whoever it is of, so that every later read returns `AlreadyFailed`.
     pub fn read<V: ValueDeserialize>(&mut self, alloc: Global) -> Result<V, DeserializeError>
-        ensures deserializes { Deserializes S.ByteSource self.old self.new result
-            (EncodesAs V.is (version_of self.old.version))
-            (NextRefused V.refused (version_of self.old.version)) }
-        ensures only { Only S.ByteSource self.old self.new result V.is
-            (version_of self.old.version) [] }
-        ensures marks_failure { OnErr result (self.new.has_failed ≡ true) }
-        ensures deep { WhereTooDeep S.ByteSource self.old self.new result (AtValue V.deep) }
-        ensures within { WhereRead S.ByteSource self.old self.new result (AtValue V.within) }
+        ensures { ReadsNext S.ByteSource V.ValueDeserialize self.old self.new result }
     {
         let kind = self.code()?;
         match V::deserialize(alloc, BinaryValueDeserializer { kind, reader: self }) {
@@ -153,12 +132,7 @@ impl<S: ByteSource> StoreReader<S> {
         &mut self,
         alloc: Global,
     ) -> Result<(String, V), DeserializeError>
-        ensures deserializes { Deserializes S.ByteSource self.old self.new result
-            (EncodesEntry V.is (version_of self.old.version))
-            (EntryRefused V.refused (version_of self.old.version)) }
-        ensures marks_failure { OnErr result (self.new.has_failed ≡ true) }
-        ensures deep { WhereTooDeep S.ByteSource self.old self.new result (AtEntry V.deep) }
-        ensures within { WhereRead S.ByteSource self.old self.new result (AtEntry V.within) }
+        ensures { ReadsEntry S.ByteSource V.ValueDeserialize self.old self.new result }
     {
         let key = self.key(alloc)?;
         let value = self.read::<V>(alloc)?;
@@ -179,22 +153,9 @@ impl ValueDeserialize for OwnedValue {
         alloc: Global,
         deserializer: BinaryValueDeserializer<'_, S>,
     ) -> Result<OwnedValue, DeserializeError>
-        ensures deserializes { DeserializesAs S.ByteSource IsTree TreeRefused
-            deserializer.entry.kind deserializer.entry.reader.now deserializer.exit.1.0.now result }
-        ensures reads { ReadsDeep S.ByteSource deserializer.entry.reader.now
-            deserializer.exit.1.0.now result
-            (EncodesBehind (version_of deserializer.entry.reader.now.version)
-            deserializer.entry.kind) (TreeRefused (version_of deserializer.entry.reader.now.version)
-            deserializer.entry.kind) }
-        ensures nests { ReadsWithinDepth S.ByteSource deserializer.entry.reader.now
-            deserializer.exit.1.0.now result (type_prefix deserializer.entry.kind) }
-        ensures within { WhereRead S.ByteSource deserializer.entry.reader.now
-            deserializer.exit.1.0.now result (λ v levels. NestsBehind v levels
-            deserializer.entry.kind) }
-        ensures deep { IsTooDeep S.ByteSource deserializer.entry.reader.now
-            deserializer.exit.1.0.now result (type_prefix deserializer.entry.kind) }
-        ensures no_heap_full { HasDepth S.ByteSource deserializer.entry.reader.now result
-            (type_prefix deserializer.entry.kind) }
+        ensures value { DeserializesValue S.ByteSource IsTree TreeRefused OpensBehind NestsBehind
+            deserializer.entry deserializer.exit result }
+        ensures tree { DeserializesTree S.ByteSource deserializer.entry deserializer.exit result }
     {
         deserializer.deserialize_tree(alloc)
     }

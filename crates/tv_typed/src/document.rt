@@ -1,23 +1,21 @@
 //! Documents in a store, whose pairs are read one after the other.
 
-ghost use Rattle.std.specs.Prelude.{[], ◌≡◌, ◌+◌, ◌-◌, ◌<◌, List, ℕ, Bool, false, true, Ok, Err, OnErr, is_err, IfOk, IfErr, IsErrOf, if◌then◌else◌};
+ghost use Rattle.std.specs.Prelude.{[], ◌≡◌, ◌+◌, ◌-◌, List, ℕ, Bool, false, true, Ok, Err, OnErr, is_err, IfOk};
+ghost use Rattle.std.specs.Prelude.{IfErr, IsErrOf, if◌then◌else◌};
 ghost use Rattle.std.specs.Borrow.{sem, RestsIfErr};
 ghost use Rattle.tv_base.specs.Number.{Fixed, VNum};
 ghost use Rattle.tv_base.specs.Source.{Failures};
 ghost use Rattle.tv_base.specs.Stop.{Counts};
 ghost use Rattle.tv_builder.specs.HeldPairs.{document_of};
-ghost use Rattle.tv_reader.specs.Version.{version_of};
 ghost use Rattle.tv_reader.specs.declared.error.DeserializeError.{DeserializeError};
 ghost use Rattle.tv_reader.specs.declared.error.DeserializeError.TheVariants as errors;
 ghost use Rattle.tv_reader.specs.declared.value_type.ValueType.{ValueType};
 ghost use Rattle.tv_format.specs.Tree.{Tree, Document};
 ghost use Rattle.tv_format.specs.Version.{Version};
-ghost use Rattle.tv_typed.specs.Depths.{AtField, AtItem, WhereGiven, WhereRead, WhereTooDeep};
-ghost use Rattle.tv_reading.specs.PairValue.{CanStand};
-ghost use Rattle.tv_typed.specs.Documents.{NextField, GivesPair, RefusesPair, EncodesField, FieldEnds, FieldRefused, NumberRefused, NextPair, GivesInto};
-ghost use Rattle.tv_typed.specs.Documents.{RefusesInto};
-ghost use Rattle.tv_typed.specs.Lists.{NextItem, NextItemRefused, gives_some};
-ghost use Rattle.tv_typed.specs.Typed.{typed_stop, document_stop, ReadsThrough, Deserializes};
+ghost use Rattle.tv_typed.specs.Documents.{FieldEnds, GivesField, GivesInto, GivesPair, GivesPairInto, NumberRefused};
+ghost use Rattle.tv_typed.specs.Documents.{RefusesInto, RefusesPair};
+ghost use Rattle.tv_typed.specs.Items.{ReadsNextPair, ReadsPair};
+ghost use Rattle.tv_typed.specs.Typed.{document_stop, ReadsThrough};
 ghost use Rattle.tv_typed.specs.contracts.store_reader.StoreReader.{the_row};
 
 use crate::de::ValueDeserialize;
@@ -73,14 +71,8 @@ pub trait DocumentDeserializer: Drop {
         &mut self,
         alloc: Global,
     ) -> Result<Option<(Field, V)>, DeserializeError>
-        ensures gives { IfOk result (NextField remaining is_known gives V.is self.old self.new) }
-        ensures refuses { IfErr result (refuses self.old V.refused V.deep) }
-        ensures marks_failure { has_failed self.new ≡ is_err result }
-        ensures counts { has_failed self.old ≡ false
-            → Counts typed_stop result (failures self.old) (failures self.new) }
-        ensures closed { has_failed self.old ≡ true
-            → IsErrOf result errors.AlreadyFailed × (failures self.new ≡ failures self.old) }
-        ensures same_reader { borrow_name self.new ≡ borrow_name self.old };
+        ensures { GivesField remaining is_known gives has_failed failures borrow_name V.is
+            (refuses self.old V.refused V.deep) self.old self.new result };
 
     /// Reads the next pair into `pairs`, after those that it gave before, its value to any depth, straight into their heap. False where
     /// all were given. `bytes` is a buffer for at most 4096 bytes, which may be lent to one call after the other.
@@ -93,16 +85,9 @@ pub trait DocumentDeserializer: Drop {
         pairs: &mut HeapPairs,
         bytes: &mut Vec<u8>,
     ) -> Result<bool, DeserializeError>
-        ensures gives { IfOk result (NextPair remaining is_known gives self.old self.new
-            (document_of pairs.old) (document_of pairs.new)) }
-        ensures refuses { IfErr result (refuses_into self.old (document_of pairs.old)) }
-        ensures awaited { OnErr result (has_failed self.old ≡ false → 0 < remaining self.old) }
-        ensures marks_failure { has_failed self.new ≡ is_err result }
-        ensures counts { has_failed self.old ≡ false
-            → Counts document_stop result (failures self.old) (failures self.new) }
-        ensures closed { has_failed self.old ≡ true
-            → IsErrOf result errors.AlreadyFailed × (failures self.new ≡ failures self.old) }
-        ensures same_reader { borrow_name self.new ≡ borrow_name self.old };
+        ensures { GivesPairInto remaining is_known gives has_failed failures borrow_name
+            (refuses_into self.old (document_of pairs.old)) self.old self.new
+            (document_of pairs.old) (document_of pairs.new) result };
 }
 
 impl<S: ByteSource> StoreReader<S> {
@@ -132,12 +117,7 @@ impl<S: ByteSource> StoreReader<S> {
         &mut self,
         alloc: Global,
     ) -> Result<(Field, V), DeserializeError>
-        ensures deserializes { Deserializes S.ByteSource self.old self.new result
-            (EncodesField V.is (version_of self.old.version))
-            (FieldRefused V.refused (version_of self.old.version)) }
-        ensures marks_failure { OnErr result (self.new.has_failed ≡ true) }
-        ensures deep { WhereTooDeep S.ByteSource self.old self.new result (AtField V.deep) }
-        ensures within { WhereRead S.ByteSource self.old self.new result (AtField V.within) }
+        ensures { ReadsPair S.ByteSource V.ValueDeserialize self.old self.new result }
     {
         let field = self.field()?;
         let value = self.read::<V>(alloc)?;
@@ -185,15 +165,14 @@ impl<'de, S: ByteSource> BinaryDocumentDeserializer<'de, S> {
         reader: &'de mut StoreReader<S>,
     ) -> Result<BinaryDocumentDeserializer<'de, S>, DeserializeError>
         ensures* rests { sem 𝓛
-            (RestsIfErr (the_row S.row) reader.entry (λ d. d.reader.ghost_name) result
-            (λ now. IfErr result
-            (λ e. ReadsThrough {X = ℕ} S.ByteSource reader.entry.now now (Err e)
-            VNum NumberRefused))) }
-        ensures same_reader { IfOk result (λ d. d.reader.ghost_name ≡ reader.entry.ghost_name) }
-        ensures reads { IfOk result
-            (λ d. ReadsThrough S.ByteSource reader.entry.now d.reader.now (Ok d.announced)
-            VNum NumberRefused) }
-        ensures first { IfOk result (λ d. d.position ≡ 0) }
+            (RestsIfErr (the_row S.row) reader.entry (λ made. made.reader.ghost_name) result
+            (λ now. IfErr result (λ error. ReadsThrough {X = ℕ} S.ByteSource
+            reader.entry.now now (Err error) VNum NumberRefused))) }
+        ensures same_reader { IfOk result
+            (λ made. made.reader.ghost_name ≡ reader.entry.ghost_name) }
+        ensures reads { IfOk result (λ made. ReadsThrough S.ByteSource reader.entry.now
+            made.reader.now (Ok made.announced) VNum NumberRefused) }
+        ensures first { IfOk result (λ made. made.position ≡ 0) }
         ensures no_memory { ¬ IsErrOf result errors.Memory }
     {
         let announced = reader.pair_count()?;
@@ -206,6 +185,8 @@ impl<'de, S: ByteSource> BinaryDocumentDeserializer<'de, S> {
 }
 
 impl<'de, S: ByteSource> DocumentDeserializer for BinaryDocumentDeserializer<'de, S> {
+    ghost use Rattle.tv_typed.specs.Pairs.{GivesNextField, GivesNextInto};
+
     ghost announced = { λ d. d.announced };
 
     ghost remaining = { λ d. d.announced - d.position };
@@ -214,8 +195,7 @@ impl<'de, S: ByteSource> DocumentDeserializer for BinaryDocumentDeserializer<'de
 
     ghost gives = { λ old pair new. GivesPair S.left old.reader.now pair new.reader.now };
 
-    ghost refuses = { λ d refused deep. RefusesPair S.ByteSource d.position d.announced
-        d.reader.now refused deep };
+    ghost refuses = { λ d. RefusesPair S.ByteSource d.position d.announced d.reader.now };
 
     ghost refuses_into = { λ d before. RefusesInto S.ByteSource d.reader.now before };
 
@@ -237,33 +217,11 @@ impl<'de, S: ByteSource> DocumentDeserializer for BinaryDocumentDeserializer<'de
         &mut self,
         alloc: Global,
     ) -> Result<Option<(Field, V)>, DeserializeError>
-        ensures gives { IfOk result
-            (NextField (λ d. d.announced - d.position) (λ d. S.is_known d.reader.now.source)
-            (λ old pair new. GivesPair S.left old.reader.now pair new.reader.now) V.is self.old
-            self.new) }
-        ensures refuses { IfErr result (RefusesPair S.ByteSource self.old.position
-            self.old.announced self.old.reader.now V.refused V.deep) }
+        ensures gives { GivesNextField
+            ⟦<BinaryDocumentDeserializer<'de, S> as DocumentDeserializer>⟧ V.ValueDeserialize
+            self.old self.new result }
         ensures same_reader { self.new.reader.ghost_name ≡ self.old.reader.ghost_name }
-        ensures announced { self.new.announced ≡ self.old.announced }
-        ensures position { self.new.position
-            ≡ self.old.position + (if gives_some result then 1 else 0) }
-        ensures deserializes { Deserializes S.ByteSource self.old.reader.now
-            self.new.reader.now result
-            (NextItem (EncodesField V.is (version_of self.old.reader.now.version)) self.old.position
-            self.old.announced)
-            (NextItemRefused (FieldRefused V.refused (version_of self.old.reader.now.version))
-            self.old.position self.old.announced) }
-        ensures deep { WhereTooDeep S.ByteSource self.old.reader.now self.new.reader.now result
-            (AtItem (AtField V.deep) self.old.position self.old.announced) }
-        ensures within { WhereGiven S.ByteSource self.old.reader.now self.new.reader.now result
-            (AtItem (AtField V.within) self.old.position self.old.announced) }
-        ensures marks_failure { self.new.reader.now.has_failed ≡ is_err result }
-        ensures counts { self.old.reader.now.has_failed ≡ false
-            → Counts typed_stop result (S.failures self.old.reader.now.source)
-            (S.failures self.new.reader.now.source) }
-        ensures closed { self.old.reader.now.has_failed ≡ true
-            → IsErrOf result errors.AlreadyFailed
-            × (S.failures self.new.reader.now.source ≡ S.failures self.old.reader.now.source) }
+        ensures reads { ReadsNextPair S.ByteSource V.ValueDeserialize self.old self.new result }
     {
         self.reader.go_on()?;
         if self.position >= self.announced {
@@ -286,26 +244,15 @@ impl<'de, S: ByteSource> DocumentDeserializer for BinaryDocumentDeserializer<'de
         pairs: &mut HeapPairs,
         bytes: &mut Vec<u8>,
     ) -> Result<bool, DeserializeError>
-        ensures gives { IfOk result (NextPair (λ d. d.announced - d.position)
-            (λ d. S.is_known d.reader.now.source)
-            (λ old pair new. GivesPair S.left old.reader.now pair new.reader.now) self.old self.new
-            (document_of pairs.old) (document_of pairs.new)) }
-        ensures refuses { IfErr result (RefusesInto S.ByteSource self.old.reader.now (document_of pairs.old)) }
-        ensures awaited { OnErr result (self.old.reader.now.has_failed ≡ false
-            → 0 < self.old.announced - self.old.position) }
+        ensures gives { GivesNextInto
+            ⟦<BinaryDocumentDeserializer<'de, S> as DocumentDeserializer>⟧
+            self.old self.new pairs.old pairs.new result }
+        ensures same_reader { self.new.reader.ghost_name ≡ self.old.reader.ghost_name }
         ensures lost { OnErr result (self.old.reader.now.has_failed ≡ false
             → document_of pairs.new ≡ []) }
-        ensures same_reader { self.new.reader.ghost_name ≡ self.old.reader.ghost_name }
         ensures announced { self.new.announced ≡ self.old.announced }
         ensures position { IfOk result (λ more. self.new.position
             ≡ self.old.position + (if more then 1 else 0)) }
-        ensures marks_failure { self.new.reader.now.has_failed ≡ is_err result }
-        ensures counts { self.old.reader.now.has_failed ≡ false
-            → Counts document_stop result (S.failures self.old.reader.now.source)
-            (S.failures self.new.reader.now.source) }
-        ensures closed { self.old.reader.now.has_failed ≡ true
-            → IsErrOf result errors.AlreadyFailed
-            × (S.failures self.new.reader.now.source ≡ S.failures self.old.reader.now.source) }
     {
         self.reader.go_on()?;
         if self.position >= self.announced {

@@ -14,9 +14,9 @@ ghost use Rattle.tv_reader.specs.declared.value_type.ValueType.TheVariants as ty
 ghost use Rattle.tv_reader.specs.ValueType.{leaf_type as held_type};
 ghost use Rattle.tv_reader.specs.declared.value_type.ValueType.{ValueType};
 ghost use Rattle.tv_typed.specs.Excluding.{leaf_excludes, type_of_leaf};
-ghost use Rattle.tv_typed.specs.Typed.{Deserializes};
+ghost use Rattle.tv_typed.specs.Typed.{items_reader};
 ghost use Rattle.tv_typed.specs.Values.{IsLeafOf, LeafRefused, ReadsLeaf, IsFixed};
-ghost use Rattle.tv_typed.specs.Visits.{TellsNoFailure, single_leaf};
+ghost use Rattle.tv_typed.specs.Visits.{MakesOfItems, TellsNoFailure, single_leaf};
 ghost use Rattle.tv_value.specs.HeldTokens.{token_of};
 ghost use Rattle.tv_value.specs.Owned.{owned_tree};
 ghost use Rattle.tv_base.specs.Take.{TakesBy, MayStopLean};
@@ -71,8 +71,7 @@ impl<'de, S: ByteSource> BinaryValueDeserializer<'de, S> {
         expected: ValueType,
     ) -> Result<T, DeserializeError>
         requires { expected ≡ T.expected }
-        ensures { ReadsLeaf S.ByteSource T.expected T.make self.entry.kind
-            self.entry.reader.now self.exit.1.0.now result }
+        ensures { ReadsLeaf S.ByteSource T.expected T.make self.entry self.exit result }
     {
         let BinaryValueDeserializer { kind, reader } = self;
         let actual = kind;
@@ -238,32 +237,28 @@ impl LeafValue for PreTokenizedString {
 impl<'de, S: ByteSource> BinaryValueDeserializer<'de, S> {
     /// Reads null.
     pub fn deserialize_null(self) -> Result<(), DeserializeError>
-        ensures { ReadsLeaf S.ByteSource types.Null (λ _. null) self.entry.kind
-            self.entry.reader.now self.exit.1.0.now result }
+        ensures { ReadsLeaf S.ByteSource types.Null (λ _. null) self.entry self.exit result }
     {
         self.leaf::<()>((), ValueType::Null)
     }
 
     /// Reads a number from 0 to 2^64 - 1.
     pub fn deserialize_u64(self) -> Result<u64, DeserializeError>
-        ensures { ReadsLeaf S.ByteSource types.U64 (λ n. unsigned n) self.entry.kind
-            self.entry.reader.now self.exit.1.0.now result }
+        ensures { ReadsLeaf S.ByteSource types.U64 (λ n. unsigned n) self.entry self.exit result }
     {
         self.leaf::<u64>((), ValueType::U64)
     }
 
     /// Reads a number from -2^63 to 2^63 - 1.
     pub fn deserialize_i64(self) -> Result<i64, DeserializeError>
-        ensures { ReadsLeaf S.ByteSource types.I64 (λ z. signed z) self.entry.kind
-            self.entry.reader.now self.exit.1.0.now result }
+        ensures { ReadsLeaf S.ByteSource types.I64 (λ z. signed z) self.entry self.exit result }
     {
         self.leaf::<i64>((), ValueType::I64)
     }
 
     /// Reads a truth value.
     pub fn deserialize_bool(self) -> Result<bool, DeserializeError>
-        ensures { ReadsLeaf S.ByteSource types.Bool (λ b. boolean b) self.entry.kind
-            self.entry.reader.now self.exit.1.0.now result }
+        ensures { ReadsLeaf S.ByteSource types.Bool (λ b. boolean b) self.entry self.exit result }
     {
         self.leaf::<bool>((), ValueType::Bool)
     }
@@ -271,15 +266,14 @@ impl<'de, S: ByteSource> BinaryValueDeserializer<'de, S> {
     /// Reads a text.
     pub fn deserialize_string(self, alloc: Global) -> Result<String, DeserializeError>
         ensures { ReadsLeaf S.ByteSource types.String (λ s. text (string_bytes s))
-            self.entry.kind self.entry.reader.now self.exit.1.0.now result }
+            self.entry self.exit result }
     {
         self.leaf::<String>(alloc, ValueType::String)
     }
 
     /// Reads a facet.
     pub fn deserialize_facet(self, alloc: Global) -> Result<Facet, DeserializeError>
-        ensures { ReadsLeaf S.ByteSource types.Facet (λ f. facet f) self.entry.kind
-            self.entry.reader.now self.exit.1.0.now result }
+        ensures { ReadsLeaf S.ByteSource types.Facet (λ f. facet f) self.entry self.exit result }
     {
         self.leaf::<Facet>(alloc, ValueType::Facet)
     }
@@ -287,7 +281,7 @@ impl<'de, S: ByteSource> BinaryValueDeserializer<'de, S> {
     /// Reads bytes.
     pub fn deserialize_bytes(self, alloc: Global) -> Result<Vec<u8>, DeserializeError>
         ensures { ReadsLeaf S.ByteSource types.Bytes (λ v. bytes v.items)
-            self.entry.kind self.entry.reader.now self.exit.1.0.now result }
+            self.entry self.exit result }
     {
         self.leaf::<Vec<u8>>(alloc, ValueType::Bytes)
     }
@@ -295,16 +289,15 @@ impl<'de, S: ByteSource> BinaryValueDeserializer<'de, S> {
     /// Reads a date: microseconds in version 1, and nanoseconds in the others.
     pub fn deserialize_datetime(self) -> Result<DateTime, DeserializeError>
         ensures { ReadsLeaf S.ByteSource types.DateTime (λ d. date d.nanoseconds)
-            self.entry.kind self.entry.reader.now self.exit.1.0.now result }
+            self.entry self.exit result }
     {
         self.leaf::<DateTime>((), ValueType::DateTime)
     }
 
     /// Reads an IP address.
     pub fn deserialize_ip_address(self) -> Result<Ipv6Addr, DeserializeError>
-        ensures { ReadsLeaf S.ByteSource types.IpAddr
-            (λ a. ip_address (ipv6_bits a)) self.entry.kind self.entry.reader.now self.exit.1.0.now
-            result }
+        ensures { ReadsLeaf S.ByteSource types.IpAddr (λ a. ip_address (ipv6_bits a))
+            self.entry self.exit result }
     {
         self.leaf::<Ipv6Addr>((), ValueType::IpAddr)
     }
@@ -315,8 +308,8 @@ impl<'de, S: ByteSource> BinaryValueDeserializer<'de, S> {
         alloc: Global,
     ) -> Result<PreTokenizedString, DeserializeError>
         ensures { ReadsLeaf S.ByteSource types.PreTokStr
-            (λ s. tokenized (string_bytes s.text) (map token_of s.tokens.items)) self.entry.kind
-            self.entry.reader.now self.exit.1.0.now result }
+            (λ s. tokenized (string_bytes s.text) (map token_of s.tokens.items))
+            self.entry self.exit result }
     {
         self.leaf::<PreTokenizedString>(alloc, ValueType::PreTokStr)
     }
@@ -334,7 +327,7 @@ impl ValueDeserialize for u64 {
         deserializer: BinaryValueDeserializer<'_, S>,
     ) -> Result<u64, DeserializeError>
         ensures { ReadsLeaf S.ByteSource types.U64 (λ n. unsigned n)
-            deserializer.entry.kind deserializer.entry.reader.now deserializer.exit.1.0.now result }
+            deserializer.entry deserializer.exit result }
     {
         deserializer.deserialize_u64()
     }
@@ -354,7 +347,7 @@ impl ValueDeserialize for i64 {
         deserializer: BinaryValueDeserializer<'_, S>,
     ) -> Result<i64, DeserializeError>
         ensures { ReadsLeaf S.ByteSource types.I64 (λ z. signed z)
-            deserializer.entry.kind deserializer.entry.reader.now deserializer.exit.1.0.now result }
+            deserializer.entry deserializer.exit result }
     {
         deserializer.deserialize_i64()
     }
@@ -374,7 +367,7 @@ impl ValueDeserialize for bool {
         deserializer: BinaryValueDeserializer<'_, S>,
     ) -> Result<bool, DeserializeError>
         ensures { ReadsLeaf S.ByteSource types.Bool (λ b. boolean b)
-            deserializer.entry.kind deserializer.entry.reader.now deserializer.exit.1.0.now result }
+            deserializer.entry deserializer.exit result }
     {
         deserializer.deserialize_bool()
     }
@@ -394,7 +387,7 @@ impl ValueDeserialize for String {
         deserializer: BinaryValueDeserializer<'_, S>,
     ) -> Result<String, DeserializeError>
         ensures { ReadsLeaf S.ByteSource types.String (λ s. text (string_bytes s))
-            deserializer.entry.kind deserializer.entry.reader.now deserializer.exit.1.0.now result }
+            deserializer.entry deserializer.exit result }
     {
         deserializer.deserialize_string(alloc)
     }
@@ -414,7 +407,7 @@ impl ValueDeserialize for Facet {
         deserializer: BinaryValueDeserializer<'_, S>,
     ) -> Result<Facet, DeserializeError>
         ensures { ReadsLeaf S.ByteSource types.Facet (λ f. facet f)
-            deserializer.entry.kind deserializer.entry.reader.now deserializer.exit.1.0.now result }
+            deserializer.entry deserializer.exit result }
     {
         deserializer.deserialize_facet(alloc)
     }
@@ -434,7 +427,7 @@ impl ValueDeserialize for Vec<u8> {
         deserializer: BinaryValueDeserializer<'_, S>,
     ) -> Result<Vec<u8>, DeserializeError>
         ensures { ReadsLeaf S.ByteSource types.Bytes (λ v. bytes v.items)
-            deserializer.entry.kind deserializer.entry.reader.now deserializer.exit.1.0.now result }
+            deserializer.entry deserializer.exit result }
     {
         deserializer.deserialize_bytes(alloc)
     }
@@ -454,7 +447,7 @@ impl ValueDeserialize for DateTime {
         deserializer: BinaryValueDeserializer<'_, S>,
     ) -> Result<DateTime, DeserializeError>
         ensures { ReadsLeaf S.ByteSource types.DateTime (λ d. date d.nanoseconds)
-            deserializer.entry.kind deserializer.entry.reader.now deserializer.exit.1.0.now result }
+            deserializer.entry deserializer.exit result }
     {
         deserializer.deserialize_datetime()
     }
@@ -473,9 +466,8 @@ impl ValueDeserialize for Ipv6Addr {
         _alloc: Global,
         deserializer: BinaryValueDeserializer<'_, S>,
     ) -> Result<Ipv6Addr, DeserializeError>
-        ensures { ReadsLeaf S.ByteSource types.IpAddr
-            (λ a. ip_address (ipv6_bits a)) deserializer.entry.kind deserializer.entry.reader.now
-            deserializer.exit.1.0.now result }
+        ensures { ReadsLeaf S.ByteSource types.IpAddr (λ a. ip_address (ipv6_bits a))
+            deserializer.entry deserializer.exit result }
     {
         deserializer.deserialize_ip_address()
     }
@@ -496,7 +488,7 @@ impl ValueDeserialize for PreTokenizedString {
     ) -> Result<PreTokenizedString, DeserializeError>
         ensures { ReadsLeaf S.ByteSource types.PreTokStr
             (λ s. tokenized (string_bytes s.text) (map token_of s.tokens.items))
-            deserializer.entry.kind deserializer.entry.reader.now deserializer.exit.1.0.now result }
+            deserializer.entry deserializer.exit result }
     {
         deserializer.deserialize_pre_tokenized_string(alloc)
     }
@@ -588,10 +580,8 @@ pub trait ValueVisitor {
     ) -> Result<Self::Value, DeserializeError>
         requires first { access.position ≡ 0 }
         requires open { access.reader.now.has_failed ≡ false }
-        ensures { Deserializes S.ByteSource access.entry.reader.now access.exit.1.1.0.now result
-            (of_array self.now (version_of access.entry.reader.now.version) access.entry.announced)
-            (array_refused self.now (version_of access.entry.reader.now.version)
-            access.entry.announced) };
+        ensures { MakesOfItems S.ByteSource (of_array self.now) (array_refused self.now)
+            access.entry.announced access.entry.reader.now (items_reader access.exit) result };
 
     /// An object stands there, whose number of entries was read. The errors are those of its entries, what the visitor refuses, and
     /// `Memory`. It returns `Io` exactly where a read failed, with its kind, and none of `HeapFull`, `UnsupportedVersion` and
@@ -603,10 +593,8 @@ pub trait ValueVisitor {
     ) -> Result<Self::Value, DeserializeError>
         requires first { access.position ≡ 0 }
         requires open { access.reader.now.has_failed ≡ false }
-        ensures { Deserializes S.ByteSource access.entry.reader.now access.exit.1.1.0.now result
-            (of_object self.now (version_of access.entry.reader.now.version) access.entry.announced)
-            (object_refused self.now (version_of access.entry.reader.now.version)
-            access.entry.announced) };
+        ensures { MakesOfItems S.ByteSource (of_object self.now) (object_refused self.now)
+            access.entry.announced access.entry.reader.now (items_reader access.exit) result };
 }
 
 // Hands a value that holds no others to the visitor's call for its type.

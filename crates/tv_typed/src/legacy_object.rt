@@ -6,11 +6,11 @@ ghost use Rattle.tv_format.specs.Version.{V2};
 ghost use Rattle.tv_reader.specs.Trees.{EncodesBehind};
 ghost use Rattle.tv_reader.specs.Version.{version_of};
 ghost use Rattle.tv_reader.specs.declared.value_type.ValueType.TheVariants as types;
-ghost use Rattle.tv_typed.specs.Depths.{MembersTooDeep, MembersWithin, WhereRead, WhereTooDeep};
-ghost use Rattle.tv_typed.specs.LegacyObjects.{Retold, OfEncoding, LegacyRefused, MembersRefused};
+ghost use Rattle.tv_typed.specs.LegacyObjects.{Retold, OfEncoding, LegacyRefused};
+ghost use Rattle.tv_typed.specs.Items.{ReadsMembers};
 ghost use Rattle.tv_typed.specs.Typed.{ReadsThrough, Deserializes};
 ghost use Rattle.tv_typed.specs.Lists.{ObjectRefused};
-ghost use Rattle.tv_typed.specs.Values.{EncodesAs, EncodedAs, DeserializesAs, NextRefused, TreeRefused};
+ghost use Rattle.tv_typed.specs.Values.{EncodesAs, EncodedAs, NextRefused, TreeRefused};
 ghost use Rattle.tv_value.specs.Owned.{owned_tree};
 
 use crate::de::ValueDeserialize;
@@ -113,12 +113,7 @@ pub(crate) fn read_object<T: ValueDeserialize, C: Entries<T>, S: ByteSource>(
     kind: ValueType,
     reader: &mut StoreReader<S>,
 ) -> Result<C, DeserializeError>
-    ensures deserializes { DeserializesAs S.ByteSource C.is
-        (MembersRefused (ObjectRefused T.is T.refused)) kind reader.old reader.new result }
-    ensures deep { WhereTooDeep S.ByteSource reader.old reader.new result
-        (λ v levels. MembersTooDeep T.is T.deep v levels kind) }
-    ensures within { WhereRead S.ByteSource reader.old reader.new result
-        (λ v levels. MembersWithin T.within v levels kind) }
+    ensures { ReadsMembers S.ByteSource C.is T.ValueDeserialize kind reader.old reader.new result }
 {
     match kind {
         ValueType::JSONObject => legacy_object::<T, C, S>(alloc, reader),

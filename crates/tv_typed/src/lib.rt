@@ -5,6 +5,7 @@ pub mod array;
 pub mod collections;
 pub mod de;
 pub mod document;
+pub mod laws;
 mod leaf_values;
 mod legacy_object;
 pub mod object;

@@ -1,20 +1,15 @@
 //! Objects in a store.
 
-ghost use Rattle.std.specs.Prelude.{◌≡◌, ◌+◌, ◌-◌, ◌++◌, ◌∷◌, [], false, true, List, IsErrOf, IsOk, OnOk, OnErr, String, if◌then◌else◌, is_err};
+ghost use Rattle.std.specs.Prelude.{◌≡◌, ◌++◌, ◌∷◌, [], false, List, OnOk, String};
 ghost use Rattle.std.specs.BTreeMap as tree;
 ghost use Rattle.std.specs.HashMap as hash;
 ghost use Rattle.std.specs.declared.alloc.Global.{Global};
-ghost use Rattle.tv_base.specs.ErrorInPart.{InEach};
-ghost use Rattle.tv_reader.specs.Version.{version_of};
-ghost use Rattle.tv_reader.specs.declared.error.DeserializeError.TheVariants as errors;
 ghost use Rattle.tv_reader.specs.declared.value_type.ValueType.TheVariants as types;
 ghost use Rattle.std.proofs.Common.{subst, sym};
 ghost use Rattle.tv_format.specs.Tree.{Tree};
-ghost use Rattle.tv_typed.specs.Depths.{AmongRead, AtEach, AtEntry, AtItem, ObjectTooDeep, ObjectWithin, WhereGiven, WhereRead, WhereTooDeep};
-ghost use Rattle.tv_typed.specs.Lists.{EncodesInto, EncodesEntry, EntryRefused, GivesLast, MapOf, ObjectOf, ObjectRefused, NextItem, NextItemRefused};
-ghost use Rattle.tv_typed.specs.Lists.{gives_some};
-ghost use Rattle.tv_typed.specs.Typed.{Deserializes};
-ghost use Rattle.tv_typed.specs.Values.{DeserializesAs};
+ghost use Rattle.tv_typed.specs.Items.{ReadsAllEntries, ReadsEntries, ReadsNextEntry, ReadsObject};
+ghost use Rattle.tv_typed.specs.Lists.{GivesLast, MapOf, ObjectOf};
+ghost use Rattle.tv_typed.specs.Typed.{RefusesItems, items_reader};
 
 use crate::de::ValueDeserialize;
 use crate::store_reader::StoreReader;
@@ -118,17 +113,8 @@ pub(crate) fn read_entries<T: ValueDeserialize, C: Entries<T>, S: ByteSource>(
     announced: u64,
 ) -> Result<C, DeserializeError>
     requires { reader.old.has_failed ≡ false }
-    ensures deserializes { Deserializes S.ByteSource reader.old reader.new result
-        (EncodesInto C.made (EncodesEntry T.is (version_of reader.old.version)) announced)
-        (InEach (EntryRefused T.refused (version_of reader.old.version))
-        (EncodesEntry T.is (version_of reader.old.version)) announced) }
-    ensures deep { S.is_known reader.old.source → IsErrOf result errors.TooDeep → AmongRead
-        (EncodesEntry T.is (version_of reader.old.version)) (AtEntry T.deep (version_of
-        reader.old.version) reader.old.levels) announced (S.left reader.old.source) (S.left
-        reader.new.source) }
-    ensures within { S.is_known reader.old.source → IsOk result → AtEach
-        (AtEntry T.within (version_of reader.old.version) reader.old.levels) announced
-        (S.left reader.old.source) (S.left reader.new.source) }
+    ensures { ReadsEntries S.ByteSource C.made T.ValueDeserialize announced reader.old reader.new
+        result }
 {
     let mut entries = C::empty(alloc);
     for _ in 0..announced {
@@ -144,12 +130,7 @@ pub(crate) fn read_coded<T: ValueDeserialize, C: Entries<T>, S: ByteSource>(
     kind: ValueType,
     reader: &mut StoreReader<S>,
 ) -> Result<C, DeserializeError>
-    ensures deserializes { DeserializesAs S.ByteSource C.is
-        (ObjectRefused T.is T.refused) kind reader.old reader.new result }
-    ensures deep { WhereTooDeep S.ByteSource reader.old reader.new result
-        (λ v levels. ObjectTooDeep T.is T.deep v levels kind) }
-    ensures within { WhereRead S.ByteSource reader.old reader.new result
-        (λ v levels. ObjectWithin T.within v levels kind) }
+    ensures { ReadsObject S.ByteSource C.is T.ValueDeserialize kind reader.old reader.new result }
 {
     let announced = reader.object_length(kind)?;
     let answer = read_entries::<T, C, S>(alloc, reader, announced);
@@ -176,8 +157,8 @@ impl<'de, S: ByteSource> BinaryObjectDeserializer<'de, S> {
     /// Refuses the object: reads nothing, and returns `UnsupportedType(Object)`. (Not in tantivy.)
     pub fn unsupported<T>(self) -> Result<T, DeserializeError>
         requires { self.reader.now.has_failed ≡ false }
-        ensures { Deserializes S.ByteSource self.entry.reader.now
-            self.exit.1.1.0.now result (λ b x. ⊥) (λ w e. e ≡ errors.UnsupportedType types.Object) }
+        ensures { RefusesItems S.ByteSource types.Object self.entry.reader.now
+            (items_reader self.exit) result }
     {
         Err(DeserializeError::UnsupportedType(ValueType::Object))
     }
@@ -190,21 +171,7 @@ impl<'de, S: ByteSource> BinaryObjectDeserializer<'de, S> {
         alloc: Global,
     ) -> Result<Vec<(String, V)>, DeserializeError>
         requires { self.reader.now.has_failed ≡ false }
-        ensures deserializes { Deserializes S.ByteSource self.entry.reader.now
-            self.exit.1.1.0.now result
-            (EncodesInto (λ items xs. items.items ≡ xs)
-            (EncodesEntry V.is (version_of self.entry.reader.now.version))
-            (self.entry.announced - self.entry.position))
-            (InEach (EntryRefused V.refused (version_of self.entry.reader.now.version))
-            (EncodesEntry V.is (version_of self.entry.reader.now.version))
-            (self.entry.announced - self.entry.position)) }
-        ensures deep { WhereTooDeep S.ByteSource self.entry.reader.now self.exit.1.1.0.now result
-            (λ v levels. AmongRead (EncodesEntry V.is v) (AtEntry V.deep v levels)
-            (self.entry.announced - self.entry.position)) }
-        ensures within { WhereRead S.ByteSource self.entry.reader.now self.exit.1.1.0.now result
-            (λ v levels. AtEach (AtEntry V.within v levels)
-            (self.entry.announced - self.entry.position)) }
-        ensures marks_failure { self.exit.1.1.0.now.has_failed ≡ is_err result }
+        ensures { ReadsAllEntries S.ByteSource V.ValueDeserialize self.entry self.exit result }
     {
         let BinaryObjectDeserializer {
             announced,
@@ -226,20 +193,7 @@ impl<'de, S: ByteSource> BinaryObjectDeserializer<'de, S> {
         alloc: Global,
     ) -> Result<Option<(String, V)>, DeserializeError>
         ensures same_reader { self.new.reader.ghost_name ≡ self.old.reader.ghost_name }
-        ensures announced { self.new.announced ≡ self.old.announced }
-        ensures position { self.new.position
-            ≡ self.old.position + (if gives_some result then 1 else 0) }
-        ensures deserializes { Deserializes S.ByteSource self.old.reader.now
-            self.new.reader.now result
-            (NextItem (EncodesEntry V.is (version_of self.old.reader.now.version)) self.old.position
-            self.old.announced)
-            (NextItemRefused (EntryRefused V.refused (version_of self.old.reader.now.version))
-            self.old.position self.old.announced) }
-        ensures deep { WhereTooDeep S.ByteSource self.old.reader.now self.new.reader.now result
-            (AtItem (AtEntry V.deep) self.old.position self.old.announced) }
-        ensures within { WhereGiven S.ByteSource self.old.reader.now self.new.reader.now result
-            (AtItem (AtEntry V.within) self.old.position self.old.announced) }
-        ensures marks_failure { OnErr result (self.new.reader.now.has_failed ≡ true) }
+        ensures reads { ReadsNextEntry S.ByteSource V.ValueDeserialize self.old self.new result }
     {
         self.reader.go_on()?;
         if self.position >= self.announced {

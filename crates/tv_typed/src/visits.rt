@@ -1,15 +1,13 @@
 //! Handing what stands in a store to a visitor.
 
 ghost use Rattle.std.specs.Prelude.{◌≡◌, false, is_err, IsTrue, OnOk};
-ghost use Rattle.tv_format.specs.Version.{V2, entry_total};
+ghost use Rattle.tv_format.specs.Version.{V2};
 ghost use Rattle.tv_reader.specs.Leaves.{is_leaf_type};
-ghost use Rattle.tv_reader.specs.Version.{version_of};
-ghost use Rattle.tv_reader.specs.declared.value_type.ValueType.TheVariants as types;
 ghost use Rattle.tv_reader.specs.declared.version.DocStoreVersion.TheVariants as stores;
 ghost use Rattle.tv_typed.specs.LegacyObjects.{OfEncoding};
-ghost use Rattle.tv_typed.specs.Lists.{element_total};
-ghost use Rattle.tv_typed.specs.Typed.{Deserializes};
-ghost use Rattle.tv_typed.specs.Visits.{Visits, VisitsItems, VisitsKind, VisitsLegacy, EncodesNextVisited, NextVisitRefused};
+ghost use Rattle.tv_typed.specs.Typed.{Deserializes, value_reader};
+ghost use Rattle.tv_typed.specs.Visitors.{Visits, VisitsArray, VisitsKind, VisitsLegacy, VisitsObject, VisitsValue};
+ghost use Rattle.tv_typed.specs.Visits.{EncodesNextVisited, NextVisitRefused};
 
 use crate::array::BinaryArrayDeserializer;
 use crate::de::BinaryValueDeserializer;
@@ -48,7 +46,8 @@ impl<S: ByteSource> StoreReader<S> {
         visitor: &V,
     ) -> Result<V::Value, DeserializeError>
         requires { IsTrue (is_leaf_type kind) }
-        ensures visits { Visits S.ByteSource self.old self.new kind (V.answers visitor.now) result }
+        ensures visits { Visits S.ByteSource V.ValueVisitor visitor.now kind self.old self.new
+            result }
         ensures unmarked { OnOk result (self.new.has_failed ≡ false) }
     {
         self.go_on()?;
@@ -65,9 +64,8 @@ impl<S: ByteSource> StoreReader<S> {
         kind: ValueType,
         visitor: &V,
     ) -> Result<V::Value, DeserializeError>
-        ensures visits { VisitsItems S.ByteSource self.old self.new types.Array
-            element_total (V.of_array visitor.now (version_of self.old.version))
-            (V.array_refused visitor.now (version_of self.old.version)) kind result }
+        ensures visits { VisitsArray S.ByteSource V.ValueVisitor visitor.now kind self.old self.new
+            result }
         ensures unmarked { OnOk result (self.new.has_failed ≡ false) }
     {
         let announced = self.array_length(kind)?;
@@ -86,10 +84,8 @@ impl<S: ByteSource> StoreReader<S> {
         kind: ValueType,
         visitor: &V,
     ) -> Result<V::Value, DeserializeError>
-        ensures visits { VisitsItems S.ByteSource self.old self.new types.Object
-            (entry_total (version_of self.old.version))
-            (V.of_object visitor.now (version_of self.old.version))
-            (V.object_refused visitor.now (version_of self.old.version)) kind result }
+        ensures visits { VisitsObject S.ByteSource V.ValueVisitor visitor.now kind self.old self.new
+            result }
         ensures unmarked { OnOk result (self.new.has_failed ≡ false) }
     {
         let announced = self.object_length(kind)?;
@@ -122,8 +118,8 @@ impl<S: ByteSource> StoreReader<S> {
         alloc: Global,
         visitor: &V,
     ) -> Result<V::Value, DeserializeError>
-        ensures visits { VisitsLegacy S.ByteSource self.old self.new
-            (V.of_object visitor.now V2) (V.object_refused visitor.now V2) result }
+        ensures visits { VisitsLegacy S.ByteSource V.ValueVisitor visitor.now self.old self.new
+            result }
         ensures unmarked { OnOk result (self.new.has_failed ≡ false) }
     {
         let tree = self.legacy_tree(alloc)?;
@@ -138,9 +134,8 @@ impl<S: ByteSource> StoreReader<S> {
         kind: ValueType,
         visitor: &V,
     ) -> Result<V::Value, DeserializeError>
-        ensures visits { VisitsKind S.ByteSource kind (V.answers visitor.now)
-            (V.of_array visitor.now) (V.array_refused visitor.now) (V.of_object visitor.now)
-            (V.object_refused visitor.now) self.old self.new result }
+        ensures visits { VisitsKind S.ByteSource V.ValueVisitor visitor.now kind self.old self.new
+            result }
         ensures unmarked { OnOk result (self.new.has_failed ≡ false) }
     {
         match kind {
@@ -166,11 +161,9 @@ impl<'de, S: ByteSource> BinaryValueDeserializer<'de, S> {
         alloc: Global,
         visitor: &V,
     ) -> Result<V::Value, DeserializeError>
-        ensures visits { VisitsKind S.ByteSource self.entry.kind
-            (V.answers visitor.now) (V.of_array visitor.now) (V.array_refused visitor.now)
-            (V.of_object visitor.now) (V.object_refused visitor.now) self.entry.reader.now
-            self.exit.1.0.now result }
-        ensures marks_failure { self.exit.1.0.now.has_failed ≡ is_err result }
+        ensures visits { VisitsValue S.ByteSource V.ValueVisitor visitor.now self.entry self.exit
+            result }
+        ensures marks_failure { (value_reader self.exit).has_failed ≡ is_err result }
     {
         let BinaryValueDeserializer { kind, reader } = self;
         let answer = reader.visit_kind(alloc, kind, visitor);

@@ -12,34 +12,29 @@ use Rattle.tv_typed.proofs.DeserializeSteps.{goes_told, reads_calm}
 use Rattle.tv_typed.proofs.ItemSteps.{object_then, collection_fails}
 use Rattle.tv_typed.proofs.object.read_coded.Goals as goal
 
-pub returns-in_err-announced-clause-deserializes : goal.returns-in_err-announced-clause-deserializes
-returns-in_err-announced-clause-deserializes g c =
+pub returns-in_err-announced : goal.returns-in_err-announced
+returns-in_err-announced g c =
     let p = err_from_is_err_and c.from_residual.result c.from_residual.ensures.1 in
     let T = g.T.ValueDeserialize in
     let v = version_of c.args.reader.now.version in
-    rw (p.1, p.2) (collection_fails types.Object (entry_total v) c.args.kind (EncodesEntry T.is v) (EntryRefused T.refused v) (EncodedAs g.C.Entries.is v c.args.kind) c.in_err-announced.ensures.reads)
+    let r = c.in_err-announced.ensures.reads in
+    rw (p.1, p.2) (record {
+      deserializes = collection_fails types.Object (entry_total v) c.args.kind (EncodesEntry T.is v) (EntryRefused T.refused v) (EncodedAs g.C.Entries.is v c.args.kind) r;
+      deep = λ o t is. absurd (reads_calm _ refl r (err_of _ _ is));
+      within = λ o t is. absurd cc;
+    })
 
-pub returns-clause-deserializes : goal.returns-clause-deserializes
-returns-clause-deserializes g c =
+pub returns : goal.returns
+returns g c =
     let T = g.T.ValueDeserialize in
     let C = g.C.Entries in
-    goes_told c.is_err-reader.result c.is_err-reader.ensures.value (object_then T.is T.refused C.is C.made g.met.C.Entries.made_is c.args.kind c.in_ok-announced.ensures.reads c.read_entries-answer.ensures.deserializes)
-
-pub returns-in_err-announced-clause-deep : goal.returns-in_err-announced-clause-deep
-returns-in_err-announced-clause-deep g c =
-    let p = err_from_is_err_and c.from_residual.result c.from_residual.ensures.1 in
-    rw (p.1, p.2) (λ o t is. absurd (reads_calm _ refl c.in_err-announced.ensures.reads (err_of _ _ is)))
-
-pub returns-clause-deep : goal.returns-clause-deep
-returns-clause-deep g c =
-    let T = g.T.ValueDeserialize in
     let n = c.in_ok-announced.announced in
-    let d = deep_behind _ (λ v l old new. AmongRead (EncodesEntry T.is v) (AtEntry T.deep v l) n old new) c.in_ok-announced.ensures.reads (λ o t is. c.read_entries-answer.ensures.deep t is) in
-    λ o t is. let x = d o t is in (n, _, x.0, x.1)
-
-pub returns-clause-within : goal.returns-clause-within
-returns-clause-within g c =
-    let T = g.T.ValueDeserialize in
-    let n = c.in_ok-announced.announced in
-    let d = deep_behind _ (λ v l old new. AtEach (AtEntry T.within v l) n old new) c.in_ok-announced.ensures.reads (λ o t is. c.read_entries-answer.ensures.within t is) in
-    λ o t is. let x = d o t is in (n, _, x.0, x.1)
+    let p = c.in_ok-announced.ensures.reads in
+    let r = c.read_entries-answer.ensures in
+    let deep = deep_behind _ (λ v l old new. AmongRead (EncodesEntry T.is v) (AtEntry T.deep v l) n old new) p (λ o t is. r.deep o t is) in
+    let within = deep_behind _ (λ v l old new. AtEach (AtEntry T.within v l) n old new) p (λ o t is. r.within o t is) in
+    record {
+      deserializes = goes_told c.is_err-reader.result c.is_err-reader.ensures.value (object_then T.is T.refused C.is C.made g.met.C.Entries.made_is c.args.kind p r.deserializes);
+      deep = λ o t is. let x = deep o t is in (n, _, x.0, x.1);
+      within = λ o t is. let x = within o t is in (n, _, x.0, x.1);
+    }

@@ -1,22 +1,21 @@
-use Rattle.std.proofs.Common.{arith, refl}
+use Rattle.std.proofs.Common.{arith}
 use Rattle.std.proofs.lemmas.Result.{err_from_is_err_and}
-use Rattle.tv_reader.proofs.DepthSteps.{err_of}
-use Rattle.tv_reader.specs.Version.{version_of}
+use Rattle.tv_typed.specs.Depths.{AtValue}
 use Rattle.tv_typed.specs.Values.{EncodesAs, NextRefused}
-use Rattle.tv_typed.proofs.ItemSteps.{item_fails}
+use Rattle.tv_typed.proofs.NextSteps.{item_given, item_refused}
 use Rattle.tv_typed.proofs.array.BinaryArrayDeserializer.next_element.Goals as goal
 
-pub returns-in_err-value-clause-deserializes : goal.returns-in_err-value-clause-deserializes
-returns-in_err-value-clause-deserializes g c =
+pub returns-in_err-value-clause-reads : goal.returns-in_err-value-clause-reads
+returns-in_err-value-clause-reads g c =
     let p = err_from_is_err_and c.from_residual-in_err-value.result c.from_residual-in_err-value.ensures.1 in
     let V = g.V.ValueDeserialize in
-    let v = version_of c.args.self.now.reader.now.version in
-    rw (p.1, p.2) (item_fails (EncodesAs V.is v) (NextRefused V.refused v) c.args.self.now.position c.args.self.now.announced (omega (arith, c)) c.in_err-value.ensures.deserializes)
+    let d = c.args.self.now in
+    let r = c.in_err-value.ensures in
+    rw (p.1, p.2) (item_refused (EncodesAs V.is) (NextRefused V.refused) (AtValue V.deep) (AtValue V.within) d.announced d.position (omega (arith, c)) r.deserializes r.deep r.marks_failure)
 
-pub returns-in_err-value-clause-deep : goal.returns-in_err-value-clause-deep
-returns-in_err-value-clause-deep g c =
-    let p = err_from_is_err_and c.from_residual-in_err-value.result c.from_residual-in_err-value.ensures.1 in
-    rw (p.1, p.2) (λ is_open told is. (omega (arith, c), c.in_err-value.ensures.deep is_open told (err_of _ _ is)))
-
-pub returns-clause-within : goal.returns-clause-within
-returns-clause-within g c = λ is_open told is. (omega (arith, c), c.in_ok-value.ensures.within is_open told refl)
+pub returns-clause-reads : goal.returns-clause-reads
+returns-clause-reads g c =
+    let V = g.V.ValueDeserialize in
+    let d = c.args.self.now in
+    let r = c.in_ok-value.ensures in
+    item_given (EncodesAs V.is) (NextRefused V.refused) (AtValue V.deep) (AtValue V.within) d.announced d.position (omega (arith, c)) r.deserializes r.within r.marks_failure

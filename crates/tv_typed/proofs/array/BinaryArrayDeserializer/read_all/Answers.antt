@@ -1,11 +1,12 @@
 use Rattle.tv_typed.proofs.DeserializeSteps.{goes_told}
 use Rattle.tv_typed.proofs.array.BinaryArrayDeserializer.read_all.Goals as goal
 
-pub returns-clause-deserializes : goal.returns-clause-deserializes
-returns-clause-deserializes g c = goes_told c.is_err-reader.result c.is_err-reader.ensures.value (rw c.saturating_sub-rest.ensures at c.read_elements-answer.ensures.deserializes)
-
-pub returns-clause-deep : goal.returns-clause-deep
-returns-clause-deep g c = λ is_open told is. rw c.saturating_sub-rest.ensures at c.read_elements-answer.ensures.deep told is
-
-pub returns-clause-within : goal.returns-clause-within
-returns-clause-within g c = λ is_open told is. rw c.saturating_sub-rest.ensures at c.read_elements-answer.ensures.within told is
+pub returns : goal.returns
+returns g c =
+    let r = c.read_elements-answer.ensures in
+    record {
+      deserializes = goes_told c.is_err-reader.result c.is_err-reader.ensures.value (rw c.saturating_sub-rest.ensures at r.deserializes);
+      marks_failure = c.is_err-reader.ensures.value;
+      deep = λ o t is. rw c.saturating_sub-rest.ensures at r.deep o t is;
+      within = λ o t is. rw c.saturating_sub-rest.ensures at r.within o t is;
+    }

@@ -11,33 +11,31 @@ use Rattle.tv_reader.proofs.DepthSteps.{err_of}
 use Rattle.tv_typed.proofs.DeserializeSteps.{goes_told, reads_calm}
 use Rattle.tv_typed.proofs.collections.VecValueDeserialize.deserialize.Goals as goal
 
-pub returns-in_err-announced-clause-deserializes : goal.returns-in_err-announced-clause-deserializes
-returns-in_err-announced-clause-deserializes g c =
+pub returns-in_err-announced : goal.returns-in_err-announced
+returns-in_err-announced g c =
     let p = err_from_is_err_and c.from_residual.result c.from_residual.ensures.1 in
     let T = g.T.ValueDeserialize in
-    let v = version_of c.args.deserializer.reader.now.version in
-    rw (p.1, p.2) (collection_fails types.Array element_total c.args.deserializer.kind (EncodesAs T.is v) (NextRefused T.refused v) (EncodedAs (λ t list. ArrayOf T.is t list.items) v c.args.deserializer.kind) c.in_err-announced.ensures.reads)
+    let d = c.args.deserializer in
+    let v = version_of d.reader.now.version in
+    let r = c.in_err-announced.ensures.reads in
+    rw (p.1, p.2) (record {
+      deserializes = collection_fails types.Array element_total d.kind (EncodesAs T.is v) (NextRefused T.refused v) (EncodedAs (λ t list. ArrayOf T.is t list.items) v d.kind) r;
+      marks_failure = r.marks_failure;
+      deep = λ o t is. absurd (reads_calm _ refl r (err_of _ _ is));
+      within = λ o t is. absurd cc;
+    })
 
-pub returns-clause-deserializes : goal.returns-clause-deserializes
-returns-clause-deserializes g c =
-    let T = g.T.ValueDeserialize in
-    goes_told c.is_err-reader.result c.is_err-reader.ensures.value (array_then T.is T.refused c.args.deserializer.kind c.in_ok-announced.ensures.reads c.read_elements-answer.ensures.deserializes)
-
-pub returns-in_err-announced-clause-deep : goal.returns-in_err-announced-clause-deep
-returns-in_err-announced-clause-deep g c =
-    let p = err_from_is_err_and c.from_residual.result c.from_residual.ensures.1 in
-    rw (p.1, p.2) (λ o t is. absurd (reads_calm _ refl c.in_err-announced.ensures.reads (err_of _ _ is)))
-
-pub returns-clause-deep : goal.returns-clause-deep
-returns-clause-deep g c =
+pub returns : goal.returns
+returns g c =
     let T = g.T.ValueDeserialize in
     let n = c.in_ok-announced.announced in
-    let d = deep_behind _ (λ v l old new. AmongRead (EncodesAs T.is v) (AtValue T.deep v l) n old new) c.in_ok-announced.ensures.reads (λ o t is. c.read_elements-answer.ensures.deep t is) in
-    λ o t is. let x = d o t is in (n, _, x.0, x.1)
-
-pub returns-clause-within : goal.returns-clause-within
-returns-clause-within g c =
-    let T = g.T.ValueDeserialize in
-    let n = c.in_ok-announced.announced in
-    let d = deep_behind _ (λ v l old new. AtEach (AtValue T.within v l) n old new) c.in_ok-announced.ensures.reads (λ o t is. c.read_elements-answer.ensures.within t is) in
-    λ o t is. let x = d o t is in (n, _, x.0, x.1)
+    let p = c.in_ok-announced.ensures.reads in
+    let r = c.read_elements-answer.ensures in
+    let deep = deep_behind _ (λ v l old new. AmongRead (EncodesAs T.is v) (AtValue T.deep v l) n old new) p (λ o t is. r.deep o t is) in
+    let within = deep_behind _ (λ v l old new. AtEach (AtValue T.within v l) n old new) p (λ o t is. r.within o t is) in
+    record {
+      deserializes = goes_told c.is_err-reader.result c.is_err-reader.ensures.value (array_then T.is T.refused c.args.deserializer.kind p r.deserializes);
+      marks_failure = c.is_err-reader.ensures.value;
+      deep = λ o t is. let x = deep o t is in (n, _, x.0, x.1);
+      within = λ o t is. let x = within o t is in (n, _, x.0, x.1);
+    }

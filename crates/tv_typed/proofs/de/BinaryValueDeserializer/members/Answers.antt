@@ -1,5 +1,7 @@
 use Rattle.tv_typed.proofs.DeserializeSteps.{goes_told}
 use Rattle.tv_typed.proofs.de.BinaryValueDeserializer.members.Goals as goal
 
-pub returns-clause-deserializes : goal.returns-clause-deserializes
-returns-clause-deserializes g c = goes_told c.is_err-reader.result c.is_err-reader.ensures.value c.read_object-answer.ensures.deserializes
+pub returns : goal.returns
+returns g c =
+    let r = c.read_object-answer.ensures in
+    record { deserializes = goes_told c.is_err-reader.result c.is_err-reader.ensures.value r.deserializes; marks_failure = c.is_err-reader.ensures.value; deep = r.deep; within = r.within }

@@ -1,22 +1,21 @@
-use Rattle.std.proofs.Common.{arith, refl}
+use Rattle.std.proofs.Common.{arith}
 use Rattle.std.proofs.lemmas.Result.{err_from_is_err_and}
-use Rattle.tv_reader.proofs.DepthSteps.{err_of}
-use Rattle.tv_reader.specs.Version.{version_of}
+use Rattle.tv_typed.specs.Depths.{AtEntry}
 use Rattle.tv_typed.specs.Lists.{EncodesEntry, EntryRefused}
-use Rattle.tv_typed.proofs.ItemSteps.{item_fails}
+use Rattle.tv_typed.proofs.NextSteps.{item_given, item_refused}
 use Rattle.tv_typed.proofs.object.BinaryObjectDeserializer.next_entry.Goals as goal
 
-pub returns-in_err-entry-clause-deserializes : goal.returns-in_err-entry-clause-deserializes
-returns-in_err-entry-clause-deserializes g c =
+pub returns-in_err-entry-clause-reads : goal.returns-in_err-entry-clause-reads
+returns-in_err-entry-clause-reads g c =
     let p = err_from_is_err_and c.from_residual-in_err-entry.result c.from_residual-in_err-entry.ensures.1 in
     let V = g.V.ValueDeserialize in
-    let v = version_of c.args.self.now.reader.now.version in
-    rw (p.1, p.2) (item_fails (EncodesEntry V.is v) (EntryRefused V.refused v) c.args.self.now.position c.args.self.now.announced (omega (arith, c)) c.in_err-entry.ensures.deserializes)
+    let d = c.args.self.now in
+    let r = c.in_err-entry.ensures in
+    rw (p.1, p.2) (item_refused (EncodesEntry V.is) (EntryRefused V.refused) (AtEntry V.deep) (AtEntry V.within) d.announced d.position (omega (arith, c)) r.deserializes r.deep r.marks_failure)
 
-pub returns-in_err-entry-clause-deep : goal.returns-in_err-entry-clause-deep
-returns-in_err-entry-clause-deep g c =
-    let p = err_from_is_err_and c.from_residual-in_err-entry.result c.from_residual-in_err-entry.ensures.1 in
-    rw (p.1, p.2) (λ is_open told is. (omega (arith, c), c.in_err-entry.ensures.deep is_open told (err_of _ _ is)))
-
-pub returns-clause-within : goal.returns-clause-within
-returns-clause-within g c = λ is_open told is. (omega (arith, c), c.in_ok-entry.ensures.within is_open told refl)
+pub returns-clause-reads : goal.returns-clause-reads
+returns-clause-reads g c =
+    let V = g.V.ValueDeserialize in
+    let d = c.args.self.now in
+    let r = c.in_ok-entry.ensures in
+    item_given (EncodesEntry V.is) (EntryRefused V.refused) (AtEntry V.deep) (AtEntry V.within) d.announced d.position (omega (arith, c)) r.deserializes r.within r.marks_failure
