@@ -66,11 +66,7 @@ impl Report<DocumentReport> for Numbers {
 }
 
 // Imports the lines to the sink, and gives how many were stored, and the numbers of those that are refused.
-fn import(
-    alloc: Global,
-    schema: &Schema,
-    block: &mut VecSink,
-) -> Option<(Imported, Vec<u64>)> {
+fn import(alloc: Global, schema: &Schema, block: &mut VecSink) -> Option<(Imported, Vec<u64>)> {
     let mut importer = LineImporter::new(
         alloc,
         ImportRules {
@@ -154,9 +150,18 @@ fn documents_are_found_in_a_block(rt: HostRuntime) -> Result<(), Fail> {
     let schema = read_schema(alloc, SCHEMA).expect(&rt, "a schema");
     let mut block = VecSink::new(alloc);
     let _ = import(alloc, &schema, &mut block).expect(&rt, "an import");
-    let (lines, found, numbers) = found(alloc, &schema, block.as_slice(), "u:7 AND (s:tents OR s:ten*)").expect(&rt, "a search");
+    let (lines, found, numbers) = found(
+        alloc,
+        &schema,
+        block.as_slice(),
+        "u:7 AND (s:tents OR s:ten*)",
+    )
+    .expect(&rt, "a search");
     assert!(rt; found.documents == 3 && found.found == 2 && found.faulty == 0);
     assert!(rt; numbers.as_slice() == [0, 2].as_slice());
-    assert!(rt; lines.as_slice() == b"{\"s\":[\"tent\"],\"u\":[7]}\n{\"s\":[\"tents\"],\"u\":[7]}\n".as_slice());
+    assert!(rt;
+        lines.as_slice()
+            == b"{\"s\":[\"tent\"],\"u\":[7]}\n{\"s\":[\"tents\"],\"u\":[7]}\n".as_slice()
+    );
     Ok(())
 }

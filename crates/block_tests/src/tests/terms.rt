@@ -27,14 +27,23 @@ fn terms_of_a_block_are_written(rt: HostRuntime) -> Result<(), Fail> {
         field: 0,
         bytes: 0,
     };
-    let imported = import_lines(alloc, SCHEMA, LINES, &mut block, &mut [none; 3]).expect(&rt, "a block");
+    let imported = import_lines(alloc, SCHEMA, LINES, &mut block, &mut [none; 3]).expect(
+        &rt, "a block",
+    );
     let block = &block[..imported.bytes as usize];
     let mut terms = [KEPT; 100];
     let written = terms_of_block(alloc, 0, DocStoreVersion::V2, block, &mut terms);
     assert!(rt; written == Ok(87) && terms.starts_with(TERMS) && terms.ends_with(&[KEPT; 13]));
     let mut short = [KEPT; 86];
     let refused = terms_of_block(alloc, 0, DocStoreVersion::V2, block, &mut short);
-    assert!(rt; refused == Err(BlockError::TooSmall { bytes: 87, lines: 0 }) && short == [KEPT; 86]);
+    assert!(rt;
+        refused
+            == Err(BlockError::TooSmall {
+                bytes: 87,
+                lines: 0
+            })
+            && short == [KEPT; 86]
+    );
     Ok(())
 }
 
@@ -52,7 +61,9 @@ fn prefixes_have_ends(rt: HostRuntime) -> Result<(), Fail> {
     let alloc = rt.alloc();
     assert!(rt; has_end(alloc, b"ab", b"ac") && has_end(alloc, b"a\xff\xff", b"b"));
     let mut end = [KEPT; 4];
-    assert!(rt; end_of_prefix(alloc, b"\xff\xff", &mut end) == Err(BlockError::NoEnd) && end == [KEPT; 4]);
+    assert!(rt;
+        end_of_prefix(alloc, b"\xff\xff", &mut end) == Err(BlockError::NoEnd) && end == [KEPT; 4]
+    );
     assert!(rt; end_of_prefix(alloc, b"", &mut end) == Err(BlockError::NoEnd));
     Ok(())
 }

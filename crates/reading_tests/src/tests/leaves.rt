@@ -61,8 +61,9 @@ fn texts_are_read(rt: HostRuntime) -> Result<(), Fail> {
     let read = BinaryValueDeserializer::from_reader(&mut bytes)?.deserialize_bytes(alloc)?;
     assert!(rt; read.as_slice() == b"\xff\0".as_slice());
     let mut tokenized = reader(b"\x07\0\x82ab\x80");
-    let read = BinaryValueDeserializer::from_reader(&mut tokenized)?
-        .deserialize_pre_tokenized_string(alloc)?;
+    let read = BinaryValueDeserializer::from_reader(
+        &mut tokenized,
+    )?.deserialize_pre_tokenized_string(alloc)?;
     assert!(rt; read.text.as_str() == "ab" && read.tokens.is_empty());
     Ok(())
 }
