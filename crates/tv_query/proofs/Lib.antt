@@ -2,7 +2,11 @@ mod Words
 mod Parsing
 mod Naming
 mod Wanting
+mod Paths
 mod Selecting
 mod Running
 pub mod Telling
 mod Reading
+mod OneToken
+mod OneTree
+mod Refusing
