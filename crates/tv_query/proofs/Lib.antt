@@ -2,7 +2,6 @@ mod Words
 mod Parsing
 mod Naming
 mod Wanting
-mod Paths
 mod Selecting
 mod Running
 pub mod Telling
@@ -10,3 +9,4 @@ mod Reading
 mod OneToken
 mod OneTree
 mod Refusing
+mod OneQuery

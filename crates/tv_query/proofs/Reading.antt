@@ -59,7 +59,7 @@ chained : (o : Option ParserState) (xs ys : List QueryToken) (m : ParserState) (
 chained None xs ys m r is rest more = absurd (cc)
 chained (Some n) xs ys m r is rest more = more n is
 
-states_on : (xs ys : List QueryToken) (s m : ParserState) (r : Option ParserState) → after_all s xs ≡ Some m → after_all m ys ≡ r → after_all s (xs ++ ys) ≡ r
+pub states_on : (xs ys : List QueryToken) (s m : ParserState) (r : Option ParserState) → after_all s xs ≡ Some m → after_all m ys ≡ r → after_all s (xs ++ ys) ≡ r
 states_on [] ys s m r is rest = let same : s ≡ m = cc in subst (λ (t : ParserState). after_all t ys ≡ r) (sym same) rest
 states_on (x ∷ xs) ys s m r is rest = chained (after s x) xs ys m r is rest (λ n here. states_on xs ys n m r here rest)
 
@@ -67,7 +67,7 @@ closes_one : (depth : ℕ) → after_all (wants_operator (depth + 1)) (closed �
 closes_one depth = rw add-one refl
 
 module _ {schema : List Entry} where
-  writes_state : (level : Level) (ts : List QueryToken) (tree : QueryTree) (depth : ℕ) → WritesQuery schema level ts tree → after_all (wants_operand depth) ts ≡ Some (wants_operator depth)
+  pub writes_state : (level : Level) (ts : List QueryToken) (tree : QueryTree) (depth : ℕ) → WritesQuery schema level ts tree → after_all (wants_operand depth) ts ≡ Some (wants_operator depth)
   writes_state _ _ _ depth (of_clause s) = refl
   writes_state _ _ _ depth (in_parentheses {tokens = ts} w) = states_on ts (closed ∷ []) (wants_operand (depth + 1)) (wants_operator (depth + 1)) (Some (wants_operator depth)) (writes_state _ _ _ (depth + 1) w) (closes_one depth)
   writes_state _ _ _ depth (not_of w) = writes_state _ _ _ depth w
@@ -103,7 +103,7 @@ taken_on : (schema : List Entry) (xs ys : List QueryToken) → AllByRecursion (I
 taken_on schema [] ys xs_taken ys_taken = ys_taken
 taken_on schema (x ∷ xs) ys xs_taken ys_taken = (xs_taken.0, taken_on schema xs ys xs_taken.1 ys_taken)
 
-writes_taken : (schema : List Entry) (level : Level) (ts : List QueryToken) (tree : QueryTree) → WritesQuery schema level ts tree → AllByRecursion (IsTaken schema) ts
+pub writes_taken : (schema : List Entry) (level : Level) (ts : List QueryToken) (tree : QueryTree) → WritesQuery schema level ts tree → AllByRecursion (IsTaken schema) ts
 writes_taken schema _ _ _ (of_clause {selection = s} is) = ((s, is), tt)
 writes_taken schema _ _ _ (in_parentheses {tokens = ts} w) = (tt, taken_on schema ts (closed ∷ []) (writes_taken schema _ _ _ w) (tt, tt))
 writes_taken schema _ _ _ (not_of w) = (tt, writes_taken schema _ _ _ w)

@@ -12,7 +12,7 @@ use Rattle.tv_indexing.specs.TextTerms.{IsWrongRange, TermOfText, TermsBelow, Te
 use Rattle.tv_indexing.proofs.Answering.{in_found}
 use Rattle.tv_indexing.specs.Unless.{Unless}
 use Rattle.tv_query.specs.Tells.{UnlessFirst}
-use Rattle.tv_query.proofs.Paths.{named_or_none, names_one, path_or_field}
+use Rattle.tv_indexing.proofs.OneAnswer.{named_or_none, names_one, path_or_field}
 use Rattle.tv_schema.specs.Path.{find_or}
 use Rattle.tv_indexing.specs.declared.text_terms_error.TextTermsError.{TextTermsError}
 use Rattle.tv_indexing.specs.declared.text_terms_error.TextTermsError.TheVariants as texts
