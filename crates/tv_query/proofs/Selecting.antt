@@ -189,8 +189,8 @@ named_takes schema path wanted at why names is_indexed prefixes (indexed other a
     let one : other ≡ at = names_one schema path other at also names in
     let here : RefusesInField at wanted why = subst (λ (f : FoundField). RefusesInField f wanted why) one h in
     field_takes at wanted why (λ no_prefix.
-        let p = has_no_prefix at wanted (subst (RefusesInField at wanted) no_prefix here) in
-        let e : true ≡ false = sym (prefixes p.0 p.1) ∙ p.2 in absurd (cc)) here
+    let p = has_no_prefix at wanted (subst (RefusesInField at wanted) no_prefix here) in
+    let e : true ≡ false = sym (prefixes p.0 p.1) ∙ p.2 in absurd (cc)) here
 
 found_takes : (schema : List Entry) (path : List ℕ) (wanted : WantedText) (at : FoundField) (why : QueryReason) → FindsField schema path (Ok at) → ((s : List ℕ) → wanted ≡ of_prefix s → has_prefixes at.type ≡ true) → RefusesClause schema path wanted why → TakesMemory why
 found_takes schema path wanted at why (refused e x is) prefixes refuses = absurd (cc)

@@ -10,12 +10,12 @@ pub returns-in-Err : goal.returns-in-Err
 returns-in-Err c =
     let wanted = wanted_text c.args.wanted in (
       λ some.
-        let r = is_reason c.in-Err.error c.refused.result c.refused.ensures some in
-        subst (RefusesClause c.args.schema.now c.args.path.now wanted) (sym r.0)
-        (path_refused Clause (λ at. AnswersInField at wanted) c.args.schema.now c.args.path.now c.in-Err.error (c.in-Err.ensures.field r.1)),
+          let r = is_reason c.in-Err.error c.refused.result c.refused.ensures some in
+          subst (RefusesClause c.args.schema.now c.args.path.now wanted) (sym r.0)
+          (path_refused Clause (λ at. AnswersInField at wanted) c.args.schema.now c.args.path.now c.in-Err.error (c.in-Err.ensures.field r.1)),
       λ is why refuses.
-        let memory = reason_memory c.in-Err.error (sym c.refused.ensures ∙ is) in
-        none_takes c.args.schema.now c.args.path.now wanted why (c.in-Err.ensures.memory (ap Err memory)) refuses,
+          let memory = reason_memory c.in-Err.error (sym c.refused.ensures ∙ is) in
+          none_takes c.args.schema.now c.args.path.now wanted why (c.in-Err.ensures.memory (ap Err memory)) refuses,
     )
 
 pub returns-in-Text : goal.returns-in-Text
