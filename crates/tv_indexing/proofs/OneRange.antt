@@ -221,7 +221,7 @@ kind_one field path start end kind a b x y =
 backwards_one : (a b : Option (List ℕ)) (x y : Bool) → RunBackwards a b x → RunBackwards a b y → x ≡ y
 backwards_one (Some s) (Some t) x y v w =
     v.4 ∙ ap (λ n. told_or (above n v.1) (told_or (above (date_written_in (rfc s)) (date_written_in (rfc t))) (told_or (above (truth_in s) (truth_in t)) (is_lt (slice_cmp nat_cmp t s))))) (number_one s v.0 w.0 v.2 w.2)
-        ∙ ap (λ n. told_or (above w.0 n) (told_or (above (date_written_in (rfc s)) (date_written_in (rfc t))) (told_or (above (truth_in s) (truth_in t)) (is_lt (slice_cmp nat_cmp t s))))) (number_one t v.1 w.1 v.3 w.3) ∙ sym w.4
+    ∙ ap (λ n. told_or (above w.0 n) (told_or (above (date_written_in (rfc s)) (date_written_in (rfc t))) (told_or (above (truth_in s) (truth_in t)) (is_lt (slice_cmp nat_cmp t s))))) (number_one t v.1 w.1 v.3 w.3) ∙ sym w.4
 backwards_one None b x y v w = v ∙ sym w
 backwards_one (Some s) None x y v w = v ∙ sym w
 
