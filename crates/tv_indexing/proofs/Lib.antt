@@ -13,3 +13,5 @@ pub mod JsonRangeSteps
 pub mod TermTexts
 pub mod ByteNumbers
 pub mod ReadBack
+pub mod OneAnswer
+pub mod OneRange

@@ -7,6 +7,7 @@ pub mod KeyBytes
 pub mod Payloads
 pub mod JsonWalk
 pub mod Unless
+pub mod Agree
 pub mod IndexedField
 pub mod TextTerms
 pub mod TextRange

@@ -2,12 +2,15 @@
 
 ghost use Rattle.std.specs.Prelude.{◌≡◌, ◌<◌, ◌^◌, ◌∷◌, [], ℕ, List, Ok, Some};
 ghost use Rattle.std.specs.List.{Contains};
+ghost use Rattle.tv_field.specs.Entry.{Entry};
 ghost use Rattle.tv_field.specs.JsonAnswer.{WritesValue};
 ghost use Rattle.tv_field.specs.declared.field_type.FieldType.{FieldType};
 ghost use Rattle.tv_format.specs.Tree.{Leaf};
+ghost use Rattle.tv_indexing.specs.Agree.{Agree, FindSame, SaySame};
+ghost use Rattle.tv_indexing.specs.JsonRanges.{AnswersRanges, RangesAnswer};
 ghost use Rattle.tv_indexing.specs.LeafTerms.{json_value, leaf_value};
 ghost use Rattle.tv_indexing.specs.TermText.{IsTermOfField, leaf_text};
-ghost use Rattle.tv_indexing.specs.TextTerms.{TermOfText, WritesLeaves, WritesTerms};
+ghost use Rattle.tv_indexing.specs.TextTerms.{AnswersText, TermOfText, TermsAnswer, WritesLeaves, WritesTerms};
 ghost use Rattle.tv_term.specs.Key.{Fits, HasNoZero, Json, TermValue, term};
 ghost use Rattle.tv_value.specs.declared.field.Field.{Field};
 
@@ -44,3 +47,18 @@ pub fn texts_of_values_are_read_back()
     printed_facets_are_read();
     printed_dates_are_read();
 }
+
+/// A text has one answer at a path: two that `terms_of_text` may give, of which neither is for want of memory, agree.
+pub fn terms_of_texts_are_determined()
+    ensures { (schema : List Entry) (path text : List ℕ) (one other : TermsAnswer)
+        → AnswersText schema path text one → AnswersText schema path text other
+        → Agree SaySame (λ made also. made ≡ also) one other }
+{}
+
+/// A text has one answer as a range, too: two that `ranges_of_text` may give, of which neither is for want of memory, agree. Their ranges have the same
+/// terms.
+pub fn ranges_of_texts_are_determined()
+    ensures { (schema : List Entry) (path text : List ℕ) (one other : RangesAnswer)
+        → AnswersRanges schema path text one → AnswersRanges schema path text other
+        → Agree SaySame FindSame one other }
+{}

@@ -6,3 +6,7 @@ mod Selecting
 mod Running
 pub mod Telling
 mod Reading
+mod OneToken
+mod OneTree
+mod Refusing
+mod OneQuery

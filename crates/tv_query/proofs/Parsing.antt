@@ -1,9 +1,12 @@
 -- A parser's steps: what was read stays a beginning of a query.
-use Rattle.std.proofs.Common.{◌≡◌, ◌≢◌, ◌⊎◌, ℕ, ◌+◌, ◌<◌, List, [], ◌∷◌, ◌++◌, refl, sym, subst, ap, ◌∙◌, arith, append_assoc, inl, inr}
+use Rattle.std.proofs.Common.{◌≡◌, ◌≢◌, ◌⊎◌, ℕ, zero, ◌+◌, ◌<◌, List, [], ◌∷◌, ◌++◌, refl, sym, subst, ap, ◌∙◌, arith, append_assoc, inl, inr}
 use Rattle.std.proofs.lemmas.List.{same_from_push}
+use Rattle.std.proofs.lemmas.List.Elements.{Contains-append_left, Contains-append_right}
+use Rattle.std.specs.List.{Contains}
 use Rattle.tv_field.specs.Entry.{Entry}
-use Rattle.tv_query.specs.Grammar.{QueryTree, WritesQuery, all, any, both, either, factor, negation, selecting, steps_of}
+use Rattle.tv_query.specs.Grammar.{Level, QueryTree, WritesQuery, all, any, both, either, factor, negation, selecting, steps_of}
 use Rattle.tv_query.specs.Grammar.{all_alone, and_of, in_parentheses, not_of, of_clause, one_factor, or_of}
+use Rattle.tv_query.specs.Refusals.{HaveOperator}
 use Rattle.tv_query.specs.Parsing.{Awaits, EndsWithout, Follows, after_and, after_not, after_open, after_or, at_start}
 use Rattle.tv_query.specs.Selections.{Selects}
 use Rattle.tv_query.specs.Tokens.{QueryToken, WantedText, and_word, clause, closed, not_word, opened, or_word}
@@ -13,7 +16,7 @@ use Rattle.tv_query.specs.declared.query.Step.{Step}
 use Rattle.tv_query.specs.declared.query.Step.TheVariants as steps
 use Rattle.tv_query.specs.declared.selection.Selection.{Selection}
 
-no_push : {A : Type 0} (xs : List A) (x : A) → [] ≡ xs ++ x ∷ [] → ⊥
+pub no_push : {A : Type 0} (xs : List A) (x : A) → [] ≡ xs ++ x ∷ [] → ⊥
 no_push [] x e = absurd (cc)
 no_push (y ∷ ys) x e = absurd (cc)
 
@@ -244,3 +247,23 @@ module _ {schema : List Entry} where
     pub none_open : Follows schema any operators tokens written depth → EndsWithout Not operators → EndsWithout And operators → EndsWithout Or operators → EndsWithout Open operators → depth ≡ 0
     none_open f no_not no_and no_or no_open =
         elim (last_open operators f.before f.before_steps depth f.awaits no_not no_and no_or) [ inl w ↦ w.3 | inr w ↦ absurd (no_open w.0 w.1) ]
+
+  -- ---- which operators stand among the tokens
+
+  pub has_and : (level : Level) (operators before : List Operator) (tokens : List QueryToken) (written : List Step) (depth : ℕ) → Follows schema level operators tokens written depth → operators ≡ before ++ And ∷ [] → HaveOperator tokens
+  has_and level operators before tokens written depth f is =
+      let off = and_off operators f.before f.before_steps depth before f.awaits is in
+      let last = Contains-append_right off.operand (and_word ∷ []) and_word (zero, omega arith, refl) in
+      let within = subst (λ (l : List QueryToken). Contains l and_word) (sym off.tokens_are) (Contains-append_right off.earlier (off.operand ++ and_word ∷ []) and_word last) in
+      inl (subst (λ (l : List QueryToken). Contains l and_word) (sym f.tokens_are) (Contains-append_left f.before f.operand and_word within))
+
+  pub has_or : (level : Level) (operators before : List Operator) (tokens : List QueryToken) (written : List Step) (depth : ℕ) → Follows schema level operators tokens written depth → operators ≡ before ++ Or ∷ [] → HaveOperator tokens
+  has_or level operators before tokens written depth f is =
+      let off = or_off operators f.before f.before_steps depth before f.awaits is in
+      let last = Contains-append_right off.operand (or_word ∷ []) or_word (zero, omega arith, refl) in
+      let within = subst (λ (l : List QueryToken). Contains l or_word) (sym off.tokens_are) (Contains-append_right off.earlier (off.operand ++ or_word ∷ []) or_word last) in
+      inr (subst (λ (l : List QueryToken). Contains l or_word) (sym f.tokens_are) (Contains-append_left f.before f.operand or_word within))
+
+  pub some_open : (level : Level) (operators before : List Operator) (tokens : List QueryToken) (written : List Step) (depth : ℕ) → Follows schema level operators tokens written depth → operators ≡ before ++ Open ∷ [] → depth ≡ 0 → ⊥
+  some_open level operators before tokens written depth f is none =
+      let off = open_off operators f.before f.before_steps depth before f.awaits is in omega (arith, off.4, none)

@@ -8,9 +8,11 @@ use Rattle.tv_field.specs.Entry.{Entry}
 use Rattle.tv_query.specs.Grammar.{Level, ParserState, QueryTree, WritesQuery, after, after_all, factor, wants_operand, wants_operator}
 use Rattle.tv_query.specs.Grammar.{all_alone, and_of, in_parentheses, not_of, of_clause, one_factor, or_of}
 use Rattle.tv_query.specs.Parsing.{Awaits, Follows, IsAt, after_and, after_not, after_open, after_or, at_start, state_of}
-use Rattle.tv_query.specs.Refusals.{IsTaken, Refuses, RefusesRest}
+use Rattle.tv_query.specs.Refusals.{IsTaken, Refuses, RefusesRest, TakesMemoryAfter}
+use Rattle.tv_query.specs.Tells.{Tells}
+use Rattle.tv_query.specs.declared.query_error.QueryReason.TheVariants.{Memory}
 use Rattle.tv_query.specs.Tokens.{BeginsWithPath, BeginsWithToken, BeginsWithTokens, BeginsWithWanted, BeginsWithout, IsSpace, QueryToken, and_word, clause, closed, no_tokens, next_token, not_word, opened, or_word, star}
-use Rattle.tv_query.specs.Tokens.{IsOperator, IsQuoted, WantedText, all, bare, bracketed, closes, opens, operates, quoted, quoted_prefix, quoted_text, selects, word_prefix, word_text}
+use Rattle.tv_query.specs.Tokens.{IsQuoted, WantedText, all, bare, bracketed, closes, opens, operates, quoted, quoted_prefix, quoted_text, selects, word_prefix, word_text}
 use Rattle.tv_query.specs.declared.parser.Operator.{Operator}
 use Rattle.tv_query.specs.declared.parser.Parser.{Parser}
 use Rattle.tv_query.specs.declared.query.Step.{Step}
@@ -57,7 +59,7 @@ chained : (o : Option ParserState) (xs ys : List QueryToken) (m : ParserState) (
 chained None xs ys m r is rest more = absurd (cc)
 chained (Some n) xs ys m r is rest more = more n is
 
-states_on : (xs ys : List QueryToken) (s m : ParserState) (r : Option ParserState) → after_all s xs ≡ Some m → after_all m ys ≡ r → after_all s (xs ++ ys) ≡ r
+pub states_on : (xs ys : List QueryToken) (s m : ParserState) (r : Option ParserState) → after_all s xs ≡ Some m → after_all m ys ≡ r → after_all s (xs ++ ys) ≡ r
 states_on [] ys s m r is rest = let same : s ≡ m = cc in subst (λ (t : ParserState). after_all t ys ≡ r) (sym same) rest
 states_on (x ∷ xs) ys s m r is rest = chained (after s x) xs ys m r is rest (λ n here. states_on xs ys n m r here rest)
 
@@ -65,7 +67,7 @@ closes_one : (depth : ℕ) → after_all (wants_operator (depth + 1)) (closed �
 closes_one depth = rw add-one refl
 
 module _ {schema : List Entry} where
-  writes_state : (level : Level) (ts : List QueryToken) (tree : QueryTree) (depth : ℕ) → WritesQuery schema level ts tree → after_all (wants_operand depth) ts ≡ Some (wants_operator depth)
+  pub writes_state : (level : Level) (ts : List QueryToken) (tree : QueryTree) (depth : ℕ) → WritesQuery schema level ts tree → after_all (wants_operand depth) ts ≡ Some (wants_operator depth)
   writes_state _ _ _ depth (of_clause s) = refl
   writes_state _ _ _ depth (in_parentheses {tokens = ts} w) = states_on ts (closed ∷ []) (wants_operand (depth + 1)) (wants_operator (depth + 1)) (Some (wants_operator depth)) (writes_state _ _ _ (depth + 1) w) (closes_one depth)
   writes_state _ _ _ depth (not_of w) = writes_state _ _ _ depth w
@@ -101,7 +103,7 @@ taken_on : (schema : List Entry) (xs ys : List QueryToken) → AllByRecursion (I
 taken_on schema [] ys xs_taken ys_taken = ys_taken
 taken_on schema (x ∷ xs) ys xs_taken ys_taken = (xs_taken.0, taken_on schema xs ys xs_taken.1 ys_taken)
 
-writes_taken : (schema : List Entry) (level : Level) (ts : List QueryToken) (tree : QueryTree) → WritesQuery schema level ts tree → AllByRecursion (IsTaken schema) ts
+pub writes_taken : (schema : List Entry) (level : Level) (ts : List QueryToken) (tree : QueryTree) → WritesQuery schema level ts tree → AllByRecursion (IsTaken schema) ts
 writes_taken schema _ _ _ (of_clause {selection = s} is) = ((s, is), tt)
 writes_taken schema _ _ _ (in_parentheses {tokens = ts} w) = (tt, taken_on schema ts (closed ∷ []) (writes_taken schema _ _ _ w) (tt, tt))
 writes_taken schema _ _ _ (not_of w) = (tt, writes_taken schema _ _ _ w)
@@ -159,7 +161,7 @@ module _ {schema : List Entry} {text : List ℕ} {parser : Parser} {rest : List 
         at = at.1;
       }
 
-  pub refuses_here : (error : QueryError) → error.place + length rest ≡ length text → RefusesRest schema (state_of parser r.depth) rest error.reason → Refuses schema text error
+  pub refuses_here : (error : QueryError) → error.place + length rest ≡ length text → Tells Memory (TakesMemoryAfter r.tokens) (RefusesRest schema (state_of parser r.depth) rest) error.reason → Refuses schema text error
   refuses_here error place reason = record {
     tokens = r.tokens;
     space = r.space;
@@ -198,16 +200,8 @@ wanted_longer whole _ _ (quoted_text {inner = i} {rest = r} q without) = omega (
 wanted_longer whole _ _ (word_prefix {inner = i} {rest = r} w) = no_longer whole (i ++ star) r w.up_to.text_is
 wanted_longer whole _ _ (word_text {word = w} {rest = r} b other) = no_longer whole w r b.up_to.text_is
 
-operator_some : (token : QueryToken) (word : List ℕ) → IsOperator token word → word ≢ []
-operator_some and_word word is = λ e. cc
-operator_some or_word word is = λ e. cc
-operator_some not_word word is = λ e. cc
-operator_some opened word is = absurd is
-operator_some closed word is = absurd is
-operator_some (clause path wanted) word is = absurd is
-
 pub token_longer : (whole : List ℕ) (token : QueryToken) (rest : List ℕ) → BeginsWithToken whole token rest → length rest < length whole
 token_longer whole _ _ (opens {rest = r} is) = omega (arith, ap length is)
 token_longer whole _ _ (closes {rest = r} is) = omega (arith, ap length is)
-token_longer whole _ _ (operates {token = t} {word = w} {rest = r} o is) = longer_by whole w r o.up_to.text_is (operator_some t w is)
+token_longer whole _ _ (operates {token = t} {word = w} {rest = r} o is) = longer_by whole w r o.up_to.text_is o.some
 token_longer whole _ _ (selects {path = p} {middle = m} {rest = r} {wanted = w} begins wants) = omega (arith, path_longer whole p m begins, wanted_longer m w r wants)

@@ -1,21 +1,12 @@
 -- Lists gone over, and what a clause wants.
 use Rattle.std.proofs.Common.{◌≡◌, ◌⊎◌, ◌↔◌, ℕ, zero, suc, ◌<◌, List, [], ◌∷◌, length, get_or, true, false, Some, sym, subst, arith, inl, inr, slice_get}
 use Rattle.std.specs.List.{Any}
+use Rattle.tv_indexing.proofs.OneRange.{any_cons, any_rest}
 use Rattle.tv_query.specs.Selections.{AreOfFirst}
 use Rattle.tv_term.specs.Range.{HasPrefixed}
 use Rattle.tv_term.specs.declared.range.TermRange.{TermRange}
 
 -- ---- some element
-
-any_of_cons : {X : Type 0} (P : X → Type 0) (x : X) (xs : List X) (k : ℕ) (y : X) → k < length (x ∷ xs) → get_or (x ∷ xs) k y ≡ y → P y → P x ⊎ Any P xs
-any_of_cons P x xs zero y lt is p = inl (subst P (sym is) p)
-any_of_cons P x xs (suc k) y lt is p = inr (k, y, omega arith, is, p)
-
-pub any_cons : {X : Type 0} (P : X → Type 0) (x : X) (xs : List X) → Any P (x ∷ xs) → P x ⊎ Any P xs
-any_cons P x xs a = any_of_cons P x xs a.0 a.1 a.2 a.3 a.4
-
-pub any_rest : {X : Type 0} (P : X → Type 0) (x : X) (xs : List X) → Any P xs → Any P (x ∷ xs)
-any_rest P x xs a = (suc a.0, a.1, omega (arith, a.2), a.3, a.4)
 
 -- the elements that are left have one exactly where all have, and the next is none
 pub any_left : {X : Type 0} (P : X → Type 0) (whole left next : List X) (x : X) → left ≡ x ∷ next → (P x → ⊥) → Any P whole ↔ Any P left → Any P whole ↔ Any P next

@@ -7,7 +7,8 @@ use Rattle.std.proofs.lemmas.List.{take-append-drop, length-append}
 use Rattle.std.proofs.lemmas.Str.{IsCharBoundary-after_ascii}
 use Rattle.std.specs.Str.{IsCharBoundary, IsUtf8, NonePass}
 use Rattle.tv_query.specs.Refusals.{IsUnclosed, IsUnquoted, RefusesWanted, nothing}
-use Rattle.tv_query.specs.Tokens.{BeginsWithQuote, BeginsWithout, IsBracketed, IsEmptyOrBegins, IsQuoted, IsUpTo, closes_range, ends_word, is_quote, opens_range, stops_at}
+use Rattle.std.specs.Char.{is_ascii_whitespace}
+use Rattle.tv_query.specs.Tokens.{BeginsWithQuote, BeginsWithout, IsBracketed, IsEmptyOrBegins, IsOperator, IsQuoted, IsUpTo, QueryToken, and_word, clause, closed, closes_range, ends_path, ends_word, is_quote, not_word, opened, opens_range, or_word, stops_at}
 use Rattle.tv_query.specs.declared.query_error.QueryReason.TheVariants.{NoText}
 use Rattle.tv_query.specs.declared.token.Stop.{Stop}
 use Rattle.tv_query.specs.declared.token.Stop.TheVariants as stop
@@ -138,3 +139,27 @@ nothing_wanted text word rest parts none no_quote = nothing no_quote (subst (IsE
 pub no_bracket_in : (text word rest : List ℕ) → text ≡ word ++ rest → BeginsWithout opens_range text → BeginsWithout opens_range word
 no_bracket_in text [] rest is without = tt
 no_bracket_in text (b ∷ bs) rest is without = subst (BeginsWithout opens_range) is without
+
+pub operator_some : (token : QueryToken) (word : List ℕ) → IsOperator token word → word ≢ []
+operator_some and_word word is = λ e. cc
+operator_some or_word word is = λ e. cc
+operator_some not_word word is = λ e. cc
+operator_some opened word is = absurd is
+operator_some closed word is = absurd is
+operator_some (clause path wanted) word is = absurd is
+
+-- what begins with no white space, parenthesis or quote begins with a word or a colon
+pub begins_word : (text : List ℕ) → BeginsWithout is_ascii_whitespace text → BeginsWithout (λ b. b == 40) text → BeginsWithout (λ b. b == 41) text → BeginsWithout is_quote text → BeginsWithout ends_word text
+begins_word [] no_space no_opening no_closing no_quote = tt
+begins_word (b ∷ bs) no_space no_opening no_closing no_quote = grind (arith, nat_tests)
+
+no_other_end : (text rest : List ℕ) → text ≡ rest → text ≢ [] → BeginsWithout ends_word text → IsEmptyOrBegins ends_path rest → BeginsWithout (λ b. b == 58) rest → ⊥
+no_other_end text [] is some no_end ends no_colon = some is
+no_other_end text (b ∷ bs) is some no_end ends no_colon =
+    let plain : ends_word b ≡ false = subst (BeginsWithout ends_word) is no_end in
+    grind (arith, nat_tests, plain, ends, no_colon)
+
+-- such a word has a byte or more, where no colon follows
+pub word_some : (text word rest : List ℕ) → IsUpTo ends_path text word rest → text ≢ [] → BeginsWithout ends_word text → BeginsWithout (λ b. b == 58) rest → word ≢ []
+word_some text (b ∷ bs) rest up_to some no_end no_colon = λ e. cc
+word_some text [] rest up_to some no_end no_colon = λ e. no_other_end text rest up_to.text_is some no_end up_to.ends no_colon

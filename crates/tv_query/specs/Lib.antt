@@ -1,3 +1,4 @@
+pub mod Tells
 pub mod Tokens
 pub mod Selections
 pub mod Grammar

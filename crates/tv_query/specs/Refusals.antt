@@ -1,19 +1,21 @@
 -- Why a text is no query, and where.
 --
--- The word of the public contract, `Refuses`: before the place stand tokens that may follow one another, whose clauses the schema takes. What stands there is no token, or one that can't follow, or a
--- clause that the schema refuses, or the text ends there too early.
-use Rattle.std.specs.Prelude.{◌≡◌, ◌≢◌, ◌==◌, ◌<◌, ◌+◌, ℕ, List, [], ◌∷◌, ◌++◌, length, true, Some, None}
+-- The word of the public contract, `Refuses`: before the place stand tokens that may follow one another, whose clauses the schema takes. What stands there
+-- is no token, or one that can't follow, or a clause that the schema refuses, or the text ends there too early. The reason says which. Or it is want of
+-- memory, and then what stands there is right, or is found wrong only once memory was taken.
+use Rattle.std.specs.Prelude.{◌≡◌, ◌≢◌, ◌==◌, ◌<◌, ◌+◌, ◌⊎◌, ℕ, List, [], ◌∷◌, ◌++◌, length, true, Some, None}
 use Rattle.std.specs.Char.{is_ascii_whitespace}
-use Rattle.std.specs.List.{AllByRecursion}
+use Rattle.std.specs.List.{AllByRecursion, Contains}
 use Rattle.std.specs.Str.{NonePass}
 use Rattle.tv_field.specs.Entry.{Entry}
 use Rattle.tv_query.specs.Grammar.{ParserState, after, after_all, wants_operand, wants_operator}
-use Rattle.tv_query.specs.Selections.{RefusesClause, Selects}
+use Rattle.tv_query.specs.Tells.{Tells}
+use Rattle.tv_query.specs.Selections.{RefusesClause, Selects, TakesMemory}
 use Rattle.tv_query.specs.Tokens.{BeginsWithOperator, BeginsWithPath, BeginsWithToken, BeginsWithTokens, BeginsWithout, IsEmptyOrBegins, IsOperator, IsQuoted, IsSpace}
-use Rattle.tv_query.specs.Tokens.{QueryToken, WantedText, clause, closed, closes_range, ends_word, is_quote, opens_range}
+use Rattle.tv_query.specs.Tokens.{QueryToken, WantedText, and_word, clause, closed, closes_range, ends_word, is_quote, opens_range, or_word}
 use Rattle.tv_query.specs.declared.query_error.QueryError.{QueryError}
 use Rattle.tv_query.specs.declared.query_error.QueryReason.{QueryReason}
-use Rattle.tv_query.specs.declared.query_error.QueryReason.TheVariants.{NoColon, NoOperand, NoOperator, NoPath, NoText, Unclosed, Unended, Unopened}
+use Rattle.tv_query.specs.declared.query_error.QueryReason.TheVariants.{Memory, NoColon, NoOperand, NoOperator, NoPath, NoText, Unclosed, Unended, Unopened}
 use Rattle.tv_query.specs.declared.selection.Selection.{Selection}
 
 -- ---- a text that begins with no token
@@ -71,6 +73,17 @@ pub data RefusesRest (schema : List Entry) (state : ParserState) (text : List �
   no_token : text ≢ [] → RefusesToken text reason → RefusesRest schema state text reason
   no_place : {token : QueryToken} {rest : List ℕ} → BeginsWithToken text token rest → RefusesTaken schema state token reason → RefusesRest schema state text reason
 
+-- one of the tokens joins two operands
+abbrev pub HaveOperator : List QueryToken → Type 0
+HaveOperator tokens = Contains tokens and_word ⊎ Contains tokens or_word
+
+-- The reasons that take memory to find, after these tokens: of parentheses, where a step that joins two operands is written first; and those of a
+-- clause.
+abbrev pub TakesMemoryAfter : List QueryToken → QueryReason → Type 0
+TakesMemoryAfter tokens Unopened = HaveOperator tokens
+TakesMemoryAfter tokens Unclosed = HaveOperator tokens
+TakesMemoryAfter tokens reason = TakesMemory reason
+
 -- the schema refuses no clause that the token is
 abbrev pub IsTaken : List Entry → QueryToken → Type 0
 IsTaken schema (clause path wanted) = (selection : Selection) × Selects schema path wanted selection
@@ -88,4 +101,4 @@ pub record Refuses (schema : List Entry) (text : List ℕ) (error : QueryError) 
   pub place : error.place + length rest ≡ length text
   pub follow : after_all (wants_operand 0) tokens ≡ Some state
   pub taken : AllByRecursion (IsTaken schema) tokens
-  pub reason : RefusesRest schema state rest error.reason
+  pub reason : Tells Memory (TakesMemoryAfter tokens) (RefusesRest schema state rest) error.reason

@@ -75,6 +75,12 @@ Selects schema path wanted selection = AnswersClause schema path wanted (Ok sele
 abbrev pub RefusesClause : List Entry → List ℕ → WantedText → QueryReason → Type 0
 RefusesClause schema path wanted reason = AnswersClause schema path wanted (Err reason)
 
+-- the refusals of a clause that take memory to find: all but a field that isn't indexed, and one that has no prefixes
+abbrev pub TakesMemory : QueryReason → Type 0
+TakesMemory (Clause (texts.NotIndexed field)) = ⊥
+TakesMemory (Clause e) = Unit {0}
+TakesMemory reason = ⊥
+
 -- ---- wanted terms
 
 -- the term is one of those of the text, or in a range

@@ -101,9 +101,10 @@ pub data BeginsWithWanted (text : List ℕ) : WantedText → List ℕ → Type 0
   word_prefix : {inner rest : List ℕ} → BeginsWithWord text (inner ++ star) rest → BeginsWithWanted text (of_prefix inner) rest
   word_text : {word rest : List ℕ} → BeginsWithWord text word rest → ((inner : List ℕ) → word ≢ inner ++ star) → BeginsWithWanted text (of_text word) rest
 
--- a bare word that no colon follows
+-- a bare word that no colon follows; it has a byte or more
 pub record BeginsWithOperator (text word rest : List ℕ) : Type 0 where
   pub up_to : IsUpTo ends_path text word rest
+  pub some : word ≢ []
   pub no_colon : BeginsWithout (λ b. b == 58) rest
 
 -- the operator's word

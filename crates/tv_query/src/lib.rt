@@ -1,6 +1,7 @@
 //! Queries: texts that say which documents are wanted by their terms, and whether a document's terms match one.
 #![tactic(auto)]
 
+pub mod laws;
 pub mod matching;
 mod parser;
 pub mod query;

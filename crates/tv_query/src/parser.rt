@@ -1,10 +1,11 @@
 //! Tokens of a query, taken one by one.
 
-ghost use Rattle.std.specs.Prelude.{◌≡◌, ◌≢◌, ◌++◌, ◌∷◌, [], ℕ, false, IfErr, IfOk, List, MatchBool, OnOk};
+ghost use Rattle.std.specs.Prelude.{◌≡◌, ◌++◌, ◌∷◌, [], ℕ, false, IfErr, IfOk, List, MatchBool, OnErr, OnOk};
 ghost use Rattle.tv_field.specs.Entry.{Entry};
 ghost use Rattle.tv_query.specs.Grammar.{QueryTree, WritesQuery, any, factor, steps_of, wants_operand, wants_operator};
 ghost use Rattle.tv_query.specs.Parsing.{Awaits, EndsWithout, Follows, FollowsAll, FollowsAny, IsAt, state_of};
-ghost use Rattle.tv_query.specs.Refusals.{RefusesEnd, RefusesTaken};
+ghost use Rattle.tv_query.specs.Tells.{Tells};
+ghost use Rattle.tv_query.specs.Refusals.{HaveOperator, RefusesEnd, RefusesTaken, TakesMemoryAfter};
 ghost use Rattle.tv_query.specs.Selections.{Selects};
 ghost use Rattle.tv_query.specs.Tokens.{QueryToken, WantedText, and_word, clause, closed, or_word, token_of};
 ghost use Rattle.tv_query.specs.declared.query_error.QueryReason.TheVariants.{Memory, Unopened};
@@ -83,6 +84,9 @@ impl Parser {
             → Follows schema factor self.old.operators.items tokens self.old.steps.items depth
             → EndsWithout Not self.old.operators.items
             → OnOk result (FollowsAll schema self.new tokens depth) }
+        ensures memory { (schema : List Entry) (tokens : List QueryToken) (depth : ℕ)
+            → Follows schema factor self.old.operators.items tokens self.old.steps.items depth
+            → OnErr result (HaveOperator tokens) }
         ensures wants_operand { self.new.wants_operand ≡ self.old.wants_operand }
     {
         if take_off(&mut self.operators, Operator::And) {
@@ -97,6 +101,10 @@ impl Parser {
             → Follows schema factor self.old.operators.items tokens self.old.steps.items depth
             → EndsWithout Not self.old.operators.items
             → OnOk result (FollowsAny schema self.new tokens depth) }
+        ensures memory { (schema : List Entry) (tokens : List QueryToken) (depth : ℕ)
+            → Follows schema factor self.old.operators.items tokens self.old.steps.items depth
+            → EndsWithout Not self.old.operators.items
+            → OnErr result (HaveOperator tokens) }
         ensures wants_operand { self.new.wants_operand ≡ self.old.wants_operand }
     {
         self.write_and()?;
@@ -141,8 +149,9 @@ impl Parser {
             → Awaits schema.now self.old.operators.items tokens self.old.steps.items depth
             → OnOk result ((next : ℕ)
             × IsAt schema.now self.new (tokens ++ token_of token.entry ∷ []) next) }
-        ensures refused { (depth : ℕ) → IfErr result (λ e. e ≢ Memory
-            → RefusesTaken schema.now (wants_operand depth) (token_of token.entry) e) }
+        ensures refused { (tokens : List QueryToken) (depth : ℕ)
+            → IfErr result (Tells Memory (TakesMemoryAfter tokens)
+            (RefusesTaken schema.now (wants_operand depth) (token_of token.entry))) }
     {
         match token {
             Token::Open => Ok(self.wait(Operator::Open)?),
@@ -164,7 +173,8 @@ impl Parser {
         ensures refused { (schema : List Entry) (tokens : List QueryToken) (depth : ℕ)
             → Follows schema factor self.old.operators.items tokens self.old.steps.items depth
             → EndsWithout Not self.old.operators.items
-            → IfErr result (λ e. e ≢ Memory → (e ≡ Unopened) × (depth ≡ 0)) }
+            → IfErr result (Tells Memory (λ e. HaveOperator tokens)
+            (λ e. (e ≡ Unopened) × (depth ≡ 0))) }
     {
         self.write_or()?;
         if !take_off(&mut self.operators, Operator::Open) {
@@ -205,8 +215,8 @@ impl Parser {
         ensures refused { (schema : List Entry) (tokens : List QueryToken) (depth : ℕ)
             → Follows schema factor self.old.operators.items tokens self.old.steps.items depth
             → EndsWithout Not self.old.operators.items
-            → IfErr result (λ e. e ≢ Memory
-            → RefusesTaken schema (wants_operator depth) (token_of token.entry) e) }
+            → IfErr result (Tells Memory (TakesMemoryAfter tokens)
+            (RefusesTaken schema (wants_operator depth) (token_of token.entry))) }
     {
         match token {
             Token::And => Ok(self.take_and()?),
@@ -231,8 +241,8 @@ impl Parser {
             × IsAt schema.now self.new (tokens ++ token_of token.entry ∷ []) next) }
         ensures refused { (tokens : List QueryToken) (depth : ℕ)
             → IsAt schema.now self.old tokens depth
-            → IfErr result (λ e. e ≢ Memory
-            → RefusesTaken schema.now (state_of self.old depth) (token_of token.entry) e) }
+            → IfErr result (Tells Memory (TakesMemoryAfter tokens)
+            (RefusesTaken schema.now (state_of self.old depth) (token_of token.entry))) }
     {
         if self.wants_operand {
             self.take_operand(alloc, schema, token)
@@ -251,7 +261,8 @@ impl Parser {
             × (query.steps.items ≡ steps_of tree)) }
         ensures refused { (schema : List Entry) (tokens : List QueryToken) (depth : ℕ)
             → IsAt schema self tokens depth
-            → IfErr result (λ e. e ≢ Memory → RefusesEnd (state_of self depth) e) }
+            → IfErr result (Tells Memory (TakesMemoryAfter tokens)
+            (RefusesEnd (state_of self depth))) }
     {
         let mut parser = self;
         if parser.wants_operand {

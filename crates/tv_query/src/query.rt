@@ -2,12 +2,14 @@
 
 ghost use Rattle.std.specs.Prelude.{◌≡◌, ◌≢◌, ◌<◌, ◌++◌, ◌∷◌, ◌||◌, [], ℕ, length, IfErr, IfOk, List, OnOk};
 ghost use Rattle.std.proofs.Props.{props};
+ghost use Rattle.std.specs.Char.{is_ascii_whitespace};
 ghost use Rattle.tv_indexing.specs.DocumentTerms.{is_among};
+ghost use Rattle.tv_query.specs.Tells.{Tells};
 ghost use Rattle.tv_query.specs.Fields.{AreDistinct, names_field, step_names};
 ghost use Rattle.tv_query.specs.Grammar.{QueryTree, WritesQuery, any, steps_of};
 ghost use Rattle.tv_query.specs.Parsing.{IsAt, state_of};
-ghost use Rattle.tv_query.specs.Refusals.{Refuses, RefusesRest};
-ghost use Rattle.tv_query.specs.Tokens.{BeginsWithToken, QueryToken, WritesTokens, token_of};
+ghost use Rattle.tv_query.specs.Refusals.{Refuses, RefusesRest, TakesMemoryAfter};
+ghost use Rattle.tv_query.specs.Tokens.{BeginsWithToken, BeginsWithout, QueryToken, WritesTokens, token_of};
 ghost use Rattle.tv_query.specs.declared.query_error.QueryReason.TheVariants.{Memory};
 
 use crate::parser::Parser;
@@ -81,14 +83,15 @@ fn fields_of(alloc: Global, steps: &[Step]) -> Result<Vec<Field>, AllocError>
     Ok(fields)
 }
 
-// Takes the token with which the text begins, and returns the rest.
+// Takes the token with which the text begins, and returns the rest. It begins with no white space.
 fn take_first<'q>(
     alloc: Global,
     schema: &Schema,
     parser: &mut Parser,
     text: &'q str,
 ) -> Result<&'q str, QueryReason>
-    requires { text.now ≢ [] }
+    requires some { text.now ≢ [] }
+    requires no_space { BeginsWithout is_ascii_whitespace text.now }
     ensures made { (tokens : List QueryToken) (depth : ℕ)
         → IsAt schema.now parser.old tokens depth
         → IfOk result (λ rest. (token : QueryToken) × BeginsWithToken text.now token rest.now
@@ -96,8 +99,8 @@ fn take_first<'q>(
     ensures shorter { IfOk result (λ rest. length rest.now < length text.now) }
     ensures refused { (tokens : List QueryToken) (depth : ℕ)
         → IsAt schema.now parser.old tokens depth
-        → IfErr result (λ e. e ≢ Memory
-        → RefusesRest schema.now (state_of parser.old depth) text.now e) }
+        → IfErr result (Tells Memory (TakesMemoryAfter tokens)
+        (RefusesRest schema.now (state_of parser.old depth) text.now)) }
 {
     match next_token(text) {
         Ok((token, rest)) => match parser.take(alloc, schema, token) {
@@ -134,13 +137,14 @@ impl Query {
     /// that begin with the first term of its text; a range in brackets, as `ranges_of_text` reads it; or `*`, which wants all terms of the path.
     ///
     /// Errors: `QueryError`, with the reason for the first token that can't stand where it does or whose clause is refused, and the place in
-    /// bytes where that begins; where the text ends too early, that is its length. Of `Memory` no contract says a place.
+    /// bytes where that begins; where the text ends too early, that is its length. `Memory` has the place of the token, or of the end, for which
+    /// memory was refused, and comes in place of no other reason but those that take memory to find: that a clause is refused, where its path names no
+    /// indexed field's prefix, and that a parenthesis isn't closed or wasn't opened, after an `AND` or `OR`.
     pub fn parse(alloc: Global, schema: &Schema, text: &str) -> Result<Query, QueryError>
         ensures made { IfOk result (λ query. (tokens : List QueryToken) × (tree : QueryTree)
             × WritesTokens text.now tokens × WritesQuery schema.now any tokens tree
             × (query.steps.items ≡ steps_of tree)) }
-        ensures refused { IfErr result
-            (λ e. e.reason ≢ Memory → Refuses schema.now text.now e) }
+        ensures refused { IfErr result (Refuses schema.now text.now) }
     {
         let mut parser = Parser::new(alloc);
         let mut rest = text.trim_ascii_start();

@@ -1,9 +1,10 @@
 //! The terms that a clause of a query wants.
 
-ghost use Rattle.std.specs.Prelude.{◌≡◌, ◌↔◌, ◌∷◌, [], IfOk, IsTrue};
+ghost use Rattle.std.specs.Prelude.{◌≡◌, ◌↔◌, ◌∷◌, [], Err, IfOk, IsTrue, true};
 ghost use Rattle.std.specs.List.{Any, Contains};
 ghost use Rattle.tv_indexing.specs.Unless.{Unless};
-ghost use Rattle.tv_query.specs.Selections.{AnswersClause, AnswersInField, AreOfFirst, HasTermsOfText, IsWanted, has_prefixes, is_of_facets, reason_of};
+ghost use Rattle.tv_query.specs.Tells.{UnlessFirst};
+ghost use Rattle.tv_query.specs.Selections.{AnswersClause, AnswersInField, AreOfFirst, HasTermsOfText, IsWanted, TakesMemory, has_prefixes, is_of_facets, reason_of};
 ghost use Rattle.tv_query.specs.Tokens.{of_prefix, of_range, of_text, wanted_text};
 ghost use Rattle.tv_query.specs.declared.query_error.QueryReason.TheVariants.{Memory};
 ghost use Rattle.tv_term.specs.Range.{IsIn};
@@ -133,7 +134,8 @@ fn prefix_selection(
     at: &IndexedField<'_, '_>,
     text: &str,
 ) -> Result<Selection, QueryReason>
-    ensures { Unless Memory (AnswersInField at.now (of_prefix text.now)) result }
+    ensures answers { Unless Memory (AnswersInField at.now (of_prefix text.now)) result }
+    ensures memory { result ≡ Err Memory → has_prefixes at.now.type ≡ true }
 {
     if !has_prefixes(at.field_type()) {
         return Err(QueryReason::NoPrefix);
@@ -177,7 +179,7 @@ impl Selection {
         path: &str,
         wanted: Wanted<'_>,
     ) -> Result<Selection, QueryReason>
-        ensures { Unless Memory
+        ensures { UnlessFirst Memory TakesMemory
             (AnswersClause schema.now path.now (wanted_text wanted.entry)) result }
     {
         let at = match IndexedField::of(alloc, schema, path) {

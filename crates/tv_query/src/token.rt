@@ -1,6 +1,7 @@
 //! The tokens of a query's text.
 
 ghost use Rattle.std.specs.Prelude.{◌≡◌, ◌≢◌, ◌==◌, ◌<◌, ◌≤◌, ◌++◌, ◌∷◌, [], ℕ, List, length, false, slice_index, true, IfErr, IfOk, MatchBool, MatchOption};
+ghost use Rattle.std.specs.Char.{is_ascii_whitespace};
 ghost use Rattle.tv_query.specs.Refusals.{IsUnquoted, RefusesToken, RefusesWanted};
 ghost use Rattle.tv_query.specs.Tokens.{BeginsWithPath, BeginsWithToken, BeginsWithWanted, BeginsWithQuote, BeginsWithout, IsOperator, IsQuoted, IsUpTo};
 ghost use Rattle.tv_query.specs.Tokens.{QueryToken, ends_word, is_quote, opens_range, star, stops_at, token_of, wanted_text};
@@ -256,8 +257,10 @@ fn operator(word: &str) -> Option<Token<'_>>
     }
 }
 
-// The operator or the clause with which the text begins, and the rest. It begins with no quote. Errors: `NoPath`, `NoColon`, `NoText`, `Unended`.
+// The operator or the clause with which the text begins, and the rest. It begins with a bare word or a colon. Errors: `NoPath`, `NoColon`, `NoText`, `Unended`.
 fn word_token(text: &str) -> Result<(Token<'_>, &str), QueryReason>
+    requires some { text.now ≢ [] }
+    requires no_end { BeginsWithout ends_word text.now }
     ensures found { IfOk result
         (λ found. BeginsWithToken text.now (token_of found.0) found.1.now) }
     ensures refused { IfErr result (RefusesToken text.now) }
@@ -273,8 +276,10 @@ fn word_token(text: &str) -> Result<(Token<'_>, &str), QueryReason>
     }
 }
 
-// The token with which the text begins, and the rest. Errors: `NoPath`, `NoColon`, `NoText`, `Unended`.
+// The token with which the text begins, and the rest. It begins with no white space. Errors: `NoPath`, `NoColon`, `NoText`, `Unended`.
 pub(crate) fn next_token(text: &str) -> Result<(Token<'_>, &str), QueryReason>
+    requires some { text.now ≢ [] }
+    requires no_space { BeginsWithout is_ascii_whitespace text.now }
     ensures found { IfOk result
         (λ found. BeginsWithToken text.now (token_of found.0) found.1.now) }
     ensures refused { IfErr result (RefusesToken text.now) }

@@ -1,7 +1,7 @@
 use Rattle.tv_query.proofs.parser.Parser.take.Goals as goal
 
 pub returns-then-self-clause-refused : goal.returns-then-self-clause-refused
-returns-then-self-clause-refused c = λ tokens depth at. rw c.if-self.true (c.take_operand.ensures.refused depth)
+returns-then-self-clause-refused c = λ tokens depth at. rw c.if-self.true (c.take_operand.ensures.refused tokens depth)
 
 pub returns-else-self-clause-made : goal.returns-else-self-clause-made
 returns-else-self-clause-made c = λ tokens depth at.

@@ -1,5 +1,10 @@
 use Rattle.std.proofs.lemmas.Result.{IfErr-weaker}
-use Rattle.tv_query.specs.Refusals.{misplaced}
+use Rattle.std.proofs.Common.{◌≡◌, subst, sym}
+use Rattle.tv_query.specs.Grammar.{wants_operator}
+use Rattle.tv_query.specs.Refusals.{HaveOperator, RefusesTaken, TakesMemoryAfter, misplaced}
+use Rattle.tv_query.specs.Tokens.{closed}
+use Rattle.tv_query.specs.declared.query_error.QueryReason.TheVariants.{Memory, Unopened}
+use Rattle.tv_query.proofs.Refusing.{closed_refused, tells-weaker}
 use Rattle.tv_query.proofs.parser.Parser.take_operator.Goals as goal
 
 pub returns-in_ok-take_and-in-And-clause-made : goal.returns-in_ok-take_and-in-And-clause-made
@@ -13,4 +18,4 @@ returns-in-Close-clause-made c = λ schema tokens depth follows no_not. rw c.in-
 
 pub returns-in-Close-clause-refused : goal.returns-in-Close-clause-refused
 returns-in-Close-clause-refused c = λ schema tokens depth follows no_not.
-    rw c.in-Close.is (IfErr-weaker c.take_close.result _ _ (λ e h some. let k = h some in misplaced (k.1, k.0)) (c.take_close.ensures.refused schema tokens depth follows no_not))
+    rw c.in-Close.is (IfErr-weaker c.take_close.result _ _ (λ e h. tells-weaker Memory (λ _. HaveOperator tokens) (TakesMemoryAfter tokens) (λ e. (e ≡ Unopened) × (depth ≡ 0)) (RefusesTaken schema (wants_operator depth) closed) e (λ k. misplaced (k.1, k.0)) (λ takes why r. let k = closed_refused depth why r in subst (TakesMemoryAfter tokens) (sym k.0) (takes why k)) h) (c.take_close.ensures.refused schema tokens depth follows no_not))
