@@ -8,7 +8,6 @@ mod failing;
 mod indexed;
 mod leaves;
 mod list_visitors;
-mod next_items;
 mod plain_visitors;
 mod skipped;
 mod visitors;

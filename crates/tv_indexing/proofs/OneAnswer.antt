@@ -1,15 +1,9 @@
 -- A text at a path has one answer: two that the definitions allow agree.
-use Rattle.std.proofs.Common.{◌≡◌, ◌≢◌, ◌↔◌, ◌⊎◌, ◌<◌, ◌≤◌, ◌+◌, ℕ, zero, suc, Bool, true, false, List, [], ◌∷◌, ◌++◌, length, codes, get_or, Option, Some, None, Result, Ok, Err, IfSome, arith, refl, sym, subst, ap, ◌∙◌, inl, inr, string_bytes}
+use Rattle.std.proofs.Common.{◌≡◌, ◌≢◌, ◌⊎◌, ◌+◌, ℕ, Bool, true, false, List, [], ◌∷◌, ◌++◌, Option, Some, None, Result, Ok, Err, IfSome, refl, sym, subst, ap, ◌∙◌, inl, inr, string_bytes}
 use Rattle.std.proofs.NetLemmas.Theorems.{IsIpText_unique}
-use Rattle.std.proofs.lemmas.List.{append_cancel_left, length-append, same_from_push}
 use Rattle.std.specs.Fmt.{take_chars}
 use Rattle.std.specs.Prelude.{slice_get}
-use Rattle.std.specs.List.{Any}
-use Rattle.std.specs.declared.ops.Bound.{Bound}
-use Rattle.std.specs.declared.ops.Bound.TheVariants.{Included, Excluded, Unbounded}
-use Rattle.std.specs.Net.Grammar.{IsIpText}
 use Rattle.serde_json.specs.Data as json
-use Rattle.tv_base.proofs.Texts.{same_prefix}
 use Rattle.tv_date.specs.Rfc3339.{rfc}
 use Rattle.tv_field.specs.Entry.{Entry, is_indexed_type, value_type}
 use Rattle.tv_field.specs.JsonAnswer.{RefusesText, WritesValue, refusal_of}
@@ -19,17 +13,16 @@ use Rattle.tv_field.specs.declared.field_type.FieldType.TheVariants as types
 use Rattle.tv_field.specs.declared.json_value.JsonRefusal.{JsonRefusal}
 use Rattle.tv_field.specs.declared.json_value.JsonRefusal.TheVariants as refusals
 use Rattle.tv_format.specs.Tree.{Leaf, leaf, ip_address, text, unsigned, signed, null, boolean, date, facet, bytes, tokenized}
-use Rattle.tv_indexing.specs.Agree.{Agree, FindSame, IsInOne, IsSomeTerm, SaySame}
+use Rattle.tv_indexing.specs.Agree.{Agree, SaySame}
 use Rattle.tv_indexing.specs.DocumentTerms.{Terms, has_zero, plain_terms}
 use Rattle.tv_indexing.specs.IndexedField.{AtPathAs, BelowJson, FoundField, IsUnknownPath, JsonOrPlain, Names, RefusesPath, indexed, not_indexed, refused, unknown}
 use Rattle.tv_indexing.specs.LeafTerms.{leaf_value}
-use Rattle.tv_indexing.specs.TextTerms.{IsWrongText, TermOfText, TermsAnswer, TermsBelow, TermsInField, WritesLeaves, WritesNumber, WritesTerms, date_written_in, leaves_terms, listed}
+use Rattle.tv_indexing.specs.TextTerms.{IsWrongText, TermOfText, TermsAnswer, TermsBelow, TermsInField, WritesNumber, WritesTerms, date_written_in, leaves_terms, listed}
 use Rattle.tv_indexing.specs.declared.text_terms_error.TextTermsError.{TextTermsError}
 use Rattle.tv_indexing.specs.declared.text_terms_error.TextTermsError.TheVariants as errors
 use Rattle.tv_options.specs.declared.types.TypeTag.{TypeTag}
 use Rattle.tv_schema.specs.Path.{find_or}
 use Rattle.std.specs.Str.Parse.{digits_value, signed_digits_value, without_leading_plus}
-use Rattle.base64.specs.declared.decode.DecodeError.{DecodeError}
 use Rattle.tv_base.specs.JsonPath.{joined_path}
 use Rattle.tv_value.specs.IpAddress.{address_number}
 use Rattle.tv_value.specs.declared.field.Field.{Field}

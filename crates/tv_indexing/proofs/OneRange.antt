@@ -1,27 +1,25 @@
 -- A text has one answer as a range: two that the definitions allow agree.
-use Rattle.std.proofs.Common.{◌≡◌, ◌≢◌, ◌↔◌, ◌⊎◌, ◌<◌, ◌≤◌, ◌+◌, ℕ, zero, suc, Bool, true, false, List, [], ◌∷◌, ◌++◌, length, codes, get_or, Option, Some, None, Result, Ok, Err, arith, refl, sym, subst, ap, ◌∙◌, inl, inr}
+use Rattle.std.proofs.Common.{◌≡◌, ◌↔◌, ◌⊎◌, ◌<◌, ◌+◌, ℕ, zero, suc, Bool, true, false, List, [], ◌∷◌, ◌++◌, length, codes, get_or, Option, Some, None, Result, Ok, Err, arith, refl, sym, subst, ap, ◌∙◌, inl, inr}
 use Rattle.std.proofs.lemmas.List.{append_cancel_left, length-append, same_from_push}
 use Rattle.std.specs.List.{Any}
 use Rattle.std.specs.Cmp.Lexicographic.{slice_cmp}
 use Rattle.std.specs.Ordering.{is_lt, nat_cmp}
-use Rattle.std.specs.Option.{option_map}
 use Rattle.std.specs.declared.ops.Bound.{Bound}
 use Rattle.std.specs.declared.ops.Bound.TheVariants.{Included, Excluded, Unbounded}
 use Rattle.tv_base.proofs.Texts.{same_prefix}
 use Rattle.tv_base.specs.JsonPath.{joined_path}
-use Rattle.tv_base.specs.Source.{AllBytes}
 use Rattle.tv_date.specs.Rfc3339.{rfc}
-use Rattle.tv_field.specs.Entry.{Entry, value_type}
+use Rattle.tv_field.specs.Entry.{value_type}
 use Rattle.tv_field.specs.JsonTable.{truth_in}
 use Rattle.tv_field.specs.declared.field_type.FieldType.{FieldType}
 use Rattle.tv_format.specs.Tree.{Leaf}
-use Rattle.tv_indexing.specs.Agree.{Agree, FindSame, IsInOne, IsSomeTerm, SaySame}
+use Rattle.tv_indexing.specs.Agree.{Agree, FindSame, IsSomeTerm, SaySame}
 use Rattle.tv_indexing.specs.IndexedField.{FoundField}
 use Rattle.tv_indexing.specs.JsonBounds.{RunBackwards, above, told_or}
-use Rattle.tv_indexing.specs.JsonRanges.{AreBoundValues, AreOfKind, AreRangesOf, EndsIn, IsBetweenAt, OneRange, RangesAnswer, RangesAt, RangesBelow, RangesInField, RangesOfText, StartsIn, WritesEnd, placed_bound, type_of_kind}
+use Rattle.tv_indexing.specs.JsonRanges.{AreBoundValues, AreOfKind, AreRangesOf, EndsIn, IsBetweenAt, OneRange, RangesAnswer, RangesAt, RangesBelow, RangesInField, RangesOfText, StartsIn, WritesEnd, type_of_kind}
 use Rattle.tv_indexing.specs.JsonRanges.{signed_end, signed_start, unsigned_end, unsigned_start}
 use Rattle.tv_indexing.specs.LeafTerms.{leaf_value}
-use Rattle.tv_indexing.specs.TextRange.{ArePartedBounds, BelowInField, InWrittenBounds, IsEndBound, IsOrIsBelow, IsStartBound, RangeAnswer, RangeInField, RangeOfTexts, RangeWithBelow, RefusesBoth, RefusesBound, WriteBoth, WritesBound, WritesBounds, WritesTerm}
+use Rattle.tv_indexing.specs.TextRange.{ArePartedBounds, InWrittenBounds, IsEndBound, IsOrIsBelow, IsStartBound, RangeAnswer, RangeOfTexts, RangeWithBelow, RefusesBoth, RefusesBound, WriteBoth, WritesBound, WritesBounds, WritesTerm}
 use Rattle.tv_indexing.specs.TextRange.{are_backwards, backwards, bound_of, bounding, bounds, bounds_written, closing_bracket, first, no_bounds, no_bounds_written, opening_bracket, outer_bound, second}
 use Rattle.tv_indexing.specs.TextTerms.{IsWrongRange, date_written_in}
 use Rattle.tv_indexing.specs.declared.json_ranges.JsonKind.{JsonKind}
@@ -152,18 +150,12 @@ module _ (field : Field) (type : FieldType) (start end : Bound (List ℕ)) where
 no_range : (field : Field) (a b : RangeAnswer) → a ≡ Err (errors.NoRange field) → b ≡ Err (errors.NoRange field) → Agree SaySame HaveSame a b
 no_range field a b x y = rw (x, y) refl
 
-pub range_in_field_one : (at : FoundField) (start end : Bound (List ℕ)) (a b : RangeAnswer) → RangeInField at start end a → RangeInField at start end b → Agree SaySame HaveSame a b
-range_in_field_one at start end a b x y = typed_one HaveSame at.type (λ d answer. answer ≡ Err (errors.NoRange at.field)) (RangeOfTexts at.field at.type start end) a b (λ d. no_range at.field a b) (range_one at.field at.type start end a b) x y
-
 with_below_one : (field : Field) (type : FieldType) (s : List ℕ) (a b : RangeAnswer) → RangeWithBelow field type s a → RangeWithBelow field type s b → Agree SaySame HaveSame a b
 with_below_one field type s (Ok range) (Ok other) x y =
     has_same (IsOrIsBelow field.id x.1) range other x.3 (subst (λ (v : TermValue). HasTerms (IsOrIsBelow field.id v) other) (value_one type s y.0 x.0 y.1 x.1 y.2 x.2) y.3)
 with_below_one field type s (Ok range) (Err f) x y = no_value field type s x.0 f x.2.is_value y
 with_below_one field type s (Err e) (Ok other) x y = no_value field type s y.0 e y.2.is_value x
 with_below_one field type s (Err e) (Err f) x y = refusal_one field type s e f x y
-
-pub below_in_field_one : (at : FoundField) (s : List ℕ) (a b : RangeAnswer) → BelowInField at s a → BelowInField at s b → Agree SaySame HaveSame a b
-below_in_field_one at s a b x y = typed_one HaveSame at.type (λ d answer. answer ≡ Err (errors.NoRange at.field)) (RangeWithBelow at.field at.type s) a b (λ d. no_range at.field a b) (with_below_one at.field at.type s a b) x y
 
 -- ---- a path into JSON objects
 

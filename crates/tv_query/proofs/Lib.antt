@@ -7,6 +7,5 @@ mod Running
 pub mod Telling
 mod Reading
 mod OneToken
-mod OneTree
 mod Refusing
 mod OneQuery

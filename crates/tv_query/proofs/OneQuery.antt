@@ -1,5 +1,5 @@
 -- A text is one query, or is refused for one reason at one place.
-use Rattle.std.proofs.Common.{◌≡◌, ◌≢◌, ◌↔◌, ◌⊎◌, ◌++◌, ◌∷◌, ◌+◌, ◌<◌, ◌==◌, [], ℕ, zero, suc, Bool, true, false, List, MatchBool, Option, Some, None, Ok, Err, length, option_and_then, append-nil, arith, refl, sym, subst, ap, ap₂, ◌∙◌, inl, inr}
+use Rattle.std.proofs.Common.{◌≡◌, ◌≢◌, ◌⊎◌, ◌++◌, ◌∷◌, ◌+◌, [], ℕ, Bool, true, false, List, MatchBool, Option, Some, None, Ok, Err, length, option_and_then, append-nil, arith, refl, sym, subst, ap, ◌∙◌, inl, inr}
 use Rattle.std.proofs.lemmas.Bool.Decides.{nat_tests}
 use Rattle.std.specs.Char.{is_ascii_whitespace}
 use Rattle.std.specs.List.{AllByRecursion}
@@ -14,7 +14,7 @@ use Rattle.tv_indexing.proofs.OneAnswer.{names_one, no_value, path_or_field, ter
 use Rattle.tv_indexing.proofs.OneRange.{ranges_of_text_one}
 use Rattle.tv_indexing.specs.IndexedField.{indexed, refused as path_refused}
 use Rattle.tv_query.specs.Grammar.{ParserState, QueryTree, WritesQuery, after, after_all, any, wants_operand, wants_operator}
-use Rattle.tv_query.specs.Refusals.{IsTaken, Refuses, RefusesEnd, RefusesRest, RefusesTaken, ended, misplaced, no_place, no_token, refused}
+use Rattle.tv_query.specs.Refusals.{IsTaken, Refuses, RefusesEnd, RefusesRest, RefusesTaken, ended, no_place, no_token}
 use Rattle.tv_query.specs.Selections.{RefusesClause, RefusesInField, Selects, WantsInField, is_of_facets}
 use Rattle.tv_query.specs.Tokens.{and_word, closed, not_word, opened, or_word, BeginsWithPath, BeginsWithToken, BeginsWithTokens, BeginsWithout, IsSpace, IsUpTo, QueryToken, WantedText, WritesTokens, bare, clause, closes, ends_path, is_quote, next_token, no_tokens, of_prefix, of_range, of_text, opens, operates, quoted, selects}
 use Rattle.tv_query.specs.declared.query_error.QueryError.{QueryError}
@@ -24,7 +24,7 @@ use Rattle.tv_query.specs.declared.query_error.QueryReason.TheVariants as reason
 use Rattle.tv_query.specs.declared.selection.Selection.{Selection}
 use Rattle.tv_term.specs.declared.range.TermRange.{TermRange}
 use Rattle.tv_value.specs.declared.field.Field.{Field}
-use Rattle.tv_query.proofs.OneToken.{no_refusal, one_token}
+use Rattle.tv_query.proofs.OneToken.{one_token}
 use Rattle.tv_query.proofs.Reading.{states_on, token_longer, writes_state, writes_taken}
 use Rattle.tv_query.proofs.Refusing.{not_refused, clause_refused, token_refused_here}
 

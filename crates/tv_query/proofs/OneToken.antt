@@ -1,9 +1,9 @@
 -- A text begins with one token, or is refused for one reason: a function gives the answer that the definitions allow.
-use Rattle.std.proofs.Common.{◌≡◌, ◌≢◌, ◌==◌, ℕ, List, [], ◌∷◌, ◌++◌, codes, Bool, true, false, cond, Option, Some, None, option_map, Result, Ok, Err, refl, sym, subst, ap, ◌∙◌, arith, append_assoc, bytes_eq}
+use Rattle.std.proofs.Common.{◌≡◌, ◌≢◌, ◌==◌, ℕ, List, [], ◌∷◌, ◌++◌, codes, Bool, true, false, cond, Option, Some, None, option_map, Result, Ok, Err, refl, sym, ap, ◌∙◌, arith, append_assoc, bytes_eq}
 use Rattle.std.proofs.lemmas.Bool.Decides.{nat_tests}
 use Rattle.std.proofs.lemmas.Slice.Eq.{bytes_eq-Decides}
 use Rattle.std.specs.Str.{NonePass}
-use Rattle.tv_query.specs.Refusals.{IsUnclosed, IsUnquoted, RefusesToken, RefusesWanted, no_path, nothing, quoted_alone, unclosed, unquoted, unquoted_path, wants_nothing, word_alone}
+use Rattle.tv_query.specs.Refusals.{RefusesToken, RefusesWanted, no_path, nothing, quoted_alone, unclosed, unquoted, unquoted_path, wants_nothing, word_alone}
 use Rattle.tv_query.specs.Tokens.{BeginsWithPath, BeginsWithToken, BeginsWithWanted, BeginsWithWord, BeginsWithout, IsBracketed, IsEmptyOrBegins, IsOperator, IsQuoted, IsUpTo, QueryToken, WantedText}
 use Rattle.tv_query.specs.Tokens.{all, and_word, bare, bracketed, clause, closed, closes, closes_range, ends_path, ends_word, is_quote, not_word, of_prefix, of_range, of_text, opened, opens, opens_range, operates, or_word}
 use Rattle.tv_query.specs.Tokens.{quoted, quoted_prefix, quoted_text, selects, star, word_prefix, word_text}

@@ -11,7 +11,7 @@ use Rattle.tv_query.specs.Parsing.{Awaits, Follows, IsAt, after_and, after_not, 
 use Rattle.tv_query.specs.Refusals.{IsTaken, Refuses, RefusesRest, TakesMemoryAfter}
 use Rattle.tv_query.specs.Tells.{Tells}
 use Rattle.tv_query.specs.declared.query_error.QueryReason.TheVariants.{Memory}
-use Rattle.tv_query.specs.Tokens.{BeginsWithPath, BeginsWithToken, BeginsWithTokens, BeginsWithWanted, BeginsWithout, IsSpace, QueryToken, and_word, clause, closed, no_tokens, next_token, not_word, opened, or_word, star}
+use Rattle.tv_query.specs.Tokens.{BeginsWithPath, BeginsWithToken, BeginsWithTokens, BeginsWithWanted, BeginsWithout, IsSpace, QueryToken, and_word, closed, no_tokens, next_token, not_word, opened, or_word, star}
 use Rattle.tv_query.specs.Tokens.{IsQuoted, WantedText, all, bare, bracketed, closes, opens, operates, quoted, quoted_prefix, quoted_text, selects, word_prefix, word_text}
 use Rattle.tv_query.specs.declared.parser.Operator.{Operator}
 use Rattle.tv_query.specs.declared.parser.Parser.{Parser}

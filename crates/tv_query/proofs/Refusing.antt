@@ -1,9 +1,9 @@
 -- Reasons for a token that is refused, and when want of memory may stand in their place.
-use Rattle.std.proofs.Common.{◌≡◌, ◌≢◌, ◌++◌, ◌<◌, ℕ, zero, suc, List, [], ◌∷◌, length, None, Some, Result, Err, IfErr, arith, refl, sym, subst, ap, ◌∙◌}
+use Rattle.std.proofs.Common.{◌≡◌, ◌≢◌, ℕ, List, [], length, None, Result, Err, IfErr, arith, subst, ap}
 use Rattle.tv_field.specs.Entry.{Entry}
 use Rattle.tv_query.specs.Tells.{Tells}
 use Rattle.tv_query.specs.Grammar.{ParserState, after, wants_operand, wants_operator}
-use Rattle.tv_query.specs.Refusals.{HaveOperator, RefusesEnd, RefusesNext, RefusesRest, RefusesTaken, RefusesToken, TakesMemoryAfter, ended, misplaced, no_path, no_place, no_token, quoted_alone, refused, unquoted_path, wants_nothing, word_alone}
+use Rattle.tv_query.specs.Refusals.{RefusesEnd, RefusesNext, RefusesRest, RefusesTaken, RefusesToken, TakesMemoryAfter, ended, misplaced, no_path, no_place, no_token, quoted_alone, refused, unquoted_path, wants_nothing, word_alone}
 use Rattle.tv_query.specs.Refusals.{RefusesWanted, nothing, unclosed, unquoted}
 use Rattle.tv_query.specs.Selections.{RefusesClause, TakesMemory}
 use Rattle.tv_query.specs.Tokens.{BeginsWithToken, QueryToken, WantedText, and_word, clause, closed, not_word, opened, or_word}

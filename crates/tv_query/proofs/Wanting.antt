@@ -1,5 +1,5 @@
 -- Lists gone over, and what a clause wants.
-use Rattle.std.proofs.Common.{◌≡◌, ◌⊎◌, ◌↔◌, ℕ, zero, suc, ◌<◌, List, [], ◌∷◌, length, get_or, true, false, Some, sym, subst, arith, inl, inr, slice_get}
+use Rattle.std.proofs.Common.{◌≡◌, ◌↔◌, ℕ, ◌<◌, List, [], ◌∷◌, length, get_or, true, false, Some, sym, subst, inl, inr, slice_get}
 use Rattle.std.specs.List.{Any}
 use Rattle.tv_indexing.proofs.OneRange.{any_cons, any_rest}
 use Rattle.tv_query.specs.Selections.{AreOfFirst}

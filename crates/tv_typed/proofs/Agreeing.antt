@@ -1,9 +1,7 @@
 -- Two reads of the same bytes agree.
-use Rattle.std.proofs.Common.{◌≡◌, ℕ, List, ◌++◌, String, string_bytes, sym, ap, subst, ◌∙◌}
+use Rattle.std.proofs.Common.{◌≡◌, ℕ, List, ◌++◌, string_bytes, sym, ap, subst, ◌∙◌}
 use Rattle.std.proofs.lemmas.List.{append_cancel_left}
-use Rattle.tv_base.specs.Parts.{Begins}
 use Rattle.tv_format.specs.Tree.{Tree}
-use Rattle.tv_format.specs.Version.{Version}
 use Rattle.tv_format.proofs.Trees.{one_tree, one_pair}
 use Rattle.tv_reader.specs.Legacy.{Legacy}
 use Rattle.tv_reader.proofs.UniqueLegacy.{one_legacy}

@@ -4,14 +4,14 @@ use Rattle.std.specs.Prelude.{is_err, IfErr, IfOk, IsErrOf}
 use Rattle.tv_base.specs.declared.cause.Cause.TheVariants.{TooLong}
 use Rattle.tv_base.specs.Number.{Fixed}
 use Rattle.tv_base.specs.Source.{Failures}
-use Rattle.tv_base.specs.Stop.{Counts, CountsStop}
+use Rattle.tv_base.specs.Stop.{CountsStop}
 use Rattle.tv_builder.specs.HeldPairs.{document_of}
 use Rattle.tv_builder.specs.declared.heap_pairs.HeapPairs.{HeapPairs}
 use Rattle.tv_format.specs.Encoding.{EncodesPair}
-use Rattle.tv_format.specs.Tree.{Tree, Document}
+use Rattle.tv_format.specs.Tree.{Document}
 use Rattle.tv_format.specs.Version.{Version}
 use Rattle.tv_reader.specs.Legacy.{Legacy}
-use Rattle.tv_reader.specs.Error.{StoreMayStop, store_stop, key_stop}
+use Rattle.tv_reader.specs.Error.{StoreMayStop, store_stop}
 use Rattle.tv_reader.specs.Finds.{FindsIf}
 use Rattle.tv_reader.specs.Version.{version_of}
 use Rattle.tv_reader.specs.declared.error.DeserializeError.{DeserializeError}

@@ -1,12 +1,11 @@
 -- The next of several items, and what is said of it whole.
-use Rattle.std.proofs.Common.{◌≡◌, ◌+◌, ◌<◌, ◌≤◌, ℕ, List, Option, Some, None, Result, Ok, Err, true, false, refl, arith, sym, ◌∙◌, IsErrOf}
+use Rattle.std.proofs.Common.{◌≡◌, ◌+◌, ◌<◌, ℕ, List, Some, Result, Ok, Err, true, false, refl, arith}
 use Rattle.std.specs.Prelude.{is_err}
 use Rattle.tv_base.specs.declared.source.ByteSource.{Ghosts}
 use Rattle.tv_format.specs.Version.{Version}
 use Rattle.tv_reader.proofs.DepthSteps.{err_of}
 use Rattle.tv_reader.specs.Version.{version_of}
 use Rattle.tv_reader.specs.declared.error.DeserializeError.{DeserializeError}
-use Rattle.tv_reader.specs.declared.error.DeserializeError.TheVariants as errors
 use Rattle.tv_typed.specs.Depths.{AtValue, WhereTooDeep, WhereRead}
 use Rattle.tv_typed.specs.Items.{ReadsNext}
 use Rattle.tv_typed.specs.Values.{EncodesAs, NextRefused, RefusalsExclude}

@@ -1,5 +1,5 @@
 -- What calls promise that hand a value to a visitor, by what it answers.
-use Rattle.std.specs.Prelude.{◌≡◌, List, OnOk, Result, false}
+use Rattle.std.specs.Prelude.{Result}
 use Rattle.tv_base.specs.declared.source.ByteSource.{Ghosts}
 use Rattle.tv_format.specs.Version.{V2, entry_total}
 use Rattle.tv_reader.specs.Version.{version_of}
