@@ -77,7 +77,7 @@ pub fn count_facets(
     pairs: &[u8],
     counts: &mut [u8],
 ) -> Result<u64, BlockError>
-    ensures { FillsBuffer (AreFacetCounts parent.now pairs.now)
+    ensures fills { FillsBuffer (AreFacetCounts parent.now pairs.now)
         (IsCountsRefusal parent.now pairs.now) counts.old counts.new result }
     ensures not_utf8 { TellsNotUtf8 parent.now result }
 {

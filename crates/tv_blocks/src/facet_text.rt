@@ -14,7 +14,7 @@ use tv_base::Facet;
 ///
 /// Errors: `NotUtf8`, `NotFacet` where the text doesn't begin with `/`, `TooSmall`, `Memory`. The buffer then stays as it is.
 pub fn facet_of_text(alloc: Global, text: &[u8], encoded: &mut [u8]) -> Result<u64, BlockError>
-    ensures { FillsBuffer (λ content. IsUtf8 text.now × (parse text.now ≡ Some content))
+    ensures fills { FillsBuffer (λ content. IsUtf8 text.now × (parse text.now ≡ Some content))
         (IsFacetRefusal text.now) encoded.old encoded.new result }
     ensures not_utf8 { TellsNotUtf8 text.now result }
 {
@@ -32,7 +32,7 @@ pub fn facet_of_text(alloc: Global, text: &[u8], encoded: &mut [u8]) -> Result<u
 ///
 /// Errors: `NotUtf8`, `TooSmall`, `Memory`. The buffer then stays as it is.
 pub fn text_of_facet(alloc: Global, encoded: &[u8], text: &mut [u8]) -> Result<u64, BlockError>
-    ensures { FillsBuffer (λ content. IsUtf8 encoded.now × (content ≡ printed encoded.now))
+    ensures fills { FillsBuffer (λ content. IsUtf8 encoded.now × (content ≡ printed encoded.now))
         (IsTextRefusal encoded.now) text.old text.new result }
     ensures not_utf8 { TellsNotUtf8 encoded.now result }
 {

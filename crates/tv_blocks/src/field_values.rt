@@ -216,7 +216,7 @@ pub fn values_of_block(
     block: &[u8],
     values: &mut [u8],
 ) -> Result<u64, BlockError>
-    ensures { FillsBuffer (AreNamedValues schema.now name.now (version_of version) block.now)
+    ensures fills { FillsBuffer (AreNamedValues schema.now name.now (version_of version) block.now)
         (IsNamedValuesRefusal schema.now name.now (version_of version) block.now) values.old values.new
         result }
     ensures not_utf8 { TellsNotUtf8 name.now result }

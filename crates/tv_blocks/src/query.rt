@@ -127,7 +127,7 @@ pub fn terms_of_text(
     text: &[u8],
     terms: &mut [u8],
 ) -> Result<u64, BlockError>
-    ensures { FillsBuffer (AreTextTerms schema.now path.now text.now)
+    ensures fills { FillsBuffer (AreTextTerms schema.now path.now text.now)
         (IsTermsRefusal schema.now path.now text.now) terms.old terms.new result }
     ensures path_not_utf8 { TellsNotUtf8 path.now result }
     ensures text_not_utf8 { TellsNotUtf8 text.now result }
@@ -161,7 +161,7 @@ pub fn ranges_of_text(
     text: &[u8],
     ranges: &mut [u8],
 ) -> Result<u64, BlockError>
-    ensures { FillsBuffer (AreTextRanges schema.now path.now text.now)
+    ensures fills { FillsBuffer (AreTextRanges schema.now path.now text.now)
         (IsRangesRefusal schema.now path.now text.now) ranges.old ranges.new result }
     ensures path_not_utf8 { TellsNotUtf8 path.now result }
     ensures text_not_utf8 { TellsNotUtf8 text.now result }

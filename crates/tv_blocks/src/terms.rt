@@ -121,7 +121,7 @@ pub fn term_of_text(
     text: &[u8],
     term: &mut [u8],
 ) -> Result<u64, BlockError>
-    ensures { FillsBuffer (IsTextTerm field text.now) (IsTextRefusal text.now) term.old term.new result }
+    ensures fills { FillsBuffer (IsTextTerm field text.now) (IsTextRefusal text.now) term.old term.new result }
     ensures not_utf8 { TellsNotUtf8 text.now result }
 {
     let Ok(text) = str::from_utf8(text) else {

@@ -7,8 +7,8 @@ use Rattle.tv_blocks.proofs.Filling.{fills_with}
 use Rattle.tv_blocks.proofs.Queries.{all_records, of_bytes, query_refused}
 use Rattle.tv_blocks.proofs.query.terms_of_text.Goals as goal
 
-pub returns : goal.returns
-returns c =
+pub returns-clause-fills : goal.returns-clause-fills
+returns-clause-fills c =
     let schema = c.args.schema.now in
     let path = c.in-Ok.ensures.cases in
     let text = c.in-Ok-from_utf8.ensures.cases in
@@ -22,8 +22,8 @@ returns c =
     )
     c.put_whole.ensures
 
-pub returns-in-Err : goal.returns-in-Err
-returns-in-Err c =
+pub returns-in-Err-clause-fills : goal.returns-in-Err-clause-fills
+returns-in-Err-clause-fills c =
     let schema = c.args.schema.now in
     let path = c.in-Ok.ensures.cases in
     let text = c.in-Ok-from_utf8.ensures.cases in
