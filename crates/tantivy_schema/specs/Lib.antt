@@ -94,6 +94,7 @@ pub use Rattle.tv_indexing.specs.DocumentTerms
 pub use Rattle.tv_indexing.specs.TermFault
 pub use Rattle.tv_indexing.specs.Visits as TermVisits
 pub use Rattle.tv_indexing.specs.Unless
+pub use Rattle.tv_indexing.specs.Agree
 pub use Rattle.tv_indexing.specs.IndexedField
 pub use Rattle.tv_indexing.specs.TextTerms
 pub use Rattle.tv_indexing.specs.TextRange
@@ -164,6 +165,7 @@ pub use Rattle.tv_store.specs.PairsGiven
 pub use Rattle.tv_store.specs.RoundTrip
 pub use Rattle.tv_writer.specs.Serialized
 pub use Rattle.tv_store.specs.Stored
+pub use Rattle.tv_store.specs.Alike
 pub use Rattle.tv_reader.specs.Depth
 pub use Rattle.tv_reader.specs.Error as ReaderError
 pub use Rattle.tv_reader.specs.Finds
@@ -174,6 +176,11 @@ pub use Rattle.tv_reader.specs.Version as StoreVersion
 pub use Rattle.tv_reader.specs.ValueType
 pub use Rattle.tv_typed.specs.Typed
 pub use Rattle.tv_typed.specs.Values
+pub use Rattle.tv_typed.specs.Reads as TypedReads
+pub use Rattle.tv_typed.specs.Items as TypedItems
+pub use Rattle.tv_typed.specs.Pairs as TypedPairs
+pub use Rattle.tv_typed.specs.Visitors
+pub use Rattle.tv_typed.specs.Determined
 pub use Rattle.tv_typed.specs.Depths
 pub use Rattle.tv_typed.specs.Lists
 pub use Rattle.tv_typed.specs.LegacyObjects
@@ -189,5 +196,6 @@ pub mod CodeTypes
 pub use Rattle.tv_lines.specs.Lines
 pub use Rattle.tv_lines.specs.Answers
 pub use Rattle.tv_lines.specs.Halts
+pub use Rattle.tv_lines.specs.Streams
 pub use Rattle.tv_lines.specs.Run
 pub use Rattle.tv_lines.specs.Status as RunStatus

@@ -38,7 +38,10 @@ pub use tv_format::laws::{
     values_have_one_reading,
 };
 pub use tv_heap::laws::places_read_as_one_tree;
-pub use tv_indexing::laws::{terms_of_texts_are_of_no_other_value, texts_of_values_are_read_back};
+pub use tv_indexing::laws::{
+    ranges_of_texts_are_determined, terms_of_texts_are_determined,
+    terms_of_texts_are_of_no_other_value, texts_of_values_are_read_back,
+};
 pub use tv_json::laws::{
     no_text_goes_on_from_a_fault, syntax_faults_are_unique, texts_that_are_read_have_the_syntax,
 };
@@ -67,8 +70,8 @@ pub use tv_schema::laws::{
     written_schemas_are_read_back, written_schemas_tell_all,
 };
 pub use tv_store::laws::{
-    refusals_are_unique, stepped_decoders_are_paid_for, stored_pairs_are_valid,
-    stored_pairs_need_no_more_room,
+    next_readings_are_alike, readings_are_alike, refusals_are_unique,
+    stepped_decoders_are_paid_for, stored_pairs_are_valid, stored_pairs_need_no_more_room,
 };
 pub use tv_store::migration_trip::{MigrationTrip, migrations_are_read_back};
 pub use tv_store::round_trip::{RoundTrip, RoundTripError, additions_are_stored_and_read_back};
@@ -83,6 +86,7 @@ pub use tv_term::laws::{
     joined_paths_have_no_zero, json_paths_are_read_back, signed_terms_compare_as_numbers,
     terms_are_ordered, terms_compare_as_fields_and_values, written_values_are_read,
 };
+pub use tv_typed::laws::{entries_agree, fields_agree, values_agree};
 pub use tv_value::laws::comparisons_of_fields_agree;
 
 /// What `serialize_doc` writes of a document is its stored pairs in the shortest encoding: here, in memory.
