@@ -19,7 +19,8 @@ use Rattle.tv_term.specs.declared.range.TermRange.{TermRange}
 abbrev pub SaySame : TextTermsError → TextTermsError → Type 0
 SaySame (UnknownPath start) (UnknownPath other) = string_bytes start ≡ string_bytes other
 SaySame (WrongText field type why start) (WrongText g u reason other) =
-    (field ≡ g) × (type ≡ u) × ((s : List ℕ) × (refusal_of (json.string s) why ≡ refusal_of (json.string s) reason)) × (string_bytes start ≡ string_bytes other)
+    (field ≡ g) × (type ≡ u) × ((s : List ℕ) × (refusal_of (json.string s) why
+    ≡ refusal_of (json.string s) reason)) × (string_bytes start ≡ string_bytes other)
 SaySame (WrongRange start) (WrongRange other) = string_bytes start ≡ string_bytes other
 SaySame e f = e ≡ f
 

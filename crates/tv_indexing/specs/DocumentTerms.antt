@@ -54,19 +54,22 @@ abbrev mutual
 
   pub json_elements_terms : Field → Bool → List (List ℕ) → Elements → Terms
   json_elements_terms field expand_dots keys no_elements = Ok []
-  json_elements_terms field expand_dots keys (element t ts) = followed_by (json_terms field expand_dots keys t) (json_elements_terms field expand_dots keys ts)
+  json_elements_terms field expand_dots keys (element t ts) =
+      followed_by (json_terms field expand_dots keys t) (json_elements_terms field expand_dots keys ts)
 
   pub json_entries_terms : Field → Bool → List (List ℕ) → Entries → Terms
   json_entries_terms field expand_dots keys no_entries = Ok []
   json_entries_terms field expand_dots keys (entry k t es) =
-      followed_by (if has_zero k then Err (NulInPath field) else json_terms field expand_dots (keys ++ k ∷ []) t) (json_entries_terms field expand_dots keys es)
+      followed_by (if has_zero k then Err (NulInPath field) else json_terms field expand_dots (keys ++ k ∷ [])
+      t) (json_entries_terms field expand_dots keys es)
 
 -- ---- other fields
 
 -- a field takes the values whose terms have the code of its type
 abbrev pub plain_terms : Field → TypeTag → Option TermValue → Terms
 plain_terms field type None = Err (WrongType field)
-plain_terms field type (Some value) = if value_code value == code type then Ok (term field.id value ∷ []) else Err (WrongType field)
+plain_terms field type (Some value) = if value_code value == code type then Ok (term field.id value ∷ []) else
+    Err (WrongType field)
 
 -- ---- documents
 
@@ -77,7 +80,8 @@ typed_terms field type tree = plain_terms field (value_type type) (tree_value tr
 -- a field that isn't indexed has none, whatever its values are
 abbrev pub field_terms : Field → Option Entry → Tree → Terms
 field_terms field None tree = Err (UnknownField field)
-field_terms field (Some found) tree = if is_indexed_type found.field_type then typed_terms field found.field_type tree else Ok []
+field_terms field (Some found) tree = if is_indexed_type found.field_type then typed_terms field
+    found.field_type tree else Ok []
 
 -- the field of this number
 abbrev pub field_of : ℕ → Field

@@ -33,8 +33,10 @@ abbrev pub IsUnknownPath : List ℕ → TextTermsError → Type 0
 IsUnknownPath path (UnknownPath start) = IsStartOf path start
 IsUnknownPath path e = ⊥
 
--- What there is at a path below a field of JSON objects: the path is empty or has U+0000, or there is what a path that is neither has.
-abbrev pub BelowJson : {T : Type 0} → (Result T TextTermsError → Type 0) → Field → List ℕ → Result T TextTermsError → Type 0
+-- What there is at a path below a field of JSON objects: the path is empty or has U+0000, or there is what a
+-- path that is neither has.
+abbrev pub BelowJson : {T : Type 0} → (Result T TextTermsError → Type 0) → Field → List ℕ
+    → Result T TextTermsError → Type 0
 BelowJson Answers field path (Err (PathEnds f)) = (f ≡ field) × (path ≡ [])
 BelowJson Answers field path (Err (NulInPath f)) = (f ≡ field) × (has_zero path ≡ true)
 BelowJson Answers field path answer = (path ≢ []) × (has_zero path ≡ false) × Answers answer
@@ -47,14 +49,20 @@ JsonOrPlain type Json Plain = Plain
 -- it names none, or one that isn't indexed
 pub data RefusesPath (schema : List Entry) (path : List ℕ) (e : TextTermsError) : Type 0 where
   unknown : find_or schema path None ≡ None → IsUnknownPath path e → RefusesPath schema path e
-  not_indexed : (at : FoundField) → Names schema path at → is_indexed_type at.type ≡ false → e ≡ NotIndexed at.field → RefusesPath schema path e
+  not_indexed : (at : FoundField) → Names schema path at → is_indexed_type at.type ≡ false
+      → e ≡ NotIndexed at.field → RefusesPath schema path e
 
--- What there is at a path, of which an error is one of another kind: it is refused, or there is what there is in the field that it names.
-pub data AtPathAs {T E : Type 0} (error : TextTermsError → E) (Answers : FoundField → Result T E → Type 0) (schema : List Entry) (path : List ℕ) (answer : Result T E) : Type 0 where
-  refused : (e : TextTermsError) → RefusesPath schema path e → answer ≡ Err (error e) → AtPathAs error Answers schema path answer
-  indexed : (at : FoundField) → Names schema path at → is_indexed_type at.type ≡ true → Answers at answer → AtPathAs error Answers schema path answer
+-- What there is at a path, of which an error is one of another kind: it is refused, or there is what there is
+-- in the field that it names.
+pub data AtPathAs {T E : Type 0} (error : TextTermsError → E) (Answers : FoundField → Result T E → Type 0)
+    (schema : List Entry) (path : List ℕ) (answer : Result T E) : Type 0 where
+  refused : (e : TextTermsError) → RefusesPath schema path e → answer ≡ Err (error e)
+      → AtPathAs error Answers schema path answer
+  indexed : (at : FoundField) → Names schema path at → is_indexed_type at.type ≡ true → Answers at answer
+      → AtPathAs error Answers schema path answer
 
-abbrev pub AtPath : {T : Type 0} → (FoundField → Result T TextTermsError → Type 0) → List Entry → List ℕ → Result T TextTermsError → Type 0
+abbrev pub AtPath : {T : Type 0} → (FoundField → Result T TextTermsError → Type 0) → List Entry → List ℕ
+    → Result T TextTermsError → Type 0
 AtPath Answers schema path answer = AtPathAs (λ e. e) Answers schema path answer
 
 -- the field itself

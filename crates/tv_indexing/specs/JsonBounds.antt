@@ -9,8 +9,8 @@ use Rattle.tv_field.specs.JsonTable.{truth_in}
 use Rattle.tv_format.specs.Tree.{Leaf, unsigned, signed, boolean, date}
 use Rattle.tv_indexing.specs.TextTerms.{WritesNumber, date_written_in}
 
--- Whether the first of two values of one kind is above the second one. A number without a sign is 2^63 or more, so it is above all with one; dates are
--- compared by their seconds.
+-- Whether the first of two values of one kind is above the second one. A number without a sign is 2^63 or
+-- more, so it is above all with one; dates are compared by their seconds.
 abbrev pub above : Option Leaf → Option Leaf → Option Bool
 above (Some (signed a)) (Some (signed b)) = Some (is_lt (int_cmp b a))
 above (Some (unsigned a)) (Some (unsigned b)) = Some (is_lt (nat_cmp b a))
@@ -29,7 +29,9 @@ told_or None other = other
 abbrev pub TextsRunBackwards : List ℕ → List ℕ → Bool → Type 0
 TextsRunBackwards start end told =
     (first : Option Leaf) × (last : Option Leaf) × WritesNumber start first × WritesNumber end last
-    × (told ≡ told_or (above first last) (told_or (above (date_written_in (rfc start)) (date_written_in (rfc end))) (told_or (above (truth_in start) (truth_in end)) (is_lt (slice_cmp nat_cmp end start)))))
+    × (told ≡ told_or (above first last) (told_or (above (date_written_in (rfc start))
+    (date_written_in (rfc end))) (told_or (above (truth_in start) (truth_in end))
+    (is_lt (slice_cmp nat_cmp end start)))))
 
 -- where there are two
 abbrev pub RunBackwards : Option (List ℕ) → Option (List ℕ) → Bool → Type 0

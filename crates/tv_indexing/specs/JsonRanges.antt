@@ -1,9 +1,10 @@
 -- The ranges of terms between two texts of a query, at a path into JSON objects.
 --
--- The word of the public contract, `AnswersRanges`: what a text has at a path of a schema. In a field that isn't of JSON objects it is the one range of
--- `AnswersRange`. At a path into JSON objects it is a range of each kind of value that both bounds write: of dates, of numbers that fit signed ones of 64 bits,
--- of truth values, of texts, which each text writes, and of numbers from 2^63 on. A number that is a bound of the one kind bounds no number of the other: it is above all
--- of these, or below.
+-- The word of the public contract, `AnswersRanges`: what a text has at a path of a schema. In a field that
+-- isn't of JSON objects it is the one range of `AnswersRange`. At a path into JSON objects it is a range of
+-- each kind of value that both bounds write: of dates, of numbers that fit signed ones of 64 bits, of truth
+-- values, of texts, which each text writes, and of numbers from 2^63 on. A number that is a bound of the one
+-- kind bounds no number of the other: it is above all of these, or below.
 use Rattle.std.specs.Prelude.{◌≡◌, ◌++◌, ℕ, List, [], ◌∷◌, Bool, true, false, Option, Some, None, Result, Ok, Err}
 use Rattle.std.specs.Global.{Vec}
 use Rattle.std.specs.Option.{option_map}
@@ -65,12 +66,17 @@ unsigned_end is_within (Some (unsigned n)) = Some (placed_bound is_within (unsig
 unsigned_end is_within number = None
 
 -- what a text writes of each kind; of a date the second is within
-abbrev pub WritesEnd : (Bool → Option Leaf → Option (Bound Leaf)) → (Bool → Option Leaf → Option (Bound Leaf)) → JsonKind → Bool → List ℕ → Option (Bound Leaf) → Type 0
-WritesEnd of_signed of_unsigned kinds.Date is_within s bound = bound ≡ option_map Included (date_written_in (rfc s))
-WritesEnd of_signed of_unsigned kinds.Signed is_within s bound = (number : Option Leaf) × WritesNumber s number × (bound ≡ of_signed is_within number)
-WritesEnd of_signed of_unsigned kinds.Truth is_within s bound = bound ≡ option_map (placed_bound is_within) (truth_in s)
+abbrev pub WritesEnd : (Bool → Option Leaf → Option (Bound Leaf)) → (Bool → Option Leaf → Option (Bound Leaf))
+    → JsonKind → Bool → List ℕ → Option (Bound Leaf) → Type 0
+WritesEnd of_signed of_unsigned kinds.Date is_within s bound =
+    bound ≡ option_map Included (date_written_in (rfc s))
+WritesEnd of_signed of_unsigned kinds.Signed is_within s bound =
+    (number : Option Leaf) × WritesNumber s number × (bound ≡ of_signed is_within number)
+WritesEnd of_signed of_unsigned kinds.Truth is_within s bound =
+    bound ≡ option_map (placed_bound is_within) (truth_in s)
 WritesEnd of_signed of_unsigned kinds.Text is_within s bound = bound ≡ Some (placed_bound is_within (text s))
-WritesEnd of_signed of_unsigned kinds.Unsigned is_within s bound = (number : Option Leaf) × WritesNumber s number × (bound ≡ of_unsigned is_within number)
+WritesEnd of_signed of_unsigned kinds.Unsigned is_within s bound =
+    (number : Option Leaf) × WritesNumber s number × (bound ≡ of_unsigned is_within number)
 
 abbrev pub StartsIn : JsonKind → Bound (List ℕ) → Option (Bound Leaf) → Type 0
 StartsIn kind (Included s) bound = WritesEnd signed_start unsigned_start kind true s bound
@@ -86,12 +92,14 @@ EndsIn kind Unbounded bound = bound ≡ Some Unbounded
 
 -- of this field, at this joined path, of this type
 abbrev pub IsTypedAt : ℕ → List ℕ → TypeTag → ℕ → TermValue → Type 0
-IsTypedAt id path type field value = (field ≡ id) × (inner : TermValue) × (value ≡ Json path inner) × (tag_of inner ≡ type)
+IsTypedAt id path type field value = (field ≡ id) × (inner : TermValue) × (value ≡ Json path inner)
+    × (tag_of inner ≡ type)
 
 -- and within two bounds
 abbrev pub IsBetweenAt : ℕ → List ℕ → TypeTag → Bound TermValue → Bound TermValue → ℕ → TermValue → Type 0
 IsBetweenAt id path type lo hi field value =
-    (field ≡ id) × (inner : TermValue) × (value ≡ Json path inner) × (tag_of inner ≡ type) × IsFromBound lo inner × IsToBound hi inner
+    (field ≡ id) × (inner : TermValue) × (value ≡ Json path inner) × (tag_of inner ≡ type)
+    × IsFromBound lo inner × IsToBound hi inner
 
 -- the value of the term of a leaf that is a bound
 abbrev pub AreBoundValues : Bound Leaf → Bound TermValue → Type 0
@@ -101,16 +109,21 @@ AreBoundValues Unbounded Unbounded = Unit {0}
 AreBoundValues l value = ⊥
 
 -- the range of a kind, where both bounds are of it
-abbrev pub AreRangesOf : Field → List ℕ → JsonKind → Option (Bound Leaf) → Option (Bound Leaf) → List TermRange → Type 0
+abbrev pub AreRangesOf : Field → List ℕ → JsonKind → Option (Bound Leaf) → Option (Bound Leaf)
+    → List TermRange → Type 0
 AreRangesOf field path kind (Some start) (Some end) ranges =
-    (lo : Bound TermValue) × (hi : Bound TermValue) × AreBoundValues start lo × AreBoundValues end hi × (range : TermRange) × (ranges ≡ range ∷ []) × HasTerms (IsBetweenAt field.id path (type_of_kind kind) lo hi) range
+    (lo : Bound TermValue) × (hi : Bound TermValue) × AreBoundValues start lo × AreBoundValues end hi
+    × (range : TermRange) × (ranges ≡ range ∷ [])
+    × HasTerms (IsBetweenAt field.id path (type_of_kind kind) lo hi) range
 AreRangesOf field path kind start end ranges = ranges ≡ []
 
 abbrev pub AreOfKind : Field → List ℕ → Bound (List ℕ) → Bound (List ℕ) → JsonKind → List TermRange → Type 0
-AreOfKind field path start end kind ranges = (first : Option (Bound Leaf)) × (last : Option (Bound Leaf)) × StartsIn kind start first × EndsIn kind end last × AreRangesOf field path kind first last ranges
+AreOfKind field path start end kind ranges = (first : Option (Bound Leaf)) × (last : Option (Bound Leaf))
+    × StartsIn kind start first × EndsIn kind end last × AreRangesOf field path kind first last ranges
 
 -- those of all kinds, in the order of terms
-pub record AreOfAllKinds (field : Field) (path : List ℕ) (start end : Bound (List ℕ)) (ranges : List TermRange) : Type 0 where
+pub record AreOfAllKinds (field : Field) (path : List ℕ) (start end : Bound (List ℕ))
+    (ranges : List TermRange) : Type 0 where
   pub dates : List TermRange
   pub signed : List TermRange
   pub truths : List TermRange
@@ -130,19 +143,25 @@ RangesAnswer = Result (List TermRange) TextTermsError
 
 -- those at a joined path, unless the bounds run backwards
 abbrev pub RangesAt : Field → List ℕ → Bound (List ℕ) → Bound (List ℕ) → RangesAnswer → Type 0
-RangesAt field path start end (Ok ranges) = RunBackwards (bounding start) (bounding end) false × AreOfAllKinds field path start end ranges
-RangesAt field path start end (Err e) = RunBackwards (bounding start) (bounding end) true × (e ≡ Backwards field)
+RangesAt field path start end (Ok ranges) = RunBackwards (bounding start) (bounding end) false
+    × AreOfAllKinds field path start end ranges
+RangesAt field path start end (Err e) = RunBackwards (bounding start) (bounding end) true
+    × (e ≡ Backwards field)
 
 abbrev pub RangesBelow : Field → Bool → List ℕ → Bound (List ℕ) → Bound (List ℕ) → RangesAnswer → Type 0
-RangesBelow field expand_dots path start end answer = BelowJson (RangesAt field (joined_path expand_dots path) start end) field path answer
+RangesBelow field expand_dots path start end answer =
+    BelowJson (RangesAt field (joined_path expand_dots path) start end) field path answer
 
 -- the one range of a field that isn't of JSON objects
 abbrev pub OneRange : Field → FieldType → Bound (List ℕ) → Bound (List ℕ) → RangesAnswer → Type 0
-OneRange field type start end (Ok ranges) = (range : TermRange) × (ranges ≡ range ∷ []) × RangeOfTexts field type start end (Ok range)
+OneRange field type start end (Ok ranges) = (range : TermRange) × (ranges ≡ range ∷ [])
+    × RangeOfTexts field type start end (Ok range)
 OneRange field type start end (Err e) = RangeOfTexts field type start end (Err e)
 
 abbrev pub RangesInField : FoundField → Bound (List ℕ) → Bound (List ℕ) → RangesAnswer → Type 0
-RangesInField at start end answer = JsonOrPlain at.type (λ expand_dots. RangesBelow at.field expand_dots at.rest start end answer) (OneRange at.field at.type start end answer)
+RangesInField at start end answer = JsonOrPlain at.type
+    (λ expand_dots. RangesBelow at.field expand_dots at.rest start end answer)
+    (OneRange at.field at.type start end answer)
 
 abbrev pub AnswersBetween : List Entry → List ℕ → Bound (List ℕ) → Bound (List ℕ) → RangesAnswer → Type 0
 AnswersBetween schema path start end answer = AtPath (λ at. RangesInField at start end) schema path answer

@@ -5,7 +5,8 @@ use Rattle.tv_date.specs.declared.date_time.DateTimePrecision.TheVariants.{Secon
 use Rattle.tv_format.specs.Tree.{Tree, leaf, array, object, Leaf, null, text, unsigned, signed, boolean, date, facet, bytes, ip_address, tokenized}
 use Rattle.tv_term.specs.Key.{TermValue, Text, Unsigned, Signed, Truth, Date, Facet, Bytes, Address, IsTerm, json_number}
 
--- The value that the term of a leaf stands for, as it is indexed: a date is cut to the second, a text is whole. Null has none.
+-- The value that the term of a leaf stands for, as it is indexed: a date is cut to the second, a text is
+-- whole. Null has none.
 abbrev pub leaf_value : Leaf → Option TermValue
 leaf_value null = None
 leaf_value (text t) = Some (Text t)
@@ -18,7 +19,8 @@ leaf_value (bytes bs) = Some (Bytes bs)
 leaf_value (ip_address n) = Some (Address n)
 leaf_value (tokenized t ts) = Some (Text t)
 
--- The value that it stands for in a JSON value, after the path: a number that fits a signed one is one, and some leaves have none there.
+-- The value that it stands for in a JSON value, after the path: a number that fits a signed one is one, and
+-- some leaves have none there.
 abbrev pub json_value : Leaf → Option TermValue
 json_value (unsigned n) = Some (json_number n)
 json_value (facet f) = None

@@ -1,10 +1,10 @@
 -- The text of a term's value.
 --
--- The words of the public contracts:
--- `text_of_value`: a text as it is; a number in decimal; a truth value as `true` or `false`; a date, a facet, bytes and an address as the library's
--- JSON has them; and of a value in a JSON object the text of that value. A text and a facet that aren't UTF-8 have none,
--- nor has a value in a JSON object that is one in a JSON object again: no constructor makes its term.
--- `IsTermOfField`: which values of a field are said to be read back of their texts.
+-- The words of the public contracts: `text_of_value`: a text as it is; a number in decimal; a truth value as
+-- `true` or `false`; a date, a facet, bytes and an address as the library's JSON has them; and of a value in
+-- a JSON object the text of that value. A text and a facet that aren't UTF-8 have none, nor has a value in a
+-- JSON object that is one in a JSON object again: no constructor makes its term. `IsTermOfField`: which
+-- values of a field are said to be read back of their texts.
 use Rattle.std.specs.Prelude.{◌==◌, ◌<◌, ◌^◌, ℕ, FitsSigned, List, [], Bool, true, false, Option, Some, None, if◌then◌else◌}
 use Rattle.std.specs.Fmt.{decimal, signed_decimal}
 use Rattle.std.specs.Int.{w64}

@@ -1,11 +1,11 @@
 -- The range of a field's terms between two texts of a query.
 --
--- The words of the public contracts:
--- `AnswersBounds`: what two bounds have at a path in a schema, which are texts. A path that names no field is refused, and so is a field that isn't
--- indexed, and one of JSON objects. Each bound is a value of the field as in `AnswersText`; the range has just the field's terms between the two. Of dates
--- the second of a bound is within, since a term stands for all dates of its second.
--- `BelowInField`: what a text has in a field whose value it is: the range of that value's terms and of those below it, which a facet alone has.
--- `WritesBounds`: the two bounds that one text writes, as `[10 TO 20]`.
+-- The words of the public contracts: `AnswersBounds`: what two bounds have at a path in a schema, which are
+-- texts. A path that names no field is refused, and so is a field that isn't indexed, and one of JSON
+-- objects. Each bound is a value of the field as in `AnswersText`; the range has just the field's terms
+-- between the two. Of dates the second of a bound is within, since a term stands for all dates of its second.
+-- `BelowInField`: what a text has in a field whose value it is: the range of that value's terms and of those
+-- below it, which a facet alone has. `WritesBounds`: the two bounds that one text writes, as `[10 TO 20]`.
 use Rattle.std.specs.Prelude.{◌≡◌, ◌≢◌, ◌≤◌, ◌++◌, ◌⊎◌, ℕ, List, [], ◌∷◌, length, codes, bytes_eq, if◌then◌else◌, Bool, true, false, Option, Some, None, Result, Ok, Err}
 use Rattle.std.specs.Borrow.{Bor}
 use Rattle.std.specs.Ordering.{is_lt, nat_cmp}
@@ -44,14 +44,18 @@ outer_bound type value = Excluded value
 
 -- the texts of a bound are values of the field, and these their terms' values
 abbrev pub WritesBound : FieldType → Bound (List ℕ) → Bound TermValue → Type 0
-WritesBound type (Included s) bound = (l : Leaf) × (value : TermValue) × WritesTerm type s l value × (bound ≡ Included value)
-WritesBound type (Excluded s) bound = (l : Leaf) × (value : TermValue) × WritesTerm type s l value × (bound ≡ outer_bound type value)
+WritesBound type (Included s) bound = (l : Leaf) × (value : TermValue) × WritesTerm type s l value
+    × (bound ≡ Included value)
+WritesBound type (Excluded s) bound = (l : Leaf) × (value : TermValue) × WritesTerm type s l value
+    × (bound ≡ outer_bound type value)
 WritesBound type Unbounded bound = bound ≡ Unbounded
 
 -- the text of a bound is refused
 abbrev pub RefusesBound : Field → FieldType → Bound (List ℕ) → TextTermsError → Type 0
-RefusesBound field type (Included s) e = (why : JsonRefusal) × RefusesText type s why × IsWrongText field (value_type type) why s e
-RefusesBound field type (Excluded s) e = (why : JsonRefusal) × RefusesText type s why × IsWrongText field (value_type type) why s e
+RefusesBound field type (Included s) e = (why : JsonRefusal) × RefusesText type s why
+    × IsWrongText field (value_type type) why s e
+RefusesBound field type (Excluded s) e = (why : JsonRefusal) × RefusesText type s why
+    × IsWrongText field (value_type type) why s e
 RefusesBound field type Unbounded e = ⊥
 
 abbrev pub bounding : {A : Type 0} → Bound A → Option A
@@ -77,22 +81,29 @@ pub record WriteBoth (type : FieldType) (start end : Bound (List ℕ)) (lo hi : 
   pub ends : WritesBound type end hi
 
 -- why they bound no range: the first is refused, or only the second, or they run backwards
-pub data RefusesBoth (field : Field) (type : FieldType) (start end : Bound (List ℕ)) (e : TextTermsError) : Type 0 where
+pub data RefusesBoth (field : Field) (type : FieldType) (start end : Bound (List ℕ))
+    (e : TextTermsError) : Type 0 where
   first : RefusesBound field type start e → RefusesBoth field type start end e
-  second : (lo : Bound TermValue) → WritesBound type start lo → RefusesBound field type end e → RefusesBoth field type start end e
-  backwards : (lo hi : Bound TermValue) → WriteBoth type start end lo hi → are_backwards (bounding lo) (bounding hi) ≡ true → e ≡ Backwards field → RefusesBoth field type start end e
+  second : (lo : Bound TermValue) → WritesBound type start lo → RefusesBound field type end e
+      → RefusesBoth field type start end e
+  backwards : (lo hi : Bound TermValue) → WriteBoth type start end lo hi
+      → are_backwards (bounding lo) (bounding hi) ≡ true → e ≡ Backwards field
+      → RefusesBoth field type start end e
 
 abbrev pub RangeAnswer : Type 0
 RangeAnswer = Result TermRange TextTermsError
 
 abbrev pub RangeOfTexts : Field → FieldType → Bound (List ℕ) → Bound (List ℕ) → RangeAnswer → Type 0
 RangeOfTexts field type start end (Ok range) =
-    (lo : Bound TermValue) × (hi : Bound TermValue) × WriteBoth type start end lo hi × (are_backwards (bounding lo) (bounding hi) ≡ false) × HasTerms (IsBetween field.id (value_type type) lo hi) range
+    (lo : Bound TermValue) × (hi : Bound TermValue) × WriteBoth type start end lo hi
+    × (are_backwards (bounding lo) (bounding hi) ≡ false)
+    × HasTerms (IsBetween field.id (value_type type) lo hi) range
 RangeOfTexts field type start end (Err e) = RefusesBoth field type start end e
 
 -- a field of JSON objects has terms of several types
 abbrev pub RangeInField : FoundField → Bound (List ℕ) → Bound (List ℕ) → RangeAnswer → Type 0
-RangeInField at start end answer = JsonOrPlain at.type (λ expand_dots. answer ≡ Err (NoRange at.field)) (RangeOfTexts at.field at.type start end answer)
+RangeInField at start end answer = JsonOrPlain at.type (λ expand_dots. answer ≡ Err (NoRange at.field))
+    (RangeOfTexts at.field at.type start end answer)
 
 abbrev pub AnswersBounds : List Entry → List ℕ → Bound (List ℕ) → Bound (List ℕ) → RangeAnswer → Type 0
 AnswersBounds schema path start end answer = AtPath (λ at. RangeInField at start end) schema path answer
@@ -109,11 +120,13 @@ abbrev pub IsOrIsBelow : ℕ → TermValue → ℕ → TermValue → Type 0
 IsOrIsBelow id upper field value = (field ≡ id) × ((value ≡ upper) ⊎ IsBelowValue upper value)
 
 abbrev pub RangeWithBelow : Field → FieldType → List ℕ → RangeAnswer → Type 0
-RangeWithBelow field type s (Ok range) = (l : Leaf) × (value : TermValue) × WritesTerm type s l value × HasTerms (IsOrIsBelow field.id value) range
+RangeWithBelow field type s (Ok range) = (l : Leaf) × (value : TermValue) × WritesTerm type s l value
+    × HasTerms (IsOrIsBelow field.id value) range
 RangeWithBelow field type s (Err e) = RefusesBound field type (Included s) e
 
 abbrev pub BelowInField : FoundField → List ℕ → RangeAnswer → Type 0
-BelowInField at s answer = JsonOrPlain at.type (λ expand_dots. answer ≡ Err (NoRange at.field)) (RangeWithBelow at.field at.type s answer)
+BelowInField at s answer = JsonOrPlain at.type (λ expand_dots. answer ≡ Err (NoRange at.field))
+    (RangeWithBelow at.field at.type s answer)
 
 -- ---- the bounds that a text writes
 
@@ -127,20 +140,24 @@ closing_bracket false = codes "}"
 
 -- `*` is no bound
 abbrev pub bound_of : Bool → List ℕ → Bound (List ℕ)
-bound_of is_within s = if bytes_eq s (codes "*") then Unbounded else (if is_within then Included s else Excluded s)
+bound_of is_within s = if bytes_eq s (codes "*") then Unbounded else
+    (if is_within then Included s else Excluded s)
 
 abbrev pub IsStartBound : List ℕ → Bound (List ℕ) → Type 0
-IsStartBound s start = (is_within : Bool) × (inner : List ℕ) × (s ≡ opening_bracket is_within ++ inner) × (start ≡ bound_of is_within inner)
+IsStartBound s start = (is_within : Bool) × (inner : List ℕ) × (s ≡ opening_bracket is_within ++ inner)
+    × (start ≡ bound_of is_within inner)
 
 abbrev pub IsEndBound : List ℕ → Bound (List ℕ) → Type 0
-IsEndBound s end = (is_within : Bool) × (inner : List ℕ) × (s ≡ inner ++ closing_bracket is_within) × (end ≡ bound_of is_within inner)
+IsEndBound s end = (is_within : Bool) × (inner : List ℕ) × (s ≡ inner ++ closing_bracket is_within)
+    × (end ≡ bound_of is_within inner)
 
 -- a bound in its bracket, the first ` TO ` of the text, and another bound in its bracket
 pub record ArePartedBounds (text : List ℕ) (start end : Bound (List ℕ)) : Type 0 where
   pub before : List ℕ
   pub behind : List ℕ
   pub text_is : text ≡ before ++ (codes " TO " ++ behind)
-  pub is_first : (earlier later : List ℕ) → text ≡ earlier ++ (codes " TO " ++ later) → length before ≤ length earlier
+  pub is_first : (earlier later : List ℕ) → text ≡ earlier ++ (codes " TO " ++ later)
+      → length before ≤ length earlier
   pub starts : IsStartBound before start
   pub ends : IsEndBound behind end
 
@@ -150,9 +167,12 @@ pub data WritesBounds (text : List ℕ) (start end : Bound (List ℕ)) : Type 0 
   bounds : ArePartedBounds text start end → WritesBounds text start end
 
 -- what a text has that writes the bounds itself, where this is what two bounds have
-pub data InWrittenBounds {T : Type 0} (Answers : Bound (List ℕ) → Bound (List ℕ) → Result T TextTermsError → Type 0) (text : List ℕ) (answer : Result T TextTermsError) : Type 0 where
-  no_bounds_written : ((start end : Bound (List ℕ)) → ¬ WritesBounds text start end) → (e : TextTermsError) → IsWrongRange text e → answer ≡ Err e → InWrittenBounds Answers text answer
-  bounds_written : (start end : Bound (List ℕ)) → WritesBounds text start end → Answers start end answer → InWrittenBounds Answers text answer
+pub data InWrittenBounds {T : Type 0} (Answers : Bound (List ℕ) → Bound (List ℕ) → Result T TextTermsError
+    → Type 0) (text : List ℕ) (answer : Result T TextTermsError) : Type 0 where
+  no_bounds_written : ((start end : Bound (List ℕ)) → ¬ WritesBounds text start end) → (e : TextTermsError)
+      → IsWrongRange text e → answer ≡ Err e → InWrittenBounds Answers text answer
+  bounds_written : (start end : Bound (List ℕ)) → WritesBounds text start end → Answers start end answer
+      → InWrittenBounds Answers text answer
 
 abbrev pub AnswersRange : List Entry → List ℕ → List ℕ → RangeAnswer → Type 0
 AnswersRange schema path text answer = InWrittenBounds (AnswersBounds schema path) text answer
@@ -167,15 +187,19 @@ bound_text bound = bound_map (λ text. text.now) bound
 
 -- the term of the value that a text is, or why it is none
 abbrev pub IsTermOfText : Field → FieldType → List ℕ → Result (List ℕ) TextTermsError → Type 0
-IsTermOfText field type s (Ok made) = (l : Leaf) × (value : TermValue) × WritesTerm type s l value × IsTerm made field.id value
+IsTermOfText field type s (Ok made) = (l : Leaf) × (value : TermValue) × WritesTerm type s l value
+    × IsTerm made field.id value
 IsTermOfText field type s (Err e) = RefusesBound field type (Included s) e
 
 -- the same of a bound
-abbrev pub AreTermsOfBound : Field → FieldType → Bound (List ℕ) → Result (Bound (List ℕ)) TextTermsError → Type 0
-AreTermsOfBound field type bound (Ok made) = (value : Bound TermValue) × WritesBound type bound value × AreTermsOf field.id value made
+abbrev pub AreTermsOfBound : Field → FieldType → Bound (List ℕ) → Result (Bound (List ℕ)) TextTermsError
+    → Type 0
+AreTermsOfBound field type bound (Ok made) = (value : Bound TermValue) × WritesBound type bound value
+    × AreTermsOf field.id value made
 AreTermsOfBound field type bound (Err e) = RefusesBound field type bound e
 
 -- where the terms of a value and of those below it end, among those that begin with its term
 abbrev pub EndsBelowTerm : FieldType → List ℕ → Bound (List ℕ) → Type 0
-EndsBelowTerm (types.Facet options) start end = ((length start ≡ 5) × (end ≡ Unbounded)) ⊎ ((length start ≢ 5) × (end ≡ Excluded (start ++ 1 ∷ [])))
+EndsBelowTerm (types.Facet options) start end = ((length start ≡ 5) × (end ≡ Unbounded))
+    ⊎ ((length start ≢ 5) × (end ≡ Excluded (start ++ 1 ∷ [])))
 EndsBelowTerm type start end = end ≡ Included start

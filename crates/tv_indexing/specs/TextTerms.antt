@@ -1,10 +1,10 @@
 -- The terms of a text of a query: those that a document has which holds a value that the text writes.
 --
--- The words of the public contract:
--- `AnswersText`: what a text at a path has in a schema. A path that names no field is refused, and so is a field that isn't indexed. In a field of a
--- plain type the text is the value that it is in JSON to such a field that coerces, and has that value's term; or it is refused for the reason
--- that JSON is. In a field of JSON objects, at a path below it, it writes itself as a text, and also a number, a truth value and a date, each
--- where it is the text of one, and has the term of each there.
+-- The words of the public contract: `AnswersText`: what a text at a path has in a schema. A path that names
+-- no field is refused, and so is a field that isn't indexed. In a field of a plain type the text is the value
+-- that it is in JSON to such a field that coerces, and has that value's term; or it is refused for the reason
+-- that JSON is. In a field of JSON objects, at a path below it, it writes itself as a text, and also a
+-- number, a truth value and a date, each where it is the text of one, and has the term of each there.
 use Rattle.std.specs.Prelude.{◌≡◌, ◌≢◌, ◌++◌, ℕ, ℤ, List, [], ◌∷◌, Bool, Option, Some, None, IfSome, Result, Ok, Err}
 use Rattle.std.specs.List.{AllByRecursion}
 use Rattle.std.specs.Str.Parse.{digits_value, signed_digits_value, without_leading_plus}
@@ -37,7 +37,8 @@ listed (Some l) = l ∷ []
 abbrev pub WritesNumber : List ℕ → Option Leaf → Type 0
 WritesNumber s None = (¬ IsSignedText s) × (¬ IsUnsignedText s)
 WritesNumber s (Some (signed z)) = IsSignedText s × (z ≡ signed_digits_value 10 s)
-WritesNumber s (Some (unsigned n)) = (¬ IsSignedText s) × IsUnsignedText s × (n ≡ digits_value 10 (without_leading_plus s))
+WritesNumber s (Some (unsigned n)) = (¬ IsSignedText s) × IsUnsignedText s
+    × (n ≡ digits_value 10 (without_leading_plus s))
 WritesNumber s (Some l) = ⊥
 
 abbrev pub date_written_in : Result ℤ DateError → Option Leaf
@@ -46,7 +47,8 @@ date_written_in (Err e) = None
 
 -- itself, and the number, the truth value and the date that it also writes
 abbrev pub WritesLeaves : List ℕ → List Leaf → Type 0
-WritesLeaves s ls = (number : Option Leaf) × WritesNumber s number × (ls ≡ text s ∷ (listed number ++ (listed (truth_in s) ++ listed (date_written_in (rfc s)))))
+WritesLeaves s ls = (number : Option Leaf) × WritesNumber s number
+    × (ls ≡ text s ∷ (listed number ++ (listed (truth_in s) ++ listed (date_written_in (rfc s)))))
 
 -- the terms of values at one path
 abbrev pub leaves_terms : Field → List ℕ → List Leaf → Terms
@@ -57,7 +59,8 @@ leaves_terms field path (l ∷ ls) = followed_by (json_leaf_terms field path l) 
 
 -- the error for such a text; want of memory is no reason of a text
 abbrev pub IsWrongText : Field → TypeTag → JsonRefusal → List ℕ → TextTermsError → Type 0
-IsWrongText field type why s (WrongText f t w start) = (f ≡ field) × (t ≡ type) × (w ≡ why) × (why ≢ NoMemory) × IsStartOf s start
+IsWrongText field type why s (WrongText f t w start) =
+    (f ≡ field) × (t ≡ type) × (w ≡ why) × (why ≢ NoMemory) × IsStartOf s start
 IsWrongText field type why s e = ⊥
 
 abbrev pub IsWrongRange : List ℕ → TextTermsError → Type 0
@@ -69,23 +72,29 @@ TermsAnswer = Result (List (List ℕ)) TextTermsError
 
 -- the terms of all that a text writes at a joined path
 abbrev pub WritesTerms : Field → List ℕ → List ℕ → TermsAnswer → Type 0
-WritesTerms field path s (Ok made) = (ls : List Leaf) × WritesLeaves s ls × AllByRecursion (λ l. IfSome (json_value l) Fits) ls × (leaves_terms field path ls ≡ Ok made)
+WritesTerms field path s (Ok made) = (ls : List Leaf) × WritesLeaves s ls
+    × AllByRecursion (λ l. IfSome (json_value l) Fits) ls × (leaves_terms field path ls ≡ Ok made)
 WritesTerms field path s (Err e) = ⊥
 
 abbrev pub TermsBelow : Field → Bool → List ℕ → List ℕ → TermsAnswer → Type 0
-TermsBelow field expand_dots path s answer = BelowJson (WritesTerms field (joined_path expand_dots path) s) field path answer
+TermsBelow field expand_dots path s answer = BelowJson (WritesTerms field (joined_path expand_dots path) s)
+    field path answer
 
 abbrev pub TermOfText : Field → FieldType → List ℕ → TermsAnswer → Type 0
-TermOfText field type s (Ok made) = (l : Leaf) × WritesValue type s l × IfSome (leaf_value l) Fits × (plain_terms field (value_type type) (leaf_value l) ≡ Ok made)
-TermOfText field type s (Err e) = (why : JsonRefusal) × RefusesText type s why × IsWrongText field (value_type type) why s e
+TermOfText field type s (Ok made) = (l : Leaf) × WritesValue type s l × IfSome (leaf_value l) Fits
+    × (plain_terms field (value_type type) (leaf_value l) ≡ Ok made)
+TermOfText field type s (Err e) = (why : JsonRefusal) × RefusesText type s why
+    × IsWrongText field (value_type type) why s e
 
 abbrev pub TermsInField : FoundField → List ℕ → TermsAnswer → Type 0
-TermsInField at s answer = JsonOrPlain at.type (λ expand_dots. TermsBelow at.field expand_dots at.rest s answer) (TermOfText at.field at.type s answer)
+TermsInField at s answer = JsonOrPlain at.type (λ expand_dots. TermsBelow at.field expand_dots at.rest s
+    answer) (TermOfText at.field at.type s answer)
 
 abbrev pub AnswersText : List Entry → List ℕ → List ℕ → TermsAnswer → Type 0
 AnswersText schema path s answer = AtPath (λ at. TermsInField at s) schema path answer
 
 -- terms that are such an answer are appended, or such an error is the answer
-abbrev pub AppendsAnswer : (TermsAnswer → Type 0) → List (List ℕ) → List (List ℕ) → Result (Unit {0}) TextTermsError → Type 0
+abbrev pub AppendsAnswer : (TermsAnswer → Type 0) → List (List ℕ) → List (List ℕ)
+    → Result (Unit {0}) TextTermsError → Type 0
 AppendsAnswer Answers old new (Ok done) = (made : List (List ℕ)) × Answers (Ok made) × (new ≡ old ++ made)
 AppendsAnswer Answers old new (Err e) = Answers (Err e)

@@ -1,15 +1,15 @@
 -- The terms that a visitor takes.
 --
--- The words of the public contract, of a visitor that was `old` and is `new`. `HasTaken start now terms` says that it has taken these terms since it was
--- `start`, and is `now`.
--- `TakesTerms`: it took these, in this order, after all that it had taken before.
--- `TakesAll`: it took all of these terms, and they aren't refused.
+-- The words of the public contract, of a visitor that was `old` and is `new`. `HasTaken start now terms` says
+-- that it has taken these terms since it was `start`, and is `now`. `TakesTerms`: it took these, in this
+-- order, after all that it had taken before. `TakesAll`: it took all of these terms, and they aren't refused.
 -- `TakesSome`: it took some terms, or none.
 use Rattle.std.specs.Prelude.{ℕ, List, ◌++◌, Ok, Err}
 use Rattle.tv_indexing.specs.DocumentTerms.{Terms}
 
 abbrev pub TakesTerms : {V : Type 0} → (V → V → List (List ℕ) → Type 0) → V → V → List (List ℕ) → Type 0
-TakesTerms HasTaken old new more = (start : _) (terms : List (List ℕ)) → HasTaken start old terms → HasTaken start new (terms ++ more)
+TakesTerms HasTaken old new more = (start : _) (terms : List (List ℕ)) → HasTaken start old terms
+    → HasTaken start new (terms ++ more)
 
 abbrev pub TakesAll : {V : Type 0} → (V → V → List (List ℕ) → Type 0) → V → V → Terms → Type 0
 TakesAll HasTaken old new (Ok made) = TakesTerms HasTaken old new made

@@ -1,6 +1,7 @@
 -- The fields that a query names.
 --
--- The word of the public contract, `names_field`: whether one of the steps is of a clause whose path names the field of this number.
+-- The word of the public contract, `names_field`: whether one of the steps is of a clause whose path names
+-- the field of this number.
 use Rattle.std.specs.Prelude.{◌==◌, ℕ, Bool, false, List}
 use Rattle.std.specs.List.{IsDistinct, list_any}
 use Rattle.tv_query.specs.declared.query.Step.{Step}

@@ -1,8 +1,8 @@
 -- Queries as trees, and the tokens that write one.
 --
--- The words of the public contract:
--- `WritesQuery`: the tokens write the tree. `NOT` binds most, then `AND`, then `OR`, and `AND` and `OR` take from the left.
--- `steps_of`: the tree's steps, each after those of its operands.
+-- The words of the public contract: `WritesQuery`: the tokens write the tree. `NOT` binds most, then `AND`,
+-- then `OR`, and `AND` and `OR` take from the left. `steps_of`: the tree's steps, each after those of its
+-- operands.
 use Rattle.std.specs.Prelude.{List, [], ◌∷◌, ◌++◌, ◌+◌, ℕ, suc, Option, Some, None, option_and_then}
 use Rattle.tv_field.specs.Entry.{Entry}
 use Rattle.tv_query.specs.Selections.{Selects}
@@ -21,13 +21,23 @@ pub data Level : Type 0 where
   factor all any : Level
 
 pub data WritesQuery (schema : List Entry) : Level → List QueryToken → QueryTree → Type 0 where
-  of_clause : {path : List ℕ} {wanted : WantedText} {selection : Selection} → Selects schema path wanted selection → WritesQuery schema factor (clause path wanted ∷ []) (selecting selection)
-  in_parentheses : {tokens : List QueryToken} {tree : QueryTree} → WritesQuery schema any tokens tree → WritesQuery schema factor (opened ∷ (tokens ++ closed ∷ [])) tree
-  not_of : {tokens : List QueryToken} {tree : QueryTree} → WritesQuery schema factor tokens tree → WritesQuery schema factor (not_word ∷ tokens) (negation tree)
-  one_factor : {tokens : List QueryToken} {tree : QueryTree} → WritesQuery schema factor tokens tree → WritesQuery schema all tokens tree
-  and_of : {first second : List QueryToken} {left right : QueryTree} → WritesQuery schema all first left → WritesQuery schema factor second right → WritesQuery schema all (first ++ and_word ∷ second) (both left right)
-  all_alone : {tokens : List QueryToken} {tree : QueryTree} → WritesQuery schema all tokens tree → WritesQuery schema any tokens tree
-  or_of : {first second : List QueryToken} {left right : QueryTree} → WritesQuery schema any first left → WritesQuery schema all second right → WritesQuery schema any (first ++ or_word ∷ second) (either left right)
+  of_clause : {path : List ℕ} {wanted : WantedText} {selection : Selection}
+      → Selects schema path wanted selection → WritesQuery schema factor (clause path wanted ∷ [])
+      (selecting selection)
+  in_parentheses : {tokens : List QueryToken} {tree : QueryTree} → WritesQuery schema any tokens tree
+      → WritesQuery schema factor (opened ∷ (tokens ++ closed ∷ [])) tree
+  not_of : {tokens : List QueryToken} {tree : QueryTree} → WritesQuery schema factor tokens tree
+      → WritesQuery schema factor (not_word ∷ tokens) (negation tree)
+  one_factor : {tokens : List QueryToken} {tree : QueryTree} → WritesQuery schema factor tokens tree
+      → WritesQuery schema all tokens tree
+  and_of : {first second : List QueryToken} {left right : QueryTree} → WritesQuery schema all first left
+      → WritesQuery schema factor second right → WritesQuery schema all (first ++ and_word ∷ second)
+      (both left right)
+  all_alone : {tokens : List QueryToken} {tree : QueryTree} → WritesQuery schema all tokens tree
+      → WritesQuery schema any tokens tree
+  or_of : {first second : List QueryToken} {left right : QueryTree} → WritesQuery schema any first left
+      → WritesQuery schema all second right → WritesQuery schema any (first ++ or_word ∷ second)
+      (either left right)
 
 abbrev pub steps_of : QueryTree → List Step
 steps_of (selecting selection) = steps.Clause selection ∷ []

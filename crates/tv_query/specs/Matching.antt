@@ -24,19 +24,25 @@ IsTold terms step told = Unit {0}
 
 -- so it is of each step, by what stands at its place; past the end of the list that is `false`
 abbrev pub AreTold : List (List ℕ) → List Step → List Bool → Type 0
-AreTold terms query told = (k : ℕ) (step : Step) → slice_get query k ≡ Some step → IsTold terms step (get_or told k false)
+AreTold terms query told = (k : ℕ) (step : Step) → slice_get query k ≡ Some step
+    → IsTold terms step (get_or told k false)
 
 abbrev pub HasTaken : List (List ℕ) → QueryMatcher → Type 0
 HasTaken terms matcher = AreTold terms matcher.query.now.steps.items matcher.wanted.items
 
 -- ---- for private clauses
 
--- the truth of a step: of a clause whether it wants one of the terms, else that of the last truths, which are taken off
+-- the truth of a step: of a clause whether it wants one of the terms, else that of the last truths, which are
+-- taken off
 abbrev pub IsTruthOf : List (List ℕ) → Step → List Bool → List Bool → Bool → Type 0
-IsTruthOf terms (steps.Clause selection) old new truth = (new ≡ old) × (IsTrue truth ↔ HasWanted terms selection)
-IsTruthOf terms steps.Not old new truth = (before : List Bool) (a : Bool) → old ≡ before ++ a ∷ [] → (new ≡ before) × (truth ≡ not a)
-IsTruthOf terms steps.And old new truth = (before : List Bool) (a b : Bool) → old ≡ before ++ a ∷ b ∷ [] → (new ≡ before) × (truth ≡ (a && b))
-IsTruthOf terms steps.Or old new truth = (before : List Bool) (a b : Bool) → old ≡ before ++ a ∷ b ∷ [] → (new ≡ before) × (truth ≡ (a || b))
+IsTruthOf terms (steps.Clause selection) old new truth =
+    (new ≡ old) × (IsTrue truth ↔ HasWanted terms selection)
+IsTruthOf terms steps.Not old new truth = (before : List Bool) (a : Bool) → old ≡ before ++ a ∷ []
+    → (new ≡ before) × (truth ≡ not a)
+IsTruthOf terms steps.And old new truth = (before : List Bool) (a b : Bool) → old ≡ before ++ a ∷ b ∷ []
+    → (new ≡ before) × (truth ≡ (a && b))
+IsTruthOf terms steps.Or old new truth = (before : List Bool) (a b : Bool) → old ≡ before ++ a ∷ b ∷ []
+    → (new ≡ before) × (truth ≡ (a || b))
 
 -- of a clause it was told, and is now told of this term too
 abbrev pub IsTested : List ℕ → Step → Bool → Bool → Type 0

@@ -1,8 +1,9 @@
 -- Why a text is no query, and where.
 --
--- The word of the public contract, `Refuses`: before the place stand tokens that may follow one another, whose clauses the schema takes. What stands there
--- is no token, or one that can't follow, or a clause that the schema refuses, or the text ends there too early. The reason says which. Or it is want of
--- memory, and then what stands there is right, or is found wrong only once memory was taken.
+-- The word of the public contract, `Refuses`: before the place stand tokens that may follow one another,
+-- whose clauses the schema takes. What stands there is no token, or one that can't follow, or a clause that
+-- the schema refuses, or the text ends there too early. The reason says which. Or it is want of memory, and
+-- then what stands there is right, or is found wrong only once memory was taken.
 use Rattle.std.specs.Prelude.{◌≡◌, ◌≢◌, ◌==◌, ◌<◌, ◌+◌, ◌⊎◌, ℕ, List, [], ◌∷◌, ◌++◌, length, true, Some, None}
 use Rattle.std.specs.Char.{is_ascii_whitespace}
 use Rattle.std.specs.List.{AllByRecursion, Contains}
@@ -45,17 +46,22 @@ pub data RefusesWanted (text : List ℕ) : QueryReason → Type 0 where
 pub data RefusesToken (text : List ℕ) : QueryReason → Type 0 where
   no_path : {rest : List ℕ} → text ≡ 58 ∷ rest → RefusesToken text NoPath
   unquoted_path : IsUnquoted text → RefusesToken text Unended
-  quoted_alone : {path rest : List ℕ} → IsQuoted text path rest → BeginsWithout (λ b. b == 58) rest → RefusesToken text NoColon
-  word_alone : {word rest : List ℕ} → BeginsWithOperator text word rest → ((token : QueryToken) → ¬ IsOperator token word) → RefusesToken text NoColon
-  wants_nothing : {path rest : List ℕ} {reason : QueryReason} → BeginsWithPath text path rest → RefusesWanted rest reason → RefusesToken text reason
+  quoted_alone : {path rest : List ℕ} → IsQuoted text path rest → BeginsWithout (λ b. b == 58) rest
+      → RefusesToken text NoColon
+  word_alone : {word rest : List ℕ} → BeginsWithOperator text word rest
+      → ((token : QueryToken) → ¬ IsOperator token word) → RefusesToken text NoColon
+  wants_nothing : {path rest : List ℕ} {reason : QueryReason} → BeginsWithPath text path rest
+      → RefusesWanted rest reason → RefusesToken text reason
 
 -- ---- tokens that can't stand where they do
 
 -- a token that can't follow, for the reason that there is
 abbrev pub RefusesNext : ParserState → QueryToken → QueryReason → Type 0
-RefusesNext (wants_operand depth) token reason = (after (wants_operand depth) token ≡ None) × (reason ≡ NoOperand)
+RefusesNext (wants_operand depth) token reason = (after (wants_operand depth) token ≡ None)
+    × (reason ≡ NoOperand)
 RefusesNext (wants_operator depth) closed reason = (depth ≡ 0) × (reason ≡ Unopened)
-RefusesNext (wants_operator depth) token reason = (after (wants_operator depth) token ≡ None) × (reason ≡ NoOperator)
+RefusesNext (wants_operator depth) token reason = (after (wants_operator depth) token ≡ None)
+    × (reason ≡ NoOperator)
 
 -- the text ends too early
 abbrev pub RefusesEnd : ParserState → QueryReason → Type 0
@@ -63,22 +69,26 @@ RefusesEnd (wants_operand depth) reason = reason ≡ NoOperand
 RefusesEnd (wants_operator depth) reason = (0 < depth) × (reason ≡ Unclosed)
 
 -- a token that can't follow, or a clause that can, and is refused
-pub data RefusesTaken (schema : List Entry) (state : ParserState) (token : QueryToken) (reason : QueryReason) : Type 0 where
+pub data RefusesTaken (schema : List Entry) (state : ParserState) (token : QueryToken)
+    (reason : QueryReason) : Type 0 where
   misplaced : RefusesNext state token reason → RefusesTaken schema state token reason
-  refused : {path : List ℕ} {wanted : WantedText} → token ≡ clause path wanted → after state token ≢ None → RefusesClause schema path wanted reason → RefusesTaken schema state token reason
+  refused : {path : List ℕ} {wanted : WantedText} → token ≡ clause path wanted → after state token ≢ None
+      → RefusesClause schema path wanted reason → RefusesTaken schema state token reason
 
 -- what stands at the place of an error, where these tokens have come before
-pub data RefusesRest (schema : List Entry) (state : ParserState) (text : List ℕ) (reason : QueryReason) : Type 0 where
+pub data RefusesRest (schema : List Entry) (state : ParserState) (text : List ℕ)
+    (reason : QueryReason) : Type 0 where
   ended : text ≡ [] → RefusesEnd state reason → RefusesRest schema state text reason
   no_token : text ≢ [] → RefusesToken text reason → RefusesRest schema state text reason
-  no_place : {token : QueryToken} {rest : List ℕ} → BeginsWithToken text token rest → RefusesTaken schema state token reason → RefusesRest schema state text reason
+  no_place : {token : QueryToken} {rest : List ℕ} → BeginsWithToken text token rest
+      → RefusesTaken schema state token reason → RefusesRest schema state text reason
 
 -- one of the tokens joins two operands
 abbrev pub HaveOperator : List QueryToken → Type 0
 HaveOperator tokens = Contains tokens and_word ⊎ Contains tokens or_word
 
--- The reasons that take memory to find, after these tokens: of parentheses, where a step that joins two operands is written first; and those of a
--- clause.
+-- The reasons that take memory to find, after these tokens: of parentheses, where a step that joins two
+-- operands is written first; and those of a clause.
 abbrev pub TakesMemoryAfter : List QueryToken → QueryReason → Type 0
 TakesMemoryAfter tokens Unopened = HaveOperator tokens
 TakesMemoryAfter tokens Unclosed = HaveOperator tokens

@@ -1,12 +1,12 @@
 -- The terms that a clause of a query wants.
 --
--- The words of the public contract:
--- `AnswersClause`: what a clause has at its path, in the order of the reasons. A path that names no field is refused, and so is a field that isn't indexed.
--- In the field, a text wants its terms, as `TermsInField` says; in a field of facets also those of the facets below, since tantivy indexes with a facet those
--- above it. A prefix wants the terms that begin with the first term of its text, in a field of texts, facets or JSON objects. A range wants the terms in
--- its ranges, as `RangesOfText` says.
--- `Selects`, `RefusesClause`: the terms that it wants, or why it wants none.
--- `IsWanted`: the term is one of these.
+-- The words of the public contract: `AnswersClause`: what a clause has at its path, in the order of the
+-- reasons. A path that names no field is refused, and so is a field that isn't indexed. In the field, a text
+-- wants its terms, as `TermsInField` says; in a field of facets also those of the facets below, since tantivy
+-- indexes with a facet those above it. A prefix wants the terms that begin with the first term of its text,
+-- in a field of texts, facets or JSON objects. A range wants the terms in its ranges, as `RangesOfText` says.
+-- `Selects`, `RefusesClause`: the terms that it wants, or why it wants none. `IsWanted`: the term is one of
+-- these.
 use Rattle.std.specs.Prelude.{◌≡◌, ◌⊎◌, ℕ, List, [], ◌∷◌, Bool, true, false, MatchBool, Result, Ok, Err}
 use Rattle.std.specs.List.{Any, Contains}
 use Rattle.tv_field.specs.Entry.{Entry}
@@ -46,11 +46,14 @@ AreOfFirst (first ∷ terms) ranges = (range : TermRange) × (ranges ≡ range �
 -- in a field of facets a text has one range, of its term and those of the facets below
 abbrev pub WantsInField : FoundField → WantedText → Selection → Type 0
 WantsInField at (of_text s) selection =
-    MatchBool (is_of_facets at.type) ((selection.exact ≡ []) × (range : TermRange) × (selection.ranges.items ≡ range ∷ []) × BelowInField at s (Ok range))
+    MatchBool (is_of_facets at.type) ((selection.exact ≡ []) × (range : TermRange)
+    × (selection.ranges.items ≡ range ∷ []) × BelowInField at s (Ok range))
     (TermsInField at s (Ok selection.exact) × (selection.ranges.items ≡ []))
 WantsInField at (of_prefix s) selection =
-    (has_prefixes at.type ≡ true) × (selection.exact ≡ []) × (terms : List (List ℕ)) × TermsInField at s (Ok terms) × AreOfFirst terms selection.ranges.items
-WantsInField at (of_range s) selection = (selection.exact ≡ []) × RangesOfText at s (Ok selection.ranges.items)
+    (has_prefixes at.type ≡ true) × (selection.exact ≡ []) × (terms : List (List ℕ))
+    × TermsInField at s (Ok terms) × AreOfFirst terms selection.ranges.items
+WantsInField at (of_range s) selection = (selection.exact ≡ [])
+    × RangesOfText at s (Ok selection.ranges.items)
 
 abbrev pub RefusesInField : FoundField → WantedText → QueryReason → Type 0
 RefusesInField at (of_text s) (Clause e) = TermsInField at s (Err e)
@@ -75,7 +78,8 @@ Selects schema path wanted selection = AnswersClause schema path wanted (Ok sele
 abbrev pub RefusesClause : List Entry → List ℕ → WantedText → QueryReason → Type 0
 RefusesClause schema path wanted reason = AnswersClause schema path wanted (Err reason)
 
--- the refusals of a clause that take memory to find: all but a field that isn't indexed, and one that has no prefixes
+-- the refusals of a clause that take memory to find: all but a field that isn't indexed, and one that has no
+-- prefixes
 abbrev pub TakesMemory : QueryReason → Type 0
 TakesMemory (Clause (texts.NotIndexed field)) = ⊥
 TakesMemory (Clause e) = Unit {0}
@@ -85,7 +89,8 @@ TakesMemory reason = ⊥
 
 -- the term is one of those of the text, or in a range
 abbrev pub IsWanted : Selection → List ℕ → Type 0
-IsWanted selection term = Contains selection.exact term ⊎ Any (λ range. IsIn range term) selection.ranges.items
+IsWanted selection term = Contains selection.exact term
+    ⊎ Any (λ range. IsIn range term) selection.ranges.items
 
 -- one of the terms is
 abbrev pub HasWanted : List (List ℕ) → Selection → Type 0

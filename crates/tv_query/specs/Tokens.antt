@@ -1,8 +1,10 @@
 -- The tokens of a query's text.
 --
--- The words of the public contract, `BeginsWithTokens` and `WritesTokens`: a text is white space, a token, white space, a token and so on. A token is a
--- parenthesis, one of the words `AND`, `OR` and `NOT`, or a clause: a path, a colon, and what is wanted there. A path is a bare word or a text in quotes.
--- What is wanted is a star, a text in brackets, a text in quotes, which a star may follow, or a bare word, which may end with a star.
+-- The words of the public contract, `BeginsWithTokens` and `WritesTokens`: a text is white space, a token,
+-- white space, a token and so on. A token is a parenthesis, one of the words `AND`, `OR` and `NOT`, or a
+-- clause: a path, a colon, and what is wanted there. A path is a bare word or a text in quotes. What is
+-- wanted is a star, a text in brackets, a text in quotes, which a star may follow, or a bare word, which may
+-- end with a star.
 use Rattle.std.specs.Prelude.{◌≡◌, ◌≢◌, ◌||◌, ◌==◌, ℕ, Bool, true, false, List, [], ◌∷◌, ◌++◌, codes}
 use Rattle.std.specs.Char.{is_ascii_whitespace}
 use Rattle.std.specs.List.{AllByRecursion}
@@ -95,11 +97,16 @@ pub record BeginsWithWord (text word rest : List ℕ) : Type 0 where
 -- what is wanted; a star is a range without bounds
 pub data BeginsWithWanted (text : List ℕ) : WantedText → List ℕ → Type 0 where
   all : {rest : List ℕ} → IsUpTo ends_word text star rest → BeginsWithWanted text (of_range star) rest
-  bracketed : {inner rest : List ℕ} → IsBracketed text inner rest → BeginsWithWanted text (of_range inner) rest
-  quoted_prefix : {inner rest : List ℕ} → IsQuoted text inner (42 ∷ rest) → BeginsWithWanted text (of_prefix inner) rest
-  quoted_text : {inner rest : List ℕ} → IsQuoted text inner rest → BeginsWithout (λ b. b == 42) rest → BeginsWithWanted text (of_text inner) rest
-  word_prefix : {inner rest : List ℕ} → BeginsWithWord text (inner ++ star) rest → BeginsWithWanted text (of_prefix inner) rest
-  word_text : {word rest : List ℕ} → BeginsWithWord text word rest → ((inner : List ℕ) → word ≢ inner ++ star) → BeginsWithWanted text (of_text word) rest
+  bracketed : {inner rest : List ℕ} → IsBracketed text inner rest
+      → BeginsWithWanted text (of_range inner) rest
+  quoted_prefix : {inner rest : List ℕ} → IsQuoted text inner (42 ∷ rest)
+      → BeginsWithWanted text (of_prefix inner) rest
+  quoted_text : {inner rest : List ℕ} → IsQuoted text inner rest → BeginsWithout (λ b. b == 42) rest
+      → BeginsWithWanted text (of_text inner) rest
+  word_prefix : {inner rest : List ℕ} → BeginsWithWord text (inner ++ star) rest
+      → BeginsWithWanted text (of_prefix inner) rest
+  word_text : {word rest : List ℕ} → BeginsWithWord text word rest → ((inner : List ℕ) → word ≢ inner ++ star)
+      → BeginsWithWanted text (of_text word) rest
 
 -- a bare word that no colon follows; it has a byte or more
 pub record BeginsWithOperator (text word rest : List ℕ) : Type 0 where
@@ -117,8 +124,10 @@ IsOperator token word = ⊥
 pub data BeginsWithToken (text : List ℕ) : QueryToken → List ℕ → Type 0 where
   opens : {rest : List ℕ} → text ≡ 40 ∷ rest → BeginsWithToken text opened rest
   closes : {rest : List ℕ} → text ≡ 41 ∷ rest → BeginsWithToken text closed rest
-  operates : {token : QueryToken} {word rest : List ℕ} → BeginsWithOperator text word rest → IsOperator token word → BeginsWithToken text token rest
-  selects : {path middle rest : List ℕ} {wanted : WantedText} → BeginsWithPath text path middle → BeginsWithWanted middle wanted rest → BeginsWithToken text (clause path wanted) rest
+  operates : {token : QueryToken} {word rest : List ℕ} → BeginsWithOperator text word rest
+      → IsOperator token word → BeginsWithToken text token rest
+  selects : {path middle rest : List ℕ} {wanted : WantedText} → BeginsWithPath text path middle
+      → BeginsWithWanted middle wanted rest → BeginsWithToken text (clause path wanted) rest
 
 abbrev pub IsSpace : List ℕ → Type 0
 IsSpace = AllByRecursion (λ b. is_ascii_whitespace b ≡ true)
@@ -126,7 +135,8 @@ IsSpace = AllByRecursion (λ b. is_ascii_whitespace b ≡ true)
 -- tokens one after the other, with white space before each, and the rest
 pub data BeginsWithTokens : List ℕ → List QueryToken → List ℕ → Type 0 where
   no_tokens : {text : List ℕ} → BeginsWithTokens text [] text
-  next_token : (space : List ℕ) {text middle rest : List ℕ} {token : QueryToken} {tokens : List QueryToken} → IsSpace space → BeginsWithToken text token middle
+  next_token : (space : List ℕ) {text middle rest : List ℕ} {token : QueryToken} {tokens : List QueryToken}
+      → IsSpace space → BeginsWithToken text token middle
       → BeginsWithTokens middle tokens rest → BeginsWithTokens (space ++ text) (token ∷ tokens) rest
 
 -- the whole text is tokens, and white space

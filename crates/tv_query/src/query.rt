@@ -138,8 +138,8 @@ impl Query {
     ///
     /// Errors: `QueryError`, with the reason for the first token that can't stand where it does or whose clause is refused, and the place in
     /// bytes where that begins; where the text ends too early, that is its length. `Memory` has the place of the token, or of the end, for which
-    /// memory was refused, and comes in place of no other reason but those that take memory to find: that a clause is refused, where its path names no
-    /// indexed field's prefix, and that a parenthesis isn't closed or wasn't opened, after an `AND` or `OR`.
+    /// memory was refused. It hides only a reason that takes memory to find: `Unopened` and `Unclosed` after an `AND` or `OR`, and a clause that is
+    /// refused for another reason than that its field isn't indexed or has no prefixes.
     pub fn parse(alloc: Global, schema: &Schema, text: &str) -> Result<Query, QueryError>
         ensures made { IfOk result (λ query. (tokens : List QueryToken) × (tree : QueryTree)
             × WritesTokens text.now tokens × WritesQuery schema.now any tokens tree
