@@ -12,7 +12,7 @@ use Rattle.tv_query.specs.Selections.{IsWanted}
 use Rattle.tv_query.specs.declared.matching.QueryMatcher.{QueryMatcher}
 use Rattle.tv_query.specs.declared.query.Step.{Step}
 use Rattle.tv_query.specs.declared.query.Step.TheVariants as steps
-use Rattle.tv_query.proofs.Wanting.{any_cons, any_rest}
+use Rattle.tv_indexing.proofs.OneRange.{any_cons, any_rest}
 
 -- those before this place are tested, and the others aren't yet
 abbrev pub TestedTo : List ℕ → List Step → List Bool → List Bool → ℕ → Type 0
