@@ -16,7 +16,23 @@ use tv_blocks::status::{written_answer, wrong_version};
 use tv_schema::Schema;
 use tv_store::DocStoreVersion;
 
-// Writes the values of the field that has a name by a schema.
+// Writes the values of the field that has a name by a schema, of documents in a version.
+fn write_values_in(
+    alloc: Global,
+    schema: &Schema,
+    name: &[u8],
+    version: DocStoreVersion,
+    block: &[u8],
+    values: &mut [u8],
+) -> Answer
+    ensures { AnswersFill (AreNamedValues schema.now name.now (version_of version) block.now)
+        (IsNamedValuesRefusal schema.now name.now (version_of version) block.now) values.old values.new
+        result }
+{
+    written_answer(tv_blocks::values_of_block(alloc, schema, name, version, block, values))
+}
+
+// Writes the values of the field that has a name by a schema, of documents in the version of a number.
 fn write_values(
     alloc: Global,
     schema: &Schema,
@@ -31,9 +47,7 @@ fn write_values(
         result) }
 {
     match DocStoreVersion::from_u32(version) {
-        Ok(version) => written_answer(tv_blocks::values_of_block(
-            alloc, schema, name, version, block, values,
-        )),
+        Ok(version) => write_values_in(alloc, schema, name, version, block, values),
         Err(_) => wrong_version(),
     }
 }
