@@ -1,5 +1,7 @@
 //! Lines of JSON that are imported to a block, which is then tested and searched. The printed lines and the numbers of lines and documents are worked out by hand.
 
+ghost use Rattle.std.specs.Prelude.{[]};
+
 use std::alloc::{AllocError, Global};
 use std::test::Fail;
 use tv_base::{SliceSource, VecSink};
