@@ -14,7 +14,8 @@ use Rattle.tantivy_schema.specs.Version.{Version}
 abbrev mutual
   pub IsFigures : Tree → Figures → Type 0
   IsFigures (leaf l) x = (n : ℕ) × (l ≡ unsigned n) × (out-Figures x ≡ Figures-F.One n)
-  IsFigures (array ts) x = (xs : Vec Figures Global) × (out-Figures x ≡ Figures-F.Many xs) × AreFigures ts xs.items
+  IsFigures (array ts) x = (xs : Vec Figures Global) × (out-Figures x ≡ Figures-F.Many xs)
+      × AreFigures ts xs.items
   IsFigures (object es) x = ⊥
 
   pub AreFigures : Elements → List Figures → Type 0

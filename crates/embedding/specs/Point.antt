@@ -36,4 +36,5 @@ number_excludes = leaf_excludes types.U64 (λ n. unsigned n) (λ _. refl)
 pub point_excludes : RefusalsExclude IsPoint PointRefused
 point_excludes v kind prefix rest e t point refused encoded is =
     members_exclude (ObjectRefused IsNumber (LeafRefused types.U64)) v kind prefix rest e t
-    (λ f. object_excludes IsNumber (LeafRefused types.U64) number_excludes v kind prefix rest e t is.numbers.pairs f encoded is.numbers.read) refused encoded
+    (λ f. object_excludes IsNumber (LeafRefused types.U64) number_excludes v kind prefix rest e t
+    is.numbers.pairs f encoded is.numbers.read) refused encoded

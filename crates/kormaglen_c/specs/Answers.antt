@@ -11,19 +11,22 @@ use Rattle.tv_format.specs.declared.leaf_type.WriteVersion.TheVariants as versio
 
 -- the answer tells what a call did that writes into a buffer
 abbrev pub AnswersFill : (List ℕ → Type 0) → (BlockError → Type 0) → List ℕ → List ℕ → Answer → Type 0
-AnswersFill P R old new answer = (told : Result ℕ BlockError) × FillsBuffer P R old new told × (answer ≡ call_answer told)
+AnswersFill P R old new answer = (told : Result ℕ BlockError) × FillsBuffer P R old new told
+    × (answer ≡ call_answer told)
 
 -- what is found where nothing is
 abbrev pub nothing_found : FoundField
 nothing_found = record { field = 0; rest = 0 }
 
--- the answer tells that something was found of which P holds, or that nothing was for a reason of which R holds
+-- the answer tells that something was found of which P holds, or that nothing was for a reason of which R
+-- holds
 abbrev pub FoundOr : (FoundField → Type 0) → (BlockError → Type 0) → FoundField → Result ℕ BlockError → Type 0
 FoundOr P R found (Ok size) = P found × (size ≡ 0)
 FoundOr P R found (Err e) = R e × (found ≡ nothing_found)
 
 abbrev pub AnswersFound : (FoundField → Type 0) → (BlockError → Type 0) → FoundField → Answer → Type 0
-AnswersFound P R found answer = (told : Result ℕ BlockError) × FoundOr P R found told × (answer ≡ call_answer told)
+AnswersFound P R found answer = (told : Result ℕ BlockError) × FoundOr P R found told
+    × (answer ≡ call_answer told)
 
 -- what was found stands there, or nothing, and the answer tells which
 abbrev pub TellsField : Result FoundField BlockError → FoundField → Answer → Type 0
@@ -32,7 +35,8 @@ TellsField (Err e) found answer = (found ≡ nothing_found) × (answer ≡ call_
 
 -- the answer tells what a call returned that imports lines
 abbrev pub AnswersImport : (Result Imported BlockError → Type 0) → Answer → Type 0
-AnswersImport Returns answer = (told : Result Imported BlockError) × Returns told × (answer ≡ import_answer told)
+AnswersImport Returns answer = (told : Result Imported BlockError) × Returns told
+    × (answer ≡ import_answer told)
 
 -- there is no such version, and nothing was written
 abbrev pub IsWrongVersion : List ℕ → List ℕ → Answer → Type 0

@@ -17,16 +17,19 @@ ReadsOr v bytes held (Ok taken) =
 ReadsOr v bytes held (Err e) = IsUnread v bytes e × (held ≡ None)
 
 abbrev pub AnswersRead : Version → List ℕ → Option CompactDoc → Answer → Type 0
-AnswersRead v bytes held answer = (told : Result ℕ BlockError) × ReadsOr v bytes held told × (answer ≡ call_answer told)
+AnswersRead v bytes held answer = (told : Result ℕ BlockError) × ReadsOr v bytes held told
+    × (answer ≡ call_answer told)
 
 -- the handle holds the line's document; or it holds none, for this reason
 abbrev pub ParsesOr : List Entry → List ℕ → Option CompactDoc → Result ℕ BlockError → Type 0
 ParsesOr schema line held (Ok size) =
-    (document : CompactDoc) × (held ≡ Some document) × IsLineDocument schema line (document_of document) × (size ≡ 0)
+    (document : CompactDoc) × (held ≡ Some document) × IsLineDocument schema line (document_of document)
+    × (size ≡ 0)
 ParsesOr schema line held (Err e) = IsUnparsed schema line e × (held ≡ None)
 
 abbrev pub AnswersParsed : List Entry → List ℕ → Option CompactDoc → Answer → Type 0
-AnswersParsed schema line held answer = (told : Result ℕ BlockError) × ParsesOr schema line held told × (answer ≡ call_answer told)
+AnswersParsed schema line held answer = (told : Result ℕ BlockError) × ParsesOr schema line held told
+    × (answer ≡ call_answer told)
 
 -- this is the answer, and the handle holds no document
 abbrev pub HoldsNone : Answer → Option CompactDoc → Answer → Type 0

@@ -16,11 +16,13 @@ closed_answer = nothing_written 15 0 0
 
 -- the handle holds the schema that the text describes; or it holds none, for this reason
 abbrev pub OpensOr : List ℕ → Option (List Entry) → Result ℕ BlockError → Type 0
-OpensOr json held (Ok size) = (entries : List Entry) × (held ≡ Some entries) × ReadsSchema json entries × (size ≡ 0)
+OpensOr json held (Ok size) = (entries : List Entry) × (held ≡ Some entries) × ReadsSchema json entries
+    × (size ≡ 0)
 OpensOr json held (Err e) = IsRefusedSchema json e × (held ≡ None)
 
 abbrev pub AnswersOpened : List ℕ → Option (List Entry) → Answer → Type 0
-AnswersOpened json held answer = (told : Result ℕ BlockError) × OpensOr json held told × (answer ≡ call_answer told)
+AnswersOpened json held answer = (told : Result ℕ BlockError) × OpensOr json held told
+    × (answer ≡ call_answer told)
 
 -- the handle holds nothing, and nothing was written
 abbrev pub IsClosedHandle : List ℕ → List ℕ → Answer → Type 0

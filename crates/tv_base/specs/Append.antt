@@ -5,7 +5,8 @@ use Rattle.tv_base.specs.declared.cause.ReadError.TheVariants.{Corrupted, Io, Me
 use Rattle.tv_base.specs.Stop.{Stop}
 use Rattle.tv_base.specs.Stop.Stop.{Failed, Short, Never}
 
--- n bytes went from the prefix of what was left to after what was there; none only at the end or where none were wanted
+-- n bytes went from the prefix of what was left to after what was there; none only at the end or where none
+-- were wanted
 pub record Moves (old new before after : List ℕ) (most n : ℕ) : Type 0 where
   pub moved : List ℕ
   pub joined : old ≡ moved ++ new

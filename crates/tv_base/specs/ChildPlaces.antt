@@ -1,5 +1,6 @@
 -- The child of a facet that another facet is, or lies below, and the counts so far.
-use Rattle.std.specs.Prelude.{ℕ, ◌≡◌, ◌≢◌, ◌+◌, ◌⊎◌, true, false, Option, None, Some, List, [], ◌∷◌, ◌++◌, map, option_map}
+use Rattle.std.specs.Prelude.{ℕ, ◌≡◌, ◌≢◌, ◌+◌, ◌⊎◌, true, false, Option, None, Some, List, [], ◌∷◌, ◌++◌}
+use Rattle.std.specs.Prelude.{map, option_map}
 use Rattle.std.specs.Option.{option_to_list}
 use Rattle.tv_base.specs.FacetCounting.{IsChild, is_within, entry_of}
 use Rattle.tv_base.specs.declared.facet_counts.FacetCount.{FacetCount}
@@ -25,9 +26,11 @@ entries done current = map entry_of done ++ option_to_list (option_map entry_of 
 -- the current child with one facet more, or another one after it
 abbrev pub GoesOn : List (List ℕ × ℕ) → List ℕ × ℕ → List ℕ → List (List ℕ × ℕ) → List ℕ × ℕ → Type 0
 GoesOn done current child more last =
-    ((current.0 ≡ child) × (more ≡ done) × (last ≡ (child, current.1 + 1))) ⊎ ((current.0 ≢ child) × (more ≡ done ++ current ∷ []) × (last ≡ (child, 1)))
+    ((current.0 ≡ child) × (more ≡ done) × (last ≡ (child, current.1 + 1)))
+    ⊎ ((current.0 ≢ child) × (more ≡ done ++ current ∷ []) × (last ≡ (child, 1)))
 
 -- the same, where there may be no current child before
-abbrev pub CountsOne : List (List ℕ × ℕ) → Option (List ℕ × ℕ) → List ℕ → List (List ℕ × ℕ) → List ℕ × ℕ → Type 0
+abbrev pub CountsOne : List (List ℕ × ℕ) → Option (List ℕ × ℕ) → List ℕ → List (List ℕ × ℕ) → List ℕ × ℕ
+    → Type 0
 CountsOne done None child more last = (more ≡ done) × (last ≡ (child, 1))
 CountsOne done (Some current) child more last = GoesOn done current child more last

@@ -19,7 +19,8 @@ pair_cmp one other = ordering_then (slice_cmp nat_cmp one.0 other.0) (nat_cmp on
 -- children of the ancestor, with the documents that have a facet at or below each
 pub record ArePairs (ancestor : List ℕ) (facets pairs : List (List ℕ × ℕ)) : Type 0 where
   pub children : AllByRecursion (λ pair. IsChild ancestor pair.0) pairs
-  pub documents : (child : List ℕ) → IsChild ancestor child → documents_within child pairs ≡ documents_within child facets
+  pub documents : (child : List ℕ) → IsChild ancestor child
+      → documents_within child pairs ≡ documents_within child facets
 
 -- the same pairs, each once and rising
 pub record HasEachOnce (old new : List (List ℕ × ℕ)) : Type 0 where

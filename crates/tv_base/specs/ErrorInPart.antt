@@ -1,4 +1,5 @@
--- What is wrong with bytes of which no prefix encodes a part: the first parts are encoded, and the next is malformed.
+-- What is wrong with bytes of which no prefix encodes a part: the first parts are encoded, and the next is
+-- malformed.
 use Rattle.std.specs.Prelude.{◌≡◌, ◌≢◌, ℕ, zero, suc, ◌<◌, ◌⊎◌, List, [], ◌∷◌, ◌++◌, length, IsUtf8}
 use Rattle.std.specs.List.{AllByRecursion}
 use Rattle.tv_base.specs.declared.cause.Cause.{Cause}
@@ -11,8 +12,10 @@ abbrev pub ErrorGrammar : Type 0 → Type 1
 ErrorGrammar C = List ℕ → C → Type 0
 
 -- a first part is malformed, or it is encoded, and what follows is malformed
-abbrev pub InThen : {C A : Type 0} → (List ℕ → C → Type 0) → (List ℕ → A → Type 0) → (A → List ℕ → C → Type 0) → List ℕ → C → Type 0
-InThen {C} {A} F R G whole cause = F whole cause ⊎ ((x : A) × Then (λ b. R b x) (λ rest. G x rest cause) whole)
+abbrev pub InThen : {C A : Type 0} → (List ℕ → C → Type 0) → (List ℕ → A → Type 0) → (A → List ℕ → C → Type 0)
+    → List ℕ → C → Type 0
+InThen {C} {A} F R G whole cause = F whole cause
+    ⊎ ((x : A) × Then (λ b. R b x) (λ rest. G x rest cause) whole)
 
 -- of a number of items one is malformed, and those before it are encoded
 abbrev pub InEach : {C A : Type 0} → (List ℕ → C → Type 0) → (List ℕ → A → Type 0) → ℕ → List ℕ → C → Type 0
@@ -22,7 +25,8 @@ InEach F R (suc n) whole cause = InThen F R (λ _. InEach F R n) whole cause
 -- of a number: it doesn't end, or it isn't below 2 ^ 64
 pub data ErrorInNumber (whole : List ℕ) : Cause → Type 0 where
   number_ends : length whole < 10 → AllByRecursion (λ b. b < 128) whole → ErrorInNumber whole UnexpectedEnd
-  number_large : (prefix rest : List ℕ) (b : ℕ) → whole ≡ prefix ++ (b ∷ rest) → length prefix ≡ 9 → AllByRecursion (λ b. b < 128) prefix → b ≢ 128 → b ≢ 129
+  number_large : (prefix rest : List ℕ) (b : ℕ) → whole ≡ prefix ++ (b ∷ rest) → length prefix ≡ 9
+      → AllByRecursion (λ b. b < 128) prefix → b ≢ 128 → b ≢ 129
       → ErrorInNumber whole BadNumber
 
 -- of this many bytes: there are fewer
@@ -41,4 +45,5 @@ ErrorInSized = InThen ErrorInNumber VNum ErrorInBytes
 -- of a text: its bytes are there, and are no UTF-8
 pub data ErrorInText (whole : List ℕ) : Cause → Type 0 where
   in_sized : {c : Cause} → ErrorInSized whole c → ErrorInText whole c
-  no_text : (content prefix rest : List ℕ) → whole ≡ prefix ++ rest → Sized prefix content → ¬ IsUtf8 content → ErrorInText whole NotUtf8
+  no_text : (content prefix rest : List ℕ) → whole ≡ prefix ++ rest → Sized prefix content → ¬ IsUtf8 content
+      → ErrorInText whole NotUtf8

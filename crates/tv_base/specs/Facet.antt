@@ -1,5 +1,7 @@
--- Facets as the bytes of their encoded texts, and the texts that name them. 47 is the slash, 92 the backslash.
-use Rattle.std.specs.Prelude.{ℕ, ◌≡◌, ◌≢◌, ◌==◌, ◌&&◌, Bool, true, false, Result, Ok, Err, if◌then◌else◌, List, [], ◌∷◌, ◌++◌, Option, None, Some}
+-- Facets as the bytes of their encoded texts, and the texts that name them. 47 is the slash, 92 the
+-- backslash.
+use Rattle.std.specs.Prelude.{ℕ, ◌≡◌, ◌≢◌, ◌==◌, ◌&&◌, Bool, true, false, Result, Ok, Err, if◌then◌else◌}
+use Rattle.std.specs.Prelude.{List, [], ◌∷◌, ◌++◌, Option, None, Some}
 use lib.Chars.{codes}
 use Rattle.std.specs.List.{AllByRecursion, flat_map, slice_split}
 use Rattle.std.specs.String.{string_bytes}
@@ -57,7 +59,8 @@ abbrev pub IsParseError : List ℕ → FacetParseError → Type 0
 IsParseError text parse_error.Memory = Unit {0}
 IsParseError text (parse_error.FacetParseError copy) = (parse text ≡ None) × (string_bytes copy ≡ text)
 
--- whether the text names a facet, whose encoded text is then written in place of the old text; else that stays, also after a refusal,
+-- whether the text names a facet, whose encoded text is then written in place of the old text; else that
+-- stays, also after a refusal,
 -- which comes only for a text that names a facet
 abbrev pub WritesFacet : {E : Type 0} → List ℕ → List ℕ → List ℕ → Result Bool E → Type 0
 WritesFacet text old new (Ok true) = parse text ≡ Some new

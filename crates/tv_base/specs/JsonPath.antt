@@ -1,12 +1,15 @@
--- Paths into JSON objects: segments with dots between them. 46 is the dot, 92 the backslash, 1 what separates joined segments.
-use Rattle.std.specs.Prelude.{ℕ, suc, zero, ◌==◌, ◌&&◌, Bool, if◌then◌else◌, List, [], ◌∷◌, ◌++◌, length, map, slice_index}
+-- Paths into JSON objects: segments with dots between them. 46 is the dot, 92 the backslash, 1 what separates
+-- joined segments.
+use Rattle.std.specs.Prelude.{ℕ, suc, zero, ◌==◌, ◌&&◌, Bool, if◌then◌else◌, List, [], ◌∷◌, ◌++◌, length, map}
+use Rattle.std.specs.Prelude.{slice_index}
 use Rattle.std.specs.List.{flat_map, slice_split, join_with_byte}
 use Rattle.tv_base.specs.Escapes.{is_unescaped, kept_byte}
 
 -- each byte below the place, after whether it is unescaped
 abbrev pub marked_below : List ℕ → ℕ → List (Bool × ℕ)
 marked_below text zero = []
-marked_below text (suc place) = marked_below text place ++ (is_unescaped text place, slice_index text place) ∷ []
+marked_below text (suc place) = marked_below text place ++ (is_unescaped text place, slice_index text place)
+    ∷ []
 
 abbrev pub marked : List ℕ → List (Bool × ℕ)
 marked text = marked_below text (length text)

@@ -14,5 +14,6 @@ TakesContent old new content false = new ≡ old
 
 -- A number and the length of its encoding, which was taken off the start. If there is none, all are left.
 abbrev pub PassesNumber : List ℕ → List ℕ → Option (ℕ × ℕ) → Type 0
-PassesNumber old new (Some x) = (prefix : List ℕ) × VNum prefix x.0 × (old ≡ prefix ++ new) × (length prefix ≡ x.1)
+PassesNumber old new (Some x) = (prefix : List ℕ) × VNum prefix x.0 × (old ≡ prefix ++ new)
+    × (length prefix ≡ x.1)
 PassesNumber old new None = new ≡ old

@@ -1,5 +1,7 @@
--- Numbers of variable length: base 128, least group first. The last byte has its high bit set, the others don't.
-use Rattle.std.specs.Prelude.{◌≡◌, ℕ, ℤ, Bool, true, false, FitsSigned, zero, suc, ◌+◌, ◌*◌, ◌/◌, ◌%◌, ◌^◌, ◌<◌, ◌≤◌, List, [], ◌∷◌, length, nat_lt, if◌then◌else◌}
+-- Numbers of variable length: base 128, least group first. The last byte has its high bit set, the others
+-- don't.
+use Rattle.std.specs.Prelude.{◌≡◌, ℕ, ℤ, Bool, true, false, FitsSigned, zero, suc, ◌+◌, ◌*◌, ◌/◌, ◌%◌, ◌^◌}
+use Rattle.std.specs.Prelude.{◌<◌, ◌≤◌, List, [], ◌∷◌, length, nat_lt, if◌then◌else◌}
 use Rattle.std.specs.Int.{w64, cast_unsigned}
 
 -- the groups of a number
@@ -25,7 +27,8 @@ vnum n = groups_of 10 n
 -- a number in this many bytes, the lowest first
 pub data Fixed : ℕ → List ℕ → ℕ → Type 0 where
   no_bytes : Fixed 0 [] 0
-  low_byte : {k b high : ℕ} {bytes : List ℕ} → b < 256 → Fixed k bytes high → Fixed (suc k) (b ∷ bytes) (b + 256 * high)
+  low_byte : {k b high : ℕ} {bytes : List ℕ} → b < 256 → Fixed k bytes high
+      → Fixed (suc k) (b ∷ bytes) (b + 256 * high)
 
 -- the lowest this many bytes of n
 abbrev pub low_bytes : ℕ → ℕ → List ℕ

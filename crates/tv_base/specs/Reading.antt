@@ -1,5 +1,7 @@
--- Reading from left to right: a value and the bytes after it, or the first error that is met and the bytes after those that show it.
-use Rattle.std.specs.Prelude.{ℕ, ℤ, ◌+◌, ◌*◌, ◌%◌, ◌==◌, Bool, zero, suc, List, [], ◌∷◌, ◌++◌, length, take, drop, Result, Ok, Err, nat_lt, if◌then◌else◌}
+-- Reading from left to right: a value and the bytes after it, or the first error that is met and the bytes
+-- after those that show it.
+use Rattle.std.specs.Prelude.{ℕ, ℤ, ◌+◌, ◌*◌, ◌%◌, ◌==◌, Bool, zero, suc, List, [], ◌∷◌, ◌++◌, length, take}
+use Rattle.std.specs.Prelude.{drop, Result, Ok, Err, nat_lt, if◌then◌else◌}
 use Rattle.std.specs.Int.{Width, w32, w64, w128, byte_len, from_le_bytes, cast_signed}
 use Rattle.std.specs.Str.{is_utf8}
 use Rattle.tv_base.specs.Stop.{◌>>=◌}
@@ -8,7 +10,8 @@ use Rattle.tv_base.specs.declared.cause.Cause.TheVariants.{UnexpectedEnd, BadNum
 
 -- the next n bytes
 unfoldable pub bytes_at : ℕ → List ℕ → Result (List ℕ × List ℕ) (Cause × List ℕ)
-bytes_at n bytes = if nat_lt (length bytes) n then Err (UnexpectedEnd, []) else Ok (take n bytes, drop n bytes)
+bytes_at n bytes = if nat_lt (length bytes) n then Err (UnexpectedEnd, [])
+    else Ok (take n bytes, drop n bytes)
 
 -- the next n bytes, after those that are there
 abbrev pub more_at : List ℕ → ℕ → List ℕ → Result (List ℕ × List ℕ) (Cause × List ℕ)
@@ -51,7 +54,8 @@ truth_at bytes = do
 
 -- the last of ten groups has one bit
 unfoldable pub last_group : ℕ → List ℕ → Result (ℕ × List ℕ) (Cause × List ℕ)
-last_group byte rest = if nat_lt byte 128 then Err (BadNumber, rest) else if nat_lt 1 (byte % 128) then Err (BadNumber, rest) else Ok (byte % 128, rest)
+last_group byte rest = if nat_lt byte 128 then Err (BadNumber, rest) else if nat_lt 1 (byte % 128)
+    then Err (BadNumber, rest) else Ok (byte % 128, rest)
 
 -- a number of which n groups may come before the last
 unfoldable pub groups_at : ℕ → List ℕ → Result (ℕ × List ℕ) (Cause × List ℕ)
@@ -60,7 +64,8 @@ groups_at zero bytes = do
   last_group last.0 last.1
 groups_at (suc n) bytes = do
   first ← u8_at bytes
-  if nat_lt first.0 128 then (groups_at n first.1 >>= λ high. Ok (first.0 % 128 + 128 * high.0, high.1)) else Ok (first.0 % 128, first.1)
+  if nat_lt first.0 128 then (groups_at n first.1 >>= λ high. Ok (first.0 % 128 + 128 * high.0, high.1))
+      else Ok (first.0 % 128, first.1)
 
 abbrev pub vint_at : List ℕ → Result (ℕ × List ℕ) (Cause × List ℕ)
 vint_at bytes = groups_at 9 bytes
@@ -82,7 +87,8 @@ text_at bytes = do
 -- ---- items
 
 -- this many items, one after the other
-unfoldable pub each_at : {F Y : Type 0} → (List ℕ → Result (Y × List ℕ) (F × List ℕ)) → ℕ → List ℕ → Result (List Y × List ℕ) (F × List ℕ)
+unfoldable pub each_at : {F Y : Type 0} → (List ℕ → Result (Y × List ℕ) (F × List ℕ)) → ℕ → List ℕ
+    → Result (List Y × List ℕ) (F × List ℕ)
 each_at item zero bytes = Ok ([], bytes)
 each_at item (suc n) bytes = do
   first ← item bytes

@@ -8,7 +8,8 @@ use Rattle.tv_base.specs.declared.text_rules.Rule.TheVariants as rules
 -- an unescaped backslash goes; an unescaped dot separates, and where dots are expanded each dot
 abbrev pub path_byte : Bool → Bool → ℕ → List ℕ
 path_byte expand_dots unescaped b =
-    if unescaped && (b == 92) then [] else (if (unescaped || expand_dots) && (b == 46) then 1 ∷ [] else b ∷ [])
+    if unescaped && (b == 92) then [] else (if (unescaped || expand_dots) && (b == 46) then 1 ∷ []
+        else b ∷ [])
 
 abbrev pub stands_for : Rule → Bool → ℕ → List ℕ
 stands_for rules.Facet unescaped b = decoded_byte unescaped b

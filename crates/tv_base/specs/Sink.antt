@@ -31,14 +31,18 @@ Halts (Failed kind) old new writing = AppendsPrefix old new (text_of writing)
 Halts Short old new writing = AppendsPrefix old new (text_of writing)
 Halts Never old new writing = ⊥
 
-abbrev pub Appends : {T E R : Type 0} → (E → Stop R) → Result T E → List ℕ → List ℕ → Result (List ℕ) (R × List ℕ) → Type 0
+abbrev pub Appends : {T E R : Type 0} → (E → Stop R) → Result T E → List ℕ → List ℕ
+    → Result (List ℕ) (R × List ℕ) → Type 0
 Appends stop (Ok x) old new (Ok text) = new ≡ old ++ text
 Appends stop (Ok x) old new (Err refusal) = ⊥
 Appends stop (Err e) old new writing = Halts (stop e) old new writing
 
--- At Ok the sink holds what was to be written after what was there, and no write failed. At Err it holds a beginning of it; a write
--- failed with the kind that is reported, or it was refused there, and no write failed.
-pub record WritesBy {S T E R : Type 0} (stop : E → Stop R) (is_known : S → Type 0) (held : S → List ℕ) (failures : S → Failures) (old new : S) (result : Result T E) (writing : Result (List ℕ) (R × List ℕ)) : Type 0 where
+-- At Ok the sink holds what was to be written after what was there, and no write failed. At Err it holds a
+-- beginning of it; a write failed with the kind that is reported, or it was refused there, and no write
+-- failed.
+pub record WritesBy {S T E R : Type 0} (stop : E → Stop R) (is_known : S → Type 0) (held : S → List ℕ)
+    (failures : S → Failures) (old new : S) (result : Result T E) (writing : Result (List ℕ) (R × List ℕ)) :
+    Type 0 where
   pub appends : is_known old → Appends stop result (held old) (held new) writing
   pub stays_known : is_known old → is_known new
   pub counts : Counts stop result (failures old) (failures new)

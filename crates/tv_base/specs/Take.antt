@@ -37,15 +37,29 @@ MayStop _ count = Unit {0}
 abbrev pub MayStopLean : ReadError → ℕ → Type 0
 MayStopLean e count = MayStop e count × (e ≢ Memory)
 
--- The result, seen by view, is what the reading gives of the bytes that were left, and what follows them is left now.
-abbrev pub TakesIf : {S X Y : Type 0} (May : ReadError → ℕ → Type 0) (is_known : S → Type 0) (left : S → List ℕ) (failures : S → Failures) (old : S) (old_count : ℕ) (new : S) (new_count : ℕ) (view : X → Y) (result : Result X ReadError) (reading : List ℕ → Result (Y × List ℕ) (Cause × List ℕ)) → Type 0
+-- The result, seen by view, is what the reading gives of the bytes that were left, and what follows them is
+-- left now.
+abbrev pub TakesIf : {S X Y : Type 0} (May : ReadError → ℕ → Type 0) (is_known : S → Type 0)
+    (left : S → List ℕ) (failures : S → Failures) (old : S) (old_count : ℕ) (new : S) (new_count : ℕ)
+    (view : X → Y) (result : Result X ReadError) (reading : List ℕ → Result (Y × List ℕ) (Cause × List ℕ))
+    → Type 0
 TakesIf May is_known left failures old old_count new new_count view result reading =
-    Takes read_stop May (told is_known) (λ p. left p.source) (λ p. p.count) (λ p. failures p.source) (record { source = old; count = old_count }) (record { source = new; count = new_count }) view result reading
+    Takes read_stop May (told is_known) (λ p. left p.source) (λ p. p.count) (λ p. failures p.source)
+        (record { source = old; count = old_count })
+        (record { source = new; count = new_count }) view result reading
 
 -- the same of a source, as contracts say it
-abbrev pub TakesBy : {S X Y : Type 0} (source : Ghosts S) (old : S) (old_count : ℕ) (new : S) (new_count : ℕ) (view : X → Y) (result : Result X ReadError) (reading : List ℕ → Result (Y × List ℕ) (Cause × List ℕ)) → Type 0
-TakesBy source old old_count new new_count view result reading = TakesIf MayStop source.is_known source.left source.failures old old_count new new_count view result reading
+abbrev pub TakesBy : {S X Y : Type 0} (source : Ghosts S) (old : S) (old_count : ℕ) (new : S) (new_count : ℕ)
+    (view : X → Y) (result : Result X ReadError) (reading : List ℕ → Result (Y × List ℕ) (Cause × List ℕ))
+    → Type 0
+TakesBy source old old_count new new_count view result reading =
+    TakesIf MayStop source.is_known source.left source.failures old old_count new new_count view result
+    reading
 
 -- a lean reader
-abbrev pub TakesLean : {S X Y : Type 0} (source : Ghosts S) (old : S) (old_count : ℕ) (new : S) (new_count : ℕ) (view : X → Y) (result : Result X ReadError) (reading : List ℕ → Result (Y × List ℕ) (Cause × List ℕ)) → Type 0
-TakesLean source old old_count new new_count view result reading = TakesIf MayStopLean source.is_known source.left source.failures old old_count new new_count view result reading
+abbrev pub TakesLean : {S X Y : Type 0} (source : Ghosts S) (old : S) (old_count : ℕ) (new : S)
+    (new_count : ℕ) (view : X → Y) (result : Result X ReadError)
+    (reading : List ℕ → Result (Y × List ℕ) (Cause × List ℕ)) → Type 0
+TakesLean source old old_count new new_count view result reading =
+    TakesIf MayStopLean source.is_known source.left source.failures old old_count new new_count view result
+    reading

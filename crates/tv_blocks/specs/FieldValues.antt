@@ -13,7 +13,8 @@ use Rattle.tv_blocks.specs.declared.field_values.ValueKind.{ValueKind}
 use Rattle.tv_blocks.specs.declared.field_values.ValueKind.TheVariants as kinds
 use Rattle.tv_doc.specs.FieldValues.{values_of}
 use Rattle.tv_field.specs.Entry.{Entry}
-use Rattle.tv_format.specs.Tree.{Document, Leaf, Tree, leaf, null, text, unsigned, signed, boolean, date, facet, bytes, ip_address, tokenized, array, object}
+use Rattle.tv_format.specs.Tree.{Document, Leaf, Tree, leaf, null, text, unsigned, signed, boolean, date}
+use Rattle.tv_format.specs.Tree.{facet, bytes, ip_address, tokenized, array, object}
 use Rattle.tv_format.specs.Version.{Version}
 use Rattle.tv_indexing.specs.DocumentTerms.{field_of}
 use Rattle.tv_value.specs.JsonOf.{json_of}

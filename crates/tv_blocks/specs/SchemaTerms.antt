@@ -4,7 +4,8 @@
 -- The words of the public contract. `with_faults` says whether a document that has a value without a term has
 -- a record, or is refused. `AreSchemaTerms`: these are the records of the documents of a block.
 -- `IsSchemaTermsRefusal`: this document of the block is refused.
-use Rattle.std.specs.Prelude.{◌≡◌, ℕ, suc, ◌-◌, ◌^◌, Bool, false, List, [], ◌∷◌, ◌++◌, drop, length, map, nat_eq, Option, Some, None, Ok, Err}
+use Rattle.std.specs.Prelude.{◌≡◌, ℕ, suc, ◌-◌, ◌^◌, Bool, false, List, [], ◌∷◌, ◌++◌, drop, length, map}
+use Rattle.std.specs.Prelude.{nat_eq, Option, Some, None, Ok, Err}
 use Rattle.std.specs.Int.{to_le_bytes, w64}
 use Rattle.std.specs.List.{All, common_prefix_len}
 use Rattle.tv_blocks.specs.Records.{numbered_record}

@@ -20,7 +20,9 @@ document_parts n d = number n ∷ pairs_parts d
 abbrev pub open_parts : ℕ → Document → ℕ → State → List Part
 open_parts n d f s = document_parts n d ++ (field f ∷ parts_of s)
 
--- Whatever bytes encode these parts, where the rest follows them no prefix encodes a document, for this reason. `Legacy` and `L` say what
--- encodes a legacy object, and what is wrong with bytes that encode none.
-abbrev pub ErrorsBehind : (Legacy : List ℕ → Entries → Type 0) (L : List ℕ → Cause → Type 0) → Version → List Part → List ℕ → Refusal → Type 0
-ErrorsBehind Legacy L v ps rest r = (bytes : List ℕ) → Encoded Legacy v bytes ps → ErrorInDocument Legacy L v (bytes ++ rest) r
+-- Whatever bytes encode these parts, where the rest follows them no prefix encodes a document, for this
+-- reason. `Legacy` and `L` say what encodes a legacy object, and what is wrong with bytes that encode none.
+abbrev pub ErrorsBehind : (Legacy : List ℕ → Entries → Type 0) (L : List ℕ → Cause → Type 0) → Version
+    → List Part → List ℕ → Refusal → Type 0
+ErrorsBehind Legacy L v ps rest r = (bytes : List ℕ) → Encoded Legacy v bytes ps
+    → ErrorInDocument Legacy L v (bytes ++ rest) r

@@ -1,9 +1,11 @@
 -- What a builder of pairs is seen as, and what its calls return and leave.
-use Rattle.std.specs.Prelude.{◌≡◌, ℕ, ◌+◌, ◌<◌, ◌≤◌, Bool, true, false, List, [], ◌∷◌, ◌++◌, length, take, Result, Ok, Err}
+use Rattle.std.specs.Prelude.{◌≡◌, ℕ, ◌+◌, ◌<◌, ◌≤◌, Bool, true, false, List, [], ◌∷◌, ◌++◌, length, take}
+use Rattle.std.specs.Prelude.{Result, Ok, Err}
 use Rattle.tv_base.specs.Sink.{IsPrefix}
 use Rattle.tv_format.specs.Tree.{Tree, Document}
 use Rattle.tv_builder.specs.declared.errors.BuildError.{BuildError}
-use Rattle.tv_builder.specs.declared.errors.BuildError.TheVariants.{AlreadyFailed, OutOfPlace, NotUtf8, HeapFull, Memory}
+use Rattle.tv_builder.specs.declared.errors.BuildError.TheVariants.{AlreadyFailed, OutOfPlace, NotUtf8}
+use Rattle.tv_builder.specs.declared.errors.BuildError.TheVariants.{HeapFull, Memory}
 use Rattle.tv_builder.specs.Holds.{pair_at}
 use Rattle.tv_builder.specs.StateHeap.{state_heap, full_length}
 use Rattle.tv_builder.specs.Parts.{IsContentOf}
@@ -47,7 +49,8 @@ abbrev pub HasContent : State → Type 0
 HasContent (in_bytes ls kind n bs) = IsContentOf kind bs
 HasContent _ = ⊥
 
--- A call that goes on to this state. After the finished pairs the heap is that of the state, and has room for all announced bytes. `kept`
+-- A call that goes on to this state. After the finished pairs the heap is that of the state, and has room for
+-- all announced bytes. `kept`
 -- stays at the end of the last finished pair.
 pub record Goes (old new : PairBuilder) (after : State) : Type 0 where
   pub not_failed : new.failed ≡ false
@@ -68,30 +71,36 @@ pub record Fails (old new : PairBuilder) : Type 0 where
   pub state : state_of new ≡ in_lists []
   pub heap : heap_so_far new ≡ take old.kept (heap_so_far old)
 
--- After the finished pairs this state has no room in a heap, by its bytes and the announced ones, nor by the room that all may take.
+-- After the finished pairs this state has no room in a heap, by its bytes and the announced ones, nor by the
+-- room that all may take.
 pub record Overfull (old : PairBuilder) (after : State) : Type 0 where
   pub bytes : 4294967295 < full_length (kept_heap old) after
   pub room : 4294967295 < document_room (built old) + state_room after
 
 -- A call that belongs `in_place`. Memory is refused only where `fits` holds.
-abbrev pub BuildsIf : Bool → PairBuilder → PairBuilder → Type 0 → Type 0 → (State → State) → Result (Unit {0}) BuildError → Type 0
+abbrev pub BuildsIf : Bool → PairBuilder → PairBuilder → Type 0 → Type 0 → (State → State)
+    → Result (Unit {0}) BuildError → Type 0
 BuildsIf true old new in_place fits after r = (r ≡ Err AlreadyFailed) × (new ≡ old)
 BuildsIf false old new in_place fits after (Ok x) = in_place × Goes old new (after (state_of old))
 BuildsIf false old new in_place fits after (Err OutOfPlace) = ¬ in_place × Fails old new
-BuildsIf false old new in_place fits after (Err HeapFull) = in_place × Fails old new × Overfull old (after (state_of old))
+BuildsIf false old new in_place fits after (Err HeapFull) = in_place × Fails old new
+    × Overfull old (after (state_of old))
 BuildsIf false old new in_place fits after (Err Memory) = in_place × fits × Fails old new
 BuildsIf false old new in_place fits after (Err _) = ⊥
 
-abbrev pub Builds : PairBuilder → PairBuilder → Type 0 → Type 0 → (State → State) → Result (Unit {0}) BuildError → Type 0
+abbrev pub Builds : PairBuilder → PairBuilder → Type 0 → Type 0 → (State → State)
+    → Result (Unit {0}) BuildError → Type 0
 Builds old new in_place fits after r = BuildsIf old.failed old new in_place fits after r
 
 -- the call at the end of open bytes
 abbrev pub EndsIf : Bool → PairBuilder → PairBuilder → Result (Unit {0}) BuildError → Type 0
 EndsIf true old new r = (r ≡ Err AlreadyFailed) × (new ≡ old)
-EndsIf false old new (Ok x) = HasAllBytes (state_of old) × HasContent (state_of old) × Goes old new (and_end (state_of old))
+EndsIf false old new (Ok x) = HasAllBytes (state_of old) × HasContent (state_of old)
+    × Goes old new (and_end (state_of old))
 EndsIf false old new (Err OutOfPlace) = ¬ HasAllBytes (state_of old) × Fails old new
 EndsIf false old new (Err NotUtf8) = HasAllBytes (state_of old) × ¬ HasContent (state_of old) × Fails old new
-EndsIf false old new (Err HeapFull) = HasAllBytes (state_of old) × HasContent (state_of old) × Fails old new × Overfull old (and_end (state_of old))
+EndsIf false old new (Err HeapFull) = HasAllBytes (state_of old) × HasContent (state_of old) × Fails old new
+    × Overfull old (and_end (state_of old))
 EndsIf false old new (Err Memory) = HasAllBytes (state_of old) × HasContent (state_of old) × Fails old new
 EndsIf false old new (Err _) = ⊥
 

@@ -1,5 +1,6 @@
 -- The calls for the parts of a value, one after the other: a list opens, and then come its children.
-use Rattle.tv_format.specs.Tree.{Tree, leaf, array, object, Elements, no_elements, element, Entries, no_entries, entry, element_count, entry_count}
+use Rattle.tv_format.specs.Tree.{Tree, leaf, array, object, Elements, no_elements, element, Entries}
+use Rattle.tv_format.specs.Tree.{no_entries, entry, element_count, entry_count}
 use Rattle.tv_builder.specs.declared.kinds.ListKind.TheVariants.{Array, Object}
 use Rattle.tv_builder.specs.State.{State, and_value, and_list, and_key}
 

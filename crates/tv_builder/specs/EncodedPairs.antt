@@ -11,14 +11,16 @@ use Rattle.tv_builder.specs.HeldPairs.{document_of, heap_of, Added, IsUnchanged}
 use Rattle.tv_builder.specs.declared.heap_pairs.HeapPairs.{HeapPairs}
 use Rattle.tv_builder.specs.declared.heap_pairs.HeapPair.{HeapPair}
 
--- The old heap is a prefix of the heap now, and the old pairs, with their fields, types and addresses, come before all others.
+-- The old heap is a prefix of the heap now, and the old pairs, with their fields, types and addresses, come
+-- before all others.
 pub record IsStart (old now : HeapPairs) : Type 0 where
   pub heap : IsPrefix (heap_of old) (heap_of now)
   pub later : List HeapPair
   pub pairs : now.pairs.items ≡ old.pairs.items ++ later
 
--- This many pairs are added. The new heap and the new pairs' places are those that writing the trees one after the other gives. The heap
--- grows by at most the room of the trees. Where there is none, all is unchanged.
+-- This many pairs are added. The new heap and the new pairs' places are those that writing the trees one
+-- after the other gives. The heap grows by at most the room of the trees. Where there is none, all is
+-- unchanged.
 pub record AddsEncoded (v : Version) (old new : HeapPairs) (whole rest : List ℕ) (count : ℕ) : Type 0 where
   pub pairs : Document
   pub counted : length pairs ≡ count
@@ -37,7 +39,8 @@ pub record AddsEncodedPair (v : Version) (old new : HeapPairs) (whole rest : Lis
   pub added : Added old new pair.0 pair.1
   pub start : IsStart old new
 
--- There were this many pairs and so long a heap, and nothing of them was changed since then but that more was added.
+-- There were this many pairs and so long a heap, and nothing of them was changed since then but that more was
+-- added.
 pub record StoodIn (old now : HeapPairs) (pairs heap : ℕ) : Type 0 where
   pub counted : length (document_of old) ≡ pairs
   pub heap_length : length (heap_of old) ≡ heap

@@ -1,5 +1,6 @@
 -- What is left of a value that comes part by part where it is dropped, or becomes that of a pair.
-use Rattle.std.specs.Prelude.{◌≡◌, ℕ, ◌<◌, ◌^◌, List, [], ◌∷◌, ◌++◌, length, take, Some, None, Bool, true, Result, OnOk, OnErr}
+use Rattle.std.specs.Prelude.{◌≡◌, ℕ, ◌<◌, ◌^◌, List, [], ◌∷◌, ◌++◌, length, take, Some, None, Bool, true}
+use Rattle.std.specs.Prelude.{Result, OnOk, OnErr}
 use Rattle.tv_builder.specs.declared.errors.BuildError.{BuildError}
 use Rattle.tv_builder.specs.declared.errors.BuildError.TheVariants.{OutOfPlace, Memory}
 use Rattle.tv_builder.specs.declared.building.Building.{Building}
@@ -24,7 +25,8 @@ pub record Empty (heap : List ℕ) (b : Building) : Type 0 where
   pub closed : b.open ≡ None
 
 -- After a refusal what isn't finished is dropped, and that is marked; else nothing changes.
-pub record Settled (old new : Building) (kept : ℕ) (failed failed_new : Bool) (answer : Result (Unit {0}) BuildError) : Type 0 where
+pub record Settled (old new : Building) (kept : ℕ) (failed failed_new : Bool)
+    (answer : Result (Unit {0}) BuildError) : Type 0 where
   pub ok : OnOk answer (new ≡ old)
   pub not_failed : OnOk answer (failed_new ≡ failed)
   pub err : OnErr answer (Empty (take kept old.heap.items) new)
@@ -45,7 +47,8 @@ WhyNoPair old OutOfPlace = old.complete ≡ None
 WhyNoPair old Memory = ¬ (old.complete ≡ None)
 WhyNoPair old _ = ⊥
 
-pub record KeptNot (old new : Building) (ps qs : List HeapPair) (kept kept_new : ℕ) (e : BuildError) : Type 0 where
+pub record KeptNot (old new : Building) (ps qs : List HeapPair) (kept kept_new : ℕ)
+    (e : BuildError) : Type 0 where
   pub unchanged : new ≡ old
   pub pairs : qs ≡ ps
   pub kept_same : kept_new ≡ kept

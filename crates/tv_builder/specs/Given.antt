@@ -1,5 +1,7 @@
--- What a finished value does to a heap, to the places of finished children and to the open lists, these from the innermost.
-use Rattle.std.specs.Prelude.{ℕ, suc, ◌+◌, ◌<◌, ◌≤◌, Bool, cond, nat_lt, List, [], ◌∷◌, ◌++◌, length, take, drop, Option, Some, None}
+-- What a finished value does to a heap, to the places of finished children and to the open lists, these from
+-- the innermost.
+use Rattle.std.specs.Prelude.{ℕ, suc, ◌+◌, ◌<◌, ◌≤◌, Bool, cond, nat_lt, List, [], ◌∷◌, ◌++◌, length, take}
+use Rattle.std.specs.Prelude.{drop, Option, Some, None}
 use Rattle.tv_base.specs.Number.{vnum}
 use Rattle.tv_base.specs.Parts.{short_sized}
 use Rattle.tv_heap.specs.TypeCode.{type_code}
@@ -27,21 +29,24 @@ pub record Given : Type 0 where
   pub frames : List Frame
   pub complete : Option Place
 
--- The value's place comes to those of the innermost list. A list that lacks nothing more is written at the heap's end, and so is a
+-- The value's place comes to those of the innermost list. A list that lacks nothing more is written at the
+-- heap's end, and so is a
 -- finished value itself.
 abbrev pub given : List ℕ → List ℕ → List Frame → Place → Given
 given heap places [] p = record { heap = heap; places = places; frames = []; complete = Some p }
 given heap places (f ∷ fs) p =
     cond (still_lacks f)
     (record { heap = heap; places = places ++ place_bytes p; frames = one_more f ∷ fs; complete = None })
-    (given (heap ++ short_sized (drop f.first (places ++ place_bytes p))) (take f.first places) fs (record { value_type = list_type f.kind; address = length heap }))
+    (given (heap ++ short_sized (drop f.first (places ++ place_bytes p))) (take f.first places) fs
+    (record { value_type = list_type f.kind; address = length heap }))
 
 -- ---- what holds of open lists whatever they hold
 
 -- The places of each list's children stand after those of the others, with a byte at least for each.
 abbrev pub AreCut : List Frame → List ℕ → Type 0
 AreCut [] places = Unit {0}
-AreCut (f ∷ fs) places = (f.first ≤ length places) × (f.finished ≤ length (drop f.first places)) × (f.finished < total f.kind f.announced) × AreCut fs (take f.first places)
+AreCut (f ∷ fs) places = (f.first ≤ length places) × (f.finished ≤ length (drop f.first places))
+    × (f.finished < total f.kind f.announced) × AreCut fs (take f.first places)
 
 -- how many finished children they have
 abbrev pub pending_in : List Frame → ℕ

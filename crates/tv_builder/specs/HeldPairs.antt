@@ -1,5 +1,6 @@
 -- What pairs in a heap are seen as, and what an addition leaves.
-use Rattle.std.specs.Prelude.{◌≡◌, ◌≢◌, ℕ, ◌+◌, ◌<◌, ◌≤◌, List, [], ◌∷◌, ◌++◌, length, map, slice_get, Option, Some, None, Result, Ok, Err}
+use Rattle.std.specs.Prelude.{◌≡◌, ◌≢◌, ℕ, ◌+◌, ◌<◌, ◌≤◌, List, [], ◌∷◌, ◌++◌, length, map, slice_get, Option}
+use Rattle.std.specs.Prelude.{Some, None, Result, Ok, Err}
 use Rattle.std.specs.Vec.{vec_capacity}
 use Rattle.tv_base.specs.Buffer.{capacity}
 use Rattle.tv_format.specs.Tree.{Tree, Document}
@@ -31,8 +32,9 @@ pairs_capacity d = vec_capacity d.pairs
 abbrev pub places_of : HeapPairs → List (ℕ × ℕ)
 places_of d = map (λ p. (type_code p.place.value_type, p.place.address)) d.pairs.items
 
--- One pair is added. The new heap and the new pair's place are those that writing the tree after the old heap gives: the old heap is kept
--- as a prefix, and grew by the tree's room at most. The old places are kept, and the new one is after the old heap, unless it is that of
+-- One pair is added. The new heap and the new pair's place are those that writing the tree after the old heap
+-- gives: the old heap is kept as a prefix, and grew by the tree's room at most. The old places are kept, and
+-- the new one is after the old heap, unless it is that of
 -- null or a truth value.
 pub record Added (old new : HeapPairs) (field : ℕ) (t : Tree) : Type 0 where
   pub document : document_of new ≡ document_of old ++ (field, t) ∷ []
@@ -83,4 +85,5 @@ KeepsMemory old new r = GrowsLittle (heap_capacity old) (heap_capacity new) r
 -- the type byte and the address of the pair at a place, whose tree the heap reads there
 abbrev pub ReadsAt : HeapPairs → ℕ → Option (ℕ × ℕ) → Type 0
 ReadsAt d i None = slice_get (document_of d) i ≡ None
-ReadsAt d i (Some p) = (pair : ℕ × Tree) × ((slice_get (document_of d) i ≡ Some pair) × ∥ ReadsTree (heap_of d) p.0 p.1 pair.1 ∥₁)
+ReadsAt d i (Some p) = (pair : ℕ × Tree) × ((slice_get (document_of d) i ≡ Some pair)
+    × ∥ ReadsTree (heap_of d) p.0 p.1 pair.1 ∥₁)

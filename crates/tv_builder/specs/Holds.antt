@@ -28,7 +28,8 @@ ReadsPairs heap [] [] = Unit {0}
 ReadsPairs heap (p ∷ ps) (pair ∷ d) = ReadsPair heap p pair × ReadsPairs heap ps d
 ReadsPairs heap _ _ = ⊥
 
-pub one_document : (heap : List ℕ) (ps : List HeapPair) (d e : Document) → ReadsPairs heap ps d → ReadsPairs heap ps e → d ≡ e
+pub one_document : (heap : List ℕ) (ps : List HeapPair) (d e : Document) → ReadsPairs heap ps d
+    → ReadsPairs heap ps e → d ≡ e
 one_document heap [] [] [] r s = refl
 one_document heap (p ∷ ps) (x ∷ d) (y ∷ e) r s =
     let field : x.0 ≡ y.0 = sym r.0.field ∙ s.0.field in
@@ -47,4 +48,5 @@ Holds heap ps = (d : Document) × ∥ ReadsPairs heap ps d ∥₁
 pub Holds-prop : (heap : List ℕ) (ps : List HeapPair) → IsProp (Holds heap ps)
 Holds-prop heap ps x y =
     Σ_prop_path (λ d. ∥∥₁_prop)
-    (∥∥₁_elim x.1 (Coded-set coded_document x.0 y.0) (λ p. ∥∥₁_elim y.1 (Coded-set coded_document x.0 y.0) (λ q. one_document heap ps x.0 y.0 p q)))
+    (∥∥₁_elim x.1 (Coded-set coded_document x.0 y.0)
+    (λ p. ∥∥₁_elim y.1 (Coded-set coded_document x.0 y.0) (λ q. one_document heap ps x.0 y.0 p q)))

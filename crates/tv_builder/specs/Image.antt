@@ -13,23 +13,29 @@ use Rattle.tv_builder.specs.TreeBytes.{tree_heap, tree_place, elements_places}
 -- the places of the children of open lists
 abbrev pub lists_places : List ℕ → List OpenList → List ℕ
 lists_places base [] = []
-lists_places base (l ∷ ls) = lists_places base ls ++ elements_places (lists_heap base ls) (elements l.children)
+lists_places base (l ∷ ls) = lists_places base ls ++ elements_places (lists_heap base ls)
+    (elements l.children)
 
 abbrev pub list_frame : List ℕ → OpenList → List OpenList → Frame
-list_frame base l ls = record { kind = l.kind; announced = l.announced; finished = length l.children; first = length (lists_places base ls) }
+list_frame base l ls = record { kind = l.kind; announced = l.announced; finished = length l.children;
+    first = length (lists_places base ls) }
 
 abbrev pub lists_frames : List ℕ → List OpenList → List Frame
 lists_frames base [] = []
 lists_frames base (l ∷ ls) = list_frame base l ls ∷ lists_frames base ls
 
--- the heap, the places of finished children, the open lists from the innermost, and where the complete value stands
+-- the heap, the places of finished children, the open lists from the innermost, and where the complete value
+-- stands
 abbrev pub held : Building → Given
 held b = record { heap = b.heap.items; places = b.places.items; frames = frames_of b; complete = b.complete }
 
 abbrev pub image_of : List ℕ → State → Given
-image_of base (complete t) = record { heap = tree_heap base t; places = []; frames = []; complete = Some (tree_place base t) }
-image_of base (in_lists ls) = record { heap = lists_heap base ls; places = lists_places base ls; frames = lists_frames base ls; complete = None }
-image_of base (in_bytes ls kind n bs) = record { heap = lists_heap base ls ++ (vnum n ++ bs); places = lists_places base ls; frames = lists_frames base ls; complete = None }
+image_of base (complete t) = record { heap = tree_heap base t; places = []; frames = [];
+    complete = Some (tree_place base t) }
+image_of base (in_lists ls) = record { heap = lists_heap base ls; places = lists_places base ls;
+    frames = lists_frames base ls; complete = None }
+image_of base (in_bytes ls kind n bs) = record { heap = lists_heap base ls ++ (vnum n ++ bs);
+    places = lists_places base ls; frames = lists_frames base ls; complete = None }
 
 -- the state stands there, and all that a building holds is that state after this heap
 pub record ShowsBehind (base : List ℕ) (b : Building) (s : State) : Type 0 where

@@ -17,6 +17,7 @@ pub record PairCut (mid new : List ℕ) (ps qs : List HeapPair) (len : ℕ) (e :
   pub pairs : qs ≡ ps
   pub heap : new ≡ take len mid
 
-abbrev pub KeepsPair : {T : Type 0} → List ℕ → List ℕ → List HeapPair → List HeapPair → ℕ → ℕ → Place → Result T AddError → Type 0
+abbrev pub KeepsPair : {T : Type 0} → List ℕ → List ℕ → List HeapPair → List HeapPair → ℕ → ℕ → Place
+    → Result T AddError → Type 0
 KeepsPair mid new ps qs len field place (Ok x) = PairKept mid new ps qs field place
 KeepsPair mid new ps qs len field place (Err e) = PairCut mid new ps qs len e

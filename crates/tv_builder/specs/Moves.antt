@@ -1,5 +1,6 @@
 -- What a call on a building leaves.
-use Rattle.std.specs.Prelude.{◌≡◌, ◌↔◌, IsTrue, Bool, false, ℕ, ◌+◌, ◌-◌, ◌<◌, ◌≤◌, List, length, drop, Option, Some, None, Result, Ok, Err}
+use Rattle.std.specs.Prelude.{◌≡◌, ◌↔◌, IsTrue, Bool, false, ℕ, ◌+◌, ◌-◌, ◌<◌, ◌≤◌, List, length, drop}
+use Rattle.std.specs.Prelude.{Option, Some, None, Result, Ok, Err}
 use Rattle.tv_base.specs.Sink.{IsPrefix}
 use Rattle.tv_builder.specs.declared.errors.BuildError.{BuildError}
 use Rattle.tv_builder.specs.declared.errors.BuildError.TheVariants.{OutOfPlace, NotUtf8, HeapFull, Memory}
@@ -44,7 +45,8 @@ pub record GivesNot (old : Building) (p : Place) (new : Building) (e : BuildErro
 
 -- ---- the calls
 
--- whether a value of this room, which is known where 32 bits hold it, ends at `most` at the latest after this many bytes
+-- whether a value of this room, which is known where 32 bits hold it, ends at `most` at the latest after this
+-- many bytes
 abbrev pub FitsRoom : ℕ → Option ℕ → ℕ → Bool → Type 0
 FitsRoom most None len b = b ≡ false
 FitsRoom most (Some n) len b = IsTrue b ↔ (len + n ≤ most)
@@ -58,19 +60,23 @@ pub record MovesState (old new : Building) (after : State → State) : Type 0 wh
   pub grows : IsPrefix old.heap.items new.heap.items
   pub next : (base : List ℕ) (s : State) → ShowsBehind base old s → ShowsBehind base new (after s)
 
--- After this heap there is no room for a state: its bytes and those that it announces end above 4294967295, and so does the room that it may
+-- After this heap there is no room for a state: its bytes and those that it announces end above 4294967295,
+-- and so does the room that it may
 -- take.
 pub record Over (base : List ℕ) (s : State) : Type 0 where
   pub bytes : 4294967295 < full_length base s
   pub room : 4294967295 < length base + state_room s
 
--- A call that belongs `here`, of bytes that end `well`. Memory is refused only where `fits` holds. After a refusal what stood in the heap
+-- A call that belongs `here`, of bytes that end `well`. Memory is refused only where `fits` holds. After a
+-- refusal what stood in the heap
 -- still stands before it.
-abbrev pub Does : Building → Building → Type 0 → Type 0 → Type 0 → (State → State) → Result (Unit {0}) BuildError → Type 0
+abbrev pub Does : Building → Building → Type 0 → Type 0 → Type 0 → (State → State)
+    → Result (Unit {0}) BuildError → Type 0
 Does old new here well fits after (Ok x) = here × well × MovesState old new after
 Does old new here well fits after (Err OutOfPlace) = ¬ here × IsPrefix old.heap.items new.heap.items
 Does old new here well fits after (Err NotUtf8) = here × ¬ well × IsPrefix old.heap.items new.heap.items
-Does old new here well fits after (Err HeapFull) = here × well × IsPrefix old.heap.items new.heap.items × ((base : List ℕ) (s : State) → ShowsBehind base old s → Over base (after s))
+Does old new here well fits after (Err HeapFull) = here × well × IsPrefix old.heap.items new.heap.items
+    × ((base : List ℕ) (s : State) → ShowsBehind base old s → Over base (after s))
 Does old new here well fits after (Err Memory) = here × well × IsPrefix old.heap.items new.heap.items × fits
 Does old new here well fits after (Err _) = ⊥
 

@@ -1,4 +1,5 @@
--- What has come of a document, as a flat list of parts in reading order, and how some parts are traded for others.
+-- What has come of a document, as a flat list of parts in reading order, and how some parts are traded for
+-- others.
 use Rattle.std.specs.Prelude.{◌≡◌, ℕ, List, [], ◌∷◌, ◌++◌, length, map, IsUtf8}
 use Rattle.tv_format.specs.Tree.{Tree, leaf, text, facet, bytes, array, object, elements, entries}
 use Rattle.tv_builder.specs.declared.kinds.BytesKind.{BytesKind}
@@ -37,9 +38,12 @@ IsContentOf Key content = IsUtf8 content
 
 -- What is closed is one part. The rules say nothing of bytes that are read.
 pub data Rule : List Part → List Part → Type 0 where
-  full_array : (ts : List Tree) → Rule (array_head (length ts) ∷ map value ts) (value (array (elements ts)) ∷ [])
-  full_object : (es : List (List ℕ × Tree)) → Rule (object_head (length es) ∷ entry_parts es) (value (object (entries es)) ∷ [])
-  full_bytes : (kind : BytesKind) (content : List ℕ) → IsContentOf kind content → Rule (bytes_head kind (length content) ∷ some_bytes content ∷ []) (bytes_part kind content ∷ [])
+  full_array : (ts : List Tree) → Rule (array_head (length ts) ∷ map value ts)
+      (value (array (elements ts)) ∷ [])
+  full_object : (es : List (List ℕ × Tree)) → Rule (object_head (length es) ∷ entry_parts es)
+      (value (object (entries es)) ∷ [])
+  full_bytes : (kind : BytesKind) (content : List ℕ) → IsContentOf kind content
+      → Rule (bytes_head kind (length content) ∷ some_bytes content ∷ []) (bytes_part kind content ∷ [])
   more_bytes : (a b : List ℕ) → Rule (some_bytes a ∷ some_bytes b ∷ []) (some_bytes (a ++ b) ∷ [])
   no_bytes : Rule [] (some_bytes [] ∷ [])
   full_pair : (f : ℕ) (t : Tree) → Rule (field f ∷ value t ∷ []) (pair f t ∷ [])
@@ -47,4 +51,5 @@ pub data Rule : List Part → List Part → Type 0 where
 -- by one rule after the other, each between other parts
 pub data Trades : List Part → List Part → Type 0 where
   same : {ps : List Part} → Trades ps ps
-  by_rule : {ps rs : List Part} (prefix old new back : List Part) → Rule old new → ps ≡ prefix ++ (old ++ back) → Trades (prefix ++ (new ++ back)) rs → Trades ps rs
+  by_rule : {ps rs : List Part} (prefix old new back : List Part) → Rule old new
+      → ps ≡ prefix ++ (old ++ back) → Trades (prefix ++ (new ++ back)) rs → Trades ps rs

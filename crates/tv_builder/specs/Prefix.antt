@@ -7,7 +7,8 @@ use Rattle.tv_format.specs.Tree.{Entries}
 use Rattle.tv_format.specs.Version.{Version, V1, V2, V3, entry_total}
 use Rattle.tv_builder.specs.declared.kinds.BytesKind.{BytesKind}
 use Rattle.tv_builder.specs.declared.kinds.BytesKind.TheVariants as kinds
-use Rattle.tv_builder.specs.Parts.{Part, number, pair, field, value, key, array_head, object_head, bytes_head, some_bytes}
+use Rattle.tv_builder.specs.Parts.{Part, number, pair, field, value, key, array_head, object_head, bytes_head}
+use Rattle.tv_builder.specs.Parts.{some_bytes}
 
 -- the length of a key, with its code in versions 1 and 2
 abbrev pub KeyHead : Version → List ℕ → ℕ → Type 0

@@ -1,5 +1,6 @@
 -- Which state a heap, the places of finished children and the open lists hold.
-use Rattle.std.specs.Prelude.{◌≡◌, ◌≢◌, ℕ, ◌+◌, ◌<◌, ◌≤◌, ◌^◌, List, [], ◌∷◌, ◌++◌, length, reverse, take, drop, Option, Some, None}
+use Rattle.std.specs.Prelude.{◌≡◌, ◌≢◌, ℕ, ◌+◌, ◌<◌, ◌≤◌, ◌^◌, List, [], ◌∷◌, ◌++◌, length, reverse, take}
+use Rattle.std.specs.Prelude.{drop, Option, Some, None}
 use Rattle.tv_base.specs.Number.{vnum}
 use Rattle.tv_format.specs.Tree.{Tree, elements}
 use Rattle.tv_heap.specs.Reads.{ReadsTree, ReadsElements}
@@ -31,10 +32,12 @@ pub record ShowsList (heap places : List ℕ) (f : Frame) (l : OpenList) : Type 
 -- all open lists, from the innermost
 abbrev pub ShowsLists : List ℕ → List Frame → List ℕ → List OpenList → Type 0
 ShowsLists heap [] places [] = places ≡ []
-ShowsLists heap (f ∷ fs) places (l ∷ ls) = ShowsList heap places f l × ShowsLists heap fs (take f.first places) ls
+ShowsLists heap (f ∷ fs) places (l ∷ ls) = ShowsList heap places f l
+    × ShowsLists heap fs (take f.first places) ls
 ShowsLists heap _ places _ = ⊥
 
--- The bytes so far are the heap's last, after the shortest encoding of their length, and there is room for the others.
+-- The bytes so far are the heap's last, after the shortest encoding of their length, and there is room for
+-- the others.
 pub record BytesStand (heap : List ℕ) (o : OpenBytes) (n : ℕ) (so_far : List ℕ) : Type 0 where
   pub before : List ℕ
   pub joined : heap ≡ before ++ (vnum n ++ so_far)
@@ -42,7 +45,8 @@ pub record BytesStand (heap : List ℕ) (o : OpenBytes) (n : ℕ) (so_far : List
   pub counted : length so_far + o.missing ≡ n
   pub fits : length before + (length (vnum n) + n) ≤ 4294967295
 
-pub record ShowsTree (heap : List ℕ) (fs : List Frame) (places : List ℕ) (whole : Option Place) (bytes : Option OpenBytes) (t : Tree) : Type 0 where
+pub record ShowsTree (heap : List ℕ) (fs : List Frame) (places : List ℕ) (whole : Option Place)
+    (bytes : Option OpenBytes) (t : Tree) : Type 0 where
   pub at : Place
   pub is : whole ≡ Some at
   pub placed : Placed heap at t
@@ -50,12 +54,15 @@ pub record ShowsTree (heap : List ℕ) (fs : List Frame) (places : List ℕ) (wh
   pub places_none : places ≡ []
   pub closed : bytes ≡ None
 
-pub record ShowsOpen (heap : List ℕ) (fs : List Frame) (places : List ℕ) (whole : Option Place) (bytes : Option OpenBytes) (ls : List OpenList) : Type 0 where
+pub record ShowsOpen (heap : List ℕ) (fs : List Frame) (places : List ℕ) (whole : Option Place)
+    (bytes : Option OpenBytes) (ls : List OpenList) : Type 0 where
   pub none : whole ≡ None
   pub closed : bytes ≡ None
   pub lists : ShowsLists heap fs places ls
 
-pub record ShowsBytes (heap : List ℕ) (fs : List Frame) (places : List ℕ) (whole : Option Place) (bytes : Option OpenBytes) (ls : List OpenList) (kind : BytesKind) (n : ℕ) (so_far : List ℕ) : Type 0 where
+pub record ShowsBytes (heap : List ℕ) (fs : List Frame) (places : List ℕ) (whole : Option Place)
+    (bytes : Option OpenBytes) (ls : List OpenList) (kind : BytesKind) (n : ℕ) (so_far : List ℕ) :
+    Type 0 where
   pub none : whole ≡ None
   pub piece : OpenBytes
   pub is : bytes ≡ Some piece
@@ -67,7 +74,8 @@ pub record ShowsBytes (heap : List ℕ) (fs : List Frame) (places : List ℕ) (w
 abbrev pub ShowsAt : List ℕ → List Frame → List ℕ → Option Place → Option OpenBytes → State → Type 0
 ShowsAt heap fs places whole bytes (complete t) = ShowsTree heap fs places whole bytes t
 ShowsAt heap fs places whole bytes (in_lists ls) = ShowsOpen heap fs places whole bytes ls
-ShowsAt heap fs places whole bytes (in_bytes ls kind n so_far) = ShowsBytes heap fs places whole bytes ls kind n so_far
+ShowsAt heap fs places whole bytes (in_bytes ls kind n so_far) =
+    ShowsBytes heap fs places whole bytes ls kind n so_far
 
 -- the frames from the innermost
 abbrev pub frames_of : Building → List Frame

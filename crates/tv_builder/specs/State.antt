@@ -1,5 +1,6 @@
 -- What has come so far of a value that comes part by part, and what a part does to it.
-use Rattle.std.specs.Prelude.{◌≡◌, ℕ, suc, ◌+◌, ◌-◌, ◌%◌, ◌<◌, ◌≤◌, Bool, cond, nat_lt, nat_eq, List, [], ◌∷◌, ◌++◌, length, map}
+use Rattle.std.specs.Prelude.{◌≡◌, ℕ, suc, ◌+◌, ◌-◌, ◌%◌, ◌<◌, ◌≤◌, Bool, cond, nat_lt, nat_eq, List, [], ◌∷◌}
+use Rattle.std.specs.Prelude.{◌++◌, length, map}
 use Rattle.tv_format.specs.Tree.{Tree, leaf, text, facet, bytes, array, object, elements, entries}
 use Rattle.tv_builder.specs.declared.kinds.Awaits.{Awaits}
 use Rattle.tv_builder.specs.declared.kinds.Awaits.TheVariants as awaits
@@ -13,14 +14,16 @@ use Rattle.tv_heap.specs.Room.{room}
 use Rattle.tv_heap.specs.Weight.{tree_weight}
 use Rattle.tv_base.specs.Number.{vnum}
 
--- An open list, with the number of elements or entries that is announced, and its finished children. Those of an object are keys
+-- An open list, with the number of elements or entries that is announced, and its finished children. Those of
+-- an object are keys
 -- and values in turn, each key as a text.
 pub record OpenList : Type 0 where
   pub kind : ListKind
   pub announced : ℕ
   pub children : List Tree
 
--- A tree is complete; or lists are open, from the innermost, none of them at first; or, in the innermost, bytes are open, with their
+-- A tree is complete; or lists are open, from the innermost, none of them at first; or, in the innermost,
+-- bytes are open, with their
 -- length that is announced and those that have come.
 pub data State : Type 0 where
   complete : Tree → State
@@ -75,10 +78,12 @@ lacks_more l = nat_lt (suc (length l.children)) (total l.kind l.announced)
 
 -- ---- what a part does
 
--- A finished value comes to the innermost list, and a list that lacks nothing more is itself a finished value.
+-- A finished value comes to the innermost list, and a list that lacks nothing more is itself a finished
+-- value.
 abbrev pub with_value : List OpenList → Tree → State
 with_value [] t = complete t
-with_value (l ∷ ls) t = cond (lacks_more l) (in_lists (with_child l t ∷ ls)) (with_value ls (list_tree l.kind (l.children ++ t ∷ [])))
+with_value (l ∷ ls) t = cond (lacks_more l) (in_lists (with_child l t ∷ ls))
+    (with_value ls (list_tree l.kind (l.children ++ t ∷ [])))
 
 abbrev pub with_key : List OpenList → List ℕ → State
 with_key [] k = in_lists []
@@ -86,7 +91,8 @@ with_key (l ∷ ls) k = in_lists (with_child l (leaf (text k)) ∷ ls)
 
 -- a list of none is a finished value at once
 abbrev pub with_list : List OpenList → ListKind → ℕ → State
-with_list ls kind n = cond (nat_eq n 0) (with_value ls (list_tree kind [])) (in_lists (record { kind = kind; announced = n; children = [] } ∷ ls))
+with_list ls kind n = cond (nat_eq n 0) (with_value ls (list_tree kind []))
+    (in_lists (record { kind = kind; announced = n; children = [] } ∷ ls))
 
 abbrev pub with_content : List OpenList → BytesKind → List ℕ → State
 with_content ls kinds.Str content = with_value ls (leaf (text content))

@@ -1,4 +1,5 @@
--- What stands in a heap for a state, after what stood there before: each part is written at the heap's end as it comes, the children of
+-- What stands in a heap for a state, after what stood there before: each part is written at the heap's end as
+-- it comes, the children of
 -- open lists from the outermost on.
 use Rattle.std.specs.Prelude.{ℕ, ◌+◌, ◌-◌, List, [], ◌∷◌, ◌++◌, length}
 use Rattle.tv_base.specs.Number.{vnum}

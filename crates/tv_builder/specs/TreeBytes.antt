@@ -1,9 +1,11 @@
--- What is written of a value at the end of a heap, and where it stands then: its children in order, and after them a list's own
+-- What is written of a value at the end of a heap, and where it stands then: its children in order, and after
+-- them a list's own
 -- bytes, which are their types and addresses.
 use Rattle.std.specs.Prelude.{ℕ, List, [], ◌∷◌, ◌++◌, length}
 use Rattle.tv_base.specs.Number.{vnum}
 use Rattle.tv_base.specs.Parts.{short_sized}
-use Rattle.tv_format.specs.Tree.{Leaf, Tree, leaf, array, object, Elements, no_elements, element, Entries, no_entries, entry, Document}
+use Rattle.tv_format.specs.Tree.{Leaf, Tree, leaf, array, object, Elements, no_elements, element, Entries}
+use Rattle.tv_format.specs.Tree.{no_entries, entry, Document}
 use Rattle.tv_heap.specs.LeafBytes.{leaf_bytes, leaf_value_type, leaf_address}
 use Rattle.tv_heap.specs.declared.value_type.ValueType.TheVariants as types
 use Rattle.tv_heap.specs.declared.value_type.Place.{Place}
@@ -35,7 +37,8 @@ abbrev mutual
 
   pub elements_places : List ℕ → Elements → List ℕ
   elements_places heap no_elements = []
-  elements_places heap (element t ts) = place_bytes (tree_place heap t) ++ elements_places (tree_heap heap t) ts
+  elements_places heap (element t ts) = place_bytes (tree_place heap t)
+      ++ elements_places (tree_heap heap t) ts
 
   -- of an entry the key, and then the value
   pub entries_heap : List ℕ → Entries → List ℕ
@@ -44,7 +47,9 @@ abbrev mutual
 
   pub entries_places : List ℕ → Entries → List ℕ
   entries_places heap no_entries = []
-  entries_places heap (entry k t es) = (1 ∷ vnum (length heap)) ++ (place_bytes (tree_place (heap ++ short_sized k) t) ++ entries_places (tree_heap (heap ++ short_sized k) t) es)
+  entries_places heap (entry k t es) = (1 ∷ vnum (length heap))
+      ++ (place_bytes (tree_place (heap ++ short_sized k) t)
+      ++ entries_places (tree_heap (heap ++ short_sized k) t) es)
 
 -- the heap after the trees of pairs, one after the other
 abbrev pub document_heap : List ℕ → Document → List ℕ
@@ -54,4 +59,5 @@ document_heap heap (pair ∷ d) = document_heap (tree_heap heap pair.1) d
 -- their fields and places
 abbrev pub document_pairs : List ℕ → Document → List HeapPair
 document_pairs heap [] = []
-document_pairs heap (pair ∷ d) = pair_at pair.0 (tree_place heap pair.1) ∷ document_pairs (tree_heap heap pair.1) d
+document_pairs heap (pair ∷ d) = pair_at pair.0 (tree_place heap pair.1)
+    ∷ document_pairs (tree_heap heap pair.1) d

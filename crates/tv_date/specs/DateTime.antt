@@ -1,7 +1,8 @@
 -- Dates as nanoseconds since 1970-01-01T00:00:00Z, and how they are cut.
 use Rattle.std.specs.Prelude.{ℕ, ℤ, pos, ◌*ℤ◌, int_div}
 use Rattle.tv_date.specs.declared.date_time.DateTimePrecision.{DateTimePrecision}
-use Rattle.tv_date.specs.declared.date_time.DateTimePrecision.TheVariants.{Seconds, Milliseconds, Microseconds, Nanoseconds}
+use Rattle.tv_date.specs.declared.date_time.DateTimePrecision.TheVariants.{Seconds, Milliseconds}
+use Rattle.tv_date.specs.declared.date_time.DateTimePrecision.TheVariants.{Microseconds, Nanoseconds}
 
 -- how many nanoseconds there are to one of these
 abbrev pub unit_of : DateTimePrecision → ℕ

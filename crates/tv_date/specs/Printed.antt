@@ -1,18 +1,22 @@
 -- Moments as texts: what a clock at UTC shows, and the same as a function.
-use Rattle.std.specs.Prelude.{◌≡◌, ℕ, zero, suc, ◌++◌, ◌+◌, ◌-◌, ◌/◌, ◌%◌, unsigned_abs, ℤ, pos, ◌+ℤ◌, ◌-ℤ◌, nat_le, false, List, [], ◌∷◌, None, if◌then◌else◌}
+use Rattle.std.specs.Prelude.{◌≡◌, ℕ, zero, suc, ◌++◌, ◌+◌, ◌-◌, ◌/◌, ◌%◌, unsigned_abs, ℤ, pos, ◌+ℤ◌, ◌-ℤ◌}
+use Rattle.std.specs.Prelude.{nat_le, false, List, [], ◌∷◌, None, if◌then◌else◌}
 use Rattle.std.specs.Int.{int_div_euclid, int_rem_euclid}
 use Rattle.jiff_core.specs.Calendar.{days_of_years, days_of_months}
 use Rattle.jiff_core.specs.DateTime.{civil_nanos}
 use Rattle.jiff_core.specs.declared.civil.datetime.DateTime.{DateTime as Civil}
 use Rattle.jiff_fmt.specs.Text.{datetime_text, year_text, pad2, fraction_part}
 
--- The text of a moment: what a clock at UTC shows then, a fraction where it is not 0 with no zeros at its end, and `Z`.
+-- The text of a moment: what a clock at UTC shows then, a fraction where it is not 0 with no zeros at its
+-- end, and `Z`.
 abbrev pub IsPrinted : ℤ → List ℕ → Type 0
-IsPrinted z text = (shown : Civil) × (civil_nanos shown ≡ z) × (text ≡ datetime_text false 84 None shown ++ 90 ∷ [])
+IsPrinted z text = (shown : Civil) × (civil_nanos shown ≡ z)
+    × (text ≡ datetime_text false 84 None shown ++ 90 ∷ [])
 
 -- ---- the same text as a function
 
--- how many years after -10000 the day's year is, if it is at most the first number: the last one that has begun by then
+-- how many years after -10000 the day's year is, if it is at most the first number: the last one that has
+-- begun by then
 unfoldable pub year_index : ℕ → ℕ → ℕ
 year_index zero count = 0
 year_index (suc k) count = if nat_le (days_of_years (suc k)) count then suc k else year_index k count

@@ -1,6 +1,9 @@
--- A moment as a text by RFC 3339, with a `T` or `t` between date and time, and no leap second: from a text to the numbers that it writes,
--- and from these to the moment. Which texts write numbers is said as a grammar in Shape.
-use Rattle.std.specs.Prelude.{ℕ, ◌+◌, ◌-◌, ◌*◌, ℤ, pos, neg_ℤ, ◌+ℤ◌, ◌-ℤ◌, ◌*ℤ◌, int_le, ◌&&◌, ◌||◌, ◌==◌, nat_le, Bool, true, false, List, [], ◌∷◌, take, drop, min, Option, Some, None, option_and_then, Result, Ok, Err, if◌then◌else◌}
+-- A moment as a text by RFC 3339, with a `T` or `t` between date and time, and no leap second: from a text to
+-- the numbers that it writes, and from these to the moment. Which texts write numbers is said as a grammar in
+-- Shape.
+use Rattle.std.specs.Prelude.{ℕ, ◌+◌, ◌-◌, ◌*◌, ℤ, pos, neg_ℤ, ◌+ℤ◌, ◌-ℤ◌, ◌*ℤ◌, int_le, ◌&&◌, ◌||◌, ◌==◌}
+use Rattle.std.specs.Prelude.{nat_le, Bool, true, false, List, [], ◌∷◌, take, drop, min, Option, Some, None}
+use Rattle.std.specs.Prelude.{option_and_then, Result, Ok, Err, if◌then◌else◌}
 use Rattle.std.specs.List.{prefix_len}
 use Rattle.std.specs.Char.{is_ascii_digit}
 use Rattle.jiff_core.specs.Calendar.{days_from_civil, days_in_month}
@@ -15,7 +18,8 @@ o >>= f = option_and_then f o
 
 -- two digits at the start, and what follows them
 unfoldable pub two_digits : List ℕ → Option (ℕ × List ℕ)
-two_digits (high ∷ low ∷ rest) = if is_ascii_digit high && is_ascii_digit low then Some ((high - 48) * 10 + (low - 48), rest) else None
+two_digits (high ∷ low ∷ rest) = if is_ascii_digit high && is_ascii_digit low
+    then Some ((high - 48) * 10 + (low - 48), rest) else None
 two_digits _ = None
 
 unfoldable pub four_digits : List ℕ → Option (ℕ × List ℕ)
@@ -110,7 +114,8 @@ fields text = do
 
 -- the month has the day
 abbrev pub is_date : DateFields → Bool
-is_date s = nat_le 1 s.month && nat_le s.month 12 && nat_le 1 s.day && nat_le s.day (days_in_month (pos s.year) s.month)
+is_date s = nat_le 1 s.month && nat_le s.month 12 && nat_le 1 s.day
+    && nat_le s.day (days_in_month (pos s.year) s.month)
 
 abbrev pub is_time : DateFields → Bool
 is_time s = nat_le s.hour 23 && nat_le s.minute 59 && nat_le s.second 59
@@ -123,12 +128,14 @@ abbrev pub is_valid : DateFields → Bool
 is_valid s = is_date s && is_time s && is_offset s
 
 abbrev pub offset_seconds : DateFields → ℤ
-offset_seconds s = if s.west then neg_ℤ (pos (s.offset_hour * 3600 + s.offset_minute * 60)) else pos (s.offset_hour * 3600 + s.offset_minute * 60)
+offset_seconds s = if s.west then neg_ℤ (pos (s.offset_hour * 3600 + s.offset_minute * 60))
+    else pos (s.offset_hour * 3600 + s.offset_minute * 60)
 
 -- nanoseconds since 1970-01-01T00:00:00Z
 abbrev pub instant : DateFields → ℤ
 instant s =
-    (days_from_civil (pos s.year) s.month s.day *ℤ pos 86_400 +ℤ pos (s.hour * 3600 + s.minute * 60 + s.second) -ℤ offset_seconds s)
+    (days_from_civil (pos s.year) s.month s.day *ℤ pos 86_400 +ℤ pos
+    (s.hour * 3600 + s.minute * 60 + s.second) -ℤ offset_seconds s)
     *ℤ pos 1_000_000_000 +ℤ pos s.fraction
 
 abbrev pub fits : ℤ → Bool

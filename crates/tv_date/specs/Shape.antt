@@ -7,20 +7,24 @@ use Rattle.tv_date.specs.declared.rfc3339.DateFields.{DateFields}
 
 -- nothing, or a dot with one digit or more, of which nine count
 abbrev pub IsFraction : List ℕ → ℕ → Type 0
-IsFraction text n = ((text ≡ []) × (n ≡ 0)) ⊎ ((ds : List ℕ) × (text ≡ 46 ∷ ds) × IsNumeral 10 ds × (n ≡ fraction_value 9 ds))
+IsFraction text n = ((text ≡ []) × (n ≡ 0)) ⊎ ((ds : List ℕ) × (text ≡ 46 ∷ ds) × IsNumeral 10 ds
+    × (n ≡ fraction_value 9 ds))
 
 -- `Z`, or a sign with hours and minutes
 abbrev pub IsZone : List ℕ → Bool → ℕ → ℕ → Type 0
 IsZone text west hour minute =
     (((text ≡ 90 ∷ []) ⊎ (text ≡ 122 ∷ [])) × (west ≡ false) × (hour ≡ 0) × (minute ≡ 0))
-    ⊎ ((sign : ℕ) × (((sign ≡ 43) × (west ≡ false)) ⊎ ((sign ≡ 45) × (west ≡ true))) × (hour < 100) × (minute < 100) × (text ≡ sign ∷ (pad2 hour ++ 58 ∷ pad2 minute)))
+    ⊎ ((sign : ℕ) × (((sign ≡ 43) × (west ≡ false)) ⊎ ((sign ≡ 45) × (west ≡ true))) × (hour < 100)
+    × (minute < 100) × (text ≡ sign ∷ (pad2 hour ++ 58 ∷ pad2 minute)))
 
 -- the date, and what follows it
 abbrev pub IsDateText : List ℕ → ℕ × ℕ × ℕ → List ℕ → Type 0
-IsDateText text d rest = (d.0 < 10000) × (d.1 < 100) × (d.2 < 100) × (text ≡ pad4 d.0 ++ 45 ∷ (pad2 d.1 ++ 45 ∷ (pad2 d.2 ++ rest)))
+IsDateText text d rest = (d.0 < 10000) × (d.1 < 100) × (d.2 < 100)
+    × (text ≡ pad4 d.0 ++ 45 ∷ (pad2 d.1 ++ 45 ∷ (pad2 d.2 ++ rest)))
 
 abbrev pub IsTimeText : List ℕ → ℕ × ℕ × ℕ → List ℕ → Type 0
-IsTimeText text t rest = (t.0 < 100) × (t.1 < 100) × (t.2 < 100) × (text ≡ pad2 t.0 ++ 58 ∷ (pad2 t.1 ++ 58 ∷ (pad2 t.2 ++ rest)))
+IsTimeText text t rest = (t.0 < 100) × (t.1 < 100) × (t.2 < 100)
+    × (text ≡ pad2 t.0 ++ 58 ∷ (pad2 t.1 ++ 58 ∷ (pad2 t.2 ++ rest)))
 
 -- a date, a `T` or a `t`, a time, a fraction and an offset
 abbrev pub HasShape : List ℕ → DateFields → Type 0

@@ -1,11 +1,14 @@
 -- Additions to a document, one after the other, refused ones among them.
 --
 -- The words of the public contracts:
--- `AreKept`: where each of these additions is called on what the one before it left, the accepted pairs are kept, as `Keeps` says. `document`: they
--- stand in order after the pairs that were there. `heap`: what stood in the heap stands there still. `places`: the pairs that were there have the
+-- `AreKept`: where each of these additions is called on what the one before it left, the accepted pairs are
+-- kept, as `Keeps` says. `document`: they stand in order after the pairs that were there. `heap`: what stood
+-- in the heap stands there still. `places`: the pairs that were there have the
 -- same places, and the new places come after them.
--- `AddsAsBuilt`: the first document is made by one addition, the second by a builder. `added_bytes`: the addition writes the tree after the heap.
--- `added_pair`: it adds the pair after the others. `heap`, `pairs` and `document`: both documents have the same heap, byte for byte, and the same
+-- `AddsAsBuilt`: the first document is made by one addition, the second by a builder. `added_bytes`: the
+-- addition writes the tree after the heap.
+-- `added_pair`: it adds the pair after the others. `heap`, `pairs` and `document`: both documents have the
+-- same heap, byte for byte, and the same
 -- pairs at the same places.
 use Rattle.std.specs.Prelude.{◌≡◌, ℕ, List, [], ◌∷◌, ◌++◌, Result, Ok, Err}
 use Rattle.tv_base.specs.Sink.{IsPrefix}
@@ -36,7 +39,8 @@ abbrev pub Runs : List Addition → CompactDoc → CompactDoc → Type 0
 Runs [] old new = IsUnchanged old new
 Runs (a ∷ rest) old new = (mid : CompactDoc) × Adds old mid a.field a.tree a.answer × Runs rest mid new
 
--- the accepted pairs stand after those that were there, and the old heap and the old places are prefixes of the new ones
+-- the accepted pairs stand after those that were there, and the old heap and the old places are prefixes of
+-- the new ones
 pub record Keeps (pairs : Document) (old new : CompactDoc) : Type 0 where
   pub document : document_of new ≡ document_of old ++ pairs
   pub heap : IsPrefix (heap_of old) (heap_of new)
@@ -56,7 +60,8 @@ abbrev pub AddsEach : Document → CompactDoc → CompactDoc → Type 0
 AddsEach [] old new = IsUnchanged old new
 AddsEach (pair ∷ pairs) old new = (mid : CompactDoc) × Accepts old mid pair.0 pair.1 × AddsEach pairs mid new
 
--- One call adds a pair, and a builder builds its value whole and finishes it: both leave the same heap and the same pairs.
+-- One call adds a pair, and a builder builds its value whole and finishes it: both leave the same heap and
+-- the same pairs.
 pub record AddsAsBuilt (old : CompactDoc) (field : ℕ) (t : Tree) (added finished : CompactDoc) : Type 0 where
   pub added_bytes : heap_of added ≡ tree_heap (heap_of old) t
   pub added_pair : document_of added ≡ document_of old ++ (field, t) ∷ []

@@ -1,29 +1,40 @@
--- What a tree builder is seen as, and what its calls return and leave: that of the builder of pairs which it holds.
+-- What a tree builder is seen as, and what its calls return and leave: that of the builder of pairs which it
+-- holds.
 --
 -- The words of the public contracts:
--- `IsNewBuilder`: a builder after this document's pairs. `document`, `heap`, `kept` and `pairs`: its finished pairs are those of the document, at
--- the same places, and its heap is the document's, which ends after the last of them. `state`: nothing of a next value has come, and no list is
+-- `IsNewBuilder`: a builder after this document's pairs. `document`, `heap`, `kept` and `pairs`: its finished
+-- pairs are those of the document, at the same places, and its heap is the document's, which ends after the
+-- last of them. `state`: nothing of a next value has come, and no list is
 -- open. `not_failed`: no call was refused.
--- `IsDocumentOf`: the document of a builder's finished pairs. `document` and `pairs`: it has these pairs, at their places. `heap`: its heap is the
+-- `IsDocumentOf`: the document of a builder's finished pairs. `document` and `pairs`: it has these pairs, at
+-- their places. `heap`: its heap is the
 -- builder's up to the end of the last of their values.
--- `IsHeapLength`: a length. `is_length`: the heap so far has it. `within`: it is at most what the finished pairs and the next value so far weigh.
--- `Builds`: a call that brings a part of the next value. Its arguments say where the call belongs, what fits where memory is refused, and which state
--- it goes on to. After a refusal it returns `AlreadyFailed` and changes nothing. Else it goes on to that state: the finished pairs stay, and the heap
--- is that of the state. Or it is refused: `OutOfPlace` exactly where it does not belong there, `HeapFull` where the state has no room, or `Memory`.
+-- `IsHeapLength`: a length. `is_length`: the heap so far has it. `within`: it is at most what the finished
+-- pairs and the next value so far weigh.
+-- `Builds`: a call that brings a part of the next value. Its arguments say where the call belongs, what fits
+-- where memory is refused, and which state it goes on to. After a refusal it returns `AlreadyFailed` and
+-- changes nothing. Else it goes on to that state: the finished pairs stay, and the heap is that of the state.
+-- Or it is refused: `OutOfPlace` exactly where it does not belong there, `HeapFull` where the state has no
+-- room, or `Memory`.
 -- Then nothing is open, and the finished pairs stay.
--- `BuildsLeaf`, `BuildsTree`, `BuildsList`, `BuildsKey`, `BeginsBytes`: such a call for a value without children; for a whole value; for a list that
--- opens with this many announced children; for a key of the innermost object; for the head of bytes, of which this many are announced.
--- `BuildsBytes`: some of the announced bytes. `builds`: it is such a call. `no_heap_full`: it never returns `HeapFull`.
--- `Ends`: the announced bytes are a finished value or key, or the call is refused. `Finishes`: the complete value becomes that of a pair, or the call
+-- `BuildsLeaf`, `BuildsTree`, `BuildsList`, `BuildsKey`, `BeginsBytes`: such a call for a value without
+-- children; for a whole value; for a list that opens with this many announced children; for a key of the
+-- innermost object; for the head of bytes, of which this many are announced.
+-- `BuildsBytes`: some of the announced bytes. `builds`: it is such a call. `no_heap_full`: it never returns
+-- `HeapFull`.
+-- `Ends`: the announced bytes are a finished value or key, or the call is refused. `Finishes`: the complete
+-- value becomes that of a pair, or the call
 -- is refused.
--- `HoldsState`: all of a builder's state stands in its heap. `kept`: the heap of the finished pairs is what writing their trees one after the other
--- gives. `bytes`: after it the heap's bytes are those of the state.
--- `reads`: where a tree is complete, the heap reads it at its place. `room`: the heap takes at most the room of the pairs and what is written.
+-- `HoldsState`: all of a builder's state stands in its heap. `kept`: the heap of the finished pairs is what
+-- writing their trees one after the other gives. `bytes`: after it the heap's bytes are those of the state.
+-- `reads`: where a tree is complete, the heap reads it at its place. `room`: the heap takes at most the room
+-- of the pairs and what is written.
 use Rattle.std.specs.Prelude.{◌≡◌, ◌+◌, ◌≤◌, ℕ, List, [], false, length, Result, IsErrOf}
 use Rattle.tv_builder.specs.Builder as pairs
 pub use Rattle.tv_builder.specs.Builder.{TakesBytes, HasAllBytes, HasContent, IsComplete}
 use Rattle.tv_builder.specs.Fits.{LeafFits, ListFits, KeyFits, HeadFits}
-use Rattle.tv_builder.specs.State.{State, OpenList, complete, in_lists, lists_of, awaited, head_awaits, written}
+use Rattle.tv_builder.specs.State.{State, OpenList, complete, in_lists, lists_of, awaited, head_awaits}
+use Rattle.tv_builder.specs.State.{written}
 use Rattle.tv_builder.specs.State.{and_value, and_list, and_key, and_head, and_bytes}
 use Rattle.tv_builder.specs.StateHeap.{state_heap}
 use Rattle.tv_builder.specs.TreeBytes.{tree_place, document_heap}
@@ -65,7 +76,8 @@ kept_heap b = pairs.kept_heap b.builder
 abbrev pub pairs_so_far : TreeBuilder → List HeapPair
 pairs_so_far b = pairs.pairs_so_far b.builder
 
-abbrev pub Builds : TreeBuilder → TreeBuilder → Type 0 → Type 0 → (State → State) → Result (Unit {0}) BuildError → Type 0
+abbrev pub Builds : TreeBuilder → TreeBuilder → Type 0 → Type 0 → (State → State)
+    → Result (Unit {0}) BuildError → Type 0
 Builds old new in_place fits after r = pairs.Builds old.builder new.builder in_place fits after r
 
 abbrev pub Ends : TreeBuilder → TreeBuilder → Result (Unit {0}) BuildError → Type 0
@@ -100,23 +112,28 @@ pub record IsHeapLength (b : TreeBuilder) (n : ℕ) : Type 0 where
 
 -- a value without children
 abbrev pub BuildsLeaf : TreeBuilder → TreeBuilder → Leaf → Result (Unit {0}) BuildError → Type 0
-BuildsLeaf old new l r = Builds old new (awaited (state_of old) ≡ awaits.Value) (LeafFits (heap_so_far old) l) (λ s. and_value s (leaf l)) r
+BuildsLeaf old new l r = Builds old new (awaited (state_of old) ≡ awaits.Value) (LeafFits (heap_so_far old) l)
+    (λ s. and_value s (leaf l)) r
 
 -- a whole value, which says nothing of what fits where memory is refused
 abbrev pub BuildsTree : TreeBuilder → TreeBuilder → Tree → Result (Unit {0}) BuildError → Type 0
-BuildsTree old new t r = Builds old new (awaited (state_of old) ≡ awaits.Value) (Unit {0}) (λ s. and_value s t) r
+BuildsTree old new t r = Builds old new (awaited (state_of old) ≡ awaits.Value) (Unit {0})
+    (λ s. and_value s t) r
 
 -- a list opens with this many announced children; one of none closes at once
 abbrev pub BuildsList : TreeBuilder → TreeBuilder → ListKind → ℕ → Result (Unit {0}) BuildError → Type 0
-BuildsList old new kind n r = Builds old new (awaited (state_of old) ≡ awaits.Value) (ListFits (heap_so_far old) n) (λ s. and_list s kind n) r
+BuildsList old new kind n r = Builds old new (awaited (state_of old) ≡ awaits.Value)
+    (ListFits (heap_so_far old) n) (λ s. and_list s kind n) r
 
 -- a key of the innermost object
 abbrev pub BuildsKey : TreeBuilder → TreeBuilder → List ℕ → Result (Unit {0}) BuildError → Type 0
-BuildsKey old new k r = Builds old new (awaited (state_of old) ≡ awaits.Key) (KeyFits (heap_so_far old) k) (λ s. and_key s k) r
+BuildsKey old new k r = Builds old new (awaited (state_of old) ≡ awaits.Key) (KeyFits (heap_so_far old) k)
+    (λ s. and_key s k) r
 
 -- the bytes of a value or of a key begin, of which this many are announced
 abbrev pub BeginsBytes : TreeBuilder → TreeBuilder → BytesKind → ℕ → Result (Unit {0}) BuildError → Type 0
-BeginsBytes old new kind n r = Builds old new (awaited (state_of old) ≡ head_awaits kind) (HeadFits (heap_so_far old) n) (λ s. and_head s kind n) r
+BeginsBytes old new kind n r = Builds old new (awaited (state_of old) ≡ head_awaits kind)
+    (HeadFits (heap_so_far old) n) (λ s. and_head s kind n) r
 
 -- some of the announced bytes
 pub record BuildsBytes (old new : TreeBuilder) (bs : List ℕ) (r : Result (Unit {0}) BuildError) : Type 0 where
@@ -130,5 +147,6 @@ pub record HoldsState (b : TreeBuilder) : Type 0 where
   pub kept : kept_heap b ≡ document_heap [] (built b)
   pub bytes : heap_so_far b ≡ state_heap (kept_heap b) (state_of b)
   pub reads : (t : Tree) → state_of b ≡ complete t
-      → let place = tree_place (kept_heap b) t in ∥ ReadsTree (heap_so_far b) (type_code place.value_type) place.address t ∥₁
+      → let place = tree_place (kept_heap b) t in
+      ∥ ReadsTree (heap_so_far b) (type_code place.value_type) place.address t ∥₁
   pub room : length (heap_so_far b) ≤ document_room (built b) + written (state_of b)

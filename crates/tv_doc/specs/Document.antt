@@ -1,16 +1,19 @@
 -- What a document is seen as, and what its calls return and leave.
 --
 -- The words of the public contracts:
--- `IsEmptyWith`: a document without pairs. `document`: it has no pair. `heap`: no byte stands in its heap. `bytes` and `places`: for how
--- many bytes of the heap, and for how many pairs, it has memory.
+-- `IsEmptyWith`: a document without pairs. `document`: it has no pair. `heap`: no byte stands in its heap.
+-- `bytes` and `places`: for how many bytes of the heap, and for how many pairs, it has memory.
 -- `Clears`: all pairs are taken off. The document is then empty, and has the memory that it had before.
--- `Shrinks`: memory is given back. `unchanged`: the pairs and the heap are unchanged. `bytes` and `places`: the document has no more memory for its heap
--- and for pairs than before. `frees_bytes` and `frees_places`: it has none for its heap where no byte stands in it, and none for pairs where it has
+-- `Shrinks`: memory is given back. `unchanged`: the pairs and the heap are unchanged. `bytes` and `places`:
+-- the document has no more memory for its heap and for pairs than before. `frees_bytes` and `frees_places`:
+-- it has none for its heap where no byte stands in it, and none for pairs where it has
 -- no pair.
--- `Adds`: a pair of this field and this tree is added after the others. Or the addition is refused: `HeapFull` where the heap has no room for the
--- tree, `Memory` only where it has. The pairs and the heap are then unchanged. `AddsLeaf`: the same of a value without children.
+-- `Adds`: a pair of this field and this tree is added after the others. Or the addition is refused:
+-- `HeapFull` where the heap has no room for the tree, `Memory` only where it has. The pairs and the heap are
+-- then unchanged. `AddsLeaf`: the same of a value without children.
 -- `KeepsMemory`: after `HeapFull` the heap has memory for at most 1 MiB more than before.
--- `IsWrittenInOrder`: the heap is what writing the trees of the pairs one after the other gives. `IsWithinRoom`: it is no longer than the room of
+-- `IsWrittenInOrder`: the heap is what writing the trees of the pairs one after the other gives.
+-- `IsWithinRoom`: it is no longer than the room of
 -- the values.
 use Rattle.std.specs.Prelude.{◌≡◌, ◌≤◌, ℕ, List, [], length, Option, Result}
 use Rattle.tv_builder.specs.HeldPairs as held

@@ -1,10 +1,12 @@
 -- Documents by the names of their fields.
 --
 -- The word of the public contracts:
--- `CopiesByName`: copies of a document's values under the names of their fields. `named`: for each name of a field that has a value, they are the
--- copies of its values in order. `within`: where the call returns no error, each value of a field that has a name nests within this depth.
+-- `CopiesByName`: copies of a document's values under the names of their fields. `named`: for each name of a
+-- field that has a value, they are the copies of its values in order. `within`: where the call returns no
+-- error, each value of a field that has a name nests within this depth.
 -- `deep`: the error is `TooDeep` exactly where one of them does not.
-use Rattle.std.specs.Prelude.{◌≡◌, ℕ, List, [], ◌∷◌, ◌++◌, ◌↔◌, map, Option, Some, None, Result, IfOk, OnOk, IsErrOf, OnSome, slice_get, string_bytes}
+use Rattle.std.specs.Prelude.{◌≡◌, ℕ, List, [], ◌∷◌, ◌++◌, ◌↔◌, map, Option, Some, None, Result, IfOk, OnOk}
+use Rattle.std.specs.Prelude.{IsErrOf, OnSome, slice_get, string_bytes}
 use Rattle.std.specs.BTreeMap.{insert_entry}
 use Rattle.std.specs.Cmp.Lexicographic.{slice_cmp}
 use Rattle.std.specs.List.{AllByRecursion}
@@ -40,11 +42,13 @@ by_name names (g ∷ gs) named = by_name names gs (put_under (slice_get names g.
 
 -- for each name of a field that has a value, the list of its values in order
 abbrev pub IsNamed : List (List ℕ) → Document → Named → Type 0
-IsNamed names d named = (groups : List (ℕ × List Tree)) × IsGrouped d groups × (named ≡ by_name names groups [])
+IsNamed names d named = (groups : List (ℕ × List Tree)) × IsGrouped d groups
+    × (named ≡ by_name names groups [])
 
 -- the text of the object of these names and the arrays of their values, without spaces
 abbrev pub IsJsonText : List (List ℕ) → Document → List ℕ → Type 0
-IsJsonText names d text = (named : Named) × IsNamed names d named × (text ≡ compact_text (object (named_json named)))
+IsJsonText names d text = (named : Named) × IsNamed names d named
+    × (text ≡ compact_text (object (named_json named)))
 
 -- that text was added to another
 abbrev pub AddsJsonText : List (List ℕ) → Document → List ℕ → List ℕ → Type 0
@@ -58,7 +62,8 @@ abbrev pub NamedNestWithin : List (List ℕ) → ℕ → Document → Type 0
 NamedNestWithin names n d = AllByRecursion (λ pair. OnSome (slice_get names pair.0) (NestsWithin n pair.1)) d
 
 -- copies of the values under the names of their fields, where each of them nests within this depth
-pub record CopiesByName (names : List (List ℕ)) (d : Document) (depth : ℕ) (r : Result NamedFieldDocument CopyError) : Type 0 where
+pub record CopiesByName (names : List (List ℕ)) (d : Document) (depth : ℕ)
+    (r : Result NamedFieldDocument CopyError) : Type 0 where
   pub named : IfOk r (λ made. IsNamed names d (named_of made))
   pub within : OnOk r (NamedNestWithin names depth d)
   pub deep : IsErrOf r TooDeep ↔ (¬ NamedNestWithin names depth d)

@@ -1,15 +1,19 @@
 -- The pairs of names with values, and what adding them returns.
 --
 -- The words of the public contracts:
--- `ConvertsNamed`: the document of values by name. `makes`: it has just the pairs of these names, in order, which were added to an empty document,
--- or the error is that of the first addition that was refused. `belongs`: each of its pairs has a field of the schema.
--- `KeepsValues`: a second document has the values of a first. `kept`: each field of the schema has the same values, in their order. `all`: every
--- field has, where each pair of the first has a field of the schema.
--- `KeepsNamed`: the pairs of values by name. `keeps`: where these are the values by name of this document, by a schema, the pairs keep the document's
+-- `ConvertsNamed`: the document of values by name. `makes`: it has just the pairs of these names, in order,
+-- which were added to an empty document, or the error is that of the first addition that was refused.
+-- `belongs`: each of its pairs has a field of the schema.
+-- `KeepsValues`: a second document has the values of a first. `kept`: each field of the schema has the same
+-- values, in their order. `all`: every field has, where each pair of the first has a field of the schema.
+-- `KeepsNamed`: the pairs of values by name. `keeps`: where these are the values by name of this document, by
+-- a schema, the pairs keep the document's
 -- values. `others`: no field past the schema has a value.
--- `ConvertsBack`: the values by name of a document are made a document again. `keeps`: it keeps the document's values. `belongs`: each of its pairs
--- has a field of the schema. `errors`: the error is one of `IsBackError`.
-use Rattle.std.specs.Prelude.{◌≡◌, ℕ, ◌<◌, ◌≤◌, List, [], ◌∷◌, ◌++◌, length, map, Option, Some, None, Result, Ok, Err, IfOk, IfErr}
+-- `ConvertsBack`: the values by name of a document are made a document again. `keeps`: it keeps the
+-- document's values. `belongs`: each of its pairs has a field of the schema. `errors`: the error is one of
+-- `IsBackError`.
+use Rattle.std.specs.Prelude.{◌≡◌, ℕ, ◌<◌, ◌≤◌, List, [], ◌∷◌, ◌++◌, length, map, Option, Some, None, Result}
+use Rattle.std.specs.Prelude.{Ok, Err, IfOk, IfErr}
 use Rattle.tv_field.specs.Entry.{Entry}
 use Rattle.tv_schema.specs.Schema.{IsSchema, field_named}
 use Rattle.tv_format.specs.Tree.{Tree, Document}
@@ -64,7 +68,8 @@ MakesPairs pairs (Ok made) = (document_of made ≡ pairs) × IsMade made
 MakesPairs pairs (Err e) = (refused : AddError) × (e ≡ addition_error refused) × RefusesPairs pairs refused
 
 -- what is made of values by name, whose fields are those of the schema
-pub record ConvertsNamed (schema : List Entry) (named : Named) (r : Result CompactDoc DocParsingError) : Type 0 where
+pub record ConvertsNamed (schema : List Entry) (named : Named)
+    (r : Result CompactDoc DocParsingError) : Type 0 where
   pub makes : MakesPairs (named_pairs schema named) r
   pub belongs : IfOk r (λ made. Belongs schema (document_of made))
 
@@ -77,10 +82,12 @@ pub record KeepsValues (schema : List Entry) (old new : Document) : Type 0 where
 
 -- the values by name of a document keep its values
 pub record KeepsNamed (schema : List Entry) (d : Document) (named : Named) : Type 0 where
-  pub keeps : IsSchema schema → IsNamed (field_names schema) d named → KeepsValues schema d (named_pairs schema named)
+  pub keeps : IsSchema schema → IsNamed (field_names schema) d named
+      → KeepsValues schema d (named_pairs schema named)
   pub others : (field : ℕ) → length schema ≤ field → values_of field (named_pairs schema named) ≡ []
 
--- The error of converting back the values by name of this document: memory was refused, or the document's values need more room than a
+-- The error of converting back the values by name of this document: memory was refused, or the document's
+-- values need more room than a
 -- heap has.
 abbrev pub IsConversionError : Document → DocParsingError → Type 0
 IsConversionError d errors.Memory = Unit {0}
@@ -96,7 +103,8 @@ IsBackError schema d (back.Named copying.TooDeep) = ¬ NamedNestWithin (field_na
 IsBackError schema d (back.Converted e) = IsConversionError d e
 
 -- what converting back the values by name of this document returns
-pub record ConvertsBack (schema : List Entry) (d : Document) (r : Result CompactDoc NamedBackError) : Type 0 where
+pub record ConvertsBack (schema : List Entry) (d : Document)
+    (r : Result CompactDoc NamedBackError) : Type 0 where
   pub keeps : IfOk r (λ back. KeepsValues schema d (document_of back))
   pub belongs : IfOk r (λ back. Belongs schema (document_of back))
   pub errors : IfErr r (IsBackError schema d)

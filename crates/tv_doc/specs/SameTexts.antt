@@ -13,9 +13,11 @@ use Rattle.tv_doc.specs.FieldValues.{values_of}
 abbrev pub json_text : Tree → List ℕ
 json_text t = compact_text (json_of t)
 
--- for each field, the texts of its values in the one document are those in the other, in whatever order and however often
+-- for each field, the texts of its values in the one document are those in the other, in whatever order and
+-- however often
 abbrev pub SameTexts : Document → Document → Type 0
-SameTexts d e = (field : ℕ) (text : List ℕ) → Contains (map json_text (values_of field d)) text ↔ Contains (map json_text (values_of field e)) text
+SameTexts d e = (field : ℕ) (text : List ℕ) → Contains (map json_text (values_of field d)) text
+    ↔ Contains (map json_text (values_of field e)) text
 
 -- ---- for private clauses
 

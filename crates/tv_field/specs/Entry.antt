@@ -1,5 +1,6 @@
 -- An entry of a schema: a name, and a type with its options.
-use Rattle.std.specs.Prelude.{ℕ, Bool, true, false, not, ◌&&◌, ◌==◌, ◌≡◌, List, [], ◌∷◌, IsTrue, Option, None, Some, is_some, if◌then◌else◌, Result, Ok, Err}
+use Rattle.std.specs.Prelude.{ℕ, Bool, true, false, not, ◌&&◌, ◌==◌, ◌≡◌, List, [], ◌∷◌, IsTrue, Option, None}
+use Rattle.std.specs.Prelude.{Some, is_some, if◌then◌else◌, Result, Ok, Err}
 use Rattle.tv_options.specs.FastFieldTextOptions.{is_fast_field}
 use Rattle.tv_options.specs.declared.text_options.IndexRecordOption.{IndexRecordOption}
 use Rattle.tv_options.specs.declared.text_options.IndexRecordOption.TheVariants.{Basic}
@@ -25,7 +26,8 @@ IsValidName name = IsTrue (is_valid_name name)
 
 -- the entry is of this name and type, and only an invalid name is refused
 abbrev pub MakesEntry : List ℕ → FieldType → Result Entry SchemaError → Type 0
-MakesEntry name field_type (Ok entry) = IsValidName name × (entry ≡ record { name = name; field_type = field_type })
+MakesEntry name field_type (Ok entry) = IsValidName name
+    × (entry ≡ record { name = name; field_type = field_type })
 MakesEntry name field_type (Err error) = (is_valid_name name ≡ false) × (error ≡ InvalidName)
 
 abbrev pub value_type : FieldType → TypeTag

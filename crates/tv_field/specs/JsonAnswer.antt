@@ -9,7 +9,8 @@ use Rattle.tv_value.specs.Owned.{owned_tree}
 use Rattle.tv_format.specs.Tree.{Leaf, Tree, leaf}
 use Rattle.tv_value.specs.declared.leaf.ReferenceValueLeaf.{ReferenceValueLeaf}
 use Rattle.tv_value.specs.declared.owned_value.OwnedValue.{OwnedValue}
-use Rattle.tv_field.specs.JsonTable.{TableRefusal, overflow, mismatch, bad_text, bad_base64, float_number, Outcome, TextRow}
+use Rattle.tv_field.specs.JsonTable.{TableRefusal, overflow, mismatch, bad_text, bad_base64, float_number}
+use Rattle.tv_field.specs.JsonTable.{Outcome, TextRow}
 use Rattle.tv_field.specs.declared.field_type.FieldType.{FieldType}
 use Rattle.tv_field.specs.declared.field_type.FieldType.TheVariants as types
 use Rattle.tv_field.specs.declared.json_value.JsonRefusal.{JsonRefusal}
@@ -91,7 +92,8 @@ IsNumberOrObject (json.boolean b) = ⊥
 IsNumberOrObject (json.string s) = ⊥
 IsNumberOrObject (json.array ds) = ⊥
 
--- The values for which a field of this type takes memory: numbers and objects for a field of texts, and texts for a field of facets or
+-- The values for which a field of this type takes memory: numbers and objects for a field of texts, and texts
+-- for a field of facets or
 -- of bytes.
 abbrev pub TakesMemory : FieldType → Data → Type 0
 TakesMemory (types.Str options) d = IsNumberOrObject d

@@ -1,8 +1,10 @@
 -- What a JSON value is to a field of each type: a tree, or a refusal.
-use Rattle.std.specs.Prelude.{◌≡◌, ℕ, ◌<◌, ◌^◌, ◌⊎◌, List, Bool, true, false, Option, Some, None, option_map, Result, Ok, Err, FitsSigned, ℤ, codes, bytes_eq, if◌then◌else◌}
+use Rattle.std.specs.Prelude.{◌≡◌, ℕ, ◌<◌, ◌^◌, ◌⊎◌, List, Bool, true, false, Option, Some, None, option_map}
+use Rattle.std.specs.Prelude.{Result, Ok, Err, FitsSigned, ℤ, codes, bytes_eq, if◌then◌else◌}
 use Rattle.std.specs.Fmt.{decimal, signed_decimal}
 use Rattle.std.specs.Int.{w64}
-use Rattle.std.specs.Str.Parse.{IsNumeral, digits_value, signed_digits_value, without_leading_plus, without_leading_sign, true_text, false_text}
+use Rattle.std.specs.Str.Parse.{IsNumeral, digits_value, signed_digits_value, without_leading_plus}
+use Rattle.std.specs.Str.Parse.{without_leading_sign, true_text, false_text}
 use Rattle.std.specs.Net.Grammar.{IsIpText}
 use Rattle.std.specs.declared.net.ip_addr.IpAddr.{IpAddr}
 use Rattle.base64.specs.Engines.{standard}
@@ -19,14 +21,16 @@ use Rattle.tv_options.specs.Types.{type_name}
 use Rattle.tv_options.specs.declared.types.TypeTag.TheVariants as tags
 use Rattle.tv_value.specs.IpAddress.{address_number}
 use Rattle.tv_value.specs.JsonTree.{json_tree}
-use Rattle.tv_format.specs.Tree.{Leaf, text, unsigned, signed, boolean, date, facet, bytes, ip_address, Tree, leaf}
+use Rattle.tv_format.specs.Tree.{Leaf, text, unsigned, signed, boolean, date, facet, bytes, ip_address, Tree}
+use Rattle.tv_format.specs.Tree.{leaf}
 use Rattle.tv_field.specs.JsonTokens.{tokenized_in}
 use Rattle.tv_field.specs.declared.field_type.FieldType.{FieldType}
 use Rattle.tv_field.specs.declared.field_type.FieldType.TheVariants as types
 use Rattle.tv_field.specs.declared.value_parsing_error.ParseCause.{ParseCause}
 use Rattle.tv_field.specs.declared.value_parsing_error.ParseCause.TheVariants as cause
 
--- Why a value is refused: mostly what is wanted, and the value that stands there. A number that isn't whole is refused for that alone.
+-- Why a value is refused: mostly what is wanted, and the value that stands there. A number that isn't whole
+-- is refused for that alone.
 pub data TableRefusal : Type 0 where
   overflow : List ℕ → Data → TableRefusal
   mismatch : List ℕ → Data → TableRefusal
@@ -66,7 +70,8 @@ str_row coerce (json.string s) = Ok (leaf (text s))
 str_row true (json.number n) = decimal_text n
 str_row true (json.boolean b) = Ok (leaf (text (truth_text b)))
 str_row true json.null = Ok (leaf (text (codes "null")))
-str_row coerce (json.object ms) = leaf_or (tokenized_in (json.object ms)) (mismatch (codes "a string or an pretokenized string") (json.object ms))
+str_row coerce (json.object ms) = leaf_or (tokenized_in (json.object ms))
+    (mismatch (codes "a string or an pretokenized string") (json.object ms))
 str_row coerce (json.array ds) = mismatched (type_name tags.Str) (json.array ds)
 str_row false d = mismatched (codes "a string") d
 
@@ -81,11 +86,13 @@ abbrev pub IsSignedText : List ℕ → Type 0
 IsSignedText s = IsNumeral 10 (without_leading_sign s) × FitsSigned w64 (signed_digits_value 10 s)
 
 abbrev pub UnsignedText : Bool → List ℕ → Outcome → Type 0
-UnsignedText true s o = Chooses (IsUnsignedText s) (unsigned (digits_value 10 (without_leading_plus s))) (mismatch (codes "a u64 or a u64 as string") (json.string s)) o
+UnsignedText true s o = Chooses (IsUnsignedText s) (unsigned (digits_value 10 (without_leading_plus s)))
+    (mismatch (codes "a u64 or a u64 as string") (json.string s)) o
 UnsignedText false s o = o ≡ mismatched (codes "a u64") (json.string s)
 
 abbrev pub SignedText : Bool → List ℕ → Outcome → Type 0
-SignedText true s o = Chooses (IsSignedText s) (signed (signed_digits_value 10 s)) (mismatch (codes "a i64 or a i64 as string") (json.string s)) o
+SignedText true s o = Chooses (IsSignedText s) (signed (signed_digits_value 10 s))
+    (mismatch (codes "a i64 or a i64 as string") (json.string s)) o
 SignedText false s o = o ≡ mismatched (codes "a i64") (json.string s)
 
 abbrev pub signed_number : Num → Outcome
@@ -93,7 +100,8 @@ signed_number n = leaf_or (option_map signed (as_i64 n)) (overflow (codes "an i6
 
 abbrev pub U64Row : Bool → Data → Outcome → Type 0
 U64Row coerce (json.string s) o = UnsignedText coerce s o
-U64Row coerce (json.number n) o = o ≡ leaf_or (option_map unsigned (as_u64 n)) (overflow (codes "u64") (json.number n))
+U64Row coerce (json.number n) o = o ≡ leaf_or (option_map unsigned (as_u64 n))
+    (overflow (codes "u64") (json.number n))
 U64Row coerce d o = o ≡ mismatched (type_name tags.U64) d
 
 abbrev pub I64Row : Bool → Data → Outcome → Type 0
@@ -104,7 +112,8 @@ I64Row coerce d o = o ≡ mismatched (type_name tags.I64) d
 -- ---- truth values
 
 abbrev pub truth_in : List ℕ → Option Leaf
-truth_in s = if bytes_eq s true_text then Some (boolean true) else if bytes_eq s false_text then Some (boolean false) else None
+truth_in s = if bytes_eq s true_text then Some (boolean true) else if bytes_eq s false_text
+    then Some (boolean false) else None
 
 abbrev pub boolean_text : Bool → List ℕ → Outcome
 boolean_text true s = leaf_or (truth_in s) (mismatch (codes "a i64 or a bool as string") (json.string s))
@@ -185,7 +194,8 @@ Table (types.IpAddr options) d o = IpRow d o
 
 -- ---- texts of queries
 
--- what a text is to a field of each type, as a query writes it: what it is in JSON to such a field that coerces
+-- what a text is to a field of each type, as a query writes it: what it is in JSON to such a field that
+-- coerces
 abbrev pub TextRow : FieldType → List ℕ → Outcome → Type 0
 TextRow (types.Str options) s o = o ≡ Ok (leaf (text s))
 TextRow (types.U64 options) s o = UnsignedText true s o

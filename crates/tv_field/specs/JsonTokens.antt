@@ -1,5 +1,6 @@
 -- Texts with their tokens, as JSON objects. Keys that aren't asked for are ignored.
-use Rattle.std.specs.Prelude.{ℕ, List, [], ◌∷◌, ◌++◌, ◌≡◌, Bool, true, false, Result, Ok, Err, Option, Some, None, option_map, option_and_then, codes}
+use Rattle.std.specs.Prelude.{ℕ, List, [], ◌∷◌, ◌++◌, ◌≡◌, Bool, true, false, Result, Ok, Err, Option, Some}
+use Rattle.std.specs.Prelude.{None, option_map, option_and_then, codes}
 use Rattle.serde_json.specs.Data as json
 use Rattle.serde_json.specs.Data.{Data, Items}
 use Rattle.serde_json.specs.Find.{get, as_str, as_array, as_number, as_u64}
@@ -24,7 +25,8 @@ token_in d = do
   position ← number_at (codes "position") d
   text ← text_at (codes "text") d
   position_length ← number_at (codes "position_length") d
-  Some (record { offset_from = offset_from; offset_to = offset_to; position = position; text = text; position_length = position_length })
+  Some (record { offset_from = offset_from; offset_to = offset_to; position = position; text = text;
+      position_length = position_length })
 
 abbrev pub tokens_in : Items → Option (List Token)
 tokens_in json.no_items = Some []
@@ -39,19 +41,22 @@ tokenized_in d = do
 
 -- whether the value is a token, whose shortest encoding then is added
 abbrev pub IsTokenEncoded : {E : Type 0} → Data → List ℕ → List ℕ → Result Bool E → Type 0
-IsTokenEncoded d old new (Ok true) = (t : Token) × (token_in d ≡ Some t) × IsToken t × (new ≡ old ++ short_token t)
+IsTokenEncoded d old new (Ok true) = (t : Token) × (token_in d ≡ Some t) × IsToken t
+    × (new ≡ old ++ short_token t)
 IsTokenEncoded d old new (Ok false) = token_in d ≡ None
 IsTokenEncoded d old new (Err e) = Unit {0}
 
 -- whether the items are tokens, whose shortest encodings then are added
 abbrev pub AreTokensEncoded : {E : Type 0} → Items → List ℕ → List ℕ → Result Bool E → Type 0
-AreTokensEncoded items old new (Ok true) = (ts : List Token) × (tokens_in items ≡ Some ts) × AllByRecursion IsToken ts × (new ≡ old ++ flat_map short_token ts)
+AreTokensEncoded items old new (Ok true) = (ts : List Token) × (tokens_in items ≡ Some ts)
+    × AllByRecursion IsToken ts × (new ≡ old ++ flat_map short_token ts)
 AreTokensEncoded items old new (Ok false) = tokens_in items ≡ None
 AreTokensEncoded items old new (Err e) = Unit {0}
 
 -- whether the value is a text with tokens, whose shortest encoding these bytes then are
 abbrev pub IsTokenizedEncoded : {E : Type 0} → Data → List ℕ → Result Bool E → Type 0
 IsTokenizedEncoded d encoded (Ok true) =
-    (content : List ℕ) × (ts : List Token) × (tokenized_in d ≡ Some (tokenized content ts)) × IsText content × AreTokens ts × (encoded ≡ short_tokenized content ts)
+    (content : List ℕ) × (ts : List Token) × (tokenized_in d ≡ Some (tokenized content ts)) × IsText content
+    × AreTokens ts × (encoded ≡ short_tokenized content ts)
 IsTokenizedEncoded d encoded (Ok false) = tokenized_in d ≡ None
 IsTokenizedEncoded d encoded (Err e) = Unit {0}

@@ -1,8 +1,10 @@
 -- What bytes encode which values.
 use Rattle.std.specs.Prelude.{◌≡◌, ℕ, ◌⊎◌, List, [], ◌++◌}
-use Rattle.tv_format.specs.Content.{Content, no_content, truth_content, unsigned_content, signed_content, wide_content, text_content, bytes_content, tokens_content}
+use Rattle.tv_format.specs.Content.{Content, no_content, truth_content, unsigned_content, signed_content}
+use Rattle.tv_format.specs.Content.{wide_content, text_content, bytes_content, tokens_content}
 use Rattle.tv_format.specs.Leaves.{type_of, content, store_code, scale}
-use Rattle.tv_format.specs.Tree.{Token, Leaf, Tree, leaf, array, object, Elements, no_elements, element, Entries, no_entries, entry, element_count, entry_count, Document}
+use Rattle.tv_format.specs.Tree.{Token, Leaf, Tree, leaf, array, object, Elements, no_elements, element}
+use Rattle.tv_format.specs.Tree.{Entries, no_entries, entry, element_count, entry_count, Document}
 use Rattle.tv_base.specs.Number.{VNum, Fixed, Truth}
 use Rattle.tv_base.specs.Parts.{Then, Behind, Sized, Text, Counted}
 use Rattle.tv_format.specs.Version.{Version, V1, V2, V3, Scale, Scaled, entry_total}
@@ -49,7 +51,8 @@ module _ (Legacy : List ℕ → Entries → Type 0) (v : Version) where
   abbrev mutual
     pub Encodes : List ℕ → Tree → Type 0
     Encodes whole (leaf l) = Behind (leaf_code l) (λ b. LeafBody v b l) whole
-    Encodes whole (array ts) = Behind 12 (Then (λ b. VNum b (element_count ts)) (λ b. EncodesElements b ts)) whole
+    Encodes whole (array ts) = Behind 12 (Then (λ b. VNum b (element_count ts)) (λ b. EncodesElements b ts))
+        whole
     Encodes whole (object es) =
         Behind 13 (Then (λ b. VNum b (entry_total v (entry_count es))) (λ b. EncodesEntries b es)) whole
         ⊎ Behind 8 (λ b. Legacy b es) whole
@@ -60,7 +63,8 @@ module _ (Legacy : List ℕ → Entries → Type 0) (v : Version) where
 
     pub EncodesEntries : List ℕ → Entries → Type 0
     EncodesEntries whole no_entries = whole ≡ []
-    EncodesEntries whole (entry k t es) = Then (λ b. Key v b k) (Then (λ b. Encodes b t) (λ b. EncodesEntries b es)) whole
+    EncodesEntries whole (entry k t es) = Then (λ b. Key v b k)
+        (Then (λ b. Encodes b t) (λ b. EncodesEntries b es)) whole
 
   -- a field in 4 bytes, and a value
   abbrev pub EncodesPair : List ℕ → ℕ × Tree → Type 0

@@ -1,8 +1,11 @@
--- The types of leaves: the form of what a leaf of each holds, its code in the store, and its type byte in a heap. What is said of leaves elsewhere is said of
+-- The types of leaves: the form of what a leaf of each holds, its code in the store, and its type byte in a
+-- heap. What is said of leaves elsewhere is said of
 -- their type and of what they hold.
 use Rattle.std.specs.Prelude.{◌==◌, ℕ, ℤ, Bool, true, false, List, [], ◌∷◌, Option, Some, None, if◌then◌else◌}
-use Rattle.tv_format.specs.Content.{Content, no_content, truth_content, unsigned_content, signed_content, wide_content, text_content, bytes_content, tokens_content}
-use Rattle.tv_format.specs.Tree.{Token, Leaf, null, text, unsigned, signed, boolean, date, facet, bytes, ip_address, tokenized}
+use Rattle.tv_format.specs.Content.{Content, no_content, truth_content, unsigned_content, signed_content}
+use Rattle.tv_format.specs.Content.{wide_content, text_content, bytes_content, tokens_content}
+use Rattle.tv_format.specs.Tree.{Token, Leaf, null, text, unsigned, signed, boolean, date, facet, bytes}
+use Rattle.tv_format.specs.Tree.{ip_address, tokenized}
 use Rattle.tv_format.specs.Version.{Version, Scale, plain, date_scale}
 use Rattle.tv_format.specs.declared.leaf_type.Form.{Form}
 use Rattle.tv_format.specs.declared.leaf_type.Form.TheVariants as forms
@@ -78,7 +81,8 @@ last_code = 13
 
 abbrev pub leaf_types : List LeafType
 leaf_types =
-    types.Str ∷ types.U64 ∷ types.I64 ∷ types.Facet ∷ types.Bytes ∷ types.Date ∷ types.PreTokStr ∷ types.Bool ∷ types.IpAddr ∷ types.Null ∷ []
+    types.Str ∷ types.U64 ∷ types.I64 ∷ types.Facet ∷ types.Bytes ∷ types.Date ∷ types.PreTokStr ∷ types.Bool
+        ∷ types.IpAddr ∷ types.Null ∷ []
 
 -- the first of these types that has the code, and the type of a code
 abbrev pub first_with : ℕ → List LeafType → Option LeafType

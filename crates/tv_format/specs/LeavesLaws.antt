@@ -1,10 +1,12 @@
 -- A leaf is its type and what it holds, and a code is that of one type.
-use Rattle.std.specs.Prelude.{◌≡◌, ◌≢◌, ◌==◌, ◌||◌, ◌&&◌, ℕ, zero, suc, ◌<◌, ◌≤◌, Bool, true, false, Option, Some, None, is_some, refl}
+use Rattle.std.specs.Prelude.{◌≡◌, ◌≢◌, ◌==◌, ◌||◌, ◌&&◌, ℕ, zero, suc, ◌<◌, ◌≤◌, Bool, true, false, Option}
+use Rattle.std.specs.Prelude.{Some, None, is_some, refl}
 use Rattle.std.proofs.Common.{ap, sym, ◌∙◌, arith, subst, inl, inr}
 use Rattle.std.proofs.lemmas.Bool.{cases_lt, and_parts}
 use Rattle.std.proofs.lemmas.Bool.Decides.{eqb_tells}
 use Rattle.tv_format.specs.Content.{Content, no_content, form_of}
-use Rattle.tv_format.specs.Leaves.{type_of, content, leaf_with, form, store_code, last_code, type_with, heap_code}
+use Rattle.tv_format.specs.Leaves.{type_of, content, leaf_with, form, store_code, last_code, type_with}
+use Rattle.tv_format.specs.Leaves.{heap_code}
 use Rattle.tv_format.specs.Tree.{Leaf, null}
 use Rattle.tv_format.specs.declared.leaf_type.LeafType.{LeafType}
 use Rattle.tv_format.specs.declared.leaf_type.LeafType.TheVariants as types
@@ -44,12 +46,14 @@ is_made types.Null no_content e = refl
 is_made _ no_content e = cc
 is_made _ _ e = cc
 
-is_typed : (t : LeafType) (c : Content) → is_some (leaf_with t c) ≡ true → type_of (or_null (leaf_with t c)) ≡ t
+is_typed : (t : LeafType) (c : Content) → is_some (leaf_with t c) ≡ true
+    → type_of (or_null (leaf_with t c)) ≡ t
 is_typed types.Null no_content e = refl
 is_typed _ no_content e = cc
 is_typed _ _ e = cc
 
-is_held : (t : LeafType) (c : Content) → is_some (leaf_with t c) ≡ true → content (or_null (leaf_with t c)) ≡ c
+is_held : (t : LeafType) (c : Content) → is_some (leaf_with t c) ≡ true
+    → content (or_null (leaf_with t c)) ≡ c
 is_held types.Null no_content e = refl
 is_held _ no_content e = cc
 is_held _ _ e = cc
@@ -58,7 +62,8 @@ is_held _ _ e = cc
 pub making : (t : LeafType) (c : Content) → form_of c ≡ form t → Made t c
 making t c e =
     let there = is_made t c e in
-    record { made = or_null (leaf_with t c); is = is_there (leaf_with t c) there; typed = is_typed t c there; holds = is_held t c there }
+    record { made = or_null (leaf_with t c); is = is_there (leaf_with t c) there; typed = is_typed t c there;
+        holds = is_held t c there }
 
 coded : (t : LeafType) → type_with (store_code t) ≡ Some t
 coded types.Null = refl
@@ -70,7 +75,8 @@ one_code s t e = some_is s t (sym (coded s) ∙ ap type_with e ∙ coded t)
     some_is : (s t : LeafType) → Some s ≡ Some t → s ≡ t
     some_is s t e = cc
 
--- what a leaf's code is: at most the last one, and not that of floating-point numbers, legacy objects, arrays or objects
+-- what a leaf's code is: at most the last one, and not that of floating-point numbers, legacy objects, arrays
+-- or objects
 pub record IsLeafCode (code : ℕ) : Type 0 where
   pub known : code ≤ last_code
   pub no_float : code ≢ 6
@@ -79,8 +85,10 @@ pub record IsLeafCode (code : ℕ) : Type 0 where
   pub no_object : code ≢ 13
 
 pub leaf_coded : (t : LeafType) → IsLeafCode (store_code t)
-leaf_coded types.Null = record { known = omega arith; no_float = λ e. omega arith; no_legacy = λ e. omega arith; no_array = λ e. omega arith; no_object = λ e. omega arith }
-leaf_coded _ = record { known = omega arith; no_float = λ e. omega arith; no_legacy = λ e. omega arith; no_array = λ e. omega arith; no_object = λ e. omega arith }
+leaf_coded types.Null = record { known = omega arith; no_float = λ e. omega arith;
+    no_legacy = λ e. omega arith; no_array = λ e. omega arith; no_object = λ e. omega arith }
+leaf_coded _ = record { known = omega arith; no_float = λ e. omega arith; no_legacy = λ e. omega arith;
+    no_array = λ e. omega arith; no_object = λ e. omega arith }
 
 abbrev or_text : Option LeafType → LeafType
 or_text (Some t) = t
@@ -88,7 +96,8 @@ or_text None = types.Str
 
 -- the code is that of a leaf's type, or one of the four others
 abbrev is_known : ℕ → Bool
-is_known code = (code == 6) || ((code == 8) || ((code == 12) || ((code == 13) || (store_code (or_text (type_with code)) == code))))
+is_known code = (code == 6) || ((code == 8) ||
+    ((code == 12) || ((code == 13) || (store_code (or_text (type_with code)) == code))))
 
 abbrev all_known : ℕ → Bool
 all_known zero = is_known zero
@@ -100,7 +109,8 @@ up_to (suc n) code all small =
     let tests = and_parts (is_known (suc n)) (all_known n) all in
     elim (cases_lt code (suc n)) [
       | inl less ↦ up_to n code tests.1 (omega (arith, less))
-      | inr more ↦ let e : code ≡ suc n = omega (arith, more, small) in subst (λ m. is_known m ≡ true) (sym e) tests.0
+      | inr more ↦ let e : code ≡ suc n = omega (arith, more, small) in
+          subst (λ m. is_known m ≡ true) (sym e) tests.0
     ]
 
 differs : (m n : ℕ) → m ≢ n → (m == n) ≡ false
@@ -111,7 +121,8 @@ or_else true b e f = cc
 or_else false b e f = e
 
 is_same : (m n : ℕ) → (m == n) ≡ true → m ≡ n
-is_same m n e = elim (eqb_tells m n) [ inl p ↦ p.1 | inr p ↦ absurd (let f : true ≡ false = sym e ∙ p.0 in cc) ]
+is_same m n e = elim (eqb_tells m n) [ inl p ↦ p.1 | inr p ↦ absurd (let f : true ≡ false = sym e ∙ p.0 in
+    cc) ]
 
 -- every such code is one of a leaf
 pub code_of_leaf : (code : ℕ) → IsLeafCode code → (t : LeafType) × (store_code t ≡ code)

@@ -5,14 +5,17 @@ use Rattle.std.specs.List.{AllByRecursion, flat_map}
 use Rattle.tv_base.specs.Parts.{short_sized}
 use Rattle.tv_base.specs.Number.{vnum, four_bytes, eight_bytes, sixteen_bytes, signed_bytes, truth_byte}
 use Rattle.tv_format.specs.Version.{Version, V1, V2, V3, entry_total}
-use Rattle.tv_format.specs.Content.{Content, no_content, truth_content, unsigned_content, signed_content, wide_content, text_content, bytes_content, tokens_content}
+use Rattle.tv_format.specs.Content.{Content, no_content, truth_content, unsigned_content, signed_content}
+use Rattle.tv_format.specs.Content.{wide_content, text_content, bytes_content, tokens_content}
 use Rattle.tv_format.specs.Leaves.{content}
 use Rattle.tv_format.specs.Encoding.{leaf_code}
-use Rattle.tv_format.specs.Tree.{Token, Leaf, Tree, leaf, array, object, Elements, no_elements, element, Entries, no_entries, entry, element_count, entry_count, Document}
+use Rattle.tv_format.specs.Tree.{Token, Leaf, Tree, leaf, array, object, Elements, no_elements, element}
+use Rattle.tv_format.specs.Tree.{Entries, no_entries, entry, element_count, entry_count, Document}
 
 abbrev pub short_token : Token → List ℕ
 short_token token =
-    vnum token.offset_from ++ (vnum token.offset_to ++ (vnum token.position ++ (short_sized token.text ++ vnum token.position_length)))
+    vnum token.offset_from ++ (vnum token.offset_to
+        ++ (vnum token.position ++ (short_sized token.text ++ vnum token.position_length)))
 
 abbrev pub short_tokenized : List ℕ → List Token → List ℕ
 short_tokenized content tokens = short_sized content ++ (vnum (length tokens) ++ flat_map short_token tokens)

@@ -1,6 +1,7 @@
 -- How many leaves and lists a value has: each child has fewer than its parent.
 use Rattle.std.specs.Prelude.{ℕ, suc, ◌+◌}
-use Rattle.tv_format.specs.Tree.{Tree, leaf, array, object, Elements, no_elements, element, Entries, no_entries, entry}
+use Rattle.tv_format.specs.Tree.{Tree, leaf, array, object, Elements, no_elements, element, Entries}
+use Rattle.tv_format.specs.Tree.{no_entries, entry}
 
 abbrev mutual
   pub size : Tree → ℕ

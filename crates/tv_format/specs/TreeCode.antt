@@ -3,20 +3,24 @@ use Rattle.std.specs.Prelude.{◌≡◌, ℕ, List, refl}
 use Rattle.std.proofs.Common.{ap}
 use Rattle.std.specs.Coded.{Coded, code_by, coded×, coded_list, coded_ℕ, coded_ℤ, coded_bool}
 use base.Stored.{Gv, gnil, gnum, gcons}
-use Rattle.tv_format.specs.Content.{Content, no_content, truth_content, unsigned_content, signed_content, wide_content, text_content, bytes_content, tokens_content}
+use Rattle.tv_format.specs.Content.{Content, no_content, truth_content, unsigned_content, signed_content}
+use Rattle.tv_format.specs.Content.{wide_content, text_content, bytes_content, tokens_content}
 use Rattle.tv_format.specs.Leaves.{type_of, content}
 use Rattle.tv_format.specs.LeavesLaws.{one_leaf, one_code}
 use Rattle.tv_format.specs.Encoding.{leaf_code}
-use Rattle.tv_format.specs.Tree.{Token, Leaf, Tree, leaf, array, object, Elements, no_elements, element, Entries, no_entries, entry}
+use Rattle.tv_format.specs.Tree.{Token, Leaf, Tree, leaf, array, object, Elements, no_elements, element}
+use Rattle.tv_format.specs.Tree.{Entries, no_entries, entry}
 
 abbrev pub coded_text : Coded (List ℕ)
 coded_text = coded_list coded_ℕ
 
 abbrev pub coded_token : Coded Token
 coded_token =
-    code_by (ℕ × (ℕ × (ℕ × (List ℕ × ℕ)))) (coded× coded_ℕ (coded× coded_ℕ (coded× coded_ℕ (coded× coded_text coded_ℕ))))
+    code_by (ℕ × (ℕ × (ℕ × (List ℕ × ℕ)))) (coded× coded_ℕ
+        (coded× coded_ℕ (coded× coded_ℕ (coded× coded_text coded_ℕ))))
     (λ t. (t.offset_from, (t.offset_to, (t.position, (t.text, t.position_length)))))
-    (λ p. record { offset_from = p.0; offset_to = p.1.0; position = p.1.1.0; text = p.1.1.1.0; position_length = p.1.1.1.1 })
+    (λ p. record { offset_from = p.0; offset_to = p.1.0; position = p.1.1.0; text = p.1.1.1.0;
+    position_length = p.1.1.1.1 })
     (λ _. refl)
 
 abbrev pub coded_tokenized : Coded (List ℕ × List Token)
@@ -58,11 +62,13 @@ content_same (signed_content s) (signed_content t) e = ap signed_content (coded_
 content_same (wide_content s) (wide_content t) e = ap wide_content (coded_ℕ.inj s t (ap tail e))
 content_same (text_content s) (text_content t) e = ap text_content (coded_text.inj s t (ap tail e))
 content_same (bytes_content s) (bytes_content t) e = ap bytes_content (coded_text.inj s t (ap tail e))
-content_same (tokens_content s ss) (tokens_content t ts) e = ap (λ (p : List ℕ × List Token). tokens_content p.0 p.1) (coded_tokenized.inj (s, ss) (t, ts) (ap tail e))
+content_same (tokens_content s ss) (tokens_content t ts) e =
+    ap (λ (p : List ℕ × List Token). tokens_content p.0 p.1) (coded_tokenized.inj (s, ss) (t, ts) (ap tail e))
 content_same _ _ e = cc
 
 pub leaf_same : (s t : Leaf) → leaf_gv s ≡ leaf_gv t → s ≡ t
-leaf_same s t e = one_leaf s t (one_code (type_of s) (type_of t) (ap (λ g. number (head g)) e)) (content_same (content s) (content t) (ap tail e))
+leaf_same s t e = one_leaf s t (one_code (type_of s) (type_of t) (ap (λ g. number (head g)) e))
+    (content_same (content s) (content t) (ap tail e))
 
 abbrev mutual
   pub tree_gv : Tree → Gv
@@ -87,13 +93,15 @@ mutual
 
   pub elements_same : (ts us : Elements) → elements_gv ts ≡ elements_gv us → ts ≡ us
   elements_same no_elements no_elements e = refl
-  elements_same (element t ts) (element u us) e = λ i. element (tree_same t u (ap head e) i) (elements_same ts us (ap tail e) i)
+  elements_same (element t ts) (element u us) e = λ i. element (tree_same t u (ap head e) i)
+      (elements_same ts us (ap tail e) i)
   elements_same _ _ e = cc
 
   pub entries_same : (es fs : Entries) → entries_gv es ≡ entries_gv fs → es ≡ fs
   entries_same no_entries no_entries e = refl
   entries_same (entry k t es) (entry l u fs) e =
-      λ i. entry (coded_text.inj k l (ap head e) i) (tree_same t u (ap (λ g. head (tail g)) e) i) (entries_same es fs (ap (λ g. tail (tail g)) e) i)
+      λ i. entry (coded_text.inj k l (ap head e) i) (tree_same t u (ap (λ g. head (tail g)) e) i)
+          (entries_same es fs (ap (λ g. tail (tail g)) e) i)
   entries_same _ _ e = cc
 
 abbrev pub coded_leaf : Coded Leaf

@@ -17,7 +17,8 @@ encoded_bytes v (held.Number code n) = code ∷ eight_bytes n
 encoded_bytes v (held.Bytes code content) = code ∷ content.now
 encoded_bytes v (held.Tokenized content) = 7 ∷ 0 ∷ content.now
 encoded_bytes v (held.Array n items) = 12 ∷ (vnum n ++ short_elements v (elements items.held.0))
-encoded_bytes v (held.Object n members) = 13 ∷ (vnum (entry_total v n) ++ short_entries v (entries members.held.0))
+encoded_bytes v (held.Object n members) = 13 ∷
+    (vnum (entry_total v n) ++ short_entries v (entries members.held.0))
 
 -- an object has few enough entries that twice their number has 64 bits
 abbrev pub HasFewEntries : Encoded → Type 0

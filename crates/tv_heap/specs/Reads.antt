@@ -3,9 +3,11 @@ use Rattle.std.specs.Prelude.{◌≡◌, ◌≢◌, ℕ, ◌<◌, ◌^◌, Bool,
 use Rattle.tv_base.specs.Number.{vnum, Fixed, Signed}
 use Rattle.tv_base.specs.Parts.{short_sized}
 use Rattle.tv_format.specs.Short.{short_tokenized, IsText, AreTokens}
-use Rattle.tv_format.specs.Content.{Content, no_content, truth_content, unsigned_content, signed_content, wide_content, text_content, bytes_content, tokens_content}
+use Rattle.tv_format.specs.Content.{Content, no_content, truth_content, unsigned_content, signed_content}
+use Rattle.tv_format.specs.Content.{wide_content, text_content, bytes_content, tokens_content}
 use Rattle.tv_format.specs.Leaves.{type_of, content, heap_code}
-use Rattle.tv_format.specs.Tree.{Token, Leaf, Tree, leaf, array, object, Elements, no_elements, element, Entries, no_entries, entry}
+use Rattle.tv_format.specs.Tree.{Token, Leaf, Tree, leaf, array, object, Elements, no_elements, element}
+use Rattle.tv_format.specs.Tree.{Entries, no_entries, entry}
 
 -- bytes of some kind stand at a place of the heap
 pub record Stands (heap : List ℕ) (at : ℕ) (P : List ℕ → Type 0) : Type 0 where
@@ -84,11 +86,13 @@ abbrev mutual
 
   pub ReadsElements : List ℕ → ℕ → List ℕ → Elements → Type 0
   ReadsElements heap parent whole no_elements = whole ≡ []
-  ReadsElements heap parent whole (element t ts) = ListedChild parent (λ code at. ReadsTree heap code at t) (λ b. ReadsElements heap parent b ts) whole
+  ReadsElements heap parent whole (element t ts) = ListedChild parent (λ code at. ReadsTree heap code at t)
+      (λ b. ReadsElements heap parent b ts) whole
 
   -- of an entry, the key and then the value
   pub ReadsEntries : List ℕ → ℕ → List ℕ → Entries → Type 0
   ReadsEntries heap parent whole no_entries = whole ≡ []
   ReadsEntries heap parent whole (entry k t es) =
       ListedChild parent (λ code at. (code ≡ 1) × Stands heap at (λ w. ShortText k w))
-      (λ b. ListedChild parent (λ code at. ReadsTree heap code at t) (λ c. ReadsEntries heap parent c es) b) whole
+      (λ b. ListedChild parent (λ code at. ReadsTree heap code at t) (λ c. ReadsEntries heap parent c es) b)
+      whole

@@ -31,4 +31,5 @@ IsLeft P (Like p) = P p
 
 -- one of the pairs that came, and the other one
 abbrev pub SortsPairs : Option Pair → Pair → Pair × Option Pair → Type 0
-SortsPairs before next sorted = ((sorted.0 ≡ next) × (sorted.1 ≡ before)) ⊎ ((before ≡ Some sorted.0) × (sorted.1 ≡ Some next))
+SortsPairs before next sorted = ((sorted.0 ≡ next) × (sorted.1 ≡ before))
+    ⊎ ((before ≡ Some sorted.0) × (sorted.1 ≡ Some next))

@@ -9,4 +9,5 @@ use Rattle.tv_heap.specs.TypeCode.{type_code}
 -- there is no byte, or it is the byte of no type
 pub data ErrorInType (whole : List ℕ) : Cause → Type 0 where
   no_byte : {c : Cause} → ErrorInBytes 1 whole c → ErrorInType whole c
-  no_type : (b : ℕ) (rest : List ℕ) → whole ≡ b ∷ rest → ((t : ValueType) → type_code t ≢ b) → ErrorInType whole (UnknownTypeCode b)
+  no_type : (b : ℕ) (rest : List ℕ) → whole ≡ b ∷ rest → ((t : ValueType) → type_code t ≢ b)
+      → ErrorInType whole (UnknownTypeCode b)

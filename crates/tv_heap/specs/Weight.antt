@@ -3,7 +3,8 @@ use Rattle.std.specs.Prelude.{ℕ, ◌+◌, length}
 use Rattle.std.specs.List.{sum_by}
 use Rattle.tv_base.specs.Parts.{short_sized}
 use Rattle.tv_heap.specs.LeafBytes.{leaf_bytes}
-use Rattle.tv_format.specs.Tree.{Tree, leaf, array, object, Elements, no_elements, element, Entries, no_entries, entry, Document}
+use Rattle.tv_format.specs.Tree.{Tree, leaf, array, object, Elements, no_elements, element, Entries}
+use Rattle.tv_format.specs.Tree.{no_entries, entry, Document}
 
 -- A leaf and a key take the bytes that are written of them, a list 5 for its length and 6 for each child.
 abbrev mutual

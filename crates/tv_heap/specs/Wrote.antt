@@ -5,7 +5,8 @@ use Rattle.tv_heap.specs.Room.{room}
 use Rattle.tv_heap.specs.Reads.{ReadsTree}
 use Rattle.tv_heap.specs.Weight.{tree_weight}
 
--- The old heap is kept as a prefix and grew by the tree's room at most, and by its weight at most, and the tree reads. Unless it is null or a
+-- The old heap is kept as a prefix and grew by the tree's room at most, and by its weight at most, and the
+-- tree reads. Unless it is null or a
 -- truth value, it stands after the old heap.
 pub record Wrote (old new : List ℕ) (code at : ℕ) (t : Tree) : Type 0 where
   pub added : List ℕ

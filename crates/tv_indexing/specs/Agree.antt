@@ -10,7 +10,8 @@ use Rattle.std.specs.List.{Any}
 use Rattle.tv_base.specs.Source.{AllBytes}
 use Rattle.tv_field.specs.JsonAnswer.{refusal_of}
 use Rattle.tv_indexing.specs.declared.text_terms_error.TextTermsError.{TextTermsError}
-use Rattle.tv_indexing.specs.declared.text_terms_error.TextTermsError.TheVariants.{UnknownPath, WrongRange, WrongText}
+use Rattle.tv_indexing.specs.declared.text_terms_error.TextTermsError.TheVariants.{UnknownPath, WrongRange}
+use Rattle.tv_indexing.specs.declared.text_terms_error.TextTermsError.TheVariants.{WrongText}
 use Rattle.tv_term.specs.Key.{IsTerm, TermValue}
 use Rattle.tv_term.specs.Range.{IsIn}
 use Rattle.tv_term.specs.declared.range.TermRange.{TermRange}

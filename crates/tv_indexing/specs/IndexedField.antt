@@ -1,5 +1,6 @@
 -- The field that a path of a query names, where it is indexed.
-use Rattle.std.specs.Prelude.{◌≡◌, ◌≢◌, ℕ, List, [], Bool, slice_get, true, false, Some, None, Result, Ok, Err, String, string_bytes}
+use Rattle.std.specs.Prelude.{◌≡◌, ◌≢◌, ℕ, List, [], Bool, slice_get, true, false, Some, None, Result, Ok}
+use Rattle.std.specs.Prelude.{Err, String, string_bytes}
 use Rattle.std.specs.Fmt.{take_chars}
 use Rattle.std.specs.declared.alloc.Global.{Global}
 use Rattle.tv_field.specs.Entry.{Entry, is_indexed_type}
@@ -7,7 +8,8 @@ use Rattle.tv_field.specs.declared.field_type.FieldType.{FieldType}
 use Rattle.tv_field.specs.declared.field_type.FieldType.TheVariants as types
 use Rattle.tv_indexing.specs.DocumentTerms.{has_zero}
 use Rattle.tv_indexing.specs.declared.text_terms_error.TextTermsError.{TextTermsError}
-use Rattle.tv_indexing.specs.declared.text_terms_error.TextTermsError.TheVariants.{NotIndexed, NulInPath, PathEnds, UnknownPath}
+use Rattle.tv_indexing.specs.declared.text_terms_error.TextTermsError.TheVariants.{NotIndexed, NulInPath}
+use Rattle.tv_indexing.specs.declared.text_terms_error.TextTermsError.TheVariants.{PathEnds, UnknownPath}
 use Rattle.tv_schema.specs.Path.{find_or}
 use Rattle.tv_value.specs.declared.field.Field.{Field}
 

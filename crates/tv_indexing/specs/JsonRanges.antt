@@ -5,7 +5,8 @@
 -- each kind of value that both bounds write: of dates, of numbers that fit signed ones of 64 bits, of truth
 -- values, of texts, which each text writes, and of numbers from 2^63 on. A number that is a bound of the one
 -- kind bounds no number of the other: it is above all of these, or below.
-use Rattle.std.specs.Prelude.{◌≡◌, ◌++◌, ℕ, List, [], ◌∷◌, Bool, true, false, Option, Some, None, Result, Ok, Err}
+use Rattle.std.specs.Prelude.{◌≡◌, ◌++◌, ℕ, List, [], ◌∷◌, Bool, true, false, Option, Some, None, Result, Ok}
+use Rattle.std.specs.Prelude.{Err}
 use Rattle.std.specs.Global.{Vec}
 use Rattle.std.specs.Option.{option_map}
 use Rattle.std.specs.declared.ops.Bound.{Bound}

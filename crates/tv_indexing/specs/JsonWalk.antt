@@ -1,10 +1,12 @@
 -- The terms of a JSON value by the bytes of the keys above it, for private clauses: each key stands after a
 -- byte 1, the outermost too.
-use Rattle.std.specs.Prelude.{◌≡◌, ◌+◌, ℕ, suc, List, [], ◌∷◌, ◌++◌, Bool, Option, Some, None, Ok, Err, drop, take, map, if◌then◌else◌}
+use Rattle.std.specs.Prelude.{◌≡◌, ◌+◌, ℕ, suc, List, [], ◌∷◌, ◌++◌, Bool, Option, Some, None, Ok, Err, drop}
+use Rattle.std.specs.Prelude.{take, map, if◌then◌else◌}
 use Rattle.std.specs.List.{flat_map}
 use Rattle.tv_base.specs.JsonPath.{expanded}
 use Rattle.tv_format.specs.Size.{size}
-use Rattle.tv_format.specs.Tree.{Tree, leaf, array, object, Elements, no_elements, element, Entries, no_entries, entry}
+use Rattle.tv_format.specs.Tree.{Tree, leaf, array, object, Elements, no_elements, element, Entries}
+use Rattle.tv_format.specs.Tree.{no_entries, entry}
 use Rattle.tv_heap.specs.Value.{HeldList, held_children}
 use Rattle.tv_indexing.specs.DocumentTerms.{Terms, followed_by, has_zero, json_leaf_terms}
 use Rattle.tv_indexing.specs.Visits.{TakesAll}

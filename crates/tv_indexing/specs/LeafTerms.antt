@@ -2,8 +2,10 @@
 use Rattle.std.specs.Prelude.{◌≢◌, ℕ, Bool, true, false, List, [], Option, Some, None}
 use Rattle.tv_date.specs.DateTime.{truncated}
 use Rattle.tv_date.specs.declared.date_time.DateTimePrecision.TheVariants.{Seconds}
-use Rattle.tv_format.specs.Tree.{Tree, leaf, array, object, Leaf, null, text, unsigned, signed, boolean, date, facet, bytes, ip_address, tokenized}
-use Rattle.tv_term.specs.Key.{TermValue, Text, Unsigned, Signed, Truth, Date, Facet, Bytes, Address, IsTerm, json_number}
+use Rattle.tv_format.specs.Tree.{Tree, leaf, array, object, Leaf, null, text, unsigned, signed, boolean, date}
+use Rattle.tv_format.specs.Tree.{facet, bytes, ip_address, tokenized}
+use Rattle.tv_term.specs.Key.{TermValue, Text, Unsigned, Signed, Truth, Date, Facet, Bytes, Address, IsTerm}
+use Rattle.tv_term.specs.Key.{json_number}
 
 -- The value that the term of a leaf stands for, as it is indexed: a date is cut to the second, a text is
 -- whole. Null has none.

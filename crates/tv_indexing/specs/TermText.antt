@@ -5,7 +5,8 @@
 -- a JSON object the text of that value. A text and a facet that aren't UTF-8 have none, nor has a value in a
 -- JSON object that is one in a JSON object again: no constructor makes its term. `IsTermOfField`: which
 -- values of a field are said to be read back of their texts.
-use Rattle.std.specs.Prelude.{◌==◌, ◌<◌, ◌^◌, ℕ, FitsSigned, List, [], Bool, true, false, Option, Some, None, if◌then◌else◌}
+use Rattle.std.specs.Prelude.{◌==◌, ◌<◌, ◌^◌, ℕ, FitsSigned, List, [], Bool, true, false, Option, Some, None}
+use Rattle.std.specs.Prelude.{if◌then◌else◌}
 use Rattle.std.specs.Fmt.{decimal, signed_decimal}
 use Rattle.std.specs.Int.{w64}
 use Rattle.std.specs.Option.{option_and_then, option_map}
@@ -16,13 +17,15 @@ use Rattle.tv_date.specs.Printed.{moment_text}
 use Rattle.tv_field.specs.JsonTable.{truth_text}
 use Rattle.tv_field.specs.declared.field_type.FieldType.{FieldType}
 use Rattle.tv_field.specs.declared.field_type.FieldType.TheVariants as types
-use Rattle.tv_format.specs.Tree.{Leaf, null, text, unsigned, signed, boolean, date, facet, bytes, ip_address, tokenized}
+use Rattle.tv_format.specs.Tree.{Leaf, null, text, unsigned, signed, boolean, date, facet, bytes, ip_address}
+use Rattle.tv_format.specs.Tree.{tokenized}
 use Rattle.tv_value.specs.JsonOf.{address_text}
 use Rattle.tv_options.specs.declared.types.TypeTag.{TypeTag}
 use Rattle.tv_options.specs.declared.types.TypeTag.TheVariants as tag
 use Rattle.tv_term.specs.Key.{TermValue, Text, Unsigned, Signed, Truth, Date, Facet, Bytes, Address, Json}
 use Rattle.tv_term.specs.Printed.{text_if_utf8}
-use Rattle.tv_term.specs.Reading.{address_of, bytes_of, date_of, number_of, payload_of, signed_of, type_at, unsigned_of}
+use Rattle.tv_term.specs.Reading.{address_of, bytes_of, date_of, number_of, payload_of, signed_of, type_at}
+use Rattle.tv_term.specs.Reading.{unsigned_of}
 
 -- how a value without children is printed; of a text with tokens the text is, and of null nothing
 abbrev pub leaf_text : Leaf → List ℕ

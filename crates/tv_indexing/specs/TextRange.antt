@@ -6,7 +6,8 @@
 -- between the two. Of dates the second of a bound is within, since a term stands for all dates of its second.
 -- `BelowInField`: what a text has in a field whose value it is: the range of that value's terms and of those
 -- below it, which a facet alone has. `WritesBounds`: the two bounds that one text writes, as `[10 TO 20]`.
-use Rattle.std.specs.Prelude.{◌≡◌, ◌≢◌, ◌≤◌, ◌++◌, ◌⊎◌, ℕ, List, [], ◌∷◌, length, codes, bytes_eq, if◌then◌else◌, Bool, true, false, Option, Some, None, Result, Ok, Err}
+use Rattle.std.specs.Prelude.{◌≡◌, ◌≢◌, ◌≤◌, ◌++◌, ◌⊎◌, ℕ, List, [], ◌∷◌, length, codes, bytes_eq}
+use Rattle.std.specs.Prelude.{if◌then◌else◌, Bool, true, false, Option, Some, None, Result, Ok, Err}
 use Rattle.std.specs.Borrow.{Bor}
 use Rattle.std.specs.Ordering.{is_lt, nat_cmp}
 use Rattle.std.specs.Range.Bound.{bound_map}

@@ -5,7 +5,8 @@
 -- that it is in JSON to such a field that coerces, and has that value's term; or it is refused for the reason
 -- that JSON is. In a field of JSON objects, at a path below it, it writes itself as a text, and also a
 -- number, a truth value and a date, each where it is the text of one, and has the term of each there.
-use Rattle.std.specs.Prelude.{◌≡◌, ◌≢◌, ◌++◌, ℕ, ℤ, List, [], ◌∷◌, Bool, Option, Some, None, IfSome, Result, Ok, Err}
+use Rattle.std.specs.Prelude.{◌≡◌, ◌≢◌, ◌++◌, ℕ, ℤ, List, [], ◌∷◌, Bool, Option, Some, None, IfSome, Result}
+use Rattle.std.specs.Prelude.{Ok, Err}
 use Rattle.std.specs.List.{AllByRecursion}
 use Rattle.std.specs.Str.Parse.{digits_value, signed_digits_value, without_leading_plus}
 use Rattle.tv_base.specs.JsonPath.{joined_path}

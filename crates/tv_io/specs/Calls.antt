@@ -23,7 +23,8 @@ abbrev pub of_read : {E : Type 0} → (E → ErrorKind) → Result ℕ E → Res
 of_read kind (Ok n) = Ok n
 of_read kind (Err e) = Err (kind e)
 
--- the same of a write of these bytes: where there are some, and none was taken, that is an error of kind `WriteZero`
+-- the same of a write of these bytes: where there are some, and none was taken, that is an error of kind
+-- `WriteZero`
 abbrev pub of_write : {E : Type 0} → (E → ErrorKind) → List ℕ → Result ℕ E → Result ℕ ErrorKind
 of_write kind [] call = of_read kind call
 of_write kind (byte ∷ bytes) (Ok zero) = Err WriteZero

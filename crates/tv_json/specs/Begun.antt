@@ -8,7 +8,8 @@ use Rattle.tv_json.specs.BorrowedData.{data_of}
 use Rattle.tv_json.specs.declared.read.Begun.{Begun}
 use Rattle.tv_json.specs.declared.read.Begun.TheVariants.{Leaf, Array, Object}
 
--- the first of these tokens is a value, however deep values may nest, or the bracket of an array or of an object; the others are left
+-- the first of these tokens is a value, however deep values may nest, or the bracket of an array or of an
+-- object; the others are left
 abbrev pub BeginsJson : Begun → List Token → List Token → Type 0
 BeginsJson (Leaf json) old new = (depth : ℕ) → converted of_json (value depth old) ≡ Some (data_of json, new)
 BeginsJson Array old new = old ≡ Token.begin_array ∷ new

@@ -1,7 +1,8 @@
 -- The JSON data that a borrowed value stands for.
 use Rattle.std.specs.Prelude.{ℕ, List, [], ◌∷◌, map}
 use Rattle.std.specs.Borrow.{Bor}
-use Rattle.serde_json.specs.Data.{Data, null, boolean, number, unsigned, negative, float, string, array, object, Items, Members, no_members, member}
+use Rattle.serde_json.specs.Data.{Data, null, boolean, number, unsigned, negative, float, string, array}
+use Rattle.serde_json.specs.Data.{object, Items, Members, no_members, member}
 use Rattle.serde_json.specs.View.{items_of}
 use Rattle.tv_json.specs.declared.value.BorrowedJson.{BorrowedJson, fold-BorrowedJson}
 use Rattle.tv_json.specs.declared.value.BorrowedJson.TheOpen.{BorrowedJson-F}

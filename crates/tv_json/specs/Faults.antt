@@ -1,5 +1,7 @@
--- Where a text goes wrong as JSON: by the table of the syntax all bytes before that place can come, and the next one can't, or the text ends too early.
-use Rattle.std.specs.Prelude.{◌≡◌, ◌≤◌, ℕ, List, [], ◌∷◌, length, take, drop, nat_lt, if◌then◌else◌, Option, Some, None, Result, Ok, Err}
+-- Where a text goes wrong as JSON: by the table of the syntax all bytes before that place can come, and the
+-- next one can't, or the text ends too early.
+use Rattle.std.specs.Prelude.{◌≡◌, ◌≤◌, ℕ, List, [], ◌∷◌, length, take, drop, nat_lt, if◌then◌else◌, Option}
+use Rattle.std.specs.Prelude.{Some, None, Result, Ok, Err}
 use Rattle.serde_json.specs.Read.{max_depth}
 use Rattle.tv_json.specs.ListKinds.{innermost}
 use Rattle.tv_json.specs.Syntax.{step_at, first_place, expected, may_end}
@@ -18,7 +20,8 @@ abbrev pub taken : Scan → Option Step → Result Scan JsonFaultKind
 taken s None = Err (Unexpected (expected s.place (innermost s.lists)))
 taken s (Some (does.To p)) = Ok (record { place = p; lists = s.lists })
 taken s (Some (does.Begin kind)) =
-    if nat_lt (length s.lists) max_depth then Ok (record { place = first_place kind; lists = kind ∷ s.lists }) else Err TooDeep
+    if nat_lt (length s.lists) max_depth then Ok (record { place = first_place kind; lists = kind ∷ s.lists })
+        else Err TooDeep
 taken s (Some does.End) = Ok (record { place = place.AfterValue; lists = drop 1 s.lists })
 
 -- what follows from a byte, or why it can't come
@@ -27,7 +30,8 @@ next s x = taken s (step_at s.place (innermost s.lists) x)
 
 -- why the text can't end there, if it can't
 abbrev pub end_fault : Scan → Option JsonFaultKind
-end_fault s = if may_end s.place (innermost s.lists) then None else Some (EndsEarly (expected s.place (innermost s.lists)))
+end_fault s = if may_end s.place (innermost s.lists) then None
+    else Some (EndsEarly (expected s.place (innermost s.lists)))
 
 -- all bytes of the text can come, and lead from one state to the other
 pub data Leads : Scan → List ℕ → Scan → Type 0 where

@@ -1,5 +1,6 @@
 -- Where a text of JSON has a number that is too large for a float.
-use Rattle.std.specs.Prelude.{◌≡◌, ◌<◌, ℕ, List, length, take, drop, take_while, Bool, true, false, ◌||◌, ◌==◌, None}
+use Rattle.std.specs.Prelude.{◌≡◌, ◌<◌, ℕ, List, length, take, drop, take_while, Bool, true, false, ◌||◌}
+use Rattle.std.specs.Prelude.{◌==◌, None}
 use Rattle.std.specs.Char.{is_ascii_digit}
 use Rattle.json.specs.Ascii as ascii
 use Rattle.serde_json.specs.Read.{number_of}
@@ -11,7 +12,8 @@ use Rattle.tv_json.specs.declared.json_scan.Scan.{Scan}
 
 -- a digit, a sign, a point or e
 abbrev pub is_number_byte : ℕ → Bool
-is_number_byte x = is_ascii_digit x || (x == ascii.minus) || (x == ascii.plus) || (x == ascii.dot) || (x == ascii.lower_e) || (x == ascii.upper_e)
+is_number_byte x = is_ascii_digit x || (x == ascii.minus) || (x == ascii.plus) || (x == ascii.dot)
+    || (x == ascii.lower_e) || (x == ascii.upper_e)
 
 abbrev pub value_comes : Place → Bool
 value_comes place.Value = true

@@ -17,5 +17,6 @@ named_json [] = json.no_members
 named_json (n ∷ ns) = json.member n.0 (list_json n.1) (named_json ns)
 
 -- a name that is lent, and the trees of the values that are lent with it, beside whatever fields
-abbrev pub named_trees : {V : Type 0} → (V → Tree) → Bor (List ℕ) × Bor (List (Field × V)) → List ℕ × List Tree
+abbrev pub named_trees : {V : Type 0} → (V → Tree) → Bor (List ℕ) × Bor (List (Field × V)) → List ℕ
+    × List Tree
 named_trees tree n = (n.0.now, map (λ pair. tree pair.1) n.1.now)

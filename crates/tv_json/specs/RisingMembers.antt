@@ -19,4 +19,5 @@ Rise (member k d ms) = AreAbove k ms × Rise ms
 
 -- this key is above the last one
 abbrev pub EndsBelow : List ℕ → List (Bor (List ℕ) × BorrowedJson) → Type 0
-EndsBelow k ms = (prefix : List (Bor (List ℕ) × BorrowedJson)) (m : Bor (List ℕ) × BorrowedJson) → ms ≡ prefix ++ m ∷ [] → slice_cmp nat_cmp k m.0.now ≡ Greater
+EndsBelow k ms = (prefix : List (Bor (List ℕ) × BorrowedJson)) (m : Bor (List ℕ) × BorrowedJson)
+    → ms ≡ prefix ++ m ∷ [] → slice_cmp nat_cmp k m.0.now ≡ Greater

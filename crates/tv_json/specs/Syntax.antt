@@ -1,6 +1,8 @@
--- The syntax of JSON by RFC 8259 as a table: the places in a text, which bytes can come at each, and where they lead. A surrogate comes only in a
--- pair, and a text is UTF-8, so the bytes of a string's other characters can all come.
-use Rattle.std.specs.Prelude.{ℕ, ◌+◌, List, length, slice_get, Bool, true, false, ◌&&◌, ◌||◌, ◌==◌, nat_lt, nat_le, if◌then◌else◌, is_none, Option, Some, None, option_map}
+-- The syntax of JSON by RFC 8259 as a table: the places in a text, which bytes can come at each, and where
+-- they lead. A surrogate comes only in a pair, and a text is UTF-8, so the bytes of a string's other
+-- characters can all come.
+use Rattle.std.specs.Prelude.{ℕ, ◌+◌, List, length, slice_get, Bool, true, false, ◌&&◌, ◌||◌, ◌==◌, nat_lt}
+use Rattle.std.specs.Prelude.{nat_le, if◌then◌else◌, is_none, Option, Some, None, option_map}
 use Rattle.std.specs.Char.{is_ascii_digit, is_ascii_hexdigit, digit_value}
 use Rattle.json.specs.Ascii as ascii
 use Rattle.json.specs.Word.{is_space}
@@ -57,9 +59,11 @@ first_place lists.Object = place.KeyOrEnd
 abbrev pub value_ends : Option ListKind → ℕ → Option Step
 value_ends None x = None
 value_ends (Some lists.Array) x =
-    if x == ascii.comma then Some (does.To place.Value) else (if x == ascii.close_bracket then Some does.End else None)
+    if x == ascii.comma then Some (does.To place.Value)
+        else (if x == ascii.close_bracket then Some does.End else None)
 value_ends (Some lists.Object) x =
-    if x == ascii.comma then Some (does.To place.Key) else (if x == ascii.close_brace then Some does.End else None)
+    if x == ascii.comma then Some (does.To place.Key)
+        else (if x == ascii.close_brace then Some does.End else None)
 
 -- ---- in strings
 
@@ -81,7 +85,8 @@ is_letter_d x = (x == 100) || (x == 68)
 
 abbrev pub is_short_escape : ℕ → Bool
 is_short_escape x =
-    (x == ascii.quote) || (x == ascii.backslash) || (x == ascii.slash) || (x == ascii.lower_b) || (x == ascii.lower_f) || (x == ascii.lower_n)
+    (x == ascii.quote) || (x == ascii.backslash) || (x == ascii.slash) || (x == ascii.lower_b)
+    || (x == ascii.lower_f) || (x == ascii.lower_n)
     || (x == ascii.lower_r) || (x == ascii.lower_t)
 
 abbrev pub after_backslash : StringRole → ℕ → Option Place
@@ -91,7 +96,8 @@ after_backslash r x =
 
 abbrev pub after_first_digit : StringRole → ℕ → Option Place
 after_first_digit r x =
-    if is_letter_d x then Some (place.InEscape r escape.SecondDigitAfterD) else after_digit x (place.InEscape r escape.SecondDigit)
+    if is_letter_d x then Some (place.InEscape r escape.SecondDigitAfterD)
+        else after_digit x (place.InEscape r escape.SecondDigit)
 
 -- `\ud000` to `\ud7ff` are characters, and `\ud800` to `\udbff` are high surrogates
 abbrev pub after_digit_d : StringRole → ℕ → Option Place
@@ -101,10 +107,14 @@ after_digit_d r x =
 
 -- `\udc00` to `\udfff`
 abbrev pub after_low : StringRole → LowSurrogatePart → ℕ → Option Place
-after_low r low.Backslash x = if x == ascii.backslash then Some (place.InEscape r (escape.Low low.LetterU)) else None
-after_low r low.LetterU x = if x == ascii.lower_u then Some (place.InEscape r (escape.Low low.FirstDigit)) else None
-after_low r low.FirstDigit x = if is_letter_d x then Some (place.InEscape r (escape.Low low.SecondDigit)) else None
-after_low r low.SecondDigit x = if nat_le 12 (digit_value x) && nat_lt (digit_value x) 16 then Some (place.InEscape r escape.ThirdDigit) else None
+after_low r low.Backslash x = if x == ascii.backslash then Some (place.InEscape r (escape.Low low.LetterU))
+    else None
+after_low r low.LetterU x = if x == ascii.lower_u then Some (place.InEscape r (escape.Low low.FirstDigit))
+    else None
+after_low r low.FirstDigit x = if is_letter_d x then Some (place.InEscape r (escape.Low low.SecondDigit))
+    else None
+after_low r low.SecondDigit x = if nat_le 12 (digit_value x) && nat_lt (digit_value x) 16
+    then Some (place.InEscape r escape.ThirdDigit) else None
 
 abbrev pub in_escape : StringRole → EscapePart → ℕ → Option Place
 in_escape r escape.Letter x = after_backslash r x
@@ -122,7 +132,8 @@ in_escape r (escape.Low part) x = after_low r part x
 abbrev pub letter_leads : JsonWord → ℕ → ℕ → Option ℕ → Option Place
 letter_leads w n x None = None
 letter_leads w n x (Some letter) =
-    if x == letter then (if n + 1 == length (word_text w) then Some place.AfterValue else Some (place.InWord w (n + 1))) else None
+    if x == letter then (if n + 1 == length (word_text w) then Some place.AfterValue
+        else Some (place.InWord w (n + 1))) else None
 
 -- after n letters of a word
 abbrev pub in_word : JsonWord → ℕ → ℕ → Option Place
@@ -135,14 +146,18 @@ abbrev pub is_sign : ℕ → Bool
 is_sign x = (x == ascii.plus) || (x == ascii.minus)
 
 abbrev pub number_goes_on : NumberPart → ℕ → Option NumberPart
-number_goes_on number.Minus x = if x == ascii.zero then Some number.Zero else (if is_ascii_digit x then Some number.Whole else None)
-number_goes_on number.Zero x = if x == ascii.dot then Some number.Point else (if is_e x then Some number.LetterE else None)
+number_goes_on number.Minus x = if x == ascii.zero then Some number.Zero
+    else (if is_ascii_digit x then Some number.Whole else None)
+number_goes_on number.Zero x = if x == ascii.dot then Some number.Point
+    else (if is_e x then Some number.LetterE else None)
 number_goes_on number.Whole x =
     if is_ascii_digit x then Some number.Whole else
     (if x == ascii.dot then Some number.Point else (if is_e x then Some number.LetterE else None))
 number_goes_on number.Point x = if is_ascii_digit x then Some number.Fraction else None
-number_goes_on number.Fraction x = if is_ascii_digit x then Some number.Fraction else (if is_e x then Some number.LetterE else None)
-number_goes_on number.LetterE x = if is_ascii_digit x then Some number.Exponent else (if is_sign x then Some number.Sign else None)
+number_goes_on number.Fraction x = if is_ascii_digit x then Some number.Fraction
+    else (if is_e x then Some number.LetterE else None)
+number_goes_on number.LetterE x = if is_ascii_digit x then Some number.Exponent
+    else (if is_sign x then Some number.Sign else None)
 number_goes_on number.Sign x = if is_ascii_digit x then Some number.Exponent else None
 number_goes_on number.Exponent x = if is_ascii_digit x then Some number.Exponent else None
 
@@ -159,7 +174,8 @@ is_whole_number number.Exponent = true
 
 abbrev pub number_leads : Option NumberPart → NumberPart → Option ListKind → ℕ → Option Step
 number_leads (Some next) part list x = Some (does.To (place.InNumber next))
-number_leads None part list x = if is_whole_number part then spaced place.AfterValue x (value_ends list x) else None
+number_leads None part list x = if is_whole_number part then spaced place.AfterValue x (value_ends list x)
+    else None
 
 abbrev pub in_number : NumberPart → Option ListKind → ℕ → Option Step
 in_number part list x = number_leads (number_goes_on part x) part list x
@@ -169,10 +185,13 @@ in_number part list x = number_leads (number_goes_on part x) part list x
 -- what a byte does in this list, if it can come there
 abbrev pub step_at : Place → Option ListKind → ℕ → Option Step
 step_at place.Value list x = spaced place.Value x (value_begins x)
-step_at place.ValueOrEnd list x = if x == ascii.close_bracket then Some does.End else spaced place.ValueOrEnd x (value_begins x)
+step_at place.ValueOrEnd list x = if x == ascii.close_bracket then Some does.End
+    else spaced place.ValueOrEnd x (value_begins x)
 step_at place.Key list x = spaced place.Key x (key_begins x)
-step_at place.KeyOrEnd list x = if x == ascii.close_brace then Some does.End else spaced place.KeyOrEnd x (key_begins x)
-step_at place.Colon list x = if x == ascii.colon then Some (does.To place.Value) else spaced place.Colon x None
+step_at place.KeyOrEnd list x = if x == ascii.close_brace then Some does.End
+    else spaced place.KeyOrEnd x (key_begins x)
+step_at place.Colon list x = if x == ascii.colon then Some (does.To place.Value)
+    else spaced place.Colon x None
 step_at place.AfterValue list x = spaced place.AfterValue x (value_ends list x)
 step_at (place.InString r) list x = option_map does.To (in_string r x)
 step_at (place.InEscape r part) list x = option_map does.To (in_escape r part x)

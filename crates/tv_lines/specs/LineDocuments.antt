@@ -1,5 +1,6 @@
 -- The document of a line of JSON, or why there is none.
-use Rattle.std.specs.Prelude.{◌≡◌, ℕ, Bool, true, false, List, [], Option, Some, None, Result, Ok, Err, IsUtf8, string_bytes}
+use Rattle.std.specs.Prelude.{◌≡◌, ℕ, Bool, true, false, List, [], Option, Some, None, Result, Ok, Err}
+use Rattle.std.specs.Prelude.{IsUtf8, string_bytes}
 use Rattle.serde_json.specs.View.{view}
 use Rattle.serde_json.specs.declared.value.Value.{Value}
 use Rattle.tv_doc.specs.Belongs.{Belongs}
@@ -17,7 +18,8 @@ use Rattle.tv_field.specs.declared.value_parsing_error.ValueParsingError.TheVari
 use Rattle.tv_json.specs.declared.json_fault.JsonFault.{JsonFault}
 use Rattle.tv_lines.specs.RefusedValues.{IsFloatOf}
 use Rattle.tv_lines.specs.declared.line_document.LineError.{LineError}
-use Rattle.tv_lines.specs.declared.line_document.LineError.TheVariants.{Float, NoObject, NotUtf8, Refused, Unsearchable}
+use Rattle.tv_lines.specs.declared.line_document.LineError.TheVariants.{Float, NoObject, NotUtf8, Refused}
+use Rattle.tv_lines.specs.declared.line_document.LineError.TheVariants.{Unsearchable}
 
 -- the document of a text, or why there is none, strictly or not
 abbrev pub ParsesBy : List Entry → Bool → List ℕ → Result CompactDoc StrictParsingError → Type 0

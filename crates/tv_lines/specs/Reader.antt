@@ -1,5 +1,6 @@
 -- What a reader of lines takes.
-use Rattle.std.specs.Prelude.{◌≡◌, ◌≢◌, ℕ, ◌+◌, ◌-◌, ◌^◌, Bool, true, false, List, [], ◌∷◌, ◌++◌, Option, Some, None, length, slice_range}
+use Rattle.std.specs.Prelude.{◌≡◌, ◌≢◌, ℕ, ◌+◌, ◌-◌, ◌^◌, Bool, true, false, List, [], ◌∷◌, ◌++◌, Option}
+use Rattle.std.specs.Prelude.{Some, None, length, slice_range}
 use Rattle.tv_lines.specs.Lines.{IsUnbroken, FirstLine}
 use Rattle.tv_lines.specs.declared.line_reader.LineReader.{LineReader}
 

@@ -2,7 +2,8 @@
 use Rattle.std.specs.Prelude.{List, ℕ, [], Option, Some, None, slice_get}
 use Rattle.tv_field.specs.Entry.{Entry}
 use Rattle.tv_indexing.specs.declared.document.TermValuesError.{TermValuesError}
-use Rattle.tv_indexing.specs.declared.document.TermValuesError.TheVariants.{UnknownField, WrongType, NulInPath, NoJsonTerm, Memory}
+use Rattle.tv_indexing.specs.declared.document.TermValuesError.TheVariants.{UnknownField, WrongType}
+use Rattle.tv_indexing.specs.declared.document.TermValuesError.TheVariants.{NulInPath, NoJsonTerm, Memory}
 use Rattle.tv_value.specs.declared.field.Field.{Field}
 
 abbrev pub name_in : Option Entry → List ℕ

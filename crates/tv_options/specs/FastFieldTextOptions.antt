@@ -1,7 +1,8 @@
 -- Whether texts have a fast field, and by which tokenizer.
 use Rattle.std.specs.Prelude.{ℕ, List, Bool, true, ◌||◌, Option, None, Some}
 use Rattle.tv_options.specs.declared.text_options.FastFieldTextOptions.{FastFieldTextOptions}
-use Rattle.tv_options.specs.declared.text_options.FastFieldTextOptions.TheVariants.{IsEnabled, EnabledWithTokenizer}
+use Rattle.tv_options.specs.declared.text_options.FastFieldTextOptions.TheVariants.{IsEnabled}
+use Rattle.tv_options.specs.declared.text_options.FastFieldTextOptions.TheVariants.{EnabledWithTokenizer}
 
 abbrev pub is_fast_field : FastFieldTextOptions → Bool
 is_fast_field (IsEnabled enabled) = enabled

@@ -17,7 +17,8 @@ abbrev pub only_fast : {Part : Type 0} → Part → FlagOptions Part
 only_fast part = record (none part) { fast = true }
 
 -- what is set on the left or on the right, and their own parts joined so
-abbrev pub join : {Part : Type 0} → (Part → Part → Part) → FlagOptions Part → FlagOptions Part → FlagOptions Part
+abbrev pub join : {Part : Type 0} → (Part → Part → Part) → FlagOptions Part → FlagOptions Part
+    → FlagOptions Part
 join join_part left right = record {
   indexed = left.indexed || right.indexed;
   fieldnorms = left.fieldnorms || right.fieldnorms;

@@ -16,7 +16,8 @@ abbrev pub only_fast : {Part : Type 0} → Part → TextualOptions Part
 only_fast part = record (none part) { fast = IsEnabled true }
 
 -- the leftmost indexing and tokenizer, what is set on the left or on the right, and their own parts joined so
-abbrev pub join : {Part : Type 0} → (Part → Part → Part) → TextualOptions Part → TextualOptions Part → TextualOptions Part
+abbrev pub join : {Part : Type 0} → (Part → Part → Part) → TextualOptions Part → TextualOptions Part
+    → TextualOptions Part
 join join_part left right = record {
   indexing = option_or left.indexing right.indexing;
   stored = left.stored || right.stored;

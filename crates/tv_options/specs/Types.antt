@@ -1,7 +1,8 @@
 -- The types of the values of fields, with their codes and names.
 use Rattle.std.specs.Prelude.{ℕ, List, [], ◌∷◌, Option, None, Some, codes, if◌then◌else◌, ◌==◌}
 use Rattle.tv_options.specs.declared.types.TypeTag.{TypeTag}
-use Rattle.tv_options.specs.declared.types.TypeTag.TheVariants.{Str, U64, I64, Bool, Date, Facet, Bytes, Json, IpAddr}
+use Rattle.tv_options.specs.declared.types.TypeTag.TheVariants.{Str, U64, I64, Bool, Date, Facet, Bytes, Json}
+use Rattle.tv_options.specs.declared.types.TypeTag.TheVariants.{IpAddr}
 
 abbrev pub all_types : List TypeTag
 all_types = Str ∷ U64 ∷ I64 ∷ Bool ∷ Date ∷ Facet ∷ Bytes ∷ Json ∷ IpAddr ∷ []
@@ -21,7 +22,8 @@ code IpAddr = 112
 -- the first type of the list that has the code
 abbrev pub type_among : List TypeTag → ℕ → Option TypeTag
 type_among [] wanted = None
-type_among (type_tag ∷ others) wanted = if code type_tag == wanted then Some type_tag else type_among others wanted
+type_among (type_tag ∷ others) wanted = if code type_tag == wanted then Some type_tag
+    else type_among others wanted
 
 abbrev pub type_of_code : ℕ → Option TypeTag
 type_of_code wanted = type_among all_types wanted

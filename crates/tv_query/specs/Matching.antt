@@ -3,7 +3,8 @@
 -- The words of the public contract:
 -- `Matches`: the terms of a document match the query.
 -- `HasTaken`: the matcher holds of each clause of its query whether it wants one of these terms.
-use Rattle.std.specs.Prelude.{◌≡◌, ◌⊎◌, ◌↔◌, ◌&&◌, ◌||◌, ℕ, List, [], ◌∷◌, ◌++◌, Bool, false, not, IsTrue, Some, get_or, slice_get}
+use Rattle.std.specs.Prelude.{◌≡◌, ◌⊎◌, ◌↔◌, ◌&&◌, ◌||◌, ℕ, List, [], ◌∷◌, ◌++◌, Bool, false, not, IsTrue}
+use Rattle.std.specs.Prelude.{Some, get_or, slice_get}
 use Rattle.tv_query.specs.Grammar.{QueryTree, both, either, negation, selecting}
 use Rattle.tv_query.specs.Selections.{HasWanted, IsWanted}
 use Rattle.tv_query.specs.declared.matching.QueryMatcher.{QueryMatcher}

@@ -1,7 +1,8 @@
 -- What a parser has of a query, for private clauses.
 use Rattle.std.specs.Prelude.{◌≡◌, ◌≢◌, ◌+◌, ℕ, List, [], ◌∷◌, ◌++◌, MatchBool, if◌then◌else◌}
 use Rattle.tv_field.specs.Entry.{Entry}
-use Rattle.tv_query.specs.Grammar.{Level, ParserState, QueryTree, WritesQuery, all, any, factor, steps_of, wants_operand, wants_operator}
+use Rattle.tv_query.specs.Grammar.{Level, ParserState, QueryTree, WritesQuery, all, any, factor, steps_of}
+use Rattle.tv_query.specs.Grammar.{wants_operand, wants_operator}
 use Rattle.tv_query.specs.Tokens.{QueryToken, and_word, not_word, opened, or_word}
 use Rattle.tv_query.specs.declared.parser.Operator.{Operator}
 use Rattle.tv_query.specs.declared.parser.Operator.TheVariants.{And, Not, Open, Or}

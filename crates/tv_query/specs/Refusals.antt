@@ -12,11 +12,15 @@ use Rattle.tv_field.specs.Entry.{Entry}
 use Rattle.tv_query.specs.Grammar.{ParserState, after, after_all, wants_operand, wants_operator}
 use Rattle.tv_query.specs.Tells.{Tells}
 use Rattle.tv_query.specs.Selections.{RefusesClause, Selects, TakesMemory}
-use Rattle.tv_query.specs.Tokens.{BeginsWithOperator, BeginsWithPath, BeginsWithToken, BeginsWithTokens, BeginsWithout, IsEmptyOrBegins, IsOperator, IsQuoted, IsSpace}
-use Rattle.tv_query.specs.Tokens.{QueryToken, WantedText, and_word, clause, closed, closes_range, ends_word, is_quote, opens_range, or_word}
+use Rattle.tv_query.specs.Tokens.{BeginsWithOperator, BeginsWithPath, BeginsWithToken, BeginsWithTokens}
+use Rattle.tv_query.specs.Tokens.{BeginsWithout, IsEmptyOrBegins, IsOperator, IsQuoted, IsSpace}
+use Rattle.tv_query.specs.Tokens.{QueryToken, WantedText, and_word, clause, closed, closes_range, ends_word}
+use Rattle.tv_query.specs.Tokens.{is_quote, opens_range, or_word}
 use Rattle.tv_query.specs.declared.query_error.QueryError.{QueryError}
 use Rattle.tv_query.specs.declared.query_error.QueryReason.{QueryReason}
-use Rattle.tv_query.specs.declared.query_error.QueryReason.TheVariants.{Memory, NoColon, NoOperand, NoOperator, NoPath, NoText, Unclosed, Unended, Unopened}
+use Rattle.tv_query.specs.declared.query_error.QueryReason.TheVariants.{Memory, NoColon, NoOperand}
+use Rattle.tv_query.specs.declared.query_error.QueryReason.TheVariants.{NoOperator, NoPath, NoText, Unclosed}
+use Rattle.tv_query.specs.declared.query_error.QueryReason.TheVariants.{Unended, Unopened}
 use Rattle.tv_query.specs.declared.selection.Selection.{Selection}
 
 -- ---- a text that begins with no token

@@ -1,4 +1,5 @@
--- What the errors of the lower layers are called in the store, and which of them stop a reader for what reason.
+-- What the errors of the lower layers are called in the store, and which of them stop a reader for what
+-- reason.
 use Rattle.std.specs.Prelude.{◌≡◌, ◌≢◌, ◌⊎◌, ℕ, Result, List}
 use Rattle.tv_base.specs.declared.cause.Cause.{Cause}
 use Rattle.tv_base.specs.declared.cause.Cause.TheVariants.{UnexpectedEnd, TooLong}
@@ -26,7 +27,8 @@ abbrev pub key_stop : ValueType → ValueType → Stop Refusal
 key_stop types.String actual = InputError (no_text_key (value_type_code actual))
 key_stop _ actual = Never
 
--- Why a reader of documents stopped: its bytes are refused, no more can be counted and those that were taken end too early, the source
+-- Why a reader of documents stopped: its bytes are refused, no more can be counted and those that were taken
+-- end too early, the source
 -- failed, or there is no room.
 abbrev pub store_stop : DeserializeError → Stop Refusal
 store_stop (errors.CorruptedValue TooLong) = Uncounted (corrupted UnexpectedEnd)
@@ -64,16 +66,27 @@ StoreMayStopDeep e count = StoreMayStopRoomy e count ⊎ (e ≡ errors.TooDeep)
 abbrev pub StoreMayStopLean : DeserializeError → ℕ → Type 0
 StoreMayStopLean e count = StoreMayStopRoomy e count × (e ≢ errors.Memory)
 
--- The error in the bytes that an error says: what is corrupt, or in a key's place a value of another type than a text.
+-- The error in the bytes that an error says: what is corrupt, or in a key's place a value of another type
+-- than a text.
 pub data IsRefusal : DeserializeError → Refusal → Type 0 where
   is_corrupted : {c : Cause} → IsRefusal (errors.CorruptedValue c) (corrupted c)
-  is_no_text : {actual : ValueType} → IsRefusal (errors.TypeMismatch types.String actual) (no_text_key (value_type_code actual))
+  is_no_text : {actual : ValueType} → IsRefusal (errors.TypeMismatch types.String actual)
+      (no_text_key (value_type_code actual))
 
 -- what a reader of the store returned and did, by a reading of lists
-abbrev pub StoreTakesIf : {S X Y : Type 0} (May : DeserializeError → ℕ → Type 0) (is_known : S → Type 0) (left : S → List ℕ) (failures : S → Failures) (old : S) (old_count : ℕ) (new : S) (new_count : ℕ) (view : X → Y) (result : Result X DeserializeError) (reading : List ℕ → Result (Y × List ℕ) (Refusal × List ℕ)) → Type 0
+abbrev pub StoreTakesIf : {S X Y : Type 0} (May : DeserializeError → ℕ → Type 0) (is_known : S → Type 0)
+    (left : S → List ℕ) (failures : S → Failures) (old : S) (old_count : ℕ) (new : S) (new_count : ℕ)
+    (view : X → Y) (result : Result X DeserializeError)
+    (reading : List ℕ → Result (Y × List ℕ) (Refusal × List ℕ)) → Type 0
 StoreTakesIf May is_known left failures old old_count new new_count view result reading =
-    Takes store_stop May (told is_known) (λ p. left p.source) (λ p. p.count) (λ p. failures p.source) (record { source = old; count = old_count }) (record { source = new; count = new_count }) view result reading
+    Takes store_stop May (told is_known) (λ p. left p.source) (λ p. p.count) (λ p. failures p.source)
+        (record { source = old; count = old_count })
+        (record { source = new; count = new_count }) view result reading
 
 -- a lean reader of a source, as contracts say it
-abbrev pub StoreTakesLean : {S X Y : Type 0} (source : Ghosts S) (old : S) (old_count : ℕ) (new : S) (new_count : ℕ) (view : X → Y) (result : Result X DeserializeError) (reading : List ℕ → Result (Y × List ℕ) (Refusal × List ℕ)) → Type 0
-StoreTakesLean source old old_count new new_count view result reading = StoreTakesIf StoreMayStopLean source.is_known source.left source.failures old old_count new new_count view result reading
+abbrev pub StoreTakesLean : {S X Y : Type 0} (source : Ghosts S) (old : S) (old_count : ℕ) (new : S)
+    (new_count : ℕ) (view : X → Y) (result : Result X DeserializeError)
+    (reading : List ℕ → Result (Y × List ℕ) (Refusal × List ℕ)) → Type 0
+StoreTakesLean source old old_count new new_count view result reading =
+    StoreTakesIf StoreMayStopLean source.is_known source.left source.failures old old_count new new_count view
+    result reading

@@ -11,7 +11,8 @@ use Rattle.tv_format.specs.declared.leaf_type.Form.{Form}
 use Rattle.tv_format.specs.declared.leaf_type.Form.TheVariants as forms
 use Rattle.tv_format.specs.declared.leaf_type.LeafType.{LeafType}
 use Rattle.tv_reader.specs.Counts.{entry_count_at}
-use Rattle.tv_reader.specs.Heads.{HeadPart, leaf_head, length_head, array_head, object_head, tokenized_head, legacy_head}
+use Rattle.tv_reader.specs.Heads.{HeadPart, leaf_head, length_head, array_head, object_head, tokenized_head}
+use Rattle.tv_reader.specs.Heads.{legacy_head}
 use Rattle.tv_reader.specs.Leaves.{leaf_holding, number_at}
 use Rattle.tv_reader.specs.ValueType.{leaf_type}
 use Rattle.tv_reader.specs.declared.heads.Head.{Head}
@@ -30,10 +31,14 @@ head_part heads.Legacy = legacy_head
 -- the head of a leaf, by the form of what it holds
 abbrev pub form_head_at : Version → LeafType → Form → List ℕ → Result (HeadPart × List ℕ) (Cause × List ℕ)
 form_head_at v t forms.Nothing whole = Ok (leaf_head (leaf_holding t no_content), whole)
-form_head_at v t forms.Truth whole = truth_at whole >>= λ x. Ok (leaf_head (leaf_holding t (truth_content x.0)), x.1)
-form_head_at v t forms.Unsigned whole = u64_at whole >>= λ x. Ok (leaf_head (leaf_holding t (unsigned_content x.0)), x.1)
-form_head_at v t forms.Signed whole = number_at v t whole >>= λ x. Ok (leaf_head (leaf_holding t (signed_content x.0)), x.1)
-form_head_at v t forms.Wide whole = u128_at whole >>= λ x. Ok (leaf_head (leaf_holding t (wide_content x.0)), x.1)
+form_head_at v t forms.Truth whole = truth_at whole >>= λ x. Ok
+    (leaf_head (leaf_holding t (truth_content x.0)), x.1)
+form_head_at v t forms.Unsigned whole = u64_at whole >>= λ x. Ok
+    (leaf_head (leaf_holding t (unsigned_content x.0)), x.1)
+form_head_at v t forms.Signed whole = number_at v t whole >>= λ x. Ok
+    (leaf_head (leaf_holding t (signed_content x.0)), x.1)
+form_head_at v t forms.Wide whole = u128_at whole >>= λ x. Ok (leaf_head (leaf_holding t (wide_content x.0)),
+    x.1)
 form_head_at v t forms.Text whole = vint_at whole >>= λ x. Ok (length_head t x.0, x.1)
 form_head_at v t forms.Bytes whole = vint_at whole >>= λ x. Ok (length_head t x.0, x.1)
 form_head_at v t forms.Tokens whole = Ok (tokenized_head, whole)

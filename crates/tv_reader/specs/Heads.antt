@@ -35,7 +35,8 @@ HasLength _ = ⊥
 
 -- the code, and what is taken after it
 abbrev pub EncodesHead : Version → List ℕ → HeadPart → Type 0
-EncodesHead v whole (leaf_head l) = HasWidth (form_of (content l)) × Behind (leaf_code l) (λ b. LeafBody v b l) whole
+EncodesHead v whole (leaf_head l) = HasWidth (form_of (content l))
+    × Behind (leaf_code l) (λ b. LeafBody v b l) whole
 EncodesHead v whole (length_head t n) = HasLength (form t) × Behind (store_code t) (λ b. VNum b n) whole
 EncodesHead v whole (array_head n) = Behind 12 (λ b. VNum b n) whole
 EncodesHead v whole (object_head n) = Behind 13 (λ b. VNum b (entry_total v n)) whole

@@ -4,7 +4,8 @@ use Rattle.tv_base.specs.declared.cause.Cause.{Cause}
 use Rattle.tv_base.specs.declared.cause.Cause.TheVariants.{LegacyJson}
 use Rattle.tv_base.specs.Number.{Fixed, Truth}
 use Rattle.tv_base.specs.Parts.{Sized, Text}
-use Rattle.tv_format.specs.Content.{no_content, truth_content, unsigned_content, signed_content, wide_content, text_content, bytes_content, tokens_content}
+use Rattle.tv_format.specs.Content.{no_content, truth_content, unsigned_content, signed_content, wide_content}
+use Rattle.tv_format.specs.Content.{text_content, bytes_content, tokens_content}
 use Rattle.tv_format.specs.InputError.{ErrorInContent, ErrorInTokenized}
 use Rattle.tv_format.specs.Leaves.{form, scale}
 use Rattle.tv_format.specs.Encoding.{Tokenized}

@@ -1,11 +1,13 @@
 -- Reading a value that holds no others from left to right, after its code.
-use Rattle.std.specs.Prelude.{ℕ, ℤ, pos, negsuc, ◌*ℤ◌, Bool, List, Option, Some, None, is_some, Result, Ok, Err, if◌then◌else◌}
+use Rattle.std.specs.Prelude.{ℕ, ℤ, pos, negsuc, ◌*ℤ◌, Bool, List, Option, Some, None, is_some, Result, Ok}
+use Rattle.std.specs.Prelude.{Err, if◌then◌else◌}
 use Rattle.std.specs.Int.Signed.{lt_z}
 use Rattle.tv_base.specs.declared.cause.Cause.{Cause}
 use Rattle.tv_base.specs.declared.cause.Cause.TheVariants.{DateRange, LegacyJson}
 use Rattle.tv_base.specs.Reading.{u64_at, u128_at, i64_at, truth_at, vint_at, sized_at, text_at, each_at}
 use Rattle.tv_base.specs.Stop.{◌>>=◌}
-use Rattle.tv_format.specs.Content.{Content, no_content, truth_content, unsigned_content, signed_content, wide_content, text_content, bytes_content, tokens_content}
+use Rattle.tv_format.specs.Content.{Content, no_content, truth_content, unsigned_content, signed_content}
+use Rattle.tv_format.specs.Content.{wide_content, text_content, bytes_content, tokens_content}
 use Rattle.tv_format.specs.Leaves.{leaf_with, form}
 use Rattle.tv_format.specs.Tree.{Token, Leaf, null, Tree, leaf, array, object}
 use Rattle.tv_format.specs.Version.{Version, V1, V2, V3}
@@ -20,7 +22,8 @@ use Rattle.tv_reader.specs.declared.value_type.ValueType.{ValueType}
 
 -- microseconds, where their nanoseconds fit 64 bits
 abbrev pub micros_of : ℤ → List ℕ → Result (ℤ × List ℕ) (Cause × List ℕ)
-micros_of z rest = if lt_z z (negsuc 9223372036854774) then Err (DateRange, rest) else (if lt_z (pos 9223372036854775) z then Err (DateRange, rest) else Ok (z *ℤ pos 1000, rest))
+micros_of z rest = if lt_z z (negsuc 9223372036854774) then Err (DateRange, rest)
+    else (if lt_z (pos 9223372036854775) z then Err (DateRange, rest) else Ok (z *ℤ pos 1000, rest))
 
 abbrev pub date_of : Version → ℤ → List ℕ → Result (ℤ × List ℕ) (Cause × List ℕ)
 date_of V1 z rest = micros_of z rest
@@ -42,7 +45,8 @@ token_at whole = do
   position ← vint_at to.1
   content ← text_at position.1
   positions ← vint_at content.1
-  Ok (record { offset_from = from.0; offset_to = to.0; position = position.0; text = content.0; position_length = positions.0 }, positions.1)
+  Ok (record { offset_from = from.0; offset_to = to.0; position = position.0; text = content.0;
+      position_length = positions.0 }, positions.1)
 
 -- this many tokens
 abbrev pub tokens_at : ℕ → List ℕ → Result (List Token × List ℕ) (Cause × List ℕ)
@@ -89,12 +93,15 @@ number_at v _ whole = i64_at whole
 abbrev pub content_at : Version → LeafType → Form → List ℕ → Result (Tree × List ℕ) (Cause × List ℕ)
 content_at v t forms.Nothing whole = Ok (leaf (leaf_holding t no_content), whole)
 content_at v t forms.Truth whole = truth_at whole >>= λ x. Ok (leaf (leaf_holding t (truth_content x.0)), x.1)
-content_at v t forms.Unsigned whole = u64_at whole >>= λ x. Ok (leaf (leaf_holding t (unsigned_content x.0)), x.1)
-content_at v t forms.Signed whole = number_at v t whole >>= λ x. Ok (leaf (leaf_holding t (signed_content x.0)), x.1)
+content_at v t forms.Unsigned whole = u64_at whole >>= λ x. Ok (leaf (leaf_holding t (unsigned_content x.0)),
+    x.1)
+content_at v t forms.Signed whole = number_at v t whole >>= λ x. Ok
+    (leaf (leaf_holding t (signed_content x.0)), x.1)
 content_at v t forms.Wide whole = u128_at whole >>= λ x. Ok (leaf (leaf_holding t (wide_content x.0)), x.1)
 content_at v t forms.Text whole = text_at whole >>= λ x. Ok (leaf (leaf_holding t (text_content x.0)), x.1)
 content_at v t forms.Bytes whole = sized_at whole >>= λ x. Ok (leaf (leaf_holding t (bytes_content x.0)), x.1)
-content_at v t forms.Tokens whole = tokenized_at whole >>= λ x. Ok (leaf (leaf_holding t (tokens_content x.0.0 x.0.1)), x.1)
+content_at v t forms.Tokens whole = tokenized_at whole >>= λ x. Ok
+    (leaf (leaf_holding t (tokens_content x.0.0 x.0.1)), x.1)
 
 -- What doesn't hold for a leaf is never asked of it.
 abbrev pub leaf_of_type : Version → Option LeafType → List ℕ → Result (Tree × List ℕ) (Cause × List ℕ)

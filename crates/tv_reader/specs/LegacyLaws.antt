@@ -10,7 +10,8 @@ use Rattle.tv_format.specs.Version.{Version}
 
 -- a prefix of the bytes is a legacy object
 abbrev pub BeginsLegacy : List ℕ → Type 0
-BeginsLegacy bytes = (rest : List ℕ) × (entries : Entries) × Begins (λ prefix. Legacy prefix entries) bytes rest
+BeginsLegacy bytes = (rest : List ℕ) × (entries : Entries)
+    × Begins (λ prefix. Legacy prefix entries) bytes rest
 
 abbrev pub IsMalformed : List ℕ → Type 0
 IsMalformed bytes = (c : Cause) × ErrorInLegacy bytes c

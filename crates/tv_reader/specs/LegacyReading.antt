@@ -1,5 +1,6 @@
 -- Reading a legacy object from left to right, after its code.
-use Rattle.std.specs.Prelude.{◌≡◌, ◌==◌, ◌||◌, ℕ, Bool, List, [], ◌∷◌, ◌++◌, Result, Ok, Err, Option, Some, None, if◌then◌else◌}
+use Rattle.std.specs.Prelude.{◌≡◌, ◌==◌, ◌||◌, ℕ, Bool, List, [], ◌∷◌, ◌++◌, Result, Ok, Err, Option, Some}
+use Rattle.std.specs.Prelude.{None, if◌then◌else◌}
 use Rattle.std.specs.Str.{is_utf8}
 use Rattle.serde_json.specs.Data as json
 use Rattle.serde_json.specs.Data.{Data}
@@ -30,7 +31,8 @@ is_even slice = closed slice == opened slice
 -- the slice up to the brace that closes it, of which this prefix was read
 unfoldable pub rest_at : List ℕ → List ℕ → Result (List ℕ × List ℕ) (Cause × List ℕ)
 rest_at prefix [] = Err (UnexpectedEnd, [])
-rest_at prefix (b ∷ bytes) = if is_even (prefix ++ b ∷ []) then Ok (prefix ++ b ∷ [], bytes) else rest_at (prefix ++ b ∷ []) bytes
+rest_at prefix (b ∷ bytes) = if is_even (prefix ++ b ∷ []) then Ok (prefix ++ b ∷ [], bytes)
+    else rest_at (prefix ++ b ∷ []) bytes
 
 abbrev pub braced_at : ℕ → List ℕ → Result (List ℕ × List ℕ) (Cause × List ℕ)
 braced_at b bytes = if b == 123 then rest_at (123 ∷ []) bytes else Err (LegacyJson, bytes)

@@ -47,7 +47,8 @@ abbrev pub NoMember : Version → List ℕ → Refusal → Type 0
 NoMember v = InThen (ErrorInKey v) (Key v) (λ _. NoValue v)
 
 -- this many keys with values
-pub record EncodesMembers (v : Version) (n : ℕ) (b : List ℕ) (members : Vec (String Global × OwnedValue) Global) : Type 0 where
+pub record EncodesMembers (v : Version) (n : ℕ) (b : List ℕ)
+    (members : Vec (String Global × OwnedValue) Global) : Type 0 where
   pub many : length members.items ≡ n
   pub encoded : EncodesEntries Legacy v b (entries (owned_entries members.items))
 
@@ -64,7 +65,8 @@ EncodesTwice b n = VNum b (2 * n)
 
 pub data ErrorInTwice (whole : List ℕ) : Cause → Type 0 where
   in_number : {c : Cause} → ErrorInNumber whole c → ErrorInTwice whole c
-  odd_number : (n : ℕ) (prefix rest : List ℕ) → whole ≡ prefix ++ rest → VNum prefix n → ((m : ℕ) → 2 * m ≢ n) → ErrorInTwice whole OddObject
+  odd_number : (n : ℕ) (prefix rest : List ℕ) → whole ≡ prefix ++ rest → VNum prefix n → ((m : ℕ) → 2 * m ≢ n)
+      → ErrorInTwice whole OddObject
 
 -- what an object of this many entries announces
 abbrev pub EncodesEntryCount : Version → List ℕ → ℕ → Type 0
@@ -72,4 +74,5 @@ EncodesEntryCount v b n = VNum b (entry_total v n)
 
 pub data ErrorInEntryCount (v : Version) (whole : List ℕ) : Cause → Type 0 where
   in_count_number : {c : Cause} → ErrorInNumber whole c → ErrorInEntryCount v whole c
-  odd_count_number : (n : ℕ) (prefix rest : List ℕ) → whole ≡ prefix ++ rest → VNum prefix n → ((m : ℕ) → entry_total v m ≢ n) → ErrorInEntryCount v whole OddObject
+  odd_count_number : (n : ℕ) (prefix rest : List ℕ) → whole ≡ prefix ++ rest → VNum prefix n
+      → ((m : ℕ) → entry_total v m ≢ n) → ErrorInEntryCount v whole OddObject

@@ -1,7 +1,9 @@
 -- The types of values in the store: their codes, and what is wrong with bytes that begin with none.
-use Rattle.std.specs.Prelude.{◌==◌, ◌≡◌, ◌≢◌, ◌<◌, ℕ, List, [], ◌∷◌, Option, Some, None, option_map, if◌then◌else◌}
+use Rattle.std.specs.Prelude.{◌==◌, ◌≡◌, ◌≢◌, ◌<◌, ℕ, List, [], ◌∷◌, Option, Some, None, option_map}
+use Rattle.std.specs.Prelude.{if◌then◌else◌}
 use Rattle.tv_base.specs.declared.cause.Cause.{Cause}
-use Rattle.tv_base.specs.declared.cause.Cause.TheVariants.{UnexpectedEnd, UnknownTypeCode, FloatCode, UnknownExtCode}
+use Rattle.tv_base.specs.declared.cause.Cause.TheVariants.{UnexpectedEnd, UnknownTypeCode, FloatCode}
+use Rattle.tv_base.specs.declared.cause.Cause.TheVariants.{UnknownExtCode}
 use Rattle.tv_format.specs.Leaves as coded_leaves
 use Rattle.tv_format.specs.Leaves.{store_code, last_code}
 use Rattle.tv_format.specs.declared.leaf_type.LeafType.{LeafType}

@@ -22,9 +22,11 @@ chosen fields d = filter (λ pair. is_among fields pair.0) d
 
 -- the bytes encode a document, of which the chosen pairs are these
 abbrev pub EncodesChosen : Version → List Field → List ℕ → HeapPairs → Type 0
-EncodesChosen v fields bytes pairs = (d : Document) × EncodesDocument Legacy v bytes d × (document_of pairs ≡ chosen fields d)
+EncodesChosen v fields bytes pairs = (d : Document) × EncodesDocument Legacy v bytes d
+    × (document_of pairs ≡ chosen fields d)
 
--- A prefix of the bytes encodes what has come of a document, up to the value of a chosen field, and that value and the chosen ones among the
+-- A prefix of the bytes encodes what has come of a document, up to the value of a chosen field, and that
+-- value and the chosen ones among the
 -- finished pairs have no room in a heap.
 pub record HasNoRoomChosen (v : Version) (fields : List Field) (whole : List ℕ) : Type 0 where
   pub announced : ℕ

@@ -22,7 +22,8 @@ abbrev pub BeginsAsPair : List ℕ → ℕ → Type 0
 BeginsAsPair bytes number = (rest : List ℕ) × Begins (λ b. Fixed 4 b number) bytes rest
 
 -- The bytes encode a pair, which stands after the old ones if its field is among these.
-pub record AddsChosen (v : Version) (fields : List Field) (old : Document) (taken : List ℕ) (new : HeapPairs) : Type 0 where
+pub record AddsChosen (v : Version) (fields : List Field) (old : Document) (taken : List ℕ)
+    (new : HeapPairs) : Type 0 where
   pub pair : ℕ × Tree
   pub encoded : EncodesPair Legacy v taken pair
   pub document : document_of new ≡ old ++ chosen fields (pair ∷ [])
@@ -39,7 +40,8 @@ FindsPair v fields old taken new = CanStand v old → AddsChosen v fields old ta
 abbrev pub FindsNoPair : Version → Document → List ℕ → Refusal → Type 0
 FindsNoPair v old bytes r = CanStand v old → ErrorInPair Legacy ErrorInLegacy v bytes r
 
--- A prefix of the bytes encodes a chosen field and what has come of its value, and that has no room in a heap after the pairs.
+-- A prefix of the bytes encodes a chosen field and what has come of its value, and that has no room in a heap
+-- after the pairs.
 pub record PairHasNoRoom (v : Version) (fields : List Field) (old : Document) (whole : List ℕ) : Type 0 where
   pub number : ℕ
   pub state : State

@@ -19,4 +19,5 @@ NoDocument v bytes r = ErrorInDocument Legacy ErrorInLegacy v bytes r
 
 -- after any bytes of which this has come, these encode what is left of the document
 abbrev pub EncodesRest : Version → Reading → List ℕ → HeapPairs → Type 0
-EncodesRest v r b document = (bytes : List ℕ) → Encoded Legacy v bytes (parts_read r) → EncodesRead v (bytes ++ b) document
+EncodesRest v r b document = (bytes : List ℕ) → Encoded Legacy v bytes (parts_read r)
+    → EncodesRead v (bytes ++ b) document

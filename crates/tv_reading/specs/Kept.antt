@@ -6,11 +6,13 @@ use Rattle.tv_builder.specs.Builder.{built, state_of, heap_so_far}
 use Rattle.tv_format.specs.Tree.{Tree}
 use Rattle.tv_reading.specs.declared.reading.Reading.{Reading}
 
--- Where the finished pairs end in the heap: where they ended before, or at its end, where a pair more is finished.
+-- Where the finished pairs end in the heap: where they ended before, or at its end, where a pair more is
+-- finished.
 abbrev pub EndsPairs : Reading → Reading → Type 0
 EndsPairs old new =
     ((built new.builder ≡ built old.builder) × (new.builder.kept ≡ old.builder.kept))
-    ⊎ ((pair : ℕ × Tree) × (built new.builder ≡ built old.builder ++ pair ∷ []) × (new.builder.kept ≡ length (heap_so_far new.builder)))
+    ⊎ ((pair : ℕ × Tree) × (built new.builder ≡ built old.builder ++ pair ∷ [])
+    × (new.builder.kept ≡ length (heap_so_far new.builder)))
 
 -- the heap grows at its end
 pub record Grows (old new : Reading) : Type 0 where

@@ -18,7 +18,8 @@ abbrev pub CanStand : Version → Document → Type 0
 CanStand v d = (bytes : List ℕ) × Each (EncodesPair Legacy v) bytes d
 
 -- The bytes encode a value, which stands in a pair of this field after those that were there.
-pub record AddsValue (v : Version) (old : Document) (field : ℕ) (taken : List ℕ) (new : HeapPairs) : Type 0 where
+pub record AddsValue (v : Version) (old : Document) (field : ℕ) (taken : List ℕ)
+    (new : HeapPairs) : Type 0 where
   pub tree : Tree
   pub encoded : Encodes Legacy v taken tree
   pub document : document_of new ≡ old ++ (field, tree) ∷ []

@@ -13,7 +13,8 @@ use Rattle.tv_format.specs.Tree.{Document}
 use Rattle.tv_format.specs.Version.{Version}
 use Rattle.tv_reading.specs.declared.reading.Reading.{Reading}
 
--- nothing; or the number of the pairs and the finished ones; or also the field of the next one, and what has come of its value
+-- nothing; or the number of the pairs and the finished ones; or also the field of the next one, and what has
+-- come of its value
 abbrev pub parts_at : Option ℕ → Document → Option ℕ → State → List Part
 parts_at None d f s = []
 parts_at (Some n) d None s = document_parts n d
@@ -30,7 +31,8 @@ IsBetweenParts (complete t) = ⊥
 IsBetweenParts (in_lists ls) = Unit {0}
 IsBetweenParts (in_bytes ls kind n bs) = length bs < n
 
--- The number comes before all else, and a field only where a pair is awaited. Nothing of a value has come without a field.
+-- The number comes before all else, and a field only where a pair is awaited. Nothing of a value has come
+-- without a field.
 abbrev pub IsPlace : Option ℕ → Document → Option ℕ → State → Type 0
 IsPlace None d None s = (d ≡ []) × (s ≡ in_lists [])
 IsPlace None d (Some f) s = ⊥
@@ -59,9 +61,11 @@ LacksPair (Some n) finished = finished < n
 
 -- After the bytes of which this has come, these ones are malformed.
 abbrev pub IsMalformedNext : Version → Reading → List ℕ → Refusal → Type 0
-IsMalformedNext v r rest refusal = (bytes : List ℕ) → Encoded Legacy v bytes (parts_read r) → ErrorInDocument Legacy ErrorInLegacy v (bytes ++ rest) refusal
+IsMalformedNext v r rest refusal = (bytes : List ℕ) → Encoded Legacy v bytes (parts_read r)
+    → ErrorInDocument Legacy ErrorInLegacy v (bytes ++ rest) refusal
 
--- A prefix of the bytes encodes what has come of a document, and what is announced and finished in it has no room in a heap.
+-- A prefix of the bytes encodes what has come of a document, and what is announced and finished in it has no
+-- room in a heap.
 pub record HasNoRoom (v : Version) (whole : List ℕ) : Type 0 where
   pub announced : ℕ
   pub finished : Document

@@ -1,5 +1,6 @@
 -- What a part that has come does to what is read.
-use Rattle.std.specs.Prelude.{false, ◌≡◌, ℕ, ◌+◌, ◌<◌, List, [], ◌∷◌, ◌++◌, length, Option, Some, Result, Ok, Err, IsUtf8}
+use Rattle.std.specs.Prelude.{false, ◌≡◌, ℕ, ◌+◌, ◌<◌, List, [], ◌∷◌, ◌++◌, length, Option, Some, Result, Ok}
+use Rattle.std.specs.Prelude.{Err, IsUtf8}
 use Rattle.tv_base.specs.declared.cause.Cause.{Cause}
 use Rattle.tv_base.specs.declared.cause.Cause.TheVariants as causes
 use Rattle.tv_builder.specs.Behind.{open_parts}
@@ -11,7 +12,8 @@ use Rattle.tv_builder.specs.declared.kinds.BytesKind.{BytesKind}
 use Rattle.tv_builder.specs.declared.kinds.BytesKind.TheVariants as kinds
 use Rattle.tv_builder.specs.Builder.{built, state_of, HasAllBytes, HasContent}
 use Rattle.tv_heap.specs.Room.{document_room}
-use Rattle.tv_reader.specs.Heads.{HeadPart, leaf_head, length_head, array_head as array_number, object_head as object_number, tokenized_head, legacy_head}
+use Rattle.tv_reader.specs.Heads.{HeadPart, leaf_head, length_head, array_head as array_number}
+use Rattle.tv_reader.specs.Heads.{object_head as object_number, tokenized_head, legacy_head}
 use Rattle.tv_reader.specs.declared.error.DeserializeError.{DeserializeError}
 use Rattle.tv_reader.specs.declared.error.DeserializeError.TheVariants as errors
 use Rattle.tv_format.specs.Tree.{Document, leaf}
@@ -94,7 +96,8 @@ PutsEnd old new (Err _) = ⊥
 
 -- open bytes have all come with these, and are no text
 abbrev pub EndNoText : State → List ℕ → Type 0
-EndNoText (in_bytes ls kind n bs) more = IsTextKind kind × (length bs + length more ≡ n) × ¬ IsUtf8 (bs ++ more)
+EndNoText (in_bytes ls kind n bs) more = IsTextKind kind × (length bs + length more ≡ n)
+    × ¬ IsUtf8 (bs ++ more)
 EndNoText _ more = ⊥
 
 abbrev pub NoText : Cause → State → List ℕ → Type 0

@@ -1,5 +1,7 @@
--- What is left to pass over of documents and values: the items that open lists still have, the innermost list first.
-use Rattle.std.specs.Prelude.{◌≡◌, ◌⊎◌, ℕ, zero, suc, Bool, true, false, List, [], ◌∷◌, ◌++◌, length, reverse, Option, Some, None, IsTrue, ◌↔◌, IsUtf8, Vec}
+-- What is left to pass over of documents and values: the items that open lists still have, the innermost list
+-- first.
+use Rattle.std.specs.Prelude.{◌≡◌, ◌⊎◌, ℕ, zero, suc, Bool, true, false, List, [], ◌∷◌, ◌++◌, length, reverse}
+use Rattle.std.specs.Prelude.{Option, Some, None, IsTrue, ◌↔◌, IsUtf8, Vec}
 use Rattle.std.specs.declared.alloc.Global.{Global}
 use Rattle.tv_base.specs.declared.cause.Cause.{Cause}
 use Rattle.tv_base.specs.declared.cause.Cause.TheVariants.{NotUtf8}
@@ -50,7 +52,8 @@ pub record IsTextOf (n : ℕ) (taken : List ℕ) : Type 0 where
 -- there are fewer bytes, or they are no UTF-8
 pub data ErrorInTextOf (n : ℕ) (whole : List ℕ) : Refusal → Type 0 where
   text_ends : {r : Refusal} → Corrupt (ErrorInBytes n) whole r → ErrorInTextOf n whole r
-  text_is_none : (content rest : List ℕ) → whole ≡ content ++ rest → length content ≡ n → ¬ IsUtf8 content → ErrorInTextOf n whole (corrupted NotUtf8)
+  text_is_none : (content rest : List ℕ) → whole ≡ content ++ rest → length content ≡ n → ¬ IsUtf8 content
+      → ErrorInTextOf n whole (corrupted NotUtf8)
 
 -- ---- texts with their tokens, whatever they hold
 
@@ -133,7 +136,8 @@ AreItems v kind Rest (suc n) = Then (IsItem v kind) (AreItems v kind Rest n)
 
 abbrev pub ErrorInItems : Version → ItemKind → (List ℕ → Refusal → Type 0) → ℕ → List ℕ → Refusal → Type 0
 ErrorInItems v kind ErrorInRest zero whole r = ErrorInRest whole r
-ErrorInItems v kind ErrorInRest (suc n) whole r = ErrorInItem v kind whole r ⊎ Then (IsItem v kind) (λ b. ErrorInItems v kind ErrorInRest n b r) whole
+ErrorInItems v kind ErrorInRest (suc n) whole r = ErrorInItem v kind whole r
+    ⊎ Then (IsItem v kind) (λ b. ErrorInItems v kind ErrorInRest n b r) whole
 
 abbrev pub AreLeft : Version → List ItemsLeft → List ℕ → Type 0
 AreLeft v [] whole = whole ≡ []
@@ -158,5 +162,6 @@ open_items items outer = items ∷ reverse outer.items
 
 -- One item is taken off all that is left, if there is one.
 abbrev pub TakesItem : List ItemsLeft → ItemsLeft → Vec ItemsLeft Global → Bool → Type 0
-TakesItem old items outer true = (v : Version) → Passed v old (record { kind = items.kind; left = suc items.left } ∷ reverse outer.items) []
+TakesItem old items outer true = (v : Version)
+    → Passed v old (record { kind = items.kind; left = suc items.left } ∷ reverse outer.items) []
 TakesItem old items outer false = (v : Version) → Passed v old [] []

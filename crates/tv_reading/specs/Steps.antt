@@ -17,7 +17,8 @@ use Rattle.tv_reading.specs.declared.reading.Reading.{Reading}
 
 -- whatever encodes what had come, with these bytes after it, encodes what has come now
 abbrev pub Advances : (List ℕ → Entries → Type 0) → Version → Reading → Reading → List ℕ → Type 0
-Advances L v old new taken = (bytes : List ℕ) → Encoded L v bytes (parts_read old) → Encoded L v (bytes ++ taken) (parts_read new)
+Advances L v old new taken = (bytes : List ℕ) → Encoded L v bytes (parts_read old)
+    → Encoded L v (bytes ++ taken) (parts_read new)
 
 abbrev pub HasFirstByte : ℕ → List ℕ → Type 0
 HasFirstByte code [] = ⊥
@@ -27,7 +28,8 @@ HasFirstByte code (b ∷ bytes) = b ≡ code
 abbrev pub IsTakenWhole : Reading → List ℕ → Type 0
 IsTakenWhole r bytes = ValueNext r × (HasFirstByte 7 bytes ⊎ HasFirstByte 8 bytes)
 
--- this many bytes of those that were left were taken, whatever came of them: at most 4096, unless a value is taken whole
+-- this many bytes of those that were left were taken, whatever came of them: at most 4096, unless a value is
+-- taken whole
 abbrev pub IsFew : Reading → List ℕ → ℕ → ℕ → Type 0
 IsFew old left before after = (after ≤ before + 4096) ⊎ IsTakenWhole old left
 
@@ -35,7 +37,8 @@ IsFew old left before after = (after ≤ before + 4096) ⊎ IsTakenWhole old lef
 abbrev pub TakesWhole : Version → Reading → List ℕ → Type 0
 TakesWhole v r taken = IsTakenWhole r taken × IsValueEncoding v taken
 
--- A step took these bytes: one at least, and at most 4096 unless a value was taken whole. Where no object of an older store was seen, none
+-- A step took these bytes: one at least, and at most 4096 unless a value was taken whole. Where no object of
+-- an older store was seen, none
 -- is encoded by them.
 pub record Stepped (v : Version) (legacy_seen : Bool) (old new : Reading) (taken : List ℕ) : Type 0 where
   pub some : 0 < length taken
@@ -43,7 +46,8 @@ pub record Stepped (v : Version) (legacy_seen : Bool) (old new : Reading) (taken
   pub goes : Advances Legacy v old new taken
   pub plain : legacy_seen ≡ false → Advances NoLegacy v old new taken
 
--- Whether an object of an older store was seen: it still is, where it was; and one is seen where a value is awaited and its code comes first.
+-- Whether an object of an older store was seen: it still is, where it was; and one is seen where a value is
+-- awaited and its code comes first.
 pub record Sees (old : Reading) (left : List ℕ) (before after : Bool) : Type 0 where
   pub still : before ≡ true → after ≡ true
   pub first : before ≡ false → after ≡ true → ValueNext old × HasFirstByte 8 left
@@ -52,7 +56,8 @@ pub record Sees (old : Reading) (left : List ℕ) (before after : Bool) : Type 0
 --   sound        After a part has come, what is read is sound.
 --   grows        The heap has grown at its end.
 --   after_error  After an error the finished pairs stay.
---   finds        The bytes that were taken encode the part, which has come; or they show the error. They are counted.
+--   finds        The bytes that were taken encode the part, which has come; or they show the error. They are
+--                counted.
 --   no_room      It says that there is no room only where the part has none.
 --   seen         It says where an object of an older store was seen.
 --   at_most      At most 4096 bytes were taken, also where they are refused, unless a value is taken whole.

@@ -1,11 +1,15 @@
--- A schema as JSON: what is written of it. The members of an object stand in byte order of their keys, which `put` keeps.
-use Rattle.std.specs.Prelude.{ℕ, Bool, true, List, [], ◌∷◌, Option, None, Some, option_map, codes, if◌then◌else◌}
-use Rattle.serde_json.specs.Data.{Data, null, boolean, string, array, object, Items, no_items, item, Members, no_members, member, put}
+-- A schema as JSON: what is written of it. The members of an object stand in byte order of their keys, which
+-- `put` keeps.
+use Rattle.std.specs.Prelude.{ℕ, Bool, true, List, [], ◌∷◌, Option, None, Some, option_map, codes}
+use Rattle.std.specs.Prelude.{if◌then◌else◌}
+use Rattle.serde_json.specs.Data.{Data, null, boolean, string, array, object, Items, no_items, item, Members}
+use Rattle.serde_json.specs.Data.{no_members, member, put}
 use Rattle.tv_options.specs.FastFieldTextOptions.{is_fast_field, tokenizer_of}
 use Rattle.tv_options.specs.declared.facet_options.FacetOptions.{FacetOptions}
 use Rattle.tv_options.specs.declared.flag_options.FlagOptions.{FlagOptions}
 use Rattle.tv_options.specs.declared.text_options.IndexRecordOption.{IndexRecordOption}
-use Rattle.tv_options.specs.declared.text_options.IndexRecordOption.TheVariants.{Basic, WithFreqs, WithFreqsAndPositions}
+use Rattle.tv_options.specs.declared.text_options.IndexRecordOption.TheVariants.{Basic, WithFreqs}
+use Rattle.tv_options.specs.declared.text_options.IndexRecordOption.TheVariants.{WithFreqsAndPositions}
 use Rattle.tv_options.specs.declared.own_part.Coercion.{Coercion}
 use Rattle.tv_options.specs.declared.own_part.DotExpansion.{DotExpansion}
 use Rattle.tv_options.specs.declared.own_part.OfBytes.{OfBytes}
@@ -15,7 +19,8 @@ use Rattle.tv_options.specs.declared.textual_options.TextualOptions.{TextualOpti
 use Rattle.tv_options.specs.declared.types.TypeTag.{TypeTag}
 use Rattle.tv_options.specs.declared.types.TypeTag.TheVariants as tags
 use Rattle.tv_date.specs.declared.date_time.DateTimePrecision.{DateTimePrecision}
-use Rattle.tv_date.specs.declared.date_time.DateTimePrecision.TheVariants.{Seconds, Milliseconds, Microseconds, Nanoseconds}
+use Rattle.tv_date.specs.declared.date_time.DateTimePrecision.TheVariants.{Seconds, Milliseconds}
+use Rattle.tv_date.specs.declared.date_time.DateTimePrecision.TheVariants.{Microseconds, Nanoseconds}
 use Rattle.tv_field.specs.Entry.{Entry, value_type}
 use Rattle.tv_field.specs.declared.field_type.FieldType.{FieldType}
 use Rattle.tv_field.specs.declared.field_type.FieldType.TheVariants as types

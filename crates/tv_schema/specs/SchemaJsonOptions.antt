@@ -1,6 +1,8 @@
--- Options of fields, as the members of a JSON object tell them, or the first key, in the order of reading, at which what is wanted does not stand.
+-- Options of fields, as the members of a JSON object tell them, or the first key, in the order of reading, at
+-- which what is wanted does not stand.
 -- Keys that aren't named are passed over.
-use Rattle.std.specs.Prelude.{ℕ, Bool, true, false, List, [], ◌∷◌, Option, None, Some, option_and_then, ok_or, Result, Ok, Err, codes, find}
+use Rattle.std.specs.Prelude.{ℕ, Bool, true, false, List, [], ◌∷◌, Option, None, Some, option_and_then, ok_or}
+use Rattle.std.specs.Prelude.{Result, Ok, Err, codes, find}
 use Rattle.std.specs.Str.{bytes_eq}
 use Rattle.serde_json.specs.Data.{Data, null, boolean, object, Members}
 use Rattle.serde_json.specs.Find.{get_member, as_bool, as_str, as_object}
@@ -8,19 +10,22 @@ use Rattle.tv_options.specs.Types.{all_types}
 use Rattle.tv_options.specs.declared.facet_options.FacetOptions.{FacetOptions}
 use Rattle.tv_options.specs.declared.flag_options.FlagOptions.{FlagOptions}
 use Rattle.tv_options.specs.declared.text_options.IndexRecordOption.{IndexRecordOption}
-use Rattle.tv_options.specs.declared.text_options.IndexRecordOption.TheVariants.{Basic, WithFreqs, WithFreqsAndPositions}
+use Rattle.tv_options.specs.declared.text_options.IndexRecordOption.TheVariants.{Basic, WithFreqs}
+use Rattle.tv_options.specs.declared.text_options.IndexRecordOption.TheVariants.{WithFreqsAndPositions}
 use Rattle.tv_options.specs.declared.own_part.Coercion.{Coercion}
 use Rattle.tv_options.specs.declared.own_part.DotExpansion.{DotExpansion}
 use Rattle.tv_options.specs.declared.own_part.OfBytes.{OfBytes}
 use Rattle.tv_options.specs.declared.own_part.OfIpAddrs.{OfIpAddrs}
 use Rattle.tv_options.specs.declared.text_options.FastFieldTextOptions.{FastFieldTextOptions}
-use Rattle.tv_options.specs.declared.text_options.FastFieldTextOptions.TheVariants.{IsEnabled, EnabledWithTokenizer}
+use Rattle.tv_options.specs.declared.text_options.FastFieldTextOptions.TheVariants.{IsEnabled}
+use Rattle.tv_options.specs.declared.text_options.FastFieldTextOptions.TheVariants.{EnabledWithTokenizer}
 use Rattle.tv_options.specs.declared.text_options.TextFieldIndexing.{TextFieldIndexing}
 use Rattle.tv_options.specs.declared.textual_options.TextualOptions.{TextualOptions}
 use Rattle.tv_options.specs.declared.types.TypeTag.{TypeTag}
 use Rattle.tv_options.specs.declared.types.TypeTag.TheVariants as tags
 use Rattle.tv_date.specs.declared.date_time.DateTimePrecision.{DateTimePrecision}
-use Rattle.tv_date.specs.declared.date_time.DateTimePrecision.TheVariants.{Seconds, Milliseconds, Microseconds, Nanoseconds}
+use Rattle.tv_date.specs.declared.date_time.DateTimePrecision.TheVariants.{Seconds, Milliseconds}
+use Rattle.tv_date.specs.declared.date_time.DateTimePrecision.TheVariants.{Microseconds, Nanoseconds}
 use Rattle.tv_schema.specs.SchemaJson.{type_word, record_word, precision_word}
 use Rattle.tv_schema.specs.declared.json.key.SchemaKey.{SchemaKey}
 use Rattle.tv_schema.specs.declared.json.key.SchemaKey.TheVariants as keys
@@ -49,7 +54,8 @@ unfoldable pub record_of_word : List ℕ → Option IndexRecordOption
 record_of_word text = by_word record_word (Basic ∷ WithFreqs ∷ WithFreqsAndPositions ∷ []) text
 
 unfoldable pub precision_of_word : List ℕ → Option DateTimePrecision
-precision_of_word text = by_word precision_word (Seconds ∷ Milliseconds ∷ Microseconds ∷ Nanoseconds ∷ []) text
+precision_of_word text = by_word precision_word
+    (Seconds ∷ Milliseconds ∷ Microseconds ∷ Nanoseconds ∷ []) text
 
 -- ---- keys
 
@@ -108,12 +114,14 @@ unless_null (Some other) = Some other
 
 -- the truth value at the key `fieldnorms`; as `indexed` where the key isn't there or null stands there
 unfoldable pub fieldnorms_or : Bool → Members → Result Bool SchemaKey
-fieldnorms_or indexed members = read_or indexed (λ found. ok_or (as_bool found) keys.Fieldnorms) (unless_null (value_at keys.Fieldnorms members))
+fieldnorms_or indexed members = read_or indexed (λ found. ok_or (as_bool found) keys.Fieldnorms)
+    (unless_null (value_at keys.Fieldnorms members))
 
 -- ---- indexing and fast fields
 
 unfoldable pub record_or_basic : Members → Result IndexRecordOption SchemaKey
-record_or_basic members = read_or Basic (λ found. ok_or (option_and_then record_of_word (as_str found)) keys.Record) (value_at keys.Record members)
+record_or_basic members = read_or Basic (λ found. ok_or
+    (option_and_then record_of_word (as_str found)) keys.Record) (value_at keys.Record members)
 
 unfoldable pub indexing_of : Members → Result TextFieldIndexing SchemaKey
 indexing_of members = do
@@ -129,7 +137,8 @@ some_indexing (Some members) = key_map Some (indexing_of members)
 
 -- the indexing at the key `indexing`, and no indexing where the key isn't there or null stands there
 unfoldable pub optional_indexing : Members → Result (Option TextFieldIndexing) SchemaKey
-optional_indexing members = read_or None (λ found. some_indexing (as_object found)) (unless_null (value_at keys.Indexing members))
+optional_indexing members = read_or None (λ found. some_indexing (as_object found))
+    (unless_null (value_at keys.Indexing members))
 
 -- a truth value, or an object with a tokenizer's name
 unfoldable pub fast_field_of : Data → Result FastFieldTextOptions SchemaKey
@@ -165,7 +174,8 @@ numeric_options_of members = do
   fieldnorms ← fieldnorms_or indexed members
   fast ← bool_or false keys.Fast members
   coerce ← bool_or false keys.Coerce members
-  Ok (record { indexed = indexed; fieldnorms = fieldnorms; fast = fast; stored = stored; part = record { coerce = coerce } })
+  Ok (record { indexed = indexed; fieldnorms = fieldnorms; fast = fast; stored = stored;
+      part = record { coerce = coerce } })
 
 unfoldable pub bytes_options_of : Members → Result (FlagOptions OfBytes) SchemaKey
 bytes_options_of members = do
@@ -176,7 +186,9 @@ bytes_options_of members = do
   Ok (record { indexed = indexed; fieldnorms = fieldnorms; fast = fast; stored = stored; part = record {} })
 
 unfoldable pub precision_or_seconds : Members → Result DateTimePrecision SchemaKey
-precision_or_seconds members = read_or Seconds (λ found. ok_or (option_and_then precision_of_word (as_str found)) keys.Precision) (value_at keys.Precision members)
+precision_or_seconds members = read_or Seconds
+    (λ found. ok_or (option_and_then precision_of_word (as_str found)) keys.Precision)
+    (value_at keys.Precision members)
 
 unfoldable pub date_options_of : Members → Result (FlagOptions DateTimePrecision) SchemaKey
 date_options_of members = do
@@ -198,7 +210,8 @@ json_object_options_of members = do
   fast ← required_fast_field members
   indexing ← optional_indexing members
   expand_dots_enabled ← bool_or false keys.ExpandDots members
-  Ok (record { stored = stored; indexing = indexing; fast = fast; part = record { expand_dots_enabled = expand_dots_enabled } })
+  Ok (record { stored = stored; indexing = indexing; fast = fast;
+      part = record { expand_dots_enabled = expand_dots_enabled } })
 
 unfoldable pub ip_addr_options_of : Members → Result (FlagOptions OfIpAddrs) SchemaKey
 ip_addr_options_of members = do

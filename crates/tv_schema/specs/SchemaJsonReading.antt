@@ -1,5 +1,6 @@
 -- The schema that a JSON value describes, or why it describes none: the first malformed entry says.
-use Rattle.std.specs.Prelude.{◌≡◌, ℕ, List, [], ◌∷◌, ◌++◌, length, Option, None, Some, ok_or, Result, Ok, Err, codes, if◌then◌else◌, ⊤}
+use Rattle.std.specs.Prelude.{◌≡◌, ℕ, List, [], ◌∷◌, ◌++◌, length, Option, None, Some, ok_or, Result, Ok, Err}
+use Rattle.std.specs.Prelude.{codes, if◌then◌else◌, ⊤}
 use Rattle.std.specs.Str.{bytes_eq}
 use Rattle.serde_json.specs.Data.{Data, Items, no_items, item}
 use Rattle.serde_json.specs.Find.{as_array, as_object}
@@ -30,7 +31,8 @@ by_key (Err key) = Err (Key key)
 
 -- the type of the word; `f64` is a type of tantivy's that this library doesn't have
 unfoldable pub type_named : List ℕ → Result TypeTag EntryFault
-type_named word = if bytes_eq word (codes "f64") then Err FloatField else ok_or (type_of_word word) (Key keys.Type)
+type_named word = if bytes_eq word (codes "f64") then Err FloatField
+    else ok_or (type_of_word word) (Key keys.Type)
 
 -- the entry that an object describes; whether a schema takes it is asked later
 unfoldable pub entry_of : Data → Result Entry EntryFault
@@ -71,7 +73,8 @@ with_read schema (Err fault) = Err (at_entry (length schema) fault)
 unfoldable pub with_entry : List Entry → Data → Result (List Entry) SchemaJsonError
 with_entry schema description = with_read schema (entry_of description)
 
-abbrev pub and_then : Result (List Entry) SchemaJsonError → (List Entry → Result (List Entry) SchemaJsonError) → Result (List Entry) SchemaJsonError
+abbrev pub and_then : Result (List Entry) SchemaJsonError → (List Entry → Result (List Entry) SchemaJsonError)
+    → Result (List Entry) SchemaJsonError
 and_then (Ok schema) next = next schema
 and_then (Err error) next = Err error
 
@@ -119,7 +122,8 @@ Describes view outcome (Err Memory) = ⊤
 Describes view outcome (Err fault) = outcome ≡ Err fault
 
 -- the same of a schema
-abbrev pub GivesSchema : {A : Type 0} → (A → List Entry) → Result (List Entry) SchemaJsonError → Result A SchemaJsonError → Type 0
+abbrev pub GivesSchema : {A : Type 0} → (A → List Entry) → Result (List Entry) SchemaJsonError
+    → Result A SchemaJsonError → Type 0
 GivesSchema view outcome (Ok found) = outcome ≡ Ok (view found)
 GivesSchema view outcome (Err (Other schemas.Memory)) = ⊤
 GivesSchema view outcome (Err error) = outcome ≡ Err error

@@ -9,7 +9,8 @@ use Rattle.tv_date.specs.declared.date_time.DateTime.{DateTime}
 use Rattle.tv_term.specs.Key.{from_least, truth_number}
 use Rattle.tv_term.specs.Reading.{signed_at, is_true}
 
-pub from_least-order : (a b : ℤ) → FitsSigned w64 a → FitsSigned w64 b → int_cmp a b ≡ nat_cmp (from_least a) (from_least b)
+pub from_least-order : (a b : ℤ) → FitsSigned w64 a → FitsSigned w64 b
+    → int_cmp a b ≡ nat_cmp (from_least a) (from_least b)
 from_least-order (pos a) (pos b) h k = grind (arith, nat_tests, ints)
 from_least-order (pos a) (negsuc b) h k = grind (arith, nat_tests, ints)
 from_least-order (negsuc a) (pos b) h k = grind (arith, nat_tests, ints)
@@ -37,5 +38,7 @@ pub is_true-truth_number : (b : Bool) → is_true (truth_number b) ≡ b
 is_true-truth_number true = refl
 is_true-truth_number false = refl
 
-pub date-again : (date : DateTime) → FitsSigned w64 date.nanoseconds → ◌≡◌ {A = DateTime} (record { nanoseconds = signed_at (from_least date.nanoseconds) }) date
-date-again date fits = ap (λ z. let made : DateTime = record { nanoseconds = z } in made) (signed_at-from_least date.nanoseconds fits)
+pub date-again : (date : DateTime) → FitsSigned w64 date.nanoseconds
+    → ◌≡◌ {A = DateTime} (record { nanoseconds = signed_at (from_least date.nanoseconds) }) date
+date-again date fits = ap (λ z. let made : DateTime = record { nanoseconds = z } in made)
+    (signed_at-from_least date.nanoseconds fits)

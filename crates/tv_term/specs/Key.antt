@@ -1,5 +1,6 @@
 -- What a term stands for, its bytes, and the order of both.
-use Rattle.std.specs.Prelude.{◌≡◌, nat_lt, ℕ, ◌+◌, ◌-◌, ◌<◌, ◌^◌, Bool, if◌then◌else◌, List, [], ◌∷◌, ◌++◌, ℤ, pos, negsuc, FitsSigned, ◌≢◌, IsUtf8}
+use Rattle.std.specs.Prelude.{◌≡◌, nat_lt, ℕ, ◌+◌, ◌-◌, ◌<◌, ◌^◌, Bool, if◌then◌else◌, List, [], ◌∷◌, ◌++◌, ℤ}
+use Rattle.std.specs.Prelude.{pos, negsuc, FitsSigned, ◌≢◌, IsUtf8}
 use Rattle.std.specs.List.{AllByRecursion}
 use Rattle.std.specs.Int.{to_be_bytes, w32, w64, w128}
 use Rattle.std.specs.Ordering.{nat_cmp, int_cmp, bool_cmp, ordering_then}
@@ -9,7 +10,8 @@ use Rattle.tv_options.specs.Types.{code}
 use Rattle.tv_options.specs.declared.types.TypeTag.{TypeTag}
 use Rattle.tv_options.specs.declared.types.TypeTag.TheVariants as tag
 
--- the value of a term; of a term of a JSON field the joined path and the value there. Which of these are values, `Fits` says
+-- the value of a term; of a term of a JSON field the joined path and the value there. Which of these are
+-- values, `Fits` says
 pub data TermValue : Type 0 where
   Text : List ℕ → TermValue
   Unsigned : ℕ → TermValue
@@ -68,8 +70,9 @@ payload (Json path value) = path ++ 0 ∷ value_code value ∷ payload value
 abbrev pub HasNoZero : List ℕ → Type 0
 HasNoZero = AllByRecursion (λ b. b ≢ 0)
 
--- which of these are the values of terms: a number is of its type's width, and a path, which U+0000 ends, has no U+0000. Each
--- typed constructor makes a term of such a value, and so does a value that is appended to a term of a path
+-- which of these are the values of terms: a number is of its type's width, and a path, which U+0000 ends, has
+-- no U+0000. Each typed constructor makes a term of such a value, and so does a value that is appended to a
+-- term of a path
 abbrev pub Fits : TermValue → Type 0
 Fits (Text bytes) = Unit {0}
 Fits (Unsigned n) = n < 2 ^ 64

@@ -10,4 +10,5 @@ overwritten bytes written = take (length bytes) (written ++ drop (length written
 -- the term's bytes from this place on are borrowed
 abbrev pub LendsFrom : MutBor (List ℕ) → ℕ → MutBor (List ℕ) → Fml
 LendsFrom term start part =
-    Lends the_row (Array u8 0) term part (λ written. take start term.now ++ overwritten (drop start term.now) written)
+    Lends the_row (Array u8 0) term part (λ written. take start term.now
+        ++ overwritten (drop start term.now) written)

@@ -37,11 +37,13 @@ HasPrefixed prefix range = (bytes : List ℕ) → AllBytes bytes → IsIn range 
 
 -- of all byte strings just those that begin with these and are longer are in the range
 abbrev pub HasLonger : List ℕ → TermRange → Type 0
-HasLonger prefix range = (bytes : List ℕ) → AllBytes bytes → IsIn range bytes ↔ (IsPrefix prefix bytes × (bytes ≢ prefix))
+HasLonger prefix range = (bytes : List ℕ) → AllBytes bytes → IsIn range bytes
+    ↔ (IsPrefix prefix bytes × (bytes ≢ prefix))
 
 -- of all terms just those of such a field and value are in the range
 abbrev pub HasTerms : (ℕ → TermValue → Type 0) → TermRange → Type 0
-HasTerms P range = (bytes : List ℕ) (field : ℕ) (value : TermValue) → AllBytes bytes → IsTerm bytes field value → IsIn range bytes ↔ P field value
+HasTerms P range = (bytes : List ℕ) (field : ℕ) (value : TermValue) → AllBytes bytes
+    → IsTerm bytes field value → IsIn range bytes ↔ P field value
 
 -- ---- which terms
 
@@ -55,11 +57,13 @@ IsOfType id type_tag field value = (field ≡ id) × (tag_of value ≡ type_tag)
 
 -- the same, and the value's payload begins with these bytes
 abbrev pub HasPayloadPrefix : ℕ → TypeTag → List ℕ → ℕ → TermValue → Type 0
-HasPayloadPrefix id type_tag prefix field value = (field ≡ id) × (tag_of value ≡ type_tag) × IsPrefix prefix (payload value)
+HasPayloadPrefix id type_tag prefix field value = (field ≡ id) × (tag_of value ≡ type_tag)
+    × IsPrefix prefix (payload value)
 
 -- of this field, whose value is a text that begins with this one
 abbrev pub HasTextPrefix : ℕ → List ℕ → ℕ → TermValue → Type 0
-HasTextPrefix id prefix field value = (field ≡ id) × (text : List ℕ) × (value ≡ Text text) × IsPrefix prefix text
+HasTextPrefix id prefix field value = (field ≡ id) × (text : List ℕ) × (value ≡ Text text)
+    × IsPrefix prefix text
 
 -- of this field, whose value stands at this joined path
 abbrev pub IsAtPath : ℕ → List ℕ → ℕ → TermValue → Type 0
@@ -67,7 +71,8 @@ IsAtPath id path field value = (field ≡ id) × (inner : TermValue) × (value �
 
 -- of this field, whose value is a facet below this one
 abbrev pub IsBelowFacet : ℕ → List ℕ → ℕ → TermValue → Type 0
-IsBelowFacet id upper field value = (field ≡ id) × (lower : List ℕ) × (value ≡ Facet lower) × Descends upper lower
+IsBelowFacet id upper field value = (field ≡ id) × (lower : List ℕ) × (value ≡ Facet lower)
+    × Descends upper lower
 
 -- a value from the bound on
 abbrev pub IsFromBound : Bound TermValue → TermValue → Type 0
@@ -83,7 +88,8 @@ IsToBound Unbounded value = Unit {0}
 
 -- of this field, whose value is of this type and within both bounds
 abbrev pub IsBetween : ℕ → TypeTag → Bound TermValue → Bound TermValue → ℕ → TermValue → Type 0
-IsBetween id type_tag start end field value = (field ≡ id) × (tag_of value ≡ type_tag) × IsFromBound start value × IsToBound end value
+IsBetween id type_tag start end field value = (field ≡ id) × (tag_of value ≡ type_tag)
+    × IsFromBound start value × IsToBound end value
 
 -- the terms of the values of a bound
 abbrev pub AreTermsOf : ℕ → Bound TermValue → Bound (List ℕ) → Type 0
@@ -108,7 +114,8 @@ IsToBytes Unbounded bytes = Unit {0}
 
 -- just the byte strings that are in a range and within both bounds
 abbrev pub LeavesBetween : TermRange → Bound (List ℕ) → Bound (List ℕ) → TermRange → Type 0
-LeavesBetween all start end left = (bytes : List ℕ) → IsIn left bytes ↔ (IsIn all bytes × IsFromBytes start bytes × IsToBytes end bytes)
+LeavesBetween all start end left = (bytes : List ℕ) → IsIn left bytes
+    ↔ (IsIn all bytes × IsFromBytes start bytes × IsToBytes end bytes)
 
 -- those from a bound on, and those up to one
 abbrev pub LeavesFrom : TermRange → Bound (List ℕ) → TermRange → Type 0

@@ -1,5 +1,6 @@
 -- What the bytes of a value, which begin with the code of its type, are read as.
-use Rattle.std.specs.Prelude.{ℕ, ℤ, pos, ◌+◌, ◌-◌, ◌-ℤ◌, ◌^◌, ◌≡◌, ◌==◌, Bool, not, if◌then◌else◌, List, [], ◌∷◌, ◌++◌, length, take, drop, position, Option, None, Some, IsUtf8, slice_get}
+use Rattle.std.specs.Prelude.{ℕ, ℤ, pos, ◌+◌, ◌-◌, ◌-ℤ◌, ◌^◌, ◌≡◌, ◌==◌, Bool, not, if◌then◌else◌, List, []}
+use Rattle.std.specs.Prelude.{◌∷◌, ◌++◌, length, take, drop, position, Option, None, Some, IsUtf8, slice_get}
 use Rattle.std.specs.Option.{option_and_then, option_map}
 use Rattle.std.specs.Int.{w32, w64, w128, from_be_bytes}
 use Rattle.tv_field.specs.Entry.{Entry}
@@ -51,7 +52,8 @@ is_true n = not (n == 0)
 
 -- the bytes up to the first zero and with it, and those after it
 abbrev pub cut_behind_zero : List ℕ → Option (List ℕ × List ℕ)
-cut_behind_zero bytes = option_map (λ end. (take (end + 1) bytes, drop (end + 1) bytes)) (position (λ b. b == 0) bytes)
+cut_behind_zero bytes = option_map (λ end. (take (end + 1) bytes, drop (end + 1) bytes))
+    (position (λ b. b == 0) bytes)
 
 -- of a value of a JSON field the path with its zero, and what follows
 abbrev pub json_parts : List ℕ → Option (List ℕ × List ℕ)
@@ -118,8 +120,10 @@ dotted (Some path) = 46 ∷ path
 
 -- the field's name, and after a dot the path, if there is one and it is a text
 abbrev pub IsFullPath : List ℕ → List ℕ → List ℕ → Type 0
-IsFullPath name bytes text = (path : Option (List ℕ)) × ReadsText (json_path bytes) path × (text ≡ name ++ dotted path)
+IsFullPath name bytes text = (path : Option (List ℕ)) × ReadsText (json_path bytes) path
+    × (text ≡ name ++ dotted path)
 
 -- This is the full path of a term whose field is one of the schema.
 abbrev pub IsFullPathIn : List Entry → List ℕ → List ℕ → Type 0
-IsFullPathIn schema bytes text = (entry : Entry) → slice_get schema (field_of bytes) ≡ Some entry → IsFullPath entry.name (value_of bytes) text
+IsFullPathIn schema bytes text = (entry : Entry) → slice_get schema (field_of bytes) ≡ Some entry
+    → IsFullPath entry.name (value_of bytes) text

@@ -96,7 +96,8 @@ ReadsItems source Made Item Refused TooDeep Nests count old new result =
 pub record ReadsItem {S X : Type 0} (source : Ghosts S)
     (Item : Version → List ℕ → X → Type 0) (Refused : Version → List ℕ → DeserializeError → Type 0)
     (TooDeep Nests : Version → ℕ → List ℕ → List ℕ → Type 0)
-    (old_announced old_position : ℕ) (old : StoreReader S) (new_announced new_position : ℕ) (new : StoreReader S)
+    (old_announced old_position : ℕ) (old : StoreReader S) (new_announced new_position : ℕ)
+    (new : StoreReader S)
     (result : Result (Option X) DeserializeError) : Type 0 where
   pub announced : new_announced ≡ old_announced
   pub position : new_position ≡ old_position + (if gives_some result then 1 else 0)

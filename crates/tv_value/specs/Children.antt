@@ -18,7 +18,8 @@ abbrev pub with_key : List ℕ × Tree → Child
 with_key entry = (Some entry.0, entry.1)
 
 -- those that are left of a list
-abbrev pub children_left : {N K A O : Type 0} → (A → List Tree) → (O → List (List ℕ × Tree)) → Children N K A O → List Child
+abbrev pub children_left : {N K A O : Type 0} → (A → List Tree) → (O → List (List ℕ × Tree))
+    → Children N K A O → List Child
 children_left items members (list.Array it) = map without_key (items it)
 children_left items members (list.Object it) = map with_key (members it)
 

@@ -15,8 +15,10 @@ pub record BeginsTokens (count : ℕ) (whole rest : List ℕ) : Type 0 where
 
 -- no prefix of the bytes is this many tokens
 abbrev pub NoTokens : ℕ → List ℕ → Type 0
-NoTokens count whole = (tokens : List Token) → length tokens ≡ count → NoPrefix (λ b. Each TokenEncoding b tokens) whole
+NoTokens count whole = (tokens : List Token) → length tokens ≡ count
+    → NoPrefix (λ b. Each TokenEncoding b tokens) whole
 
 -- no prefix of the bytes is a text and its tokens
 abbrev pub NoTokenized : List ℕ → Type 0
-NoTokenized whole = (content : List ℕ) (tokens : List Token) → NoPrefix (λ b. Tokenized b content tokens) whole
+NoTokenized whole = (content : List ℕ) (tokens : List Token)
+    → NoPrefix (λ b. Tokenized b content tokens) whole

@@ -11,9 +11,11 @@ use Rattle.serde_json.specs.Data.{Data, Items, Members, put}
 use Rattle.serde_json.specs.Find.{of_integer}
 use Rattle.tv_base.specs.Facet.{printed}
 use Rattle.tv_date.specs.Printed.{moment_text}
-use Rattle.tv_format.specs.Content.{Content, no_content, truth_content, unsigned_content, signed_content, wide_content, text_content, bytes_content, tokens_content}
+use Rattle.tv_format.specs.Content.{Content, no_content, truth_content, unsigned_content, signed_content}
+use Rattle.tv_format.specs.Content.{wide_content, text_content, bytes_content, tokens_content}
 use Rattle.tv_format.specs.Leaves.{content}
-use Rattle.tv_format.specs.Tree.{Token, Leaf, date, facet, Tree, leaf, array, object, Elements, no_elements, element, Entries, no_entries, entry}
+use Rattle.tv_format.specs.Tree.{Token, Leaf, date, facet, Tree, leaf, array, object, Elements, no_elements}
+use Rattle.tv_format.specs.Tree.{element, Entries, no_entries, entry}
 
 -- the text of an address: `::ffff:a.b.c.d` as `a.b.c.d`, another as std prints it
 unfoldable pub segments_text : List ℕ → List ℕ
@@ -43,9 +45,11 @@ tokens_json [] = json.no_items
 tokens_json (t ∷ ts) = json.item (token_json t) (tokens_json ts)
 
 abbrev pub tokenized_json : List ℕ → List Token → Data
-tokenized_json t ts = json.object (json.member (codes "text") (json.string t) (json.member (codes "tokens") (json.array (tokens_json ts)) json.no_members))
+tokenized_json t ts = json.object (json.member (codes "text") (json.string t)
+    (json.member (codes "tokens") (json.array (tokens_json ts)) json.no_members))
 
--- nothing, texts, numbers and truth values as themselves, and what JSON has no kind for as a text or an object; a number of sixteen
+-- nothing, texts, numbers and truth values as themselves, and what JSON has no kind for as a text or an
+-- object; a number of sixteen
 -- bytes is that of an address
 abbrev pub content_json : Content → Data
 content_json no_content = json.null
@@ -63,7 +67,8 @@ leaf_json (date z) = json.string (moment_text z)
 leaf_json (facet t) = json.string (printed t)
 leaf_json l = content_json (content l)
 
--- Arrays and objects by their parts. The entries of an object go in one after the other, so the last of equal keys stands.
+-- Arrays and objects by their parts. The entries of an object go in one after the other, so the last of equal
+-- keys stands.
 abbrev mutual
   pub json_of : Tree → Data
   json_of (leaf l) = leaf_json l

@@ -1,5 +1,6 @@
 -- The tree of a JSON value.
-use Rattle.std.specs.Prelude.{◌≡◌, ℕ, ◌^◌, nat_lt, pos, List, map, Option, Some, None, Result, Ok, Err, IsSome, String, string_bytes, if◌then◌else◌}
+use Rattle.std.specs.Prelude.{◌≡◌, ℕ, ◌^◌, nat_lt, pos, List, map, Option, Some, None, Result, Ok, Err}
+use Rattle.std.specs.Prelude.{IsSome, String, string_bytes, if◌then◌else◌}
 use Rattle.std.specs.declared.alloc.Global.{Global}
 use Rattle.serde_json.specs.Data as json
 use Rattle.serde_json.specs.Data.{Num, Data, Items, Members}
@@ -7,18 +8,21 @@ use Rattle.serde_json.specs.View.{view}
 use Rattle.serde_json.specs.Written.{has_float}
 use Rattle.serde_json.specs.declared.value.Value.{Value}
 use Rattle.tv_value.specs.Owned.{owned_tree}
-use Rattle.tv_format.specs.Tree.{Leaf, null, text, unsigned, signed, boolean, Tree, leaf, array, object, Elements, no_elements, element, Entries, no_entries, entry}
+use Rattle.tv_format.specs.Tree.{Leaf, null, text, unsigned, signed, boolean, Tree, leaf, array, object}
+use Rattle.tv_format.specs.Tree.{Elements, no_elements, element, Entries, no_entries, entry}
 use Rattle.tv_value.specs.declared.owned_value.JsonError.{JsonError}
 use Rattle.tv_value.specs.declared.owned_value.JsonError.TheVariants.{FloatNumber, Memory}
 use Rattle.tv_value.specs.declared.owned_value.OwnedValue.{OwnedValue}
 
--- A whole number is a signed one where it fits 64 bits, else an unsigned one. A float counts as no value here.
+-- A whole number is a signed one where it fits 64 bits, else an unsigned one. A float counts as no value
+-- here.
 abbrev pub number_leaf : Num → Leaf
 number_leaf (json.unsigned n) = if nat_lt n (2 ^ 63) then signed (pos n) else unsigned n
 number_leaf (json.negative z) = signed z
 number_leaf (json.float x) = null
 
--- The tree of a JSON value without floats: each kind as itself. A JSON value's members are in byte order of their keys, and so are
+-- The tree of a JSON value without floats: each kind as itself. A JSON value's members are in byte order of
+-- their keys, and so are
 -- the entries.
 abbrev mutual
   pub whole_tree : Data → Tree

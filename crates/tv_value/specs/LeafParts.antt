@@ -1,5 +1,6 @@
 -- What a leaf that is lent holds.
-use Rattle.tv_format.specs.Content.{Content, no_content, truth_content, unsigned_content, signed_content, wide_content, text_content, bytes_content, tokens_content}
+use Rattle.tv_format.specs.Content.{Content, no_content, truth_content, unsigned_content, signed_content}
+use Rattle.tv_format.specs.Content.{wide_content, text_content, bytes_content, tokens_content}
 use Rattle.tv_value.specs.PreTokenized.{text_of, tokens_of}
 use Rattle.tv_value.specs.declared.leaf.LeafContent.{LeafContent}
 use Rattle.tv_value.specs.declared.leaf.LeafContent.TheVariants as held

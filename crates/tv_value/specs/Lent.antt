@@ -1,10 +1,12 @@
--- The trees of values that are lent, as a leaf or as an iterator over their children, and of those that are owned.
+-- The trees of values that are lent, as a leaf or as an iterator over their children, and of those that are
+-- owned.
 use Rattle.std.specs.Prelude.{ℕ, List, map, string_bytes, String}
 use Rattle.std.specs.Borrow.{Bor}
 use Rattle.std.specs.Net.Addr.{ipv6_bits}
 use Rattle.std.specs.declared.alloc.Global.{Global}
 use Rattle.tv_value.specs.HeldTokens.{token_of}
-use Rattle.tv_format.specs.Tree.{Leaf, null, text, unsigned, signed, boolean, date, facet, bytes, ip_address, tokenized, Tree, leaf, array, object, elements, entries}
+use Rattle.tv_format.specs.Tree.{Leaf, null, text, unsigned, signed, boolean, date, facet, bytes, ip_address}
+use Rattle.tv_format.specs.Tree.{tokenized, Tree, leaf, array, object, elements, entries}
 use Rattle.tv_value.specs.PreTokenized.{tokenized_leaf}
 use Rattle.tv_value.specs.declared.leaf.ReferenceValueLeaf.{ReferenceValueLeaf}
 use Rattle.tv_value.specs.declared.leaf.ReferenceValueLeaf.TheVariants as lent
@@ -47,13 +49,15 @@ tree_step (OwnedValue-F.Array v) = array (elements v.items)
 tree_step (OwnedValue-F.Object v) = object (entries (map key_and v.items))
 
 -- the tree of what is lent, from the children that its iterators have left
-abbrev pub tree_of : {V A O : Type 0} → (A → List Tree) → (O → List (List ℕ × Tree)) → ReferenceValue V A O → Tree
+abbrev pub tree_of : {V A O : Type 0} → (A → List Tree) → (O → List (List ℕ × Tree)) → ReferenceValue V A O
+    → Tree
 tree_of items members (shown.Leaf l) = leaf (leaf_of l)
 tree_of items members (shown.Array it) = array (elements (items it))
 tree_of items members (shown.Object it) = object (entries (members it))
 
 -- the same of a value that is lent without its lifetime
-abbrev pub nested_tree : {N K A O : Type 0} → (A → List Tree) → (O → List (List ℕ × Tree)) → NestedValue N K A O → Tree
+abbrev pub nested_tree : {N K A O : Type 0} → (A → List Tree) → (O → List (List ℕ × Tree))
+    → NestedValue N K A O → Tree
 nested_tree items members (nested.Leaf l) = leaf (leaf_of l)
 nested_tree items members (nested.Array it) = array (elements (items it))
 nested_tree items members (nested.Object it) = object (entries (members it))

@@ -1,9 +1,11 @@
 -- How deep the lists of trees nest. A list is an array or an object.
 use Rattle.std.specs.Prelude.{ℕ, zero, suc}
 use Rattle.std.specs.List.{AllByRecursion}
-use Rattle.tv_format.specs.Tree.{Tree, leaf, array, object, Elements, no_elements, element, Entries, no_entries, entry, Document}
+use Rattle.tv_format.specs.Tree.{Tree, leaf, array, object, Elements, no_elements, element, Entries}
+use Rattle.tv_format.specs.Tree.{no_entries, entry, Document}
 
--- A leaf nests within any number, and a list within one more than each of its children. No list nests within 0.
+-- A leaf nests within any number, and a list within one more than each of its children. No list nests within
+-- 0.
 abbrev mutual
   pub NestsWithin : ℕ → Tree → Type 0
   NestsWithin n (leaf l) = Unit {0}

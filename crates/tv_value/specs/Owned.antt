@@ -16,6 +16,7 @@ abbrev pub owned_entries : List (String Global × OwnedValue) → List (List ℕ
 owned_entries members = map key_and (map (λ m. (m.0, owned_tree m.1)) members)
 
 -- what an iterator over references yields, seen through a function of each item
-pub steps_of_refs : {S A B : Type 0} (f : A → B) (rest : S → List A) (s t : S) (r : Option (Bor A)) → YieldsFirstRef rest s r t → YieldsFirstBy (λ x. f x.now) (λ s. map f (rest s)) s r t
+pub steps_of_refs : {S A B : Type 0} (f : A → B) (rest : S → List A) (s t : S) (r : Option (Bor A))
+    → YieldsFirstRef rest s r t → YieldsFirstBy (λ x. f x.now) (λ s. map f (rest s)) s r t
 steps_of_refs f rest s t None h = (ap (map f) h.0, ap (map f) h.1)
 steps_of_refs f rest s t (Some x) h = ap (map f) h

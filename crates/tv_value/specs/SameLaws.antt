@@ -6,11 +6,13 @@ use Rattle.std.specs.Prelude.{nat_eq}
 use Rattle.std.specs.Str.{bytes_eq}
 use Rattle.std.proofs.lemmas.Bool.{and_from, and_parts}
 use Rattle.tv_value.specs.SameTokensLaws.{tokenized_eq-Decides}
-use Rattle.tv_format.specs.Content.{Content, no_content, truth_content, unsigned_content, signed_content, wide_content, text_content, bytes_content, tokens_content}
+use Rattle.tv_format.specs.Content.{Content, no_content, truth_content, unsigned_content, signed_content}
+use Rattle.tv_format.specs.Content.{wide_content, text_content, bytes_content, tokens_content}
 use Rattle.tv_format.specs.Leaves.{type_of, content}
 use Rattle.tv_format.specs.LeavesLaws.{one_leaf, one_code}
 use Rattle.tv_format.specs.Encoding.{leaf_code}
-use Rattle.tv_format.specs.Tree.{Leaf, Tree, leaf, array, object, Elements, no_elements, element, Entries, no_entries, entry}
+use Rattle.tv_format.specs.Tree.{Leaf, Tree, leaf, array, object, Elements, no_elements, element, Entries}
+use Rattle.tv_format.specs.Tree.{no_entries, entry}
 use Rattle.tv_value.specs.Same.{bool_eq, content_eq, leaf_eq, tree_eq, elements_eq, entries_eq}
 
 bool_same : (a b : Bool) → bool_eq a b ≡ true → a ≡ b
@@ -36,7 +38,8 @@ content_same (signed_content y) (signed_content z) h = ap signed_content ((Decid
 content_same (wide_content m) (wide_content n) h = ap wide_content ((Decides-eqb m n).0 h)
 content_same (text_content s) (text_content t) h = ap text_content ((bytes_eq-Decides s t).0 h)
 content_same (bytes_content s) (bytes_content t) h = ap bytes_content ((bytes_eq-Decides s t).0 h)
-content_same (tokens_content s ss) (tokens_content t ts) h = ap (λ x. tokens_content x.0 x.1) ((tokenized_eq-Decides (s, ss) (t, ts)).0 h)
+content_same (tokens_content s ss) (tokens_content t ts) h = ap (λ x. tokens_content x.0 x.1)
+    ((tokenized_eq-Decides (s, ss) (t, ts)).0 h)
 content_same _ _ h = cc
 
 content_refl : (h : Content) → content_eq h h ≡ true
@@ -52,7 +55,8 @@ content_refl (tokens_content s ss) = (tokenized_eq-Decides (s, ss) (s, ss)).1 re
 leaf_same : (l m : Leaf) → leaf_eq l m ≡ true → l ≡ m
 leaf_same l m h =
     let code : leaf_code l ≡ leaf_code m = (Decides-eqb (leaf_code l) (leaf_code m)).0 (and_parts _ _ h).0 in
-    one_leaf l m (one_code (type_of l) (type_of m) code) (content_same (content l) (content m) (and_parts _ _ h).1)
+    one_leaf l m (one_code (type_of l) (type_of m) code)
+        (content_same (content l) (content m) (and_parts _ _ h).1)
 
 leaf_refl : (l : Leaf) → leaf_eq l l ≡ true
 leaf_refl l = and_from _ _ (number_refl (leaf_code l)) (content_refl (content l))
@@ -67,7 +71,8 @@ mutual
   elements_same : (ts us : Elements) → elements_eq ts us ≡ true → ts ≡ us
   elements_same no_elements no_elements h = refl
   elements_same (element t ts) (element u us) h =
-      ap (λ x. element x ts) (tree_same t u (and_parts _ _ h).0) ∙ ap (element u) (elements_same ts us (and_parts _ _ h).1)
+      ap (λ x. element x ts) (tree_same t u (and_parts _ _ h).0) ∙ ap (element u)
+          (elements_same ts us (and_parts _ _ h).1)
   elements_same _ _ h = cc
 
   entries_same : (es fs : Entries) → entries_eq es fs ≡ true → es ≡ fs
@@ -75,7 +80,8 @@ mutual
   entries_same (entry k t es) (entry j u fs) h =
       let head = (and_parts _ _ h).0 in
       ap (λ x. entry x t es) ((bytes_eq-Decides k j).0 (and_parts _ _ head).0)
-      ∙ (ap (λ x. entry j x es) (tree_same t u (and_parts _ _ head).1) ∙ ap (entry j u) (entries_same es fs (and_parts _ _ h).1))
+      ∙ (ap (λ x. entry j x es) (tree_same t u (and_parts _ _ head).1) ∙ ap (entry j u)
+          (entries_same es fs (and_parts _ _ h).1))
   entries_same _ _ h = cc
 
 mutual

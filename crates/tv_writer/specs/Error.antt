@@ -24,8 +24,10 @@ write_stop writes.TooDeep = InputError too_deep
 write_stop writes.Memory = Short
 
 -- what a writer of the store returned and did, by what is to be written
-abbrev pub WritesStore : {S T : Type 0} (sink : Ghosts S) (old new : S) (result : Result T SerializeError) (writing : Result (List ℕ) (Unwritten × List ℕ)) → Type 0
-WritesStore sink old new result writing = WritesBy write_stop sink.is_known sink.held sink.failures old new result writing
+abbrev pub WritesStore : {S T : Type 0} (sink : Ghosts S) (old new : S) (result : Result T SerializeError)
+    (writing : Result (List ℕ) (Unwritten × List ℕ)) → Type 0
+WritesStore sink old new result writing = WritesBy write_stop sink.is_known sink.held sink.failures old new
+    result writing
 
 -- the sink failed
 abbrev pub IsIo : SerializeError → Type 0

@@ -1,6 +1,7 @@
 -- What the serializers of values, arrays and objects do.
 use Rattle.std.specs.Borrow.{Bor}
-use Rattle.std.specs.Prelude.{◌≡◌, ◌-◌, ◌⊎◌, ◌++◌, ℕ, List, Option, Result, Ok, Err, IfErr, is_ok, if◌then◌else◌, option_map}
+use Rattle.std.specs.Prelude.{◌≡◌, ◌-◌, ◌⊎◌, ◌++◌, ℕ, List, Option, Result, Ok, Err, IfErr, is_ok}
+use Rattle.std.specs.Prelude.{if◌then◌else◌, option_map}
 use Rattle.tv_base.specs.declared.sink.ByteSink.{Ghosts}
 use Rattle.tv_format.specs.Short.{short, IsValue}
 use Rattle.tv_format.specs.Tree.{Tree}
@@ -20,27 +21,33 @@ WritesNothing error old new result = (result ≡ Err error) × (new ≡ old)
 
 -- a value that has no encoding is refused, or memory is before that is found; nothing is written
 abbrev pub RefusesOrLacksMemory : {S T : Type 0} → S → S → Result T SerializeError → Type 0
-RefusesOrLacksMemory old new result = WritesNothing TooMany old new result ⊎ WritesNothing Memory old new result
+RefusesOrLacksMemory old new result = WritesNothing TooMany old new result
+    ⊎ WritesNothing Memory old new result
 
 -- a value after its key, if it has one
 abbrev pub short_child : Version → Option (Bor (List ℕ)) → Tree → List ℕ
 short_child v key t = short_key_of v (option_map (λ k. k.now) key) ++ short v t
 
--- A write of this text returned the error: it left the sink so, with a failure more, of the kind that is reported.
+-- A write of this text returned the error: it left the sink so, with a failure more, of the kind that is
+-- reported.
 abbrev pub FailsToWrite : {S : Type 0} → Ghosts S → S → SerializeError → List ℕ → Type 0
 FailsToWrite {S} sink old error text = (new : S) × WritesStore {T = ℕ} sink old new (Err error) (Ok text)
 
--- The text of a value that has an encoding and nests within this many lists is written, unless the sink fails, and any other is refused:
+-- The text of a value that has an encoding and nests within this many lists is written, unless the sink
+-- fails, and any other is refused:
 -- that it nests too deep is reported first.
-pub record WritesWithin {S T : Type 0} (depth : ℕ) (t : Tree) (sink : Ghosts S) (old new : S) (result : Result T SerializeError) (text : List ℕ) : Type 0 where
+pub record WritesWithin {S T : Type 0} (depth : ℕ) (t : Tree) (sink : Ghosts S) (old new : S)
+    (result : Result T SerializeError) (text : List ℕ) : Type 0 where
   pub writes : NestsWithin depth t → IsValue t → WritesStore sink old new result (Ok text)
   pub io : NestsWithin depth t → IsValue t → IfErr result IsIo
   pub many : NestsWithin depth t → ¬ IsValue t → WritesNothing TooMany old new result
   pub deep : ¬ NestsWithin depth t → WritesNothing TooDeep old new result
 
--- The text of a value that has an encoding is written, unless the sink fails or, where it nests in more than `MAX_DEPTH` lists, memory is
+-- The text of a value that has an encoding is written, unless the sink fails or, where it nests in more than
+-- `MAX_DEPTH` lists, memory is
 -- refused. Any other is refused, and nothing is written.
-pub record WritesAnyDepth {S T : Type 0} (t : Tree) (sink : Ghosts S) (old new : S) (result : Result T SerializeError) (text : List ℕ) : Type 0 where
+pub record WritesAnyDepth {S T : Type 0} (t : Tree) (sink : Ghosts S) (old new : S)
+    (result : Result T SerializeError) (text : List ℕ) : Type 0 where
   pub writes : IsValue t → WritesStore sink old new result (Ok text)
   pub errors : IsValue t → IfErr result IsIoOrMemory
   pub only_io : NestsWithin MAX_DEPTH t → IsValue t → IfErr result IsIo
@@ -48,8 +55,10 @@ pub record WritesAnyDepth {S T : Type 0} (t : Tree) (sink : Ghosts S) (old new :
   pub many_or_memory : ¬ IsValue t → RefusesOrLacksMemory old new result
 
 -- what is written of a value, by how deep those nest that are written
-abbrev pub WritesToDepth : {S T : Type 0} → Depth → Tree → Ghosts S → S → S → Result T SerializeError → List ℕ → Type 0
-WritesToDepth (depths.Within levels) t sink old new result text = WritesWithin levels t sink old new result text
+abbrev pub WritesToDepth : {S T : Type 0} → Depth → Tree → Ghosts S → S → S → Result T SerializeError → List ℕ
+    → Type 0
+WritesToDepth (depths.Within levels) t sink old new result text =
+    WritesWithin levels t sink old new result text
 WritesToDepth (depths.Any alloc) t sink old new result text = WritesAnyDepth t sink old new result text
 
 -- how many are awaited after a call that gives one
