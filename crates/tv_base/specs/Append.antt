@@ -7,12 +7,12 @@ use Rattle.tv_base.specs.Stop.Stop.{Failed, Short, Never}
 
 -- n bytes went from the prefix of what was left to after what was there; none only at the end or where none
 -- were wanted
-pub record Moves (old new before after : List ℕ) (most n : ℕ) : Type 0 where
+pub record Moves (old new before after : List ℕ) (most size : ℕ) : Type 0 where
   pub moved : List ℕ
   pub joined : old ≡ moved ++ new
   pub behind : after ≡ before ++ moved
-  pub count : length moved ≡ n
-  pub end : n ≡ 0 → 0 < most → old ≡ []
+  pub count : length moved ≡ size
+  pub end : size ≡ 0 → 0 < most → old ≡ []
 
 abbrev pub AppendsNext : List ℕ → List ℕ → List ℕ → List ℕ → ℕ → Result ℕ ReadError → Type 0
 AppendsNext old new before after most (Ok n) = Moves old new before after most n

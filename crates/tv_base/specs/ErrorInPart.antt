@@ -30,8 +30,8 @@ pub data ErrorInNumber (whole : List ℕ) : Cause → Type 0 where
       → ErrorInNumber whole BadNumber
 
 -- of this many bytes: there are fewer
-pub data ErrorInBytes (n : ℕ) (whole : List ℕ) : Cause → Type 0 where
-  bytes_end : length whole < n → ErrorInBytes n whole UnexpectedEnd
+pub data ErrorInBytes (wanted : ℕ) (whole : List ℕ) : Cause → Type 0 where
+  bytes_end : length whole < wanted → ErrorInBytes wanted whole UnexpectedEnd
 
 -- of a truth value: there is no byte, or it is neither 0 nor 1
 pub data ErrorInTruth (whole : List ℕ) : Cause → Type 0 where

@@ -10,10 +10,10 @@ pub data Groups : List ℕ → ℕ → Type 0 where
   more : {b high : ℕ} {bytes : List ℕ} → b < 128 → Groups bytes high → Groups (b ∷ bytes) (b + 128 * high)
 
 -- One to ten bytes, which encode a number below 2 ^ 64. They need not be the fewest.
-pub record VNum (bytes : List ℕ) (n : ℕ) : Type 0 where
-  pub groups : Groups bytes n
+pub record VNum (bytes : List ℕ) (number : ℕ) : Type 0 where
+  pub groups : Groups bytes number
   pub at_most_ten : length bytes ≤ 10
-  pub fits : n < 2 ^ 64
+  pub fits : number < 2 ^ 64
 
 -- n in this many groups at most
 abbrev pub groups_of : ℕ → ℕ → List ℕ
@@ -49,9 +49,9 @@ unfoldable pub sixteen_bytes : ℕ → List ℕ
 sixteen_bytes n = low_bytes 16 n
 
 -- a signed number in 8 bytes: two's complement
-pub record Signed (bytes : List ℕ) (z : ℤ) : Type 0 where
-  pub fits : FitsSigned w64 z
-  pub encoded : Fixed 8 bytes (cast_unsigned w64 z)
+pub record Signed (bytes : List ℕ) (number : ℤ) : Type 0 where
+  pub fits : FitsSigned w64 number
+  pub encoded : Fixed 8 bytes (cast_unsigned w64 number)
 
 -- and as it is written
 abbrev pub signed_bytes : ℤ → List ℕ

@@ -7,24 +7,24 @@ abbrev pub OneReading : {A : Type 0} → (List ℕ → A → Type 0) → Type 0
 OneReading {A} R = (a b x y : List ℕ) (m n : A) → R a m → R b n → a ++ x ≡ b ++ y → (a ≡ b) × (m ≡ n)
 
 -- a prefix is of some kind, and this is what follows it
-pub record Begins (P : List ℕ → Type 0) (whole rest : List ℕ) : Type 0 where
+pub record Begins (Holds : List ℕ → Type 0) (whole rest : List ℕ) : Type 0 where
   pub prefix : List ℕ
   pub joined : whole ≡ prefix ++ rest
-  pub encoded : P prefix
+  pub encoded : Holds prefix
 
 -- bytes of one kind, and then bytes of another
-pub record Then (P Q : List ℕ → Type 0) (whole : List ℕ) : Type 0 where
+pub record Then (Holds HoldsNext : List ℕ → Type 0) (whole : List ℕ) : Type 0 where
   pub prefix : List ℕ
   pub rest : List ℕ
   pub joined : whole ≡ prefix ++ rest
-  pub first : P prefix
-  pub second : Q rest
+  pub first : Holds prefix
+  pub second : HoldsNext rest
 
 -- a code, and then bytes of some kind
-pub record Behind (code : ℕ) (P : List ℕ → Type 0) (whole : List ℕ) : Type 0 where
+pub record Behind (code : ℕ) (Holds : List ℕ → Type 0) (whole : List ℕ) : Type 0 where
   pub body : List ℕ
   pub joined : whole ≡ code ∷ body
-  pub encoded : P body
+  pub encoded : Holds body
 
 -- a length, and then this many bytes
 pub record Sized (whole content : List ℕ) : Type 0 where

@@ -35,7 +35,7 @@ MayStop _ count = Unit {0}
 
 -- a lean reader takes no memory, so none is refused
 abbrev pub MayStopLean : ReadError → ℕ → Type 0
-MayStopLean e count = MayStop e count × (e ≢ Memory)
+MayStopLean error count = MayStop error count × (error ≢ Memory)
 
 -- The result, seen by view, is what the reading gives of the bytes that were left, and what follows them is
 -- left now.

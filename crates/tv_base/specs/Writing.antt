@@ -16,7 +16,7 @@ use Rattle.tv_base.specs.Stop.Stop.{Failed}
 
 -- a writer that refuses nothing
 abbrev pub io_stop : WriteError → Stop ⊥
-io_stop e = Failed e.0
+io_stop error = Failed error.0
 
 -- this text is written
 abbrev pub Writes : {S T : Type 0} (sink : Ghosts S) (old new : S) (result : Result T WriteError)

@@ -4,17 +4,17 @@ use Rattle.tv_blocks.specs.declared.block_error.BlockError.{BlockError}
 use Rattle.tv_blocks.specs.declared.block_error.BlockError.TheVariants as errors
 
 -- Such content was written at the buffer's beginning, and the rest of the buffer is as it was.
-pub record Written (P : List ℕ → Type 0) (old new : List ℕ) (size : ℕ) : Type 0 where
+pub record Written (Holds : List ℕ → Type 0) (old new : List ℕ) (size : ℕ) : Type 0 where
   pub content : List ℕ
-  pub is : P content
+  pub is : Holds content
   pub measured : size ≡ length content
   pub fits : size ≤ length old
   pub put : new ≡ content ++ drop size old
 
 -- Such content is to be written, and is longer than the buffer.
-pub record LacksSpace (P : List ℕ → Type 0) (old : List ℕ) (size : ℕ) : Type 0 where
+pub record LacksSpace (Holds : List ℕ → Type 0) (old : List ℕ) (size : ℕ) : Type 0 where
   pub content : List ℕ
-  pub is : P content
+  pub is : Holds content
   pub measured : size ≡ length content
   pub larger : length old < size
 

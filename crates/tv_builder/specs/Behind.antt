@@ -14,15 +14,15 @@ pairs_parts (p ∷ d) = pair p.0 p.1 ∷ pairs_parts d
 
 -- the number of the pairs, and the finished ones
 abbrev pub document_parts : ℕ → Document → List Part
-document_parts n d = number n ∷ pairs_parts d
+document_parts n document = number n ∷ pairs_parts document
 
 -- and of the next one its field, and what has come of its value
 abbrev pub open_parts : ℕ → Document → ℕ → State → List Part
-open_parts n d f s = document_parts n d ++ (field f ∷ parts_of s)
+open_parts n document f state = document_parts n document ++ (field f ∷ parts_of state)
 
 -- Whatever bytes encode these parts, where the rest follows them no prefix encodes a document, for this
 -- reason. `Legacy` and `L` say what encodes a legacy object, and what is wrong with bytes that encode none.
 abbrev pub ErrorsBehind : (Legacy : List ℕ → Entries → Type 0) (L : List ℕ → Cause → Type 0) → Version
     → List Part → List ℕ → Refusal → Type 0
-ErrorsBehind Legacy L v ps rest r = (bytes : List ℕ) → Encoded Legacy v bytes ps
-    → ErrorInDocument Legacy L v (bytes ++ rest) r
+ErrorsBehind Legacy L version parts rest refusal = (bytes : List ℕ) → Encoded Legacy version bytes parts
+    → ErrorInDocument Legacy L version (bytes ++ rest) refusal

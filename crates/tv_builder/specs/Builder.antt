@@ -17,22 +17,22 @@ use Rattle.tv_builder.specs.declared.pair_builder.PairBuilder.{PairBuilder}
 
 -- the finished pairs
 abbrev pub built : PairBuilder → Document
-built b = b.document.0
+built builder = builder.document.0
 
 -- what has come so far of the next value
 abbrev pub state_of : PairBuilder → State
-state_of b = b.state.0
+state_of builder = builder.state.0
 
 abbrev pub heap_so_far : PairBuilder → List ℕ
-heap_so_far b = b.building.heap.items
+heap_so_far builder = builder.building.heap.items
 
 -- where the values of the finished pairs stand
 abbrev pub pairs_so_far : PairBuilder → List HeapPair
-pairs_so_far b = b.pairs.items
+pairs_so_far builder = builder.pairs.items
 
 -- the heap of the finished pairs
 abbrev pub kept_heap : PairBuilder → List ℕ
-kept_heap b = take b.kept (heap_so_far b)
+kept_heap builder = take builder.kept (heap_so_far builder)
 
 -- bytes are open, and this many more are announced
 abbrev pub TakesBytes : State → ℕ → Type 0
@@ -108,13 +108,13 @@ abbrev pub Ends : PairBuilder → PairBuilder → Result (Unit {0}) BuildError �
 Ends old new r = EndsIf old.failed old new r
 
 -- the complete tree became a pair
-pub record Finished (old new : PairBuilder) (f : ℕ) : Type 0 where
+pub record Finished (old new : PairBuilder) (field : ℕ) : Type 0 where
   pub tree : Tree
   pub was : state_of old ≡ complete tree
   pub not_failed : new.failed ≡ false
-  pub document : built new ≡ built old ++ (f, tree) ∷ []
+  pub document : built new ≡ built old ++ (field, tree) ∷ []
   pub state : state_of new ≡ in_lists []
-  pub pairs : pairs_so_far new ≡ pairs_so_far old ++ pair_at f (tree_place (kept_heap old) tree) ∷ []
+  pub pairs : pairs_so_far new ≡ pairs_so_far old ++ pair_at field (tree_place (kept_heap old) tree) ∷ []
   pub heap : heap_so_far new ≡ heap_so_far old
   pub kept : new.kept ≡ length (heap_so_far old)
 

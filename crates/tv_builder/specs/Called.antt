@@ -7,14 +7,14 @@ use Rattle.tv_builder.specs.State.{State, and_value, and_list, and_key}
 abbrev mutual
   -- what they make of a state
   pub parts_called : State → Tree → State
-  parts_called s (leaf l) = and_value s (leaf l)
-  parts_called s (array ts) = elements_called (and_list s Array (element_count ts)) ts
-  parts_called s (object es) = entries_called (and_list s Object (entry_count es)) es
+  parts_called state (leaf l) = and_value state (leaf l)
+  parts_called state (array ts) = elements_called (and_list state Array (element_count ts)) ts
+  parts_called state (object es) = entries_called (and_list state Object (entry_count es)) es
 
   pub elements_called : State → Elements → State
-  elements_called s no_elements = s
-  elements_called s (element t ts) = elements_called (parts_called s t) ts
+  elements_called state no_elements = state
+  elements_called state (element t ts) = elements_called (parts_called state t) ts
 
   pub entries_called : State → Entries → State
-  entries_called s no_entries = s
-  entries_called s (entry k t es) = entries_called (parts_called (and_key s k) t) es
+  entries_called state no_entries = state
+  entries_called state (entry k t es) = entries_called (parts_called (and_key state k) t) es

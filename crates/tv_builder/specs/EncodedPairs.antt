@@ -21,10 +21,11 @@ pub record IsStart (old now : HeapPairs) : Type 0 where
 -- This many pairs are added. The new heap and the new pairs' places are those that writing the trees one
 -- after the other gives. The heap grows by at most the room of the trees. Where there is none, all is
 -- unchanged.
-pub record AddsEncoded (v : Version) (old new : HeapPairs) (whole rest : List ℕ) (count : ℕ) : Type 0 where
+pub record AddsEncoded (version : Version) (old new : HeapPairs) (whole rest : List ℕ)
+    (count : ℕ) : Type 0 where
   pub pairs : Document
   pub counted : length pairs ≡ count
-  pub encoded : Begins (λ b. Each (EncodesPair NoLegacy v) b pairs) whole rest
+  pub encoded : Begins (λ b. Each (EncodesPair NoLegacy version) b pairs) whole rest
   pub document : document_of new ≡ document_of old ++ pairs
   pub bytes : heap_of new ≡ document_heap (heap_of old) pairs
   pub places : new.pairs.items ≡ old.pairs.items ++ document_pairs (heap_of old) pairs
@@ -33,9 +34,9 @@ pub record AddsEncoded (v : Version) (old new : HeapPairs) (whole rest : List �
   pub none : count ≡ 0 → IsUnchanged old new
 
 -- the same of one pair
-pub record AddsEncodedPair (v : Version) (old new : HeapPairs) (whole rest : List ℕ) : Type 0 where
+pub record AddsEncodedPair (version : Version) (old new : HeapPairs) (whole rest : List ℕ) : Type 0 where
   pub pair : ℕ × Tree
-  pub encoded : Begins (λ b. EncodesPair NoLegacy v b pair) whole rest
+  pub encoded : Begins (λ b. EncodesPair NoLegacy version b pair) whole rest
   pub added : Added old new pair.0 pair.1
   pub start : IsStart old new
 

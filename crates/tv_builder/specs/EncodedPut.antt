@@ -7,7 +7,7 @@ use Rattle.tv_format.specs.Version.{Version}
 use Rattle.tv_builder.specs.Whole.{Put}
 use Rattle.tv_heap.specs.declared.value_type.Place.{Place}
 
-pub record EncodedPut (v : Version) (whole rest old new : List ℕ) (p : Place) : Type 0 where
+pub record EncodedPut (version : Version) (whole rest old new : List ℕ) (place : Place) : Type 0 where
   pub tree : Tree
-  pub encoded : Begins (λ b. Encodes NoLegacy v b tree) whole rest
-  pub put : Put 4294967295 old tree new p
+  pub encoded : Begins (λ b. Encodes NoLegacy version b tree) whole rest
+  pub put : Put 4294967295 old tree new place

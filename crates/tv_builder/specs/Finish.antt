@@ -16,13 +16,13 @@ pub HoldsPrefix-prop : (heap : List ℕ) (kept : ℕ) (ps : List HeapPair) → I
 HoldsPrefix-prop heap kept ps = Holds-prop (take kept heap) ps
 
 -- nothing stands after this heap
-pub record Empty (heap : List ℕ) (b : Building) : Type 0 where
-  pub heap_is : b.heap.items ≡ heap
-  pub places : b.places.items ≡ []
-  pub pending : b.pending ≡ 0
-  pub frames : b.frames.items ≡ []
-  pub complete : b.complete ≡ None
-  pub closed : b.open ≡ None
+pub record Empty (heap : List ℕ) (building : Building) : Type 0 where
+  pub heap_is : building.heap.items ≡ heap
+  pub places : building.places.items ≡ []
+  pub pending : building.pending ≡ 0
+  pub frames : building.frames.items ≡ []
+  pub complete : building.complete ≡ None
+  pub closed : building.open ≡ None
 
 -- After a refusal what isn't finished is dropped, and that is marked; else nothing changes.
 pub record Settled (old new : Building) (kept : ℕ) (failed failed_new : Bool)
@@ -33,11 +33,11 @@ pub record Settled (old new : Building) (kept : ℕ) (failed failed_new : Bool)
   pub marked : OnErr answer (failed_new ≡ true)
 
 -- the complete value became that of a pair
-pub record Kept (old new : Building) (ps qs : List HeapPair) (kept f : ℕ) : Type 0 where
+pub record Kept (old new : Building) (ps qs : List HeapPair) (kept field : ℕ) : Type 0 where
   pub at : Place
   pub is : old.complete ≡ Some at
-  pub fits : f < 2 ^ 32
-  pub pairs : qs ≡ ps ++ pair_at f at ∷ []
+  pub fits : field < 2 ^ 32
+  pub pairs : qs ≡ ps ++ pair_at field at ∷ []
   pub kept_is : kept ≡ length old.heap.items
   pub rest : new ≡ record old { complete = None }
 
@@ -48,8 +48,8 @@ WhyNoPair old Memory = ¬ (old.complete ≡ None)
 WhyNoPair old _ = ⊥
 
 pub record KeptNot (old new : Building) (ps qs : List HeapPair) (kept kept_new : ℕ)
-    (e : BuildError) : Type 0 where
+    (error : BuildError) : Type 0 where
   pub unchanged : new ≡ old
   pub pairs : qs ≡ ps
   pub kept_same : kept_new ≡ kept
-  pub why : WhyNoPair old e
+  pub why : WhyNoPair old error

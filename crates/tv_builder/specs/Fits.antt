@@ -6,7 +6,7 @@ use Rattle.tv_format.specs.Tree.{Leaf}
 use Rattle.tv_heap.specs.LeafBytes.{leaf_bytes}
 
 abbrev pub LeafFits : List ℕ → Leaf → Type 0
-LeafFits heap l = length (heap ++ leaf_bytes l) ≤ 4294967295
+LeafFits heap the_leaf = length (heap ++ leaf_bytes the_leaf) ≤ 4294967295
 
 abbrev pub KeyFits : List ℕ → List ℕ → Type 0
 KeyFits heap content = length (heap ++ short_sized content) ≤ 4294967295

@@ -11,17 +11,18 @@ use Rattle.tv_builder.specs.Kinds.{total, list_type}
 
 -- how a place stands in its list's bytes
 abbrev pub place_bytes : Place → List ℕ
-place_bytes p = type_code p.value_type ∷ vnum p.address
+place_bytes place = type_code place.value_type ∷ vnum place.address
 
 abbrev pub lacks : Frame → Bool
-lacks f = nat_lt f.finished (total f.kind f.announced)
+lacks frame = nat_lt frame.finished (total frame.kind frame.announced)
 
 -- with one child more it still lacks one
 abbrev pub still_lacks : Frame → Bool
-still_lacks f = nat_lt (suc f.finished) (total f.kind f.announced)
+still_lacks frame = nat_lt (suc frame.finished) (total frame.kind frame.announced)
 
 abbrev pub one_more : Frame → Frame
-one_more f = record { kind = f.kind; announced = f.announced; finished = f.finished + 1; first = f.first }
+one_more frame = record { kind = frame.kind; announced = frame.announced; finished = frame.finished + 1;
+    first = frame.first }
 
 pub record Given : Type 0 where
   pub heap : List ℕ
@@ -33,11 +34,11 @@ pub record Given : Type 0 where
 -- heap's end, and so is a
 -- finished value itself.
 abbrev pub given : List ℕ → List ℕ → List Frame → Place → Given
-given heap places [] p = record { heap = heap; places = places; frames = []; complete = Some p }
-given heap places (f ∷ fs) p =
+given heap places [] place = record { heap = heap; places = places; frames = []; complete = Some place }
+given heap places (f ∷ fs) place =
     cond (still_lacks f)
-    (record { heap = heap; places = places ++ place_bytes p; frames = one_more f ∷ fs; complete = None })
-    (given (heap ++ short_sized (drop f.first (places ++ place_bytes p))) (take f.first places) fs
+    (record { heap = heap; places = places ++ place_bytes place; frames = one_more f ∷ fs; complete = None })
+    (given (heap ++ short_sized (drop f.first (places ++ place_bytes place))) (take f.first places) fs
     (record { value_type = list_type f.kind; address = length heap }))
 
 -- ---- what holds of open lists whatever they hold

@@ -36,13 +36,13 @@ places_of d = map (λ p. (type_code p.place.value_type, p.place.address)) d.pair
 -- gives: the old heap is kept as a prefix, and grew by the tree's room at most. The old places are kept, and
 -- the new one is after the old heap, unless it is that of
 -- null or a truth value.
-pub record Added (old new : HeapPairs) (field : ℕ) (t : Tree) : Type 0 where
-  pub document : document_of new ≡ document_of old ++ (field, t) ∷ []
-  pub bytes : heap_of new ≡ tree_heap (heap_of old) t
-  pub pair : new.pairs.items ≡ old.pairs.items ++ pair_at field (tree_place (heap_of old) t) ∷ []
+pub record Added (old new : HeapPairs) (field : ℕ) (tree : Tree) : Type 0 where
+  pub document : document_of new ≡ document_of old ++ (field, tree) ∷ []
+  pub bytes : heap_of new ≡ tree_heap (heap_of old) tree
+  pub pair : new.pairs.items ≡ old.pairs.items ++ pair_at field (tree_place (heap_of old) tree) ∷ []
   pub added : List ℕ
   pub heap : heap_of new ≡ heap_of old ++ added
-  pub within : length added ≤ room t
+  pub within : length added ≤ room tree
   pub code : ℕ
   pub at : ℕ
   pub places : places_of new ≡ places_of old ++ (code, at) ∷ []
@@ -57,12 +57,12 @@ pub record IsUnchanged (old new : HeapPairs) : Type 0 where
 
 -- the heap has no room for the tree
 abbrev pub IsFull : HeapPairs → Tree → Type 0
-IsFull d t = 4294967295 < length (heap_of d) + room t
+IsFull d tree = 4294967295 < length (heap_of d) + room tree
 
 -- when which refusal comes
 abbrev pub RefusesAddition : HeapPairs → Tree → AddError → Type 0
-RefusesAddition d t HeapFull = IsFull d t
-RefusesAddition d t Memory = length (heap_of d) + room t ≤ 4294967295
+RefusesAddition d tree HeapFull = IsFull d tree
+RefusesAddition d tree Memory = length (heap_of d) + room tree ≤ 4294967295
 
 -- The promise of adding: what an addition of a pair returns, and what it leaves.
 --
@@ -70,8 +70,8 @@ RefusesAddition d t Memory = length (heap_of d) + room t ≤ 4294967295
 -- `HeapFull` comes only where the heap has no room for the tree, and `Memory` only where it has.
 -- After an error nothing has changed (`IsUnchanged`).
 abbrev pub Adds : {T : Type 0} → HeapPairs → HeapPairs → ℕ → Tree → Result T AddError → Type 0
-Adds old new field t (Ok x) = (length (heap_of old) + room t ≤ 4294967295) × Added old new field t
-Adds old new field t (Err e) = RefusesAddition old t e × IsUnchanged old new
+Adds old new field tree (Ok x) = (length (heap_of old) + room tree ≤ 4294967295) × Added old new field tree
+Adds old new field tree (Err e) = RefusesAddition old tree e × IsUnchanged old new
 
 -- After a refusal for want of room the heap has memory for at most 1 MiB more than before.
 abbrev pub GrowsLittle : {T : Type 0} → ℕ → ℕ → Result T AddError → Type 0

@@ -17,10 +17,10 @@ abbrev pub pair_at : ℕ → Place → HeapPair
 pair_at field place = record { field = field; place = place }
 
 -- a pair's field and tree
-pub record ReadsPair (heap : List ℕ) (p : HeapPair) (pair : ℕ × Tree) : Type 0 where
-  pub field : p.field ≡ pair.0
+pub record ReadsPair (heap : List ℕ) (held : HeapPair) (pair : ℕ × Tree) : Type 0 where
+  pub field : held.field ≡ pair.0
   pub fits : pair.0 < 2 ^ 32
-  pub reads : ReadsTree heap (type_code p.place.value_type) p.place.address pair.1
+  pub reads : ReadsTree heap (type_code held.place.value_type) held.place.address pair.1
 
 -- each pair's
 abbrev pub ReadsPairs : List ℕ → List HeapPair → Document → Type 0
@@ -37,16 +37,16 @@ one_document heap (p ∷ ps) (x ∷ d) (y ∷ e) r s =
     let rest = one_document heap ps d e r.1 s.1 in
     λ i. (field i, tree i) ∷ rest i
 one_document heap [] [] (y ∷ e) r s = absurd s
-one_document heap [] (x ∷ d) e r s = absurd r
-one_document heap (p ∷ ps) [] e r s = absurd r
+one_document heap [] (x ∷ d) document r s = absurd r
+one_document heap (p ∷ ps) [] document r s = absurd r
 one_document heap (p ∷ ps) (x ∷ d) [] r s = absurd s
 
 -- the document that a heap and its pairs hold
 abbrev pub Holds : List ℕ → List HeapPair → Type 0
-Holds heap ps = (d : Document) × ∥ ReadsPairs heap ps d ∥₁
+Holds heap pairs = (d : Document) × ∥ ReadsPairs heap pairs d ∥₁
 
 pub Holds-prop : (heap : List ℕ) (ps : List HeapPair) → IsProp (Holds heap ps)
-Holds-prop heap ps x y =
+Holds-prop heap pairs x y =
     Σ_prop_path (λ d. ∥∥₁_prop)
     (∥∥₁_elim x.1 (Coded-set coded_document x.0 y.0)
-    (λ p. ∥∥₁_elim y.1 (Coded-set coded_document x.0 y.0) (λ q. one_document heap ps x.0 y.0 p q)))
+    (λ p. ∥∥₁_elim y.1 (Coded-set coded_document x.0 y.0) (λ q. one_document heap pairs x.0 y.0 p q)))

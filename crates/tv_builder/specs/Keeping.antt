@@ -12,8 +12,8 @@ pub record PairKept (mid new : List ℕ) (ps qs : List HeapPair) (field : ℕ) (
   pub heap : new ≡ mid
 
 -- memory was refused, and the heap is cut back
-pub record PairCut (mid new : List ℕ) (ps qs : List HeapPair) (len : ℕ) (e : AddError) : Type 0 where
-  pub memory : e ≡ Memory
+pub record PairCut (mid new : List ℕ) (ps qs : List HeapPair) (len : ℕ) (error : AddError) : Type 0 where
+  pub memory : error ≡ Memory
   pub pairs : qs ≡ ps
   pub heap : new ≡ take len mid
 

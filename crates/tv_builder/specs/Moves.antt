@@ -16,20 +16,20 @@ use Rattle.tv_builder.specs.State.{State, state_room}
 
 -- the heap, the places and the lists that a finished value leaves, whatever the heap's length
 abbrev pub given_to : Building → Place → Given
-given_to b p = given b.heap.items b.places.items (frames_of b) p
+given_to building place = given building.heap.items building.places.items (frames_of building) place
 
-pub record CanGive (b : Building) : Type 0 where
-  pub fits : length b.heap.items ≤ 4294967295
-  pub counted : b.pending ≡ pending_in (frames_of b)
-  pub cut : AreCut (frames_of b) b.places.items
-  pub none : b.complete ≡ None
+pub record CanGive (building : Building) : Type 0 where
+  pub fits : length building.heap.items ≤ 4294967295
+  pub counted : building.pending ≡ pending_in (frames_of building)
+  pub cut : AreCut (frames_of building) building.places.items
+  pub none : building.complete ≡ None
 
-pub record GivesPlace (old : Building) (p : Place) (new : Building) : Type 0 where
+pub record GivesPlace (old : Building) (place : Place) (new : Building) : Type 0 where
   pub fits : length new.heap.items ≤ 4294967295
-  pub heap : new.heap.items ≡ (given_to old p).heap
-  pub places : new.places.items ≡ (given_to old p).places
-  pub frames : frames_of new ≡ (given_to old p).frames
-  pub complete : new.complete ≡ (given_to old p).complete
+  pub heap : new.heap.items ≡ (given_to old place).heap
+  pub places : new.places.items ≡ (given_to old place).places
+  pub frames : frames_of new ≡ (given_to old place).frames
+  pub complete : new.complete ≡ (given_to old place).complete
   pub same_bytes : new.open ≡ old.open
   pub counted : new.pending ≡ pending_in (frames_of new)
 
@@ -39,9 +39,9 @@ WhyNot heap HeapFull = 4294967295 < length heap
 WhyNot heap Memory = Unit {0}
 WhyNot heap _ = ⊥
 
-pub record GivesNot (old : Building) (p : Place) (new : Building) (e : BuildError) : Type 0 where
+pub record GivesNot (old : Building) (place : Place) (new : Building) (error : BuildError) : Type 0 where
   pub prefix : IsPrefix old.heap.items new.heap.items
-  pub why : WhyNot (given_to old p).heap e
+  pub why : WhyNot (given_to old place).heap error
 
 -- ---- the calls
 
@@ -53,7 +53,7 @@ FitsRoom most (Some n) len b = IsTrue b ↔ (len + n ≤ most)
 
 -- this holds of the state that is held
 abbrev pub InState : Building → (State → Type 0) → Type 0
-InState b P = (s : State) → ShowsState b s → P s
+InState building P = (s : State) → ShowsState building s → P s
 
 -- The state that was held becomes another.
 pub record MovesState (old new : Building) (after : State → State) : Type 0 where
@@ -63,9 +63,9 @@ pub record MovesState (old new : Building) (after : State → State) : Type 0 wh
 -- After this heap there is no room for a state: its bytes and those that it announces end above 4294967295,
 -- and so does the room that it may
 -- take.
-pub record Over (base : List ℕ) (s : State) : Type 0 where
-  pub bytes : 4294967295 < full_length base s
-  pub room : 4294967295 < length base + state_room s
+pub record Over (base : List ℕ) (state : State) : Type 0 where
+  pub bytes : 4294967295 < full_length base state
+  pub room : 4294967295 < length base + state_room state
 
 -- A call that belongs `here`, of bytes that end `well`. Memory is refused only where `fits` holds. After a
 -- refusal what stood in the heap

@@ -11,8 +11,8 @@ use Rattle.tv_builder.specs.Whole.{Put, PutNot}
 
 -- a key, as a text, comes before its value
 abbrev pub key_then : Option (List ℕ) → List Tree → List Tree
-key_then None ts = ts
-key_then (Some k) ts = leaf (text k) ∷ ts
+key_then None trees = trees
+key_then (Some k) trees = leaf (text k) ∷ trees
 
 abbrev pub flat : List Child → List Tree
 flat [] = []
@@ -29,7 +29,8 @@ IsOfKind _ _ = ⊥
 
 -- A child is written at the end of a heap, and its place after others.
 abbrev pub ChildPut : ℕ → List ℕ → List ℕ → Tree → List ℕ → List ℕ → Type 0
-ChildPut most old before t new left = (p : Place) × Put most old t new p × (left ≡ before ++ place_bytes p)
+ChildPut most old before tree new left = (p : Place) × Put most old tree new p
+    × (left ≡ before ++ place_bytes p)
 
 -- a key, if there is one
 abbrev pub KeyPut : ℕ → List ℕ → List ℕ → Option (List ℕ) → List ℕ → List ℕ → Type 0
@@ -37,5 +38,5 @@ KeyPut most old before None new left = (new ≡ old) × (left ≡ before)
 KeyPut most old before (Some k) new left = ChildPut most old before (leaf (text k)) new left
 
 abbrev pub KeyNotPut : ℕ → List ℕ → Option (List ℕ) → List ℕ → AddError → Type 0
-KeyNotPut most old None new e = ⊥
-KeyNotPut most old (Some k) new e = PutNot most old (leaf (text k)) new e
+KeyNotPut most old None new error = ⊥
+KeyNotPut most old (Some k) new error = PutNot most old (leaf (text k)) new error

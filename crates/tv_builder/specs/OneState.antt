@@ -78,8 +78,8 @@ one_lists heap (f ∷ fs) places (l ∷ ls) (m ∷ ms) h g =
     let others = one_lists heap fs (take f.first places) ls ms h.1 g.1 in
     λ i. record { kind = kind i; announced = announced i; children = children i } ∷ others i
 one_lists heap [] places [] (m ∷ ms) h g = absurd g
-one_lists heap [] places (l ∷ ls) ms h g = absurd h
-one_lists heap (f ∷ fs) places [] ms h g = absurd h
+one_lists heap [] places (l ∷ ls) lists h g = absurd h
+one_lists heap (f ∷ fs) places [] lists h g = absurd h
 one_lists heap (f ∷ fs) places (l ∷ ls) [] h g = absurd g
 
 both : {A : Type 0} (x : Option A) (a : A) → x ≡ Some a → x ≡ None → ⊥
@@ -88,15 +88,15 @@ both x a e f = absurd (let g : Some a ≡ None = sym e ∙ f in cc)
 one_state : (heap : List ℕ) (fs : List Frame) (places : List ℕ) (whole : Option Place)
     (bytes : Option OpenBytes) (s t : State) → ShowsAt heap fs places whole bytes s
     → ShowsAt heap fs places whole bytes t → s ≡ t
-one_state heap fs places whole bytes (complete s) (complete t) h g =
+one_state heap frames places whole bytes (complete s) (complete t) h g =
     let e : Some h.at ≡ Some g.at = sym h.is ∙ g.is in
     let same_at : h.at ≡ g.at = cc in
     ap complete (one_tree heap (type_code h.at.value_type) h.at.address s t h.placed.reads
         (subst (λ (p : Place). ReadsTree heap (type_code p.value_type) p.address t)
         (sym same_at) g.placed.reads))
-one_state heap fs places whole bytes (in_lists ls) (in_lists ms) h g =
-    ap in_lists (one_lists heap fs places ls ms h.lists g.lists)
-one_state heap fs places whole bytes (in_bytes ls k n bs) (in_bytes ms j m cs) h g =
+one_state heap frames places whole bytes (in_lists ls) (in_lists ms) h g =
+    ap in_lists (one_lists heap frames places ls ms h.lists g.lists)
+one_state heap frames places whole bytes (in_bytes ls k n bs) (in_bytes ms j m cs) h g =
     let e : Some h.piece ≡ Some g.piece = sym h.is ∙ g.is in
     let same_piece : h.piece ≡ g.piece = cc in
     let kind : k ≡ j = sym h.same_kind ∙ ap (λ (o : OpenBytes). o.kind) same_piece ∙ g.same_kind in
@@ -111,43 +111,44 @@ one_state heap fs places whole bytes (in_bytes ls k n bs) (in_bytes ms j m cs) h
         (ap (λ z. z ++ (vnum n ++ bs)) (sym prefix) ∙ joined) in
     let so_far : bs ≡ cs = append_cancel_left (vnum m) bs cs
         (ap (λ z. vnum z ++ bs) (sym announced) ∙ behind) in
-    let lists = one_lists heap fs places ls ms h.lists g.lists in
+    let lists = one_lists heap frames places ls ms h.lists g.lists in
     λ i. in_bytes (lists i) (kind i) (announced i) (so_far i)
-one_state heap fs places whole bytes (complete s) (in_lists ms) h g = absurd (both whole h.at h.is g.none)
-one_state heap fs places whole bytes (complete s) (in_bytes ms j m cs) h g =
+one_state heap frames places whole bytes (complete s) (in_lists ms) h g = absurd (both whole h.at h.is g.none)
+one_state heap frames places whole bytes (complete s) (in_bytes ms j m cs) h g =
     absurd (both whole h.at h.is g.none)
-one_state heap fs places whole bytes (in_lists ls) (complete t) h g = absurd (both whole g.at g.is h.none)
-one_state heap fs places whole bytes (in_lists ls) (in_bytes ms j m cs) h g =
+one_state heap frames places whole bytes (in_lists ls) (complete t) h g = absurd (both whole g.at g.is h.none)
+one_state heap frames places whole bytes (in_lists ls) (in_bytes ms j m cs) h g =
     absurd (both bytes g.piece g.is h.closed)
-one_state heap fs places whole bytes (in_bytes ls k n bs) (complete t) h g =
+one_state heap frames places whole bytes (in_bytes ls k n bs) (complete t) h g =
     absurd (both whole g.at g.is h.none)
-one_state heap fs places whole bytes (in_bytes ls k n bs) (in_lists ms) h g =
+one_state heap frames places whole bytes (in_bytes ls k n bs) (in_lists ms) h g =
     absurd (both bytes h.piece h.is g.closed)
 
 pub HoldsSomeState-prop : (b : Building) → IsProp (HoldsSomeState b)
-HoldsSomeState-prop b x y =
+HoldsSomeState-prop building x y =
     let set = Coded-set coded_state x.0 y.0 in
     Σ_prop_path (λ s. ∥∥₁_prop) (∥∥₁_elim x.1 set
-        (λ p. ∥∥₁_elim y.1 set (λ q. one_state b.heap.items
-        (frames_of b) b.places.items b.complete b.open x.0 y.0 p.at q.at)))
+        (λ p. ∥∥₁_elim y.1 set (λ q. one_state building.heap.items
+        (frames_of building) building.places.items building.complete building.open x.0 y.0 p.at q.at)))
 
 -- the state does not depend on how it was shown
 pub same_state : (b : Building) (x y : HoldsSomeState b) → x.0 ≡ y.0
-same_state b x y = ap (λ p. p.0) (HoldsSomeState-prop b x y)
+same_state building x y = ap (λ p. p.0) (HoldsSomeState-prop building x y)
 
 -- ---- a state after a heap
 
 -- the state that a builder holds, which is all that stands after this heap
 abbrev pub StandsBehind : List ℕ → Building → Type 0
-StandsBehind base b = (s : State) × ∥ ShowsBehind base b s ∥₁
+StandsBehind base building = (s : State) × ∥ ShowsBehind base building s ∥₁
 
 -- of which the state is one that it holds
 abbrev pub stands_of : (base : List ℕ) (b : Building) → StandsBehind base b → HoldsSomeState b
-stands_of base b h = (h.0, ∥∥₁_map h.1 (λ p. p.shows))
+stands_of base building h = (h.0, ∥∥₁_map h.1 (λ p. p.shows))
 
 pub same_behind : (base other : List ℕ) (b : Building) (x : StandsBehind base b) (y : StandsBehind other b)
     → x.0 ≡ y.0
-same_behind base other b x y = same_state b (stands_of base b x) (stands_of other b y)
+same_behind base other building x y = same_state building (stands_of base building x)
+    (stands_of other building y)
 
 pub StandsBehind-prop : (base : List ℕ) (b : Building) → IsProp (StandsBehind base b)
-StandsBehind-prop base b x y = Σ_prop_path (λ s. ∥∥₁_prop) (same_behind base base b x y)
+StandsBehind-prop base building x y = Σ_prop_path (λ s. ∥∥₁_prop) (same_behind base base building x y)

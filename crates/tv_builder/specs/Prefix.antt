@@ -17,10 +17,10 @@ KeyHead V2 whole n = Behind 0 (λ b. VNum b n) whole
 KeyHead V3 whole n = VNum whole n
 
 abbrev pub BytesHead : Version → BytesKind → List ℕ → ℕ → Type 0
-BytesHead v kinds.Str whole n = Behind 0 (λ b. VNum b n) whole
-BytesHead v kinds.Facet whole n = Behind 3 (λ b. VNum b n) whole
-BytesHead v kinds.Bytes whole n = Behind 4 (λ b. VNum b n) whole
-BytesHead v kinds.Key whole n = KeyHead v whole n
+BytesHead version kinds.Str whole n = Behind 0 (λ b. VNum b n) whole
+BytesHead version kinds.Facet whole n = Behind 3 (λ b. VNum b n) whole
+BytesHead version kinds.Bytes whole n = Behind 4 (λ b. VNum b n) whole
+BytesHead version kinds.Key whole n = KeyHead version whole n
 
 -- `Legacy` says what encodes the legacy form of objects
 module _ (Legacy : List ℕ → Entries → Type 0) (v : Version) where
@@ -37,4 +37,4 @@ module _ (Legacy : List ℕ → Entries → Type 0) (v : Version) where
 
   -- the bytes are cut into as many slices, each of which encodes its part
   abbrev pub Encoded : List ℕ → List Part → Type 0
-  Encoded whole ps = Each EncodesPart whole ps
+  Encoded whole parts = Each EncodesPart whole parts

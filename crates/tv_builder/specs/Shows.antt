@@ -16,18 +16,18 @@ use Rattle.tv_builder.specs.Given.{pending_in}
 use Rattle.tv_builder.specs.State.{OpenList, State, complete, in_lists, in_bytes, next_at, IsState}
 
 -- A tree stands there. Unless it is null or a truth value, it has bytes below the heap's end.
-pub record Placed (heap : List ℕ) (p : Place) (t : Tree) : Type 0 where
-  pub reads : ReadsTree heap (type_code p.value_type) p.address t
-  pub below : type_code p.value_type ≢ 0 → type_code p.value_type ≢ 9 → p.address < length heap
-  pub fits : p.address < 2 ^ 32
+pub record Placed (heap : List ℕ) (place : Place) (tree : Tree) : Type 0 where
+  pub reads : ReadsTree heap (type_code place.value_type) place.address tree
+  pub below : type_code place.value_type ≢ 0 → type_code place.value_type ≢ 9 → place.address < length heap
+  pub fits : place.address < 2 ^ 32
 
 -- An open list, whose finished children stand at the last places. A key stands there as a text.
-pub record ShowsList (heap places : List ℕ) (f : Frame) (l : OpenList) : Type 0 where
-  pub same_kind : l.kind ≡ f.kind
-  pub same_announced : l.announced ≡ f.announced
-  pub counted : length l.children ≡ f.finished
-  pub cut : f.first ≤ length places
-  pub reads : ReadsElements heap (length heap) (drop f.first places) (elements l.children)
+pub record ShowsList (heap places : List ℕ) (frame : Frame) (list : OpenList) : Type 0 where
+  pub same_kind : list.kind ≡ frame.kind
+  pub same_announced : list.announced ≡ frame.announced
+  pub counted : length list.children ≡ frame.finished
+  pub cut : frame.first ≤ length places
+  pub reads : ReadsElements heap (length heap) (drop frame.first places) (elements list.children)
 
 -- all open lists, from the innermost
 abbrev pub ShowsLists : List ℕ → List Frame → List ℕ → List OpenList → Type 0
@@ -38,18 +38,18 @@ ShowsLists heap _ places _ = ⊥
 
 -- The bytes so far are the heap's last, after the shortest encoding of their length, and there is room for
 -- the others.
-pub record BytesStand (heap : List ℕ) (o : OpenBytes) (n : ℕ) (so_far : List ℕ) : Type 0 where
+pub record BytesStand (heap : List ℕ) (open : OpenBytes) (announced : ℕ) (so_far : List ℕ) : Type 0 where
   pub before : List ℕ
-  pub joined : heap ≡ before ++ (vnum n ++ so_far)
-  pub place : length before ≡ o.address
-  pub counted : length so_far + o.missing ≡ n
-  pub fits : length before + (length (vnum n) + n) ≤ 4294967295
+  pub joined : heap ≡ before ++ (vnum announced ++ so_far)
+  pub place : length before ≡ open.address
+  pub counted : length so_far + open.missing ≡ announced
+  pub fits : length before + (length (vnum announced) + announced) ≤ 4294967295
 
 pub record ShowsTree (heap : List ℕ) (fs : List Frame) (places : List ℕ) (whole : Option Place)
-    (bytes : Option OpenBytes) (t : Tree) : Type 0 where
+    (bytes : Option OpenBytes) (tree : Tree) : Type 0 where
   pub at : Place
   pub is : whole ≡ Some at
-  pub placed : Placed heap at t
+  pub placed : Placed heap at tree
   pub frames : fs ≡ []
   pub places_none : places ≡ []
   pub closed : bytes ≡ None
@@ -61,14 +61,14 @@ pub record ShowsOpen (heap : List ℕ) (fs : List Frame) (places : List ℕ) (wh
   pub lists : ShowsLists heap fs places ls
 
 pub record ShowsBytes (heap : List ℕ) (fs : List Frame) (places : List ℕ) (whole : Option Place)
-    (bytes : Option OpenBytes) (ls : List OpenList) (kind : BytesKind) (n : ℕ) (so_far : List ℕ) :
+    (bytes : Option OpenBytes) (ls : List OpenList) (kind : BytesKind) (total : ℕ) (so_far : List ℕ) :
     Type 0 where
   pub none : whole ≡ None
   pub piece : OpenBytes
   pub is : bytes ≡ Some piece
   pub same_kind : piece.kind ≡ kind
-  pub same_announced : piece.announced ≡ n
-  pub stand : BytesStand heap piece n so_far
+  pub same_announced : piece.announced ≡ total
+  pub stand : BytesStand heap piece total so_far
   pub lists : ShowsLists heap fs places ls
 
 abbrev pub ShowsAt : List ℕ → List Frame → List ℕ → Option Place → Option OpenBytes → State → Type 0
@@ -79,18 +79,19 @@ ShowsAt heap fs places whole bytes (in_bytes ls kind n so_far) =
 
 -- the frames from the innermost
 abbrev pub frames_of : Building → List Frame
-frames_of b = reverse b.frames.items
+frames_of building = reverse building.frames.items
 
 -- all of the state stands there
-pub record ShowsState (b : Building) (s : State) : Type 0 where
-  pub fits : length b.heap.items ≤ 4294967295
-  pub counted : b.pending ≡ pending_in (frames_of b)
-  pub is : IsState s
-  pub at : ShowsAt b.heap.items (frames_of b) b.places.items b.complete b.open s
+pub record ShowsState (building : Building) (state : State) : Type 0 where
+  pub fits : length building.heap.items ≤ 4294967295
+  pub counted : building.pending ≡ pending_in (frames_of building)
+  pub is : IsState state
+  pub at : ShowsAt building.heap.items (frames_of building) building.places.items building.complete
+      building.open state
 
 -- the state that a builder holds
 abbrev pub HoldsSomeState : Building → Type 0
-HoldsSomeState b = (s : State) × ∥ ShowsState b s ∥₁
+HoldsSomeState building = (s : State) × ∥ ShowsState building s ∥₁
 
 -- ---- what comes next, as the code has it
 
@@ -104,4 +105,4 @@ awaited_at None (Some p) fs = awaits.Finish
 awaited_at None None fs = next_frame fs
 
 abbrev pub awaited_by : Building → Awaits
-awaited_by b = awaited_at b.open b.complete (frames_of b)
+awaited_by building = awaited_at building.open building.complete (frames_of building)

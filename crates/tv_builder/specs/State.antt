@@ -66,24 +66,25 @@ pairs_of (k ∷ []) = []
 pairs_of (k ∷ t ∷ ts) = (key_text k, t) ∷ pairs_of ts
 
 abbrev pub list_tree : ListKind → List Tree → Tree
-list_tree lists.Array ts = array (elements ts)
-list_tree lists.Object ts = object (entries (pairs_of ts))
+list_tree lists.Array trees = array (elements trees)
+list_tree lists.Object trees = object (entries (pairs_of trees))
 
 abbrev pub with_child : OpenList → Tree → OpenList
-with_child l t = record { kind = l.kind; announced = l.announced; children = l.children ++ t ∷ [] }
+with_child list tree = record { kind = list.kind; announced = list.announced;
+    children = list.children ++ tree ∷ [] }
 
 -- with one child more it still lacks one
 abbrev pub lacks_more : OpenList → Bool
-lacks_more l = nat_lt (suc (length l.children)) (total l.kind l.announced)
+lacks_more list = nat_lt (suc (length list.children)) (total list.kind list.announced)
 
 -- ---- what a part does
 
 -- A finished value comes to the innermost list, and a list that lacks nothing more is itself a finished
 -- value.
 abbrev pub with_value : List OpenList → Tree → State
-with_value [] t = complete t
-with_value (l ∷ ls) t = cond (lacks_more l) (in_lists (with_child l t ∷ ls))
-    (with_value ls (list_tree l.kind (l.children ++ t ∷ [])))
+with_value [] tree = complete tree
+with_value (l ∷ ls) tree = cond (lacks_more l) (in_lists (with_child l tree ∷ ls))
+    (with_value ls (list_tree l.kind (l.children ++ tree ∷ [])))
 
 abbrev pub with_key : List OpenList → List ℕ → State
 with_key [] k = in_lists []
@@ -102,28 +103,28 @@ with_content ls kinds.Key content = with_key ls content
 
 -- each where it is awaited
 abbrev pub and_value : State → Tree → State
-and_value (in_lists ls) t = with_value ls t
-and_value s t = s
+and_value (in_lists ls) tree = with_value ls tree
+and_value state tree = state
 
 abbrev pub and_list : State → ListKind → ℕ → State
 and_list (in_lists ls) kind n = with_list ls kind n
-and_list s kind n = s
+and_list state kind n = state
 
 abbrev pub and_key : State → List ℕ → State
 and_key (in_lists ls) k = with_key ls k
-and_key s k = s
+and_key state k = state
 
 abbrev pub and_head : State → BytesKind → ℕ → State
 and_head (in_lists ls) kind n = in_bytes ls kind n []
-and_head s kind n = s
+and_head state kind n = state
 
 abbrev pub and_bytes : State → List ℕ → State
 and_bytes (in_bytes ls kind n bs) more = in_bytes ls kind n (bs ++ more)
-and_bytes s more = s
+and_bytes state more = state
 
 abbrev pub and_end : State → State
 and_end (in_bytes ls kind n bs) = with_content ls kind bs
-and_end s = s
+and_end state = state
 
 -- ---- which states there are
 
@@ -142,13 +143,13 @@ abbrev mutual
   StartsWithValue (t ∷ ts) = StartsWithKey ts
 
 abbrev pub AreChildren : ListKind → List Tree → Type 0
-AreChildren lists.Array ts = Unit {0}
-AreChildren lists.Object ts = StartsWithKey ts
+AreChildren lists.Array trees = Unit {0}
+AreChildren lists.Object trees = StartsWithKey trees
 
 -- some child is still awaited
-pub record IsList (l : OpenList) : Type 0 where
-  pub lacks : length l.children < total l.kind l.announced
-  pub children : AreChildren l.kind l.children
+pub record IsList (list : OpenList) : Type 0 where
+  pub lacks : length list.children < total list.kind list.announced
+  pub children : AreChildren list.kind list.children
 
 abbrev pub AreLists : List OpenList → Type 0
 AreLists [] = Unit {0}
@@ -199,11 +200,11 @@ list_head lists.Array n = array_head n
 list_head lists.Object n = object_head n
 
 abbrev pub children_parts : ListKind → List Tree → List Part
-children_parts lists.Array ts = map value ts
-children_parts lists.Object ts = key_parts ts
+children_parts lists.Array trees = map value trees
+children_parts lists.Object trees = key_parts trees
 
 abbrev pub list_parts : OpenList → List Part
-list_parts l = list_head l.kind l.announced ∷ children_parts l.kind l.children
+list_parts list = list_head list.kind list.announced ∷ children_parts list.kind list.children
 
 -- in reading order, so from the outermost
 abbrev pub lists_parts : List OpenList → List Part

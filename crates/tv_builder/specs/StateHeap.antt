@@ -25,4 +25,4 @@ missing _ = 0
 
 -- the length of the heap after a state, with all bytes that are announced
 abbrev pub full_length : List ℕ → State → ℕ
-full_length base s = length (state_heap base s) + missing s
+full_length base state = length (state_heap base state) + missing state

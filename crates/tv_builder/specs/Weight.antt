@@ -20,8 +20,8 @@ abbrev mutual
   values_weight (t ∷ ts) = 6 + tree_weight t + keys_weight ts
 
 abbrev pub children_weight : ListKind → List Tree → ℕ
-children_weight lists.Array ts = elements_weight (elements ts)
-children_weight lists.Object ts = keys_weight ts
+children_weight lists.Array trees = elements_weight (elements trees)
+children_weight lists.Object trees = keys_weight trees
 
 -- 5 more for each open list
 abbrev pub lists_weight : List OpenList → ℕ

@@ -53,7 +53,7 @@ AreKept additions old new = Runs additions old new → Keeps (accepted_pairs add
 
 -- the addition is accepted
 abbrev pub Accepts : CompactDoc → CompactDoc → ℕ → Tree → Type 0
-Accepts old new field t = Adds old new field t (Ok (tt {0}))
+Accepts old new field the_tree = Adds old new field the_tree (Ok (tt {0}))
 
 -- each of these pairs is added, one after the other
 abbrev pub AddsEach : Document → CompactDoc → CompactDoc → Type 0
@@ -62,17 +62,18 @@ AddsEach (pair ∷ pairs) old new = (mid : CompactDoc) × Accepts old mid pair.0
 
 -- One call adds a pair, and a builder builds its value whole and finishes it: both leave the same heap and
 -- the same pairs.
-pub record AddsAsBuilt (old : CompactDoc) (field : ℕ) (t : Tree) (added finished : CompactDoc) : Type 0 where
-  pub added_bytes : heap_of added ≡ tree_heap (heap_of old) t
-  pub added_pair : document_of added ≡ document_of old ++ (field, t) ∷ []
+pub record AddsAsBuilt (old : CompactDoc) (field : ℕ) (tree : Tree)
+    (added finished : CompactDoc) : Type 0 where
+  pub added_bytes : heap_of added ≡ tree_heap (heap_of old) tree
+  pub added_pair : document_of added ≡ document_of old ++ (field, tree) ∷ []
   pub heap : heap_of added ≡ heap_of finished
   pub pairs : pairs_of added ≡ pairs_of finished
   pub document : document_of added ≡ document_of finished
 
 -- no pair, and no byte in the heap
-pub record IsEmpty (d : CompactDoc) : Type 0 where
-  pub document : document_of d ≡ []
-  pub heap : heap_of d ≡ []
+pub record IsEmpty (empty : CompactDoc) : Type 0 where
+  pub document : document_of empty ≡ []
+  pub heap : heap_of empty ≡ []
 
 -- its pairs were added, one after the other, to an empty document
 abbrev pub IsMade : CompactDoc → Type 0

@@ -6,4 +6,4 @@ use Rattle.tv_format.specs.Tree.{Document}
 
 -- each field is one of the schema
 abbrev pub Belongs : List Entry → Document → Type 0
-Belongs schema d = AllByRecursion (λ pair. pair.0 < length schema) d
+Belongs schema document = AllByRecursion (λ pair. pair.0 < length schema) document

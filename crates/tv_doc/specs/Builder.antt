@@ -55,26 +55,26 @@ use Rattle.tv_heap.specs.TypeCode.{type_code}
 
 -- the finished pairs
 abbrev pub built : TreeBuilder → Document
-built b = pairs.built b.builder
+built builder = pairs.built builder.builder
 
 -- what has come so far of the next value
 abbrev pub state_of : TreeBuilder → State
-state_of b = pairs.state_of b.builder
+state_of builder = pairs.state_of builder.builder
 
 -- its open lists, from the innermost
 abbrev pub open_lists : TreeBuilder → List OpenList
-open_lists b = lists_of (state_of b)
+open_lists builder = lists_of (state_of builder)
 
 abbrev pub heap_so_far : TreeBuilder → List ℕ
-heap_so_far b = pairs.heap_so_far b.builder
+heap_so_far builder = pairs.heap_so_far builder.builder
 
 -- the heap of the finished pairs
 abbrev pub kept_heap : TreeBuilder → List ℕ
-kept_heap b = pairs.kept_heap b.builder
+kept_heap builder = pairs.kept_heap builder.builder
 
 -- where the values of the finished pairs stand
 abbrev pub pairs_so_far : TreeBuilder → List HeapPair
-pairs_so_far b = pairs.pairs_so_far b.builder
+pairs_so_far builder = pairs.pairs_so_far builder.builder
 
 abbrev pub Builds : TreeBuilder → TreeBuilder → Type 0 → Type 0 → (State → State)
     → Result (Unit {0}) BuildError → Type 0
@@ -89,36 +89,37 @@ Finishes old new f r = pairs.Finishes old.builder new.builder f r
 -- ---- new builders, and what is taken out of one
 
 -- after the pairs of a document, and nothing of a next value has come
-pub record IsNewBuilder (doc : CompactDoc) (b : TreeBuilder) : Type 0 where
-  pub document : built b ≡ document_of doc
-  pub heap : heap_so_far b ≡ heap_of doc
-  pub kept : kept_heap b ≡ heap_of doc
-  pub pairs : pairs_so_far b ≡ pairs_of doc
-  pub state : state_of b ≡ in_lists []
-  pub not_failed : b.builder.failed ≡ false
+pub record IsNewBuilder (doc : CompactDoc) (new_builder : TreeBuilder) : Type 0 where
+  pub document : built new_builder ≡ document_of doc
+  pub heap : heap_so_far new_builder ≡ heap_of doc
+  pub kept : kept_heap new_builder ≡ heap_of doc
+  pub pairs : pairs_so_far new_builder ≡ pairs_of doc
+  pub state : state_of new_builder ≡ in_lists []
+  pub not_failed : new_builder.builder.failed ≡ false
 
 -- the document of the finished pairs
-pub record IsDocumentOf (b : TreeBuilder) (doc : CompactDoc) : Type 0 where
-  pub document : document_of doc ≡ built b
-  pub heap : heap_of doc ≡ kept_heap b
-  pub pairs : pairs_of doc ≡ pairs_so_far b
+pub record IsDocumentOf (builder : TreeBuilder) (doc : CompactDoc) : Type 0 where
+  pub document : document_of doc ≡ built builder
+  pub heap : heap_of doc ≡ kept_heap builder
+  pub pairs : pairs_of doc ≡ pairs_so_far builder
 
 -- the length of the heap so far
-pub record IsHeapLength (b : TreeBuilder) (n : ℕ) : Type 0 where
-  pub is_length : n ≡ length (heap_so_far b)
-  pub within : n ≤ document_weight (built b) + state_weight (state_of b)
+pub record IsHeapLength (builder : TreeBuilder) (byte_count : ℕ) : Type 0 where
+  pub is_length : byte_count ≡ length (heap_so_far builder)
+  pub within : byte_count ≤ document_weight (built builder) + state_weight (state_of builder)
 
 -- ---- the parts of the next value
 
 -- a value without children
 abbrev pub BuildsLeaf : TreeBuilder → TreeBuilder → Leaf → Result (Unit {0}) BuildError → Type 0
-BuildsLeaf old new l r = Builds old new (awaited (state_of old) ≡ awaits.Value) (LeafFits (heap_so_far old) l)
-    (λ s. and_value s (leaf l)) r
+BuildsLeaf old new the_leaf r = Builds old new (awaited (state_of old) ≡ awaits.Value)
+    (LeafFits (heap_so_far old) the_leaf)
+    (λ s. and_value s (leaf the_leaf)) r
 
 -- a whole value, which says nothing of what fits where memory is refused
 abbrev pub BuildsTree : TreeBuilder → TreeBuilder → Tree → Result (Unit {0}) BuildError → Type 0
-BuildsTree old new t r = Builds old new (awaited (state_of old) ≡ awaits.Value) (Unit {0})
-    (λ s. and_value s t) r
+BuildsTree old new tree r = Builds old new (awaited (state_of old) ≡ awaits.Value) (Unit {0})
+    (λ s. and_value s tree) r
 
 -- a list opens with this many announced children; one of none closes at once
 abbrev pub BuildsList : TreeBuilder → TreeBuilder → ListKind → ℕ → Result (Unit {0}) BuildError → Type 0
@@ -136,17 +137,18 @@ BeginsBytes old new kind n r = Builds old new (awaited (state_of old) ≡ head_a
     (HeadFits (heap_so_far old) n) (λ s. and_head s kind n) r
 
 -- some of the announced bytes
-pub record BuildsBytes (old new : TreeBuilder) (bs : List ℕ) (r : Result (Unit {0}) BuildError) : Type 0 where
-  pub builds : Builds old new (TakesBytes (state_of old) (length bs)) (Unit {0}) (λ s. and_bytes s bs) r
-  pub no_heap_full : ¬ IsErrOf r HeapFull
+pub record BuildsBytes (old new : TreeBuilder) (bs : List ℕ)
+    (result : Result (Unit {0}) BuildError) : Type 0 where
+  pub builds : Builds old new (TakesBytes (state_of old) (length bs)) (Unit {0}) (λ s. and_bytes s bs) result
+  pub no_heap_full : ¬ IsErrOf result HeapFull
 
 -- ---- a law
 
 -- all of the state stands in the heap
-pub record HoldsState (b : TreeBuilder) : Type 0 where
-  pub kept : kept_heap b ≡ document_heap [] (built b)
-  pub bytes : heap_so_far b ≡ state_heap (kept_heap b) (state_of b)
-  pub reads : (t : Tree) → state_of b ≡ complete t
-      → let place = tree_place (kept_heap b) t in
-      ∥ ReadsTree (heap_so_far b) (type_code place.value_type) place.address t ∥₁
-  pub room : length (heap_so_far b) ≤ document_room (built b) + written (state_of b)
+pub record HoldsState (builder : TreeBuilder) : Type 0 where
+  pub kept : kept_heap builder ≡ document_heap [] (built builder)
+  pub bytes : heap_so_far builder ≡ state_heap (kept_heap builder) (state_of builder)
+  pub reads : (t : Tree) → state_of builder ≡ complete t
+      → let place = tree_place (kept_heap builder) t in
+      ∥ ReadsTree (heap_so_far builder) (type_code place.value_type) place.address t ∥₁
+  pub room : length (heap_so_far builder) ≤ document_room (built builder) + written (state_of builder)

@@ -26,30 +26,30 @@ use Rattle.tv_doc.specs.declared.document.CompactDoc.{CompactDoc}
 
 -- its fields and trees, in order
 abbrev pub document_of : CompactDoc → Document
-document_of d = held.document_of d.values
+document_of doc = held.document_of doc.values
 
 -- the bytes in which the trees stand
 abbrev pub heap_of : CompactDoc → List ℕ
-heap_of d = held.heap_of d.values
+heap_of doc = held.heap_of doc.values
 
 -- the fields, and where their values stand in it
 abbrev pub pairs_of : CompactDoc → List HeapPair
-pairs_of d = d.values.pairs.items
+pairs_of doc = doc.values.pairs.items
 
 -- for how many bytes of the heap, and for how many pairs, it has memory
 abbrev pub heap_capacity : CompactDoc → ℕ
-heap_capacity d = held.heap_capacity d.values
+heap_capacity doc = held.heap_capacity doc.values
 
 abbrev pub pairs_capacity : CompactDoc → ℕ
-pairs_capacity d = held.pairs_capacity d.values
+pairs_capacity doc = held.pairs_capacity doc.values
 
 -- each pair's type byte and address
 abbrev pub places_of : CompactDoc → List (ℕ × ℕ)
-places_of d = held.places_of d.values
+places_of doc = held.places_of doc.values
 
 -- one pair is added
 abbrev pub Added : CompactDoc → CompactDoc → ℕ → Tree → Type 0
-Added old new field t = held.Added old.values new.values field t
+Added old new field tree = held.Added old.values new.values field tree
 
 -- the same heap and the same pairs at the same places
 abbrev pub IsUnchanged : CompactDoc → CompactDoc → Type 0
@@ -57,30 +57,30 @@ IsUnchanged old new = held.IsUnchanged old.values new.values
 
 -- the heap has no room for the tree
 abbrev pub IsFull : CompactDoc → Tree → Type 0
-IsFull d t = held.IsFull d.values t
+IsFull doc tree = held.IsFull doc.values tree
 
 -- when which refusal comes
 abbrev pub RefusesAddition : CompactDoc → Tree → AddError → Type 0
-RefusesAddition d t e = held.RefusesAddition d.values t e
+RefusesAddition doc tree error = held.RefusesAddition doc.values tree error
 
 -- what an addition returns, and what it leaves
 abbrev pub Adds : {T : Type 0} → CompactDoc → CompactDoc → ℕ → Tree → Result T AddError → Type 0
-Adds old new field t r = held.Adds old.values new.values field t r
+Adds old new field tree r = held.Adds old.values new.values field tree r
 
 -- the same of a value without children
 abbrev pub AddsLeaf : {T : Type 0} → CompactDoc → CompactDoc → ℕ → Leaf → Result T AddError → Type 0
-AddsLeaf old new field l r = Adds old new field (leaf l) r
+AddsLeaf old new field the_leaf r = Adds old new field (leaf the_leaf) r
 
 -- after a refusal for want of room the heap has memory for at most 1 MiB more than before
 abbrev pub KeepsMemory : {T : Type 0} → CompactDoc → CompactDoc → Result T AddError → Type 0
 KeepsMemory old new r = held.KeepsMemory old.values new.values r
 
 -- no pair and no byte in the heap, with memory for this many pairs and bytes
-pub record IsEmptyWith (for_pairs for_bytes : ℕ) (d : CompactDoc) : Type 0 where
-  pub document : document_of d ≡ []
-  pub heap : heap_of d ≡ []
-  pub bytes : heap_capacity d ≡ for_bytes
-  pub places : pairs_capacity d ≡ for_pairs
+pub record IsEmptyWith (for_pairs for_bytes : ℕ) (empty : CompactDoc) : Type 0 where
+  pub document : document_of empty ≡ []
+  pub heap : heap_of empty ≡ []
+  pub bytes : heap_capacity empty ≡ for_bytes
+  pub places : pairs_capacity empty ≡ for_pairs
 
 -- all pairs are taken off, and the memory stays
 abbrev pub Clears : CompactDoc → CompactDoc → Type 0
@@ -96,12 +96,12 @@ pub record Shrinks (old new : CompactDoc) : Type 0 where
 
 -- the heap is what writing the trees one after the other gives
 abbrev pub IsWrittenInOrder : CompactDoc → Type 0
-IsWrittenInOrder d = heap_of d ≡ document_heap [] (document_of d)
+IsWrittenInOrder doc = heap_of doc ≡ document_heap [] (document_of doc)
 
 -- the heap takes at most the room of the values
 abbrev pub IsWithinRoom : CompactDoc → Type 0
-IsWithinRoom d = length (heap_of d) ≤ document_room (document_of d)
+IsWithinRoom doc = length (heap_of doc) ≤ document_room (document_of doc)
 
 -- the type byte and the address of the pair at a place, whose tree the heap reads there
 abbrev pub ReadsAt : CompactDoc → ℕ → Option (ℕ × ℕ) → Type 0
-ReadsAt d i place = held.ReadsAt d.values i place
+ReadsAt doc i place = held.ReadsAt doc.values i place

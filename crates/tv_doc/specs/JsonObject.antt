@@ -50,24 +50,26 @@ item_values name field field_type (json.item d ds) =
 
 -- the values that a field of the schema is given, for private clauses
 abbrev pub value_for : NamedField → Data → FieldJson
-value_for to d = record { name = to.name.now; field = to.field.id; field_type = to.field_type.now; value = d }
+value_for to data = record { name = to.name.now; field = to.field.id; field_type = to.field_type.now;
+    value = data }
 
 abbrev pub items_for : NamedField → Items → List FieldJson
 items_for to ds = item_values to.name.now to.field.id to.field_type.now ds
 
 abbrev pub values_for : List ℕ → ℕ → FieldType → Data → List FieldJson
 values_for name field field_type (json.array ds) = item_values name field field_type ds
-values_for name field field_type d = record { name = name; field = field; field_type = field_type; value = d }
+values_for name field field_type data = record { name = name; field = field; field_type = field_type;
+    value = data }
     ∷ []
 
 abbrev pub values_of_entry : List ℕ → ℕ → Option Entry → Data → List FieldJson
-values_of_entry name field None d = []
-values_of_entry name field (Some entry) d = values_for name field entry.field_type d
+values_of_entry name field None data = []
+values_of_entry name field (Some entry) data = values_for name field entry.field_type data
 
 -- a key that names no field is skipped, whatever its value
 abbrev pub values_at : List Entry → List ℕ → Option ℕ → Data → List FieldJson
-values_at schema name None d = []
-values_at schema name (Some field) d = values_of_entry name field (slice_get schema field) d
+values_at schema name None data = []
+values_at schema name (Some field) data = values_of_entry name field (slice_get schema field) data
 
 -- the values of an object for the fields of a schema, in byte order of the keys
 abbrev pub object_values : List Entry → Members → List FieldJson
@@ -85,32 +87,34 @@ Pairs (v ∷ vs) pairs =
 -- Where memory is refused for a value: for its pair, for which the heap has room; for what the field's type
 -- makes of it before, see
 -- `TakesMemory`; or for the error of a value that the type refuses, which has a copy of the field's name.
-pub data IsShort (v : FieldJson) (d : CompactDoc) : Type 0 where
-  for_pair : (tree : Tree) → Table v.field_type v.value (Ok tree) → RefusesAddition d tree add_error.Memory
-      → IsShort v d
-  for_value : TakesMemory v.field_type v.value → IsShort v d
-  for_error : (refusal : TableRefusal) → Table v.field_type v.value (Err refusal) → IsShort v d
+pub data IsShort (json : FieldJson) (document : CompactDoc) : Type 0 where
+  for_pair : (tree : Tree) → Table json.field_type json.value (Ok tree)
+      → RefusesAddition document tree add_error.Memory
+      → IsShort json document
+  for_value : TakesMemory json.field_type json.value → IsShort json document
+  for_error : (refusal : TableRefusal) → Table json.field_type json.value (Err refusal)
+      → IsShort json document
 
 -- the tree that the table has for the value is refused by this document
 abbrev pub RefusesRow : FieldJson → CompactDoc → AddError → Type 0
-RefusesRow v d e = (tree : Tree) × Table v.field_type v.value (Ok tree) × RefusesAddition d tree e
+RefusesRow v doc e = (tree : Tree) × Table v.field_type v.value (Ok tree) × RefusesAddition doc tree e
 
 -- Why a value is refused: by the table, or by the document that holds what was added before.
 abbrev pub IsRefused : FieldJson → CompactDoc → DocParsingError → Type 0
-IsRefused v d (error.ValueError name e) =
+IsRefused v doc (error.ValueError name e) =
     (refusal : TableRefusal) × (string_bytes name ≡ v.name) × (error_of e ≡ Some refusal)
     × Table v.field_type v.value (Err refusal)
-IsRefused v d (error.Add add_error.HeapFull) = RefusesRow v d add_error.HeapFull
-IsRefused v d (error.Add add_error.Memory) = ⊥
-IsRefused v d (error.InvalidJson text) = ⊥
-IsRefused v d error.Memory = IsShort v d
+IsRefused v doc (error.Add add_error.HeapFull) = RefusesRow v doc add_error.HeapFull
+IsRefused v doc (error.Add add_error.Memory) = ⊥
+IsRefused v doc (error.InvalidJson text) = ⊥
+IsRefused v doc error.Memory = IsShort v doc
 
 -- the error for a value that the type of the field with this name refuses for this
 abbrev pub IsValueError : List ℕ → Data → JsonRefusal → DocParsingError → Type 0
-IsValueError name d r (error.ValueError copy e) = (refusal : TableRefusal) × (string_bytes copy ≡ name)
-    × (error_of e ≡ Some refusal) × (refusal_of d r ≡ Some refusal)
-IsValueError name d r error.Memory = Unit {0}
-IsValueError name d r e = ⊥
+IsValueError name data r (error.ValueError copy e) = (refusal : TableRefusal) × (string_bytes copy ≡ name)
+    × (error_of e ≡ Some refusal) × (refusal_of data r ≡ Some refusal)
+IsValueError name data r error.Memory = Unit {0}
+IsValueError name data r e = ⊥
 
 -- the trees that the table has for these values are added, one after the other
 pub record AddsFieldValues (values : List FieldJson) (old new : CompactDoc) : Type 0 where
@@ -119,14 +123,14 @@ pub record AddsFieldValues (values : List FieldJson) (old new : CompactDoc) : Ty
   pub adds : AddsEach pairs old new
 
 -- The first of these values that is refused, by the document to which those before it were added.
-pub record StopsAt (values : List FieldJson) (old : CompactDoc) (e : DocParsingError) : Type 0 where
+pub record StopsAt (values : List FieldJson) (old : CompactDoc) (error : DocParsingError) : Type 0 where
   pub before : List FieldJson
   pub at : FieldJson
   pub behind : List FieldJson
   pub joined : values ≡ before ++ at ∷ behind
   pub mid : CompactDoc
   pub added : AddsFieldValues before old mid
-  pub refused : IsRefused at mid e
+  pub refused : IsRefused at mid error
 
 -- all are added, or the first refusal is returned
 abbrev pub AddsValues : {T : Type 0} → List FieldJson → CompactDoc → CompactDoc → Result T DocParsingError
@@ -185,19 +189,19 @@ ParsesOrTells schema text new None None = Unit {0}
 
 -- the document of an object's members, whose fields are those of the schema
 pub record MakesFromObject (schema : List Entry) (members : Members)
-    (r : Result CompactDoc DocParsingError) : Type 0 where
-  pub makes : MakesDocument (object_values schema members) r
-  pub belongs : IfOk r (λ made. Belongs schema (document_of made))
+    (result : Result CompactDoc DocParsingError) : Type 0 where
+  pub makes : MakesDocument (object_values schema members) result
+  pub belongs : IfOk result (λ made. Belongs schema (document_of made))
 
 -- the document of a text, whose fields are those of the schema
 pub record ParsesDocument (schema : List Entry) (text : List ℕ)
-    (r : Result CompactDoc DocParsingError) : Type 0 where
-  pub parses : Parses schema text r
-  pub belongs : IfOk r (λ made. Belongs schema (document_of made))
+    (result : Result CompactDoc DocParsingError) : Type 0 where
+  pub parses : Parses schema text result
+  pub belongs : IfOk result (λ made. Belongs schema (document_of made))
 
 -- the same in the place of a document, where an error leaves no pair
 pub record ParsesInto (schema : List Entry) (text : List ℕ) (new : CompactDoc)
-    (r : Result (Unit {0}) DocParsingError) : Type 0 where
-  pub parses : Parses schema text (in_place r new)
-  pub belongs : OnOk r (Belongs schema (document_of new))
-  pub none : OnErr r (document_of new ≡ [])
+    (result : Result (Unit {0}) DocParsingError) : Type 0 where
+  pub parses : Parses schema text (in_place result new)
+  pub belongs : OnOk result (Belongs schema (document_of new))
+  pub none : OnErr result (document_of new ≡ [])

@@ -33,8 +33,8 @@ field_names schema = map (λ entry. entry.name) schema
 
 -- the values of a field go under its name, those of a field without a name are left out
 abbrev pub put_under : Option (List ℕ) → List Tree → Named → Named
-put_under None ts named = named
-put_under (Some name) ts named = insert_entry (slice_cmp nat_cmp) named name ts
+put_under None trees named = named
+put_under (Some name) trees named = insert_entry (slice_cmp nat_cmp) named name trees
 
 abbrev pub by_name : List (List ℕ) → List (ℕ × List Tree) → Named → Named
 by_name names [] named = named
@@ -42,28 +42,30 @@ by_name names (g ∷ gs) named = by_name names gs (put_under (slice_get names g.
 
 -- for each name of a field that has a value, the list of its values in order
 abbrev pub IsNamed : List (List ℕ) → Document → Named → Type 0
-IsNamed names d named = (groups : List (ℕ × List Tree)) × IsGrouped d groups
+IsNamed names document named = (groups : List (ℕ × List Tree)) × IsGrouped document groups
     × (named ≡ by_name names groups [])
 
 -- the text of the object of these names and the arrays of their values, without spaces
 abbrev pub IsJsonText : List (List ℕ) → Document → List ℕ → Type 0
-IsJsonText names d text = (named : Named) × IsNamed names d named
+IsJsonText names document text = (named : Named) × IsNamed names document named
     × (text ≡ compact_text (object (named_json named)))
 
 -- that text was added to another
 abbrev pub AddsJsonText : List (List ℕ) → Document → List ℕ → List ℕ → Type 0
-AddsJsonText names d before after = (text : List ℕ) × IsJsonText names d text × (after ≡ before ++ text)
+AddsJsonText names document before after = (text : List ℕ) × IsJsonText names document text
+    × (after ≡ before ++ text)
 
 abbrev pub named_of : NamedFieldDocument → Named
 named_of n = map (λ e. (string_bytes e.0, map owned_tree e.1.items)) n.0.entries
 
 -- each value of a field that has a name nests within a number
 abbrev pub NamedNestWithin : List (List ℕ) → ℕ → Document → Type 0
-NamedNestWithin names n d = AllByRecursion (λ pair. OnSome (slice_get names pair.0) (NestsWithin n pair.1)) d
+NamedNestWithin names n document = AllByRecursion
+    (λ pair. OnSome (slice_get names pair.0) (NestsWithin n pair.1)) document
 
 -- copies of the values under the names of their fields, where each of them nests within this depth
-pub record CopiesByName (names : List (List ℕ)) (d : Document) (depth : ℕ)
-    (r : Result NamedFieldDocument CopyError) : Type 0 where
-  pub named : IfOk r (λ made. IsNamed names d (named_of made))
-  pub within : OnOk r (NamedNestWithin names depth d)
-  pub deep : IsErrOf r TooDeep ↔ (¬ NamedNestWithin names depth d)
+pub record CopiesByName (names : List (List ℕ)) (document : Document) (depth : ℕ)
+    (result : Result NamedFieldDocument CopyError) : Type 0 where
+  pub named : IfOk result (λ made. IsNamed names document (named_of made))
+  pub within : OnOk result (NamedNestWithin names depth document)
+  pub deep : IsErrOf result TooDeep ↔ (¬ NamedNestWithin names depth document)

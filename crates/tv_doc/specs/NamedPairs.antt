@@ -36,22 +36,22 @@ use Rattle.tv_value.specs.declared.nested.TheConstants.{MAX_DEPTH}
 
 -- a name that is no field's is skipped
 abbrev pub pairs_of_field : Option ℕ → List Tree → Document
-pairs_of_field None ts = []
-pairs_of_field (Some field) ts = map (λ t. (field, t)) ts
+pairs_of_field None trees = []
+pairs_of_field (Some field) trees = map (λ t. (field, t)) trees
 
 abbrev pub named_pairs : List Entry → Named → Document
 named_pairs schema [] = []
 named_pairs schema (n ∷ ns) = pairs_of_field (field_named schema n.0) n.1 ++ named_pairs schema ns
 
 -- The first pair that is refused, by the document to which those before it were added.
-pub record StopsAtPair (pairs : Document) (old : CompactDoc) (e : AddError) : Type 0 where
+pub record StopsAtPair (pairs : Document) (old : CompactDoc) (error : AddError) : Type 0 where
   pub before : Document
   pub at : ℕ × Tree
   pub behind : Document
   pub joined : pairs ≡ before ++ at ∷ behind
   pub mid : CompactDoc
   pub added : AddsEach before old mid
-  pub refused : RefusesAddition mid at.1 e
+  pub refused : RefusesAddition mid at.1 error
 
 -- all pairs are added, or the first refusal is returned
 abbrev pub AddsNamedPairs : {T : Type 0} → Document → CompactDoc → CompactDoc → Result T AddError → Type 0
@@ -60,7 +60,7 @@ AddsNamedPairs pairs old new (Err e) = StopsAtPair pairs old e
 
 -- the first refusal of these pairs by a document that was empty
 abbrev pub RefusesPairs : Document → AddError → Type 0
-RefusesPairs pairs e = (start : CompactDoc) × IsEmpty start × StopsAtPair pairs start e
+RefusesPairs pairs error = (start : CompactDoc) × IsEmpty start × StopsAtPair pairs start error
 
 -- the document has just these pairs, which were added to an empty one, or the first refusal is returned
 abbrev pub MakesPairs : Document → Result CompactDoc DocParsingError → Type 0
@@ -69,9 +69,9 @@ MakesPairs pairs (Err e) = (refused : AddError) × (e ≡ addition_error refused
 
 -- what is made of values by name, whose fields are those of the schema
 pub record ConvertsNamed (schema : List Entry) (named : Named)
-    (r : Result CompactDoc DocParsingError) : Type 0 where
-  pub makes : MakesPairs (named_pairs schema named) r
-  pub belongs : IfOk r (λ made. Belongs schema (document_of made))
+    (result : Result CompactDoc DocParsingError) : Type 0 where
+  pub makes : MakesPairs (named_pairs schema named) result
+  pub belongs : IfOk result (λ made. Belongs schema (document_of made))
 
 -- ---- values by name, as pairs again
 
@@ -81,30 +81,31 @@ pub record KeepsValues (schema : List Entry) (old new : Document) : Type 0 where
   pub all : Belongs schema old → (field : ℕ) → values_of field new ≡ values_of field old
 
 -- the values by name of a document keep its values
-pub record KeepsNamed (schema : List Entry) (d : Document) (named : Named) : Type 0 where
-  pub keeps : IsSchema schema → IsNamed (field_names schema) d named
-      → KeepsValues schema d (named_pairs schema named)
+pub record KeepsNamed (schema : List Entry) (document : Document) (named : Named) : Type 0 where
+  pub keeps : IsSchema schema → IsNamed (field_names schema) document named
+      → KeepsValues schema document (named_pairs schema named)
   pub others : (field : ℕ) → length schema ≤ field → values_of field (named_pairs schema named) ≡ []
 
 -- The error of converting back the values by name of this document: memory was refused, or the document's
 -- values need more room than a
 -- heap has.
 abbrev pub IsConversionError : Document → DocParsingError → Type 0
-IsConversionError d errors.Memory = Unit {0}
-IsConversionError d (errors.Add adding.HeapFull) = 4294967295 < document_room d
-IsConversionError d (errors.Add adding.Memory) = ⊥
-IsConversionError d (errors.InvalidJson text) = ⊥
-IsConversionError d (errors.ValueError name e) = ⊥
+IsConversionError document errors.Memory = Unit {0}
+IsConversionError document (errors.Add adding.HeapFull) = 4294967295 < document_room document
+IsConversionError document (errors.Add adding.Memory) = ⊥
+IsConversionError document (errors.InvalidJson text) = ⊥
+IsConversionError document (errors.ValueError name e) = ⊥
 
 -- The error of both: that one, or memory was refused for the values by name, or one of them nests too deep.
 abbrev pub IsBackError : List Entry → Document → NamedBackError → Type 0
-IsBackError schema d (back.Named copying.Memory) = Unit {0}
-IsBackError schema d (back.Named copying.TooDeep) = ¬ NamedNestWithin (field_names schema) MAX_DEPTH d
-IsBackError schema d (back.Converted e) = IsConversionError d e
+IsBackError schema document (back.Named copying.Memory) = Unit {0}
+IsBackError schema document (back.Named copying.TooDeep) =
+    ¬ NamedNestWithin (field_names schema) MAX_DEPTH document
+IsBackError schema document (back.Converted e) = IsConversionError document e
 
 -- what converting back the values by name of this document returns
-pub record ConvertsBack (schema : List Entry) (d : Document)
-    (r : Result CompactDoc NamedBackError) : Type 0 where
-  pub keeps : IfOk r (λ back. KeepsValues schema d (document_of back))
-  pub belongs : IfOk r (λ back. Belongs schema (document_of back))
-  pub errors : IfErr r (IsBackError schema d)
+pub record ConvertsBack (schema : List Entry) (document : Document)
+    (result : Result CompactDoc NamedBackError) : Type 0 where
+  pub keeps : IfOk result (λ back. KeepsValues schema document (document_of back))
+  pub belongs : IfOk result (λ back. Belongs schema (document_of back))
+  pub errors : IfErr result (IsBackError schema document)

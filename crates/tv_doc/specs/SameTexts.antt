@@ -11,19 +11,19 @@ use Rattle.tv_doc.specs.FieldValues.{values_of}
 
 -- a value's JSON as a text without spaces
 abbrev pub json_text : Tree → List ℕ
-json_text t = compact_text (json_of t)
+json_text tree = compact_text (json_of tree)
 
 -- for each field, the texts of its values in the one document are those in the other, in whatever order and
 -- however often
 abbrev pub SameTexts : Document → Document → Type 0
-SameTexts d e = (field : ℕ) (text : List ℕ) → Contains (map json_text (values_of field d)) text
+SameTexts document e = (field : ℕ) (text : List ℕ) → Contains (map json_text (values_of field document)) text
     ↔ Contains (map json_text (values_of field e)) text
 
 -- ---- for private clauses
 
 -- each value's text, beside the number of its field
 abbrev pub field_texts : Document → List (ℕ × List ℕ)
-field_texts d = map (λ pair. (pair.0, json_text pair.1)) d
+field_texts document = map (λ pair. (pair.0, json_text pair.1)) document
 
 abbrev pub text_seen : Field × String Global → ℕ × List ℕ
 text_seen pair = (pair.0.id, string_bytes pair.1)

@@ -94,13 +94,13 @@ ParsesStrictly schema text (Err (Parsing e)) = Parses schema text (Err e)
 
 -- the document of a text whose keys name fields, each once
 pub record ParsesStrictDocument (schema : List Entry) (text : List ℕ)
-    (r : Result CompactDoc StrictParsingError) : Type 0 where
-  pub parses : ParsesStrictly schema text r
-  pub belongs : IfOk r (λ made. Belongs schema (document_of made))
+    (result : Result CompactDoc StrictParsingError) : Type 0 where
+  pub parses : ParsesStrictly schema text result
+  pub belongs : IfOk result (λ made. Belongs schema (document_of made))
 
 -- the same in the place of a document, where an error leaves no pair
 pub record ParsesStrictInto (schema : List Entry) (text : List ℕ) (new : CompactDoc)
-    (r : Result (Unit {0}) StrictParsingError) : Type 0 where
-  pub parses : ParsesStrictly schema text (in_place r new)
-  pub belongs : OnOk r (Belongs schema (document_of new))
-  pub none : OnErr r (document_of new ≡ [])
+    (result : Result (Unit {0}) StrictParsingError) : Type 0 where
+  pub parses : ParsesStrictly schema text (in_place result new)
+  pub belongs : OnOk result (Belongs schema (document_of new))
+  pub none : OnErr result (document_of new ≡ [])

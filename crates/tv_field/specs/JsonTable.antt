@@ -42,11 +42,11 @@ abbrev pub Outcome : Type 0
 Outcome = Result Tree TableRefusal
 
 abbrev pub mismatched : List ℕ → Data → Outcome
-mismatched expected d = Err (mismatch expected d)
+mismatched expected data = Err (mismatch expected data)
 
 -- the leaf where the fact holds, and else the refusal
 abbrev pub Chooses : Type 0 → Leaf → TableRefusal → Outcome → Type 0
-Chooses P l r o = (P × (o ≡ Ok (leaf l))) ⊎ (¬ P × (o ≡ Err r))
+Chooses P the_leaf r o = (P × (o ≡ Ok (leaf the_leaf))) ⊎ (¬ P × (o ≡ Err r))
 
 -- a leaf, if there is one, and else the refusal
 abbrev pub leaf_or : Option Leaf → TableRefusal → Outcome
@@ -73,7 +73,7 @@ str_row true json.null = Ok (leaf (text (codes "null")))
 str_row coerce (json.object ms) = leaf_or (tokenized_in (json.object ms))
     (mismatch (codes "a string or an pretokenized string") (json.object ms))
 str_row coerce (json.array ds) = mismatched (type_name tags.Str) (json.array ds)
-str_row false d = mismatched (codes "a string") d
+str_row false data = mismatched (codes "a string") data
 
 -- ---- numbers
 
@@ -102,12 +102,12 @@ abbrev pub U64Row : Bool → Data → Outcome → Type 0
 U64Row coerce (json.string s) o = UnsignedText coerce s o
 U64Row coerce (json.number n) o = o ≡ leaf_or (option_map unsigned (as_u64 n))
     (overflow (codes "u64") (json.number n))
-U64Row coerce d o = o ≡ mismatched (type_name tags.U64) d
+U64Row coerce data o = o ≡ mismatched (type_name tags.U64) data
 
 abbrev pub I64Row : Bool → Data → Outcome → Type 0
 I64Row coerce (json.string s) o = SignedText coerce s o
 I64Row coerce (json.number n) o = o ≡ signed_number n
-I64Row coerce d o = o ≡ mismatched (type_name tags.I64) d
+I64Row coerce data o = o ≡ mismatched (type_name tags.I64) data
 
 -- ---- truth values
 
@@ -123,7 +123,7 @@ abbrev pub bool_row : Bool → Data → Outcome
 bool_row coerce (json.string s) = boolean_text coerce s
 bool_row coerce (json.number n) = mismatched (codes "a boolean") (json.number n)
 bool_row coerce (json.boolean b) = Ok (leaf (boolean b))
-bool_row coerce d = mismatched (type_name tags.Bool) d
+bool_row coerce data = mismatched (type_name tags.Bool) data
 
 -- ---- dates
 
@@ -137,14 +137,14 @@ date_text s (Err date_error.OutOfRange) = Err (bad_text cause.DateOutOfRange (js
 abbrev pub date_row : Data → Outcome
 date_row (json.string s) = date_text s (rfc s)
 date_row (json.number n) = signed_number n
-date_row d = mismatched (type_name tags.Date) d
+date_row data = mismatched (type_name tags.Date) data
 
 -- ---- facets and bytes
 
 abbrev pub facet_row : Data → Outcome
 facet_row (json.string s) = leaf_or (option_map facet (parse s)) (bad_text cause.Facet (json.string s))
 facet_row (json.number n) = mismatched (codes "a string") (json.number n)
-facet_row d = mismatched (type_name tags.Facet) d
+facet_row data = mismatched (type_name tags.Facet) data
 
 abbrev pub base64_text : List ℕ → Result (List ℕ) DecodeError → Outcome
 base64_text s (Ok bs) = Ok (leaf (bytes bs))
@@ -153,7 +153,7 @@ base64_text s (Err e) = Err (bad_base64 s)
 abbrev pub bytes_row : Data → Outcome
 bytes_row (json.string s) = base64_text s (decode_of standard s)
 bytes_row (json.number n) = mismatched (codes "a string") (json.number n)
-bytes_row d = mismatched (type_name tags.Bytes) d
+bytes_row data = mismatched (type_name tags.Bytes) data
 
 -- ---- JSON objects
 
@@ -165,7 +165,7 @@ abbrev pub json_row : Data → Outcome
 json_row (json.object ms) = whole_or_float (json_tree (json.object ms))
 json_row (json.string s) = mismatched (codes "a json object") (json.string s)
 json_row (json.number n) = mismatched (codes "a json object") (json.number n)
-json_row d = mismatched (type_name tags.Json) d
+json_row data = mismatched (type_name tags.Json) data
 
 -- ---- IP addresses
 
@@ -177,20 +177,20 @@ IpText s o =
 abbrev pub IpRow : Data → Outcome → Type 0
 IpRow (json.string s) o = IpText s o
 IpRow (json.number n) o = o ≡ mismatched (codes "a string with an ip addr") (json.number n)
-IpRow d o = o ≡ mismatched (type_name tags.IpAddr) d
+IpRow data o = o ≡ mismatched (type_name tags.IpAddr) data
 
 -- ---- the table
 
 abbrev pub Table : FieldType → Data → Outcome → Type 0
-Table (types.Str options) d o = o ≡ str_row options.part.coerce d
-Table (types.U64 options) d o = U64Row options.part.coerce d o
-Table (types.I64 options) d o = I64Row options.part.coerce d o
-Table (types.Bool options) d o = o ≡ bool_row options.part.coerce d
-Table (types.Date options) d o = o ≡ date_row d
-Table (types.Facet options) d o = o ≡ facet_row d
-Table (types.Bytes options) d o = o ≡ bytes_row d
-Table (types.JsonObject options) d o = o ≡ json_row d
-Table (types.IpAddr options) d o = IpRow d o
+Table (types.Str options) data o = o ≡ str_row options.part.coerce data
+Table (types.U64 options) data o = U64Row options.part.coerce data o
+Table (types.I64 options) data o = I64Row options.part.coerce data o
+Table (types.Bool options) data o = o ≡ bool_row options.part.coerce data
+Table (types.Date options) data o = o ≡ date_row data
+Table (types.Facet options) data o = o ≡ facet_row data
+Table (types.Bytes options) data o = o ≡ bytes_row data
+Table (types.JsonObject options) data o = o ≡ json_row data
+Table (types.IpAddr options) data o = IpRow data o
 
 -- ---- texts of queries
 

@@ -23,7 +23,7 @@ abbrev pub Tokenized : List ℕ → List ℕ → List Token → Type 0
 Tokenized whole content tokens = Then (λ b. Text b content) (λ b. Counted TokenEncoding b tokens) whole
 
 abbrev pub leaf_code : Leaf → ℕ
-leaf_code l = store_code (type_of l)
+leaf_code the_leaf = store_code (type_of the_leaf)
 
 -- what is held, with its numbers on a scale; a text with its tokens stands after a code of its own
 abbrev pub ContentBody : Scale → List ℕ → Content → Type 0
@@ -38,7 +38,7 @@ ContentBody s whole (tokens_content t ts) = Behind 0 (λ b. Tokenized b t ts) wh
 
 -- what stands after the code of a leaf
 abbrev pub LeafBody : Version → List ℕ → Leaf → Type 0
-LeafBody v whole l = ContentBody (scale v (type_of l)) whole (content l)
+LeafBody version whole the_leaf = ContentBody (scale version (type_of the_leaf)) whole (content the_leaf)
 
 -- a key: a text, with its code in versions 1 and 2
 abbrev pub Key : Version → List ℕ → List ℕ → Type 0
@@ -72,15 +72,15 @@ module _ (Legacy : List ℕ → Entries → Type 0) (v : Version) where
 
   -- the number of the pairs, and then each
   abbrev pub EncodesDocument : List ℕ → Document → Type 0
-  EncodesDocument whole d = Counted EncodesPair whole d
+  EncodesDocument whole document = Counted EncodesPair whole document
 
   -- some prefix of the bytes encodes the document
-  pub record Derives (whole : List ℕ) (d : Document) : Type 0 where
+  pub record Derives (whole : List ℕ) (document : Document) : Type 0 where
     pub prefix : List ℕ
     pub rest : List ℕ
     pub joined : whole ≡ prefix ++ rest
-    pub encoded : EncodesDocument prefix d
+    pub encoded : EncodesDocument prefix document
 
 -- no legacy object
 abbrev pub NoLegacy : List ℕ → Entries → Type 0
-NoLegacy whole es = ⊥
+NoLegacy whole entries = ⊥

@@ -39,9 +39,9 @@ ErrorInTokenized = InThen ErrorInText Text (λ _. InThen ErrorInNumber VNum
     (λ n. InEach ErrorInToken TokenEncoding n))
 
 -- microseconds whose nanoseconds don't fit
-pub record IsOutside (z : ℤ) : Type 0 where
-  pub fits : FitsSigned w64 z
-  pub outside : (z <ℤ negsuc 9223372036854774) ⊎ (pos 9223372036854775 <ℤ z)
+pub record IsOutside (number : ℤ) : Type 0 where
+  pub fits : FitsSigned w64 number
+  pub outside : (number <ℤ negsuc 9223372036854774) ⊎ (pos 9223372036854775 <ℤ number)
 
 pub data ErrorInMicroseconds (whole : List ℕ) : Cause → Type 0 where
   date_ends : length whole < 8 → ErrorInMicroseconds whole UnexpectedEnd
@@ -53,7 +53,7 @@ ErrorInScaled plain = ErrorInBytes 8
 ErrorInScaled thousands = ErrorInMicroseconds
 
 abbrev pub ErrorInDate : List ℕ → Version → Cause → Type 0
-ErrorInDate whole v c = ErrorInScaled (date_scale v) whole c
+ErrorInDate whole version cause = ErrorInScaled (date_scale version) whole cause
 
 -- after the code of extensions: there is no other code, it is that of none, or the text with its tokens is
 -- malformed
@@ -76,13 +76,13 @@ ErrorInContent s forms.Tokens = ErrorInExtension
 
 -- of what a leaf of a type holds
 abbrev pub ErrorInBody : Version → LeafType → List ℕ → Cause → Type 0
-ErrorInBody v t = ErrorInContent (scale v t) (form t)
+ErrorInBody version leaf_type = ErrorInContent (scale version leaf_type) (form leaf_type)
 
 -- after the code of a leaf
-pub record ErrorInLeaf (v : Version) (whole : List ℕ) (code : ℕ) (c : Cause) : Type 0 where
+pub record ErrorInLeaf (version : Version) (whole : List ℕ) (code : ℕ) (cause : Cause) : Type 0 where
   pub of_type : LeafType
   pub coded : store_code of_type ≡ code
-  pub error : ErrorInBody v of_type whole c
+  pub error : ErrorInBody version of_type whole cause
 
 -- in a key's place, of versions 1 and 2
 pub data ErrorInCodedKey : List ℕ → Refusal → Type 0 where

@@ -107,8 +107,8 @@ heap_code types.PreTokStr = 10
 
 -- what the number of a leaf counts in a version
 abbrev pub scale : Version → LeafType → Scale
-scale v types.Date = date_scale v
-scale v _ = plain
+scale version types.Date = date_scale version
+scale version _ = plain
 
 -- what a leaf of each type holds, where it is one
 abbrev pub is_null : Leaf → Bool

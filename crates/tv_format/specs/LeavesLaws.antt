@@ -27,11 +27,11 @@ form_of_content null = refl
 form_of_content _ = refl
 
 -- The leaf of a type that holds this.
-pub record Made (t : LeafType) (c : Content) : Type 0 where
+pub record Made (leaf_type : LeafType) (body : Content) : Type 0 where
   pub made : Leaf
-  pub is : leaf_with t c ≡ Some made
-  pub typed : type_of made ≡ t
-  pub holds : content made ≡ c
+  pub is : leaf_with leaf_type body ≡ Some made
+  pub typed : type_of made ≡ leaf_type
+  pub holds : content made ≡ body
 
 abbrev or_null : Option Leaf → Leaf
 or_null (Some l) = l

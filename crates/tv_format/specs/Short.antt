@@ -31,7 +31,7 @@ short_content (bytes_content bs) = short_sized bs
 short_content (tokens_content t ts) = 0 ∷ short_tokenized t ts
 
 abbrev pub short_leaf : Leaf → List ℕ
-short_leaf l = leaf_code l ∷ short_content (content l)
+short_leaf the_leaf = leaf_code the_leaf ∷ short_content (content the_leaf)
 
 -- a key
 abbrev pub short_key : Version → List ℕ → List ℕ
@@ -58,7 +58,7 @@ module _ (v : Version) where
   short_pair pair = four_bytes pair.0 ++ short pair.1
 
   abbrev pub short_document : Document → List ℕ
-  short_document d = vnum (length d) ++ flat_map short_pair d
+  short_document document = vnum (length document) ++ flat_map short_pair document
 
 -- what has an encoding of a version that is written, with lengths and counts below 2 ^ 63
 pub record IsSized (content : List ℕ) : Type 0 where
@@ -90,7 +90,7 @@ IsContent (bytes_content bs) = IsSized bs
 IsContent (tokens_content t ts) = IsText t × AreTokens ts
 
 abbrev pub IsLeaf : Leaf → Type 0
-IsLeaf l = IsContent (content l)
+IsLeaf the_leaf = IsContent (content the_leaf)
 
 abbrev mutual
   pub IsValue : Tree → Type 0
@@ -110,6 +110,6 @@ pub record IsPair (pair : ℕ × Tree) : Type 0 where
   pub field : pair.0 < 2 ^ 32
   pub value : IsValue pair.1
 
-pub record IsDocument (d : Document) : Type 0 where
-  pub count : length d < 2 ^ 63
-  pub each : AllByRecursion IsPair d
+pub record IsDocument (document : Document) : Type 0 where
+  pub count : length document < 2 ^ 63
+  pub each : AllByRecursion IsPair document

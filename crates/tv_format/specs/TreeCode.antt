@@ -37,7 +37,7 @@ content_gv (bytes_content t) = gcons (gnum 5) (coded_text.code t)
 content_gv (tokens_content t ts) = gcons (gnum 6) (coded_tokenized.code (t, ts))
 
 abbrev pub leaf_gv : Leaf → Gv
-leaf_gv l = gcons (gnum (leaf_code l)) (content_gv (content l))
+leaf_gv the_leaf = gcons (gnum (leaf_code the_leaf)) (content_gv (content the_leaf))
 
 abbrev tail : Gv → Gv
 tail gnil = gnil
@@ -67,8 +67,9 @@ content_same (tokens_content s ss) (tokens_content t ts) e =
 content_same _ _ e = cc
 
 pub leaf_same : (s t : Leaf) → leaf_gv s ≡ leaf_gv t → s ≡ t
-leaf_same s t e = one_leaf s t (one_code (type_of s) (type_of t) (ap (λ g. number (head g)) e))
-    (content_same (content s) (content t) (ap tail e))
+leaf_same the_leaf t e = one_leaf the_leaf t (one_code (type_of the_leaf) (type_of t)
+    (ap (λ g. number (head g)) e))
+    (content_same (content the_leaf) (content t) (ap tail e))
 
 abbrev mutual
   pub tree_gv : Tree → Gv

@@ -30,7 +30,7 @@ date_scale V3 = plain
 
 -- a date, as nanoseconds since 1970
 abbrev pub Date : Version → List ℕ → ℤ → Type 0
-Date v bytes nanoseconds = Scaled (date_scale v) bytes nanoseconds
+Date version bytes nanoseconds = Scaled (date_scale version) bytes nanoseconds
 
 -- the number that an object of this many entries announces: versions 1 and 2 count keys and values
 abbrev pub entry_total : Version → ℕ → ℕ

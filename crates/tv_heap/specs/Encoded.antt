@@ -11,14 +11,14 @@ use Rattle.tv_heap.specs.declared.value.Encoded.TheVariants as held
 
 -- the bytes in a version, the code first
 abbrev pub encoded_bytes : Version → Encoded → List ℕ
-encoded_bytes v held.Null = 11 ∷ []
-encoded_bytes v (held.Bool b) = 9 ∷ truth_byte b
-encoded_bytes v (held.Number code n) = code ∷ eight_bytes n
-encoded_bytes v (held.Bytes code content) = code ∷ content.now
-encoded_bytes v (held.Tokenized content) = 7 ∷ 0 ∷ content.now
-encoded_bytes v (held.Array n items) = 12 ∷ (vnum n ++ short_elements v (elements items.held.0))
-encoded_bytes v (held.Object n members) = 13 ∷
-    (vnum (entry_total v n) ++ short_entries v (entries members.held.0))
+encoded_bytes version held.Null = 11 ∷ []
+encoded_bytes version (held.Bool b) = 9 ∷ truth_byte b
+encoded_bytes version (held.Number code n) = code ∷ eight_bytes n
+encoded_bytes version (held.Bytes code content) = code ∷ content.now
+encoded_bytes version (held.Tokenized content) = 7 ∷ 0 ∷ content.now
+encoded_bytes version (held.Array n items) = 12 ∷ (vnum n ++ short_elements version (elements items.held.0))
+encoded_bytes version (held.Object n members) = 13 ∷
+    (vnum (entry_total version n) ++ short_entries version (entries members.held.0))
 
 -- an object has few enough entries that twice their number has 64 bits
 abbrev pub HasFewEntries : Encoded → Type 0

@@ -25,7 +25,7 @@ same_held heap code at x y = ap (λ p. p.0) (Held-prop heap code at x y)
 
 -- the trees that are left of a list of children, whoever is their parent
 abbrev pub ReadAsElements : List ℕ → List ℕ → List Tree → Type 0
-ReadAsElements heap whole ts = (parent : ℕ) × ReadsElements heap parent whole (elements ts)
+ReadAsElements heap whole trees = (parent : ℕ) × ReadsElements heap parent whole (elements trees)
 
 abbrev pub HeldElements : List ℕ → List ℕ → Type 0
 HeldElements heap whole = (ts : List Tree) × ∥ ReadAsElements heap whole ts ∥₁
@@ -35,7 +35,7 @@ listed_elements [] = refl
 listed_elements (t ∷ ts) = ap (λ z. t ∷ z) (listed_elements ts)
 
 pub same_list : (ts us : List Tree) → elements ts ≡ elements us → ts ≡ us
-same_list ts us e = sym (listed_elements ts) ∙ ap element_list e ∙ listed_elements us
+same_list trees us e = sym (listed_elements trees) ∙ ap element_list e ∙ listed_elements us
 
 pub HeldElements-prop : (heap whole : List ℕ) → IsProp (HeldElements heap whole)
 HeldElements-prop heap whole x y =

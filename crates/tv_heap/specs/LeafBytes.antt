@@ -24,10 +24,10 @@ content_bytes (bytes_content bs) = short_sized bs
 content_bytes (tokens_content t ts) = short_tokenized t ts
 
 abbrev pub leaf_bytes : Leaf → List ℕ
-leaf_bytes l = content_bytes (content l)
+leaf_bytes the_leaf = content_bytes (content the_leaf)
 
 abbrev pub leaf_value_type : Leaf → ValueType
-leaf_value_type l = leaf_heap_type (type_of l)
+leaf_value_type the_leaf = leaf_heap_type (type_of the_leaf)
 
 -- the address of what is written at the end of a heap of this length
 abbrev pub content_address : ℕ → Content → ℕ
@@ -36,4 +36,4 @@ content_address len (truth_content b) = flag b
 content_address len _ = len
 
 abbrev pub leaf_address : ℕ → Leaf → ℕ
-leaf_address len l = content_address len (content l)
+leaf_address len the_leaf = content_address len (content the_leaf)

@@ -10,13 +10,13 @@ use Rattle.tv_format.specs.Tree.{Token, Leaf, Tree, leaf, array, object, Element
 use Rattle.tv_format.specs.Tree.{Entries, no_entries, entry}
 
 -- bytes of some kind stand at a place of the heap
-pub record Stands (heap : List ℕ) (at : ℕ) (P : List ℕ → Type 0) : Type 0 where
+pub record Stands (heap : List ℕ) (at : ℕ) (Holds : List ℕ → Type 0) : Type 0 where
   pub before : List ℕ
   pub whole : List ℕ
   pub behind : List ℕ
   pub joined : heap ≡ before ++ (whole ++ behind)
   pub place : length before ≡ at
-  pub stands : P whole
+  pub stands : Holds whole
 
 -- the content after its length, in the shortest encoding
 pub record ShortSized (content whole : List ℕ) : Type 0 where
@@ -35,7 +35,7 @@ pub record ShortTokenized (content : List ℕ) (tokens : List Token) (whole : Li
 
 -- the type bytes
 abbrev pub leaf_type_byte : Leaf → ℕ
-leaf_type_byte l = heap_code (type_of l)
+leaf_type_byte the_leaf = heap_code (type_of the_leaf)
 
 abbrev pub tree_type : Tree → ℕ
 tree_type (leaf l) = leaf_type_byte l
@@ -58,24 +58,25 @@ ContentStands heap at (bytes_content bs) = Stands heap at (λ w. ShortSized bs w
 ContentStands heap at (tokens_content t ts) = Stands heap at (λ w. ShortTokenized t ts w)
 
 abbrev pub LeafStands : List ℕ → ℕ → Leaf → Type 0
-LeafStands heap at l = ContentStands heap at (content l)
+LeafStands heap at the_leaf = ContentStands heap at (content the_leaf)
 
 -- the type byte and the address of a child, and then the others; a child that has bytes lies below its parent
-pub record ListedChild (parent : ℕ) (R : ℕ → ℕ → Type 0) (Q : List ℕ → Type 0) (whole : List ℕ) : Type 0 where
+pub record ListedChild (parent : ℕ) (ReadsChild : ℕ → ℕ → Type 0) (HoldsNext : List ℕ → Type 0)
+    (whole : List ℕ) : Type 0 where
   pub code : ℕ
   pub at : ℕ
   pub rest : List ℕ
   pub joined : whole ≡ code ∷ (vnum at ++ rest)
   pub fits : at < 2 ^ 32
   pub below : code ≢ 0 → code ≢ 9 → at < parent
-  pub reads : R code at
-  pub others : Q rest
+  pub reads : ReadsChild code at
+  pub others : HoldsNext rest
 
 -- after its length stands the list of the children
-pub record Listed (heap : List ℕ) (at : ℕ) (P : List ℕ → Type 0) : Type 0 where
+pub record Listed (heap : List ℕ) (at : ℕ) (Holds : List ℕ → Type 0) : Type 0 where
   pub list : List ℕ
   pub stands : Stands heap at (λ w. ShortSized list w)
-  pub children : P list
+  pub children : Holds list
 
 -- the tree that stands at an address, of the type of this byte
 abbrev mutual

@@ -22,7 +22,7 @@ content_room (bytes_content bs) = 5 + length bs
 content_room (tokens_content t ts) = 15 + length t + sum_by token_room ts
 
 abbrev pub leaf_room : Leaf → ℕ
-leaf_room l = content_room (content l)
+leaf_room the_leaf = content_room (content the_leaf)
 
 -- a child takes 6 bytes more in its parent's list, and a key 6 and its text
 abbrev mutual
@@ -41,4 +41,4 @@ abbrev mutual
 
 -- of all values of a document
 abbrev pub document_room : Document → ℕ
-document_room d = sum_by (λ pair. room pair.1) d
+document_room document = sum_by (λ pair. room pair.1) document

@@ -23,4 +23,4 @@ abbrev mutual
 
 -- of all values of a document
 abbrev pub document_weight : Document → ℕ
-document_weight d = sum_by (λ pair. tree_weight pair.1) d
+document_weight document = sum_by (λ pair. tree_weight pair.1) document

@@ -8,12 +8,12 @@ use Rattle.tv_heap.specs.Weight.{tree_weight}
 -- The old heap is kept as a prefix and grew by the tree's room at most, and by its weight at most, and the
 -- tree reads. Unless it is null or a
 -- truth value, it stands after the old heap.
-pub record Wrote (old new : List ℕ) (code at : ℕ) (t : Tree) : Type 0 where
+pub record Wrote (old new : List ℕ) (code at : ℕ) (tree : Tree) : Type 0 where
   pub added : List ℕ
   pub grows : new ≡ old ++ added
-  pub within : length added ≤ room t
-  pub weighed : length added ≤ tree_weight t
-  pub reads : ReadsTree new code at t
+  pub within : length added ≤ room tree
+  pub weighed : length added ≤ tree_weight tree
+  pub reads : ReadsTree new code at tree
   pub behind : code ≢ 0 → code ≢ 9 → length old ≤ at
   pub below : code ≢ 0 → code ≢ 9 → at < length new
   pub fits : at < 2 ^ 32

@@ -13,7 +13,7 @@ use Rattle.tv_lines.specs.declared.export.JsonLayout.TheVariants.{Compact, Prett
 -- the token stands for what is no JSON
 abbrev pub is_bad : Token → Bool
 is_bad bad = true
-is_bad t = false
+is_bad token = false
 
 -- The same text of JSON in a layout: pretty, its tokens stand on a line for each item and member. What is no
 -- JSON stays as it is.

@@ -168,8 +168,8 @@ CountsMerge source old new (Err merging.Memory) = NoneFails source old new
 
 -- what is read of the bytes of a pair
 unfoldable pub pair_at : List ℕ → Result (Pair × List ℕ) (Cause × List ℕ)
-pair_at bytes = u64_at bytes >>= λ len. bytes_at len.0 len.1 >>= λ term. u64_at term.1 >>= λ count. Ok
-    ((term.0, count.0), count.1)
+pair_at bytes = u64_at bytes >>= λ len. bytes_at len.0 len.1 >>= λ term. u64_at term.1 >>= λ count.
+    Ok ((term.0, count.0), count.1)
 
 -- the least of the terms that were read and not yet taken
 abbrev pub IsLeastRead : {S : Type 0} → List (RunReader S) → Option (List ℕ) → Type 0

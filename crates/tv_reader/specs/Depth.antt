@@ -33,29 +33,30 @@ module _ (v : Version) where
 
 -- a key, and then bytes of some kind
 abbrev pub BehindKey : Version → (List ℕ → Type 0) → List ℕ → Type 0
-BehindKey v P whole = (k : List ℕ) × Then (λ b. Key v b k) P whole
+BehindKey version P whole = (k : List ℕ) × Then (λ b. Key version b k) P whole
 
 -- of a number of elements some are whole and within a depth, and then bytes of some kind stand in the place
 -- of the next
-pub record AmongElements (v : Version) (n : ℕ) (P : List ℕ → Type 0) (count : ℕ)
+pub record AmongElements (version : Version) (depth : ℕ) (Holds : List ℕ → Type 0) (count : ℕ)
     (whole : List ℕ) : Type 0 where
   pub before : Elements
   pub fewer : element_count before < count
-  pub parts : Then (λ b. ElementsWithin v n b before) P whole
+  pub parts : Then (λ b. ElementsWithin version depth b before) Holds whole
 
 -- the same of entries
-pub record AmongEntries (v : Version) (n : ℕ) (P : List ℕ → Type 0) (count : ℕ)
+pub record AmongEntries (version : Version) (depth : ℕ) (Holds : List ℕ → Type 0) (count : ℕ)
     (whole : List ℕ) : Type 0 where
   pub before : Entries
   pub fewer : entry_count before < count
-  pub parts : Then (λ b. EntriesWithin v n b before) (BehindKey v P) whole
+  pub parts : Then (λ b. EntriesWithin version depth b before) (BehindKey version Holds) whole
 
 -- The bytes are the beginning of a value, up to the code that opens one list more than this many at once: at
 -- 0 such a code alone; else the code and the number of a list, some of its children, and the same of the next
 -- child, in which one list fewer may be open.
 abbrev pub Opens : Version → ℕ → List ℕ → Type 0
-Opens v zero whole = (whole ≡ 12 ∷ []) ⊎ (whole ≡ 13 ∷ [])
-Opens v (suc n) whole =
-    Behind 12 (λ b. (count : ℕ) × Then (λ c. VNum c count) (AmongElements v n (Opens v n) count) b) whole
-    ⊎ Behind 13 (λ b. (count : ℕ) × Then (λ c. VNum c (entry_total v count))
-    (AmongEntries v n (Opens v n) count) b) whole
+Opens version zero whole = (whole ≡ 12 ∷ []) ⊎ (whole ≡ 13 ∷ [])
+Opens version (suc n) whole =
+    Behind 12 (λ b. (count : ℕ) × Then (λ c. VNum c count)
+        (AmongElements version n (Opens version n) count) b) whole
+    ⊎ Behind 13 (λ b. (count : ℕ) × Then (λ c. VNum c (entry_total version count))
+    (AmongEntries version n (Opens version n) count) b) whole

@@ -16,4 +16,4 @@ tokenized_tree x = leaf (tokenized (string_bytes x.0) (gathered x.1))
 
 -- the bytes encode them, after the codes
 abbrev pub EncodesTokenized : Version → List ℕ → String Global × EncodedTokens → Type 0
-EncodesTokenized v b x = Encodes Legacy v (type_prefix types.PreTokStr ++ b) (tokenized_tree x)
+EncodesTokenized version b x = Encodes Legacy version (type_prefix types.PreTokStr ++ b) (tokenized_tree x)

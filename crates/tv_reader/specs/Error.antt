@@ -46,7 +46,7 @@ store_stop errors.TooDeep = Never
 -- The same of a reader of trees, which may be too deep for it: it says nothing wrong of the bytes.
 abbrev pub tree_stop : DeserializeError → Stop Refusal
 tree_stop errors.TooDeep = Short
-tree_stop e = store_stop e
+tree_stop error = store_stop error
 
 -- which of them may stop it after this many bytes
 abbrev pub StoreMayStop : DeserializeError → ℕ → Type 0
@@ -56,15 +56,15 @@ StoreMayStop _ count = Unit {0}
 
 -- where no heap is filled
 abbrev pub StoreMayStopRoomy : DeserializeError → ℕ → Type 0
-StoreMayStopRoomy e count = StoreMayStop e count × (e ≢ errors.HeapFull)
+StoreMayStopRoomy error count = StoreMayStop error count × (error ≢ errors.HeapFull)
 
 -- where trees are taken, and no heap is filled
 abbrev pub StoreMayStopDeep : DeserializeError → ℕ → Type 0
-StoreMayStopDeep e count = StoreMayStopRoomy e count ⊎ (e ≡ errors.TooDeep)
+StoreMayStopDeep error count = StoreMayStopRoomy error count ⊎ (error ≡ errors.TooDeep)
 
 -- where no memory is taken
 abbrev pub StoreMayStopLean : DeserializeError → ℕ → Type 0
-StoreMayStopLean e count = StoreMayStopRoomy e count × (e ≢ errors.Memory)
+StoreMayStopLean error count = StoreMayStopRoomy error count × (error ≢ errors.Memory)
 
 -- The error in the bytes that an error says: what is corrupt, or in a key's place a value of another type
 -- than a text.

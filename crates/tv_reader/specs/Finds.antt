@@ -57,7 +57,7 @@ FindsIf May is_known left failures old old_count new new_count result Encodes Ha
 
 -- no refusal stands in the bytes
 abbrev pub Nothing : List ℕ → Refusal → Type 0
-Nothing whole r = ⊥
+Nothing whole refusal = ⊥
 
 -- the same of a reader of trees, to a depth
 abbrev pub FindsDeepBy : {S X : Type 0} (is_known : S → Type 0) (left : S → List ℕ) (failures : S → Failures)

@@ -30,25 +30,25 @@ head_part heads.Legacy = legacy_head
 
 -- the head of a leaf, by the form of what it holds
 abbrev pub form_head_at : Version → LeafType → Form → List ℕ → Result (HeadPart × List ℕ) (Cause × List ℕ)
-form_head_at v t forms.Nothing whole = Ok (leaf_head (leaf_holding t no_content), whole)
-form_head_at v t forms.Truth whole = truth_at whole >>= λ x. Ok
-    (leaf_head (leaf_holding t (truth_content x.0)), x.1)
-form_head_at v t forms.Unsigned whole = u64_at whole >>= λ x. Ok
-    (leaf_head (leaf_holding t (unsigned_content x.0)), x.1)
-form_head_at v t forms.Signed whole = number_at v t whole >>= λ x. Ok
-    (leaf_head (leaf_holding t (signed_content x.0)), x.1)
-form_head_at v t forms.Wide whole = u128_at whole >>= λ x. Ok (leaf_head (leaf_holding t (wide_content x.0)),
-    x.1)
-form_head_at v t forms.Text whole = vint_at whole >>= λ x. Ok (length_head t x.0, x.1)
-form_head_at v t forms.Bytes whole = vint_at whole >>= λ x. Ok (length_head t x.0, x.1)
-form_head_at v t forms.Tokens whole = Ok (tokenized_head, whole)
+form_head_at version t forms.Nothing whole = Ok (leaf_head (leaf_holding t no_content), whole)
+form_head_at version t forms.Truth whole = truth_at whole >>= λ x.
+    Ok (leaf_head (leaf_holding t (truth_content x.0)), x.1)
+form_head_at version t forms.Unsigned whole = u64_at whole >>= λ x.
+    Ok (leaf_head (leaf_holding t (unsigned_content x.0)), x.1)
+form_head_at version t forms.Signed whole = number_at version t whole >>= λ x.
+    Ok (leaf_head (leaf_holding t (signed_content x.0)), x.1)
+form_head_at version t forms.Wide whole = u128_at whole >>= λ x.
+    Ok (leaf_head (leaf_holding t (wide_content x.0)), x.1)
+form_head_at version t forms.Text whole = vint_at whole >>= λ x. Ok (length_head t x.0, x.1)
+form_head_at version t forms.Bytes whole = vint_at whole >>= λ x. Ok (length_head t x.0, x.1)
+form_head_at version t forms.Tokens whole = Ok (tokenized_head, whole)
 
 abbrev pub type_head_at : Version → Option LeafType → List ℕ → Result (HeadPart × List ℕ) (Cause × List ℕ)
-type_head_at v (Some t) whole = form_head_at v t (form t) whole
-type_head_at v None whole = Ok (legacy_head, whole)
+type_head_at version (Some t) whole = form_head_at version t (form t) whole
+type_head_at version None whole = Ok (legacy_head, whole)
 
 -- the head of a value whose type was read
 unfoldable pub head_at : Version → ValueType → List ℕ → Result (HeadPart × List ℕ) (Cause × List ℕ)
-head_at v types.Array whole = vint_at whole >>= λ x. Ok (array_head x.0, x.1)
-head_at v types.Object whole = entry_count_at v whole >>= λ x. Ok (object_head x.0, x.1)
-head_at v kind whole = type_head_at v (leaf_type kind) whole
+head_at version types.Array whole = vint_at whole >>= λ x. Ok (array_head x.0, x.1)
+head_at version types.Object whole = entry_count_at version whole >>= λ x. Ok (object_head x.0, x.1)
+head_at version kind whole = type_head_at version (leaf_type kind) whole

@@ -35,13 +35,13 @@ HasLength _ = ⊥
 
 -- the code, and what is taken after it
 abbrev pub EncodesHead : Version → List ℕ → HeadPart → Type 0
-EncodesHead v whole (leaf_head l) = HasWidth (form_of (content l))
-    × Behind (leaf_code l) (λ b. LeafBody v b l) whole
-EncodesHead v whole (length_head t n) = HasLength (form t) × Behind (store_code t) (λ b. VNum b n) whole
-EncodesHead v whole (array_head n) = Behind 12 (λ b. VNum b n) whole
-EncodesHead v whole (object_head n) = Behind 13 (λ b. VNum b (entry_total v n)) whole
-EncodesHead v whole tokenized_head = whole ≡ 7 ∷ 0 ∷ []
-EncodesHead v whole legacy_head = whole ≡ 8 ∷ []
+EncodesHead version whole (leaf_head l) = HasWidth (form_of (content l))
+    × Behind (leaf_code l) (λ b. LeafBody version b l) whole
+EncodesHead version whole (length_head t n) = HasLength (form t) × Behind (store_code t) (λ b. VNum b n) whole
+EncodesHead version whole (array_head n) = Behind 12 (λ b. VNum b n) whole
+EncodesHead version whole (object_head n) = Behind 13 (λ b. VNum b (entry_total version n)) whole
+EncodesHead version whole tokenized_head = whole ≡ 7 ∷ 0 ∷ []
+EncodesHead version whole legacy_head = whole ≡ 8 ∷ []
 
 -- a length, after the code of a text
 abbrev pub CodedLength : List ℕ → ℕ → Type 0

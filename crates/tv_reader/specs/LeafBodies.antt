@@ -28,30 +28,32 @@ TokenizedPair whole pair = Tokenized whole pair.0 pair.1
 
 -- what a leaf of a type holds, by its form
 abbrev pub HoldsByForm : Version → LeafType → Form → List ℕ → Tree → Type 0
-HoldsByForm v t forms.Nothing = λ whole tree. (whole ≡ []) × (tree ≡ leaf (leaf_holding t no_content))
-HoldsByForm v t forms.Truth = MadeOf Truth (λ x. leaf (leaf_holding t (truth_content x)))
-HoldsByForm v t forms.Unsigned = MadeOf (Fixed 8) (λ x. leaf (leaf_holding t (unsigned_content x)))
-HoldsByForm v t forms.Signed = MadeOf (Scaled (scale v t)) (λ x. leaf (leaf_holding t (signed_content x)))
-HoldsByForm v t forms.Wide = MadeOf (Fixed 16) (λ x. leaf (leaf_holding t (wide_content x)))
-HoldsByForm v t forms.Text = MadeOf Text (λ x. leaf (leaf_holding t (text_content x)))
-HoldsByForm v t forms.Bytes = MadeOf Sized (λ x. leaf (leaf_holding t (bytes_content x)))
-HoldsByForm v t forms.Tokens = MadeOf TokenizedPair (λ x. leaf (leaf_holding t (tokens_content x.0 x.1)))
+HoldsByForm version t forms.Nothing = λ whole tree. (whole ≡ []) × (tree ≡ leaf (leaf_holding t no_content))
+HoldsByForm version t forms.Truth = MadeOf Truth (λ x. leaf (leaf_holding t (truth_content x)))
+HoldsByForm version t forms.Unsigned = MadeOf (Fixed 8) (λ x. leaf (leaf_holding t (unsigned_content x)))
+HoldsByForm version t forms.Signed = MadeOf (Scaled (scale version t))
+    (λ x. leaf (leaf_holding t (signed_content x)))
+HoldsByForm version t forms.Wide = MadeOf (Fixed 16) (λ x. leaf (leaf_holding t (wide_content x)))
+HoldsByForm version t forms.Text = MadeOf Text (λ x. leaf (leaf_holding t (text_content x)))
+HoldsByForm version t forms.Bytes = MadeOf Sized (λ x. leaf (leaf_holding t (bytes_content x)))
+HoldsByForm version t forms.Tokens = MadeOf TokenizedPair
+    (λ x. leaf (leaf_holding t (tokens_content x.0 x.1)))
 
 abbrev pub LeafOfType : Version → Option LeafType → List ℕ → Tree → Type 0
-LeafOfType v (Some t) = HoldsByForm v t (form t)
-LeafOfType v None = λ whole t. ⊥
+LeafOfType version (Some t) = HoldsByForm version t (form t)
+LeafOfType version None = λ whole t. ⊥
 
 abbrev pub LeafOf : Version → ValueType → List ℕ → Tree → Type 0
-LeafOf v kind = LeafOfType v (leaf_type kind)
+LeafOf version kind = LeafOfType version (leaf_type kind)
 
 -- the same of what is none; both codes of a text with its tokens were read
 abbrev pub ErrorInHeld : Version → LeafType → Form → List ℕ → Cause → Type 0
-ErrorInHeld v t forms.Tokens = ErrorInTokenized
-ErrorInHeld v t f = ErrorInContent (scale v t) f
+ErrorInHeld version t forms.Tokens = ErrorInTokenized
+ErrorInHeld version t f = ErrorInContent (scale version t) f
 
 abbrev pub ErrorInLeafOfType : Version → Option LeafType → List ℕ → Cause → Type 0
-ErrorInLeafOfType v (Some t) = ErrorInHeld v t (form t)
-ErrorInLeafOfType v None = λ whole c. c ≡ LegacyJson
+ErrorInLeafOfType version (Some t) = ErrorInHeld version t (form t)
+ErrorInLeafOfType version None = λ whole c. c ≡ LegacyJson
 
 abbrev pub ErrorInLeafOf : Version → ValueType → List ℕ → Cause → Type 0
-ErrorInLeafOf v kind = ErrorInLeafOfType v (leaf_type kind)
+ErrorInLeafOf version kind = ErrorInLeafOfType version (leaf_type kind)

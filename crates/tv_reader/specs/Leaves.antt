@@ -31,9 +31,9 @@ date_of V2 z rest = Ok (z, rest)
 date_of V3 z rest = Ok (z, rest)
 
 unfoldable pub date_at : Version → List ℕ → Result (ℤ × List ℕ) (Cause × List ℕ)
-date_at v whole = do
+date_at version whole = do
   number ← i64_at whole
-  date_of v number.0 number.1
+  date_of version number.0 number.1
 
 -- ---- texts with their tokens
 
@@ -82,32 +82,36 @@ or_null None = null
 
 -- the leaf of a type that holds this; a content of another form than the type's makes none
 abbrev pub leaf_holding : LeafType → Content → Leaf
-leaf_holding t c = or_null (leaf_with t c)
+leaf_holding t content = or_null (leaf_with t content)
 
 -- a signed number: a date's counts microseconds in version 1
 abbrev pub number_at : Version → LeafType → List ℕ → Result (ℤ × List ℕ) (Cause × List ℕ)
-number_at v leaves.Date whole = date_at v whole
-number_at v _ whole = i64_at whole
+number_at version leaves.Date whole = date_at version whole
+number_at version _ whole = i64_at whole
 
 -- what a leaf holds, after its codes
 abbrev pub content_at : Version → LeafType → Form → List ℕ → Result (Tree × List ℕ) (Cause × List ℕ)
-content_at v t forms.Nothing whole = Ok (leaf (leaf_holding t no_content), whole)
-content_at v t forms.Truth whole = truth_at whole >>= λ x. Ok (leaf (leaf_holding t (truth_content x.0)), x.1)
-content_at v t forms.Unsigned whole = u64_at whole >>= λ x. Ok (leaf (leaf_holding t (unsigned_content x.0)),
+content_at version t forms.Nothing whole = Ok (leaf (leaf_holding t no_content), whole)
+content_at version t forms.Truth whole = truth_at whole >>= λ x.
+    Ok (leaf (leaf_holding t (truth_content x.0)), x.1)
+content_at version t forms.Unsigned whole = u64_at whole >>= λ x.
+    Ok (leaf (leaf_holding t (unsigned_content x.0)), x.1)
+content_at version t forms.Signed whole = number_at version t whole >>= λ x.
+    Ok (leaf (leaf_holding t (signed_content x.0)), x.1)
+content_at version t forms.Wide whole = u128_at whole >>= λ x. Ok (leaf (leaf_holding t (wide_content x.0)),
     x.1)
-content_at v t forms.Signed whole = number_at v t whole >>= λ x. Ok
-    (leaf (leaf_holding t (signed_content x.0)), x.1)
-content_at v t forms.Wide whole = u128_at whole >>= λ x. Ok (leaf (leaf_holding t (wide_content x.0)), x.1)
-content_at v t forms.Text whole = text_at whole >>= λ x. Ok (leaf (leaf_holding t (text_content x.0)), x.1)
-content_at v t forms.Bytes whole = sized_at whole >>= λ x. Ok (leaf (leaf_holding t (bytes_content x.0)), x.1)
-content_at v t forms.Tokens whole = tokenized_at whole >>= λ x. Ok
-    (leaf (leaf_holding t (tokens_content x.0.0 x.0.1)), x.1)
+content_at version t forms.Text whole = text_at whole >>= λ x. Ok (leaf (leaf_holding t (text_content x.0)),
+    x.1)
+content_at version t forms.Bytes whole = sized_at whole >>= λ x.
+    Ok (leaf (leaf_holding t (bytes_content x.0)), x.1)
+content_at version t forms.Tokens whole = tokenized_at whole >>= λ x.
+    Ok (leaf (leaf_holding t (tokens_content x.0.0 x.0.1)), x.1)
 
 -- What doesn't hold for a leaf is never asked of it.
 abbrev pub leaf_of_type : Version → Option LeafType → List ℕ → Result (Tree × List ℕ) (Cause × List ℕ)
-leaf_of_type v (Some t) whole = content_at v t (form t) whole
-leaf_of_type v None whole = Err (LegacyJson, whole)
+leaf_of_type version (Some t) whole = content_at version t (form t) whole
+leaf_of_type version None whole = Err (LegacyJson, whole)
 
 -- the value whose type was read
 unfoldable pub leaf_at : Version → ValueType → List ℕ → Result (Tree × List ℕ) (Cause × List ℕ)
-leaf_at v kind whole = leaf_of_type v (leaf_type kind) whole
+leaf_at version kind whole = leaf_of_type version (leaf_type kind) whole

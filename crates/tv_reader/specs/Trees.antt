@@ -19,41 +19,43 @@ use Rattle.tv_reader.specs.declared.value_type.ValueType.{ValueType}
 
 -- the value, and why there is none
 abbrev pub EncodesValue : Version → List ℕ → OwnedValue → Type 0
-EncodesValue v b x = Encodes Legacy v b (owned_tree x)
+EncodesValue version b x = Encodes Legacy version b (owned_tree x)
 
 abbrev pub NoValue : Version → List ℕ → Refusal → Type 0
-NoValue v b r = ErrorInValue Legacy ErrorInLegacy v b r
+NoValue version b refusal = ErrorInValue Legacy ErrorInLegacy version b refusal
 
 -- the same after the code of a type
 abbrev pub EncodesBehind : Version → ValueType → List ℕ → OwnedValue → Type 0
-EncodesBehind v kind b x = EncodesValue v (type_prefix kind ++ b) x
+EncodesBehind version kind b x = EncodesValue version (type_prefix kind ++ b) x
 
 abbrev pub NoneBehind : Version → ValueType → List ℕ → Refusal → Type 0
-NoneBehind v kind b r = NoValue v (type_prefix kind ++ b) r
+NoneBehind version kind b refusal = NoValue version (type_prefix kind ++ b) refusal
 
 -- this many values, one after the other
-pub record EncodesItems (v : Version) (n : ℕ) (b : List ℕ) (items : Vec OwnedValue Global) : Type 0 where
-  pub many : length items.items ≡ n
-  pub encoded : EncodesElements Legacy v b (elements (map owned_tree items.items))
+pub record EncodesItems (version : Version) (count : ℕ) (bytes : List ℕ)
+    (items : Vec OwnedValue Global) : Type 0 where
+  pub many : length items.items ≡ count
+  pub encoded : EncodesElements Legacy version bytes (elements (map owned_tree items.items))
 
 abbrev pub NoItems : Version → ℕ → List ℕ → Refusal → Type 0
-NoItems v n b r = ErrorInElements Legacy ErrorInLegacy v n b r
+NoItems version n b refusal = ErrorInElements Legacy ErrorInLegacy version n b refusal
 
 -- a key, and a value after it
 abbrev pub EncodesMember : Version → List ℕ → String Global × OwnedValue → Type 0
-EncodesMember v b member = Then (λ w. Key v w (string_bytes member.0)) (λ w. EncodesValue v w member.1) b
+EncodesMember version b member = Then (λ w. Key version w (string_bytes member.0))
+    (λ w. EncodesValue version w member.1) b
 
 abbrev pub NoMember : Version → List ℕ → Refusal → Type 0
-NoMember v = InThen (ErrorInKey v) (Key v) (λ _. NoValue v)
+NoMember version = InThen (ErrorInKey version) (Key version) (λ _. NoValue version)
 
 -- this many keys with values
-pub record EncodesMembers (v : Version) (n : ℕ) (b : List ℕ)
+pub record EncodesMembers (version : Version) (count : ℕ) (bytes : List ℕ)
     (members : Vec (String Global × OwnedValue) Global) : Type 0 where
-  pub many : length members.items ≡ n
-  pub encoded : EncodesEntries Legacy v b (entries (owned_entries members.items))
+  pub many : length members.items ≡ count
+  pub encoded : EncodesEntries Legacy version bytes (entries (owned_entries members.items))
 
 abbrev pub NoMembers : Version → ℕ → List ℕ → Refusal → Type 0
-NoMembers v n b r = ErrorInEntries Legacy ErrorInLegacy v n b r
+NoMembers version n b refusal = ErrorInEntries Legacy ErrorInLegacy version n b refusal
 
 -- a key, with its code
 abbrev pub CodedKey : List ℕ → String Global → Type 0
@@ -70,9 +72,9 @@ pub data ErrorInTwice (whole : List ℕ) : Cause → Type 0 where
 
 -- what an object of this many entries announces
 abbrev pub EncodesEntryCount : Version → List ℕ → ℕ → Type 0
-EncodesEntryCount v b n = VNum b (entry_total v n)
+EncodesEntryCount version b n = VNum b (entry_total version n)
 
-pub data ErrorInEntryCount (v : Version) (whole : List ℕ) : Cause → Type 0 where
-  in_count_number : {c : Cause} → ErrorInNumber whole c → ErrorInEntryCount v whole c
+pub data ErrorInEntryCount (version : Version) (whole : List ℕ) : Cause → Type 0 where
+  in_count_number : {c : Cause} → ErrorInNumber whole c → ErrorInEntryCount version whole c
   odd_count_number : (n : ℕ) (prefix rest : List ℕ) → whole ≡ prefix ++ rest → VNum prefix n
-      → ((m : ℕ) → entry_total v m ≢ n) → ErrorInEntryCount v whole OddObject
+      → ((m : ℕ) → entry_total version m ≢ n) → ErrorInEntryCount version whole OddObject

@@ -56,20 +56,20 @@ mutual
 
   elements_with_legacy : (v : Version) (ts : Elements) (b : List ℕ) → EncodesElements NoLegacy v b ts
       → EncodesElements Legacy v b ts
-  elements_with_legacy v no_elements b p = p
-  elements_with_legacy v (element t ts) b p =
+  elements_with_legacy version no_elements b p = p
+  elements_with_legacy version (element t ts) b p =
       record {
         prefix = p.prefix;
         rest = p.rest;
         joined = p.joined;
-        first = with_legacy v t p.prefix p.first;
-        second = elements_with_legacy v ts p.rest p.second;
+        first = with_legacy version t p.prefix p.first;
+        second = elements_with_legacy version ts p.rest p.second;
       }
 
   entries_with_legacy : (v : Version) (es : Entries) (b : List ℕ) → EncodesEntries NoLegacy v b es
       → EncodesEntries Legacy v b es
-  entries_with_legacy v no_entries b p = p
-  entries_with_legacy v (entry k t es) b p =
+  entries_with_legacy version no_entries b p = p
+  entries_with_legacy version (entry k t es) b p =
       let s = p.second in
       record {
         prefix = p.prefix;
@@ -80,25 +80,25 @@ mutual
           prefix = s.prefix;
           rest = s.rest;
           joined = s.joined;
-          first = with_legacy v t s.prefix s.first;
-          second = entries_with_legacy v es s.rest s.second;
+          first = with_legacy version t s.prefix s.first;
+          second = entries_with_legacy version es s.rest s.second;
         };
       }
 
 -- malformed bytes, whatever stands after a prefix of them
 pub malformed : (v : Version) (prefix rest : List ℕ) (r : Refusal) (t : Tree) → NoValue v (prefix ++ rest) r
     → Encodes NoLegacy v prefix t → ⊥
-malformed v prefix rest r t f p =
-    value_excludes Legacy ErrorInLegacy v one_legacy legacy_excludes f t prefix rest
-    (with_legacy v t prefix p) refl
+malformed version prefix rest refusal tree f p =
+    value_excludes Legacy ErrorInLegacy version one_legacy legacy_excludes f tree prefix rest
+    (with_legacy version tree prefix p) refl
 
 -- the same after the code of a type
 pub malformed_behind : (v : Version) (kind : ValueType) (prefix rest : List ℕ) (r : Refusal) (t : Tree)
     → NoValue v (type_prefix kind ++ (prefix ++ rest)) r → Encodes NoLegacy v (type_prefix kind ++ prefix) t
     → ⊥
-malformed_behind v kind prefix rest r t f p =
-    malformed v (type_prefix kind ++ prefix) rest r t
-    (subst (λ w. NoValue v w r) (sym (append_assoc (type_prefix kind) prefix rest)) f) p
+malformed_behind version kind prefix rest refusal tree f p =
+    malformed version (type_prefix kind ++ prefix) rest refusal tree
+    (subst (λ w. NoValue version w refusal) (sym (append_assoc (type_prefix kind) prefix rest)) f) p
 
 pub tree_excludes : {X : Type 0} (is : Tree → X → Type 0) → RefusalsExclude is TreeRefused
 tree_excludes is v kind prefix rest e t x r p same = malformed_behind v kind prefix rest r.refusal t r.error p
@@ -107,24 +107,24 @@ tree_excludes is v kind prefix rest e t x r p same = malformed_behind v kind pre
 
 -- the type of a leaf
 abbrev pub type_of_leaf : Leaf → ValueType
-type_of_leaf l = of_leaf (type_of l)
+type_of_leaf the_leaf = of_leaf (type_of the_leaf)
 
 -- its code stands first
 leaf_coded : (v : Version) (whole : List ℕ) (l : Leaf) → Encodes NoLegacy v whole (leaf l) → (body : List ℕ)
     × (whole ≡ type_prefix (type_of_leaf l) ++ body)
-leaf_coded v whole (tokenized t ts) p =
+leaf_coded version whole (tokenized t ts) p =
     (p.encoded.body, p.joined ∙ ap (λ (l : List ℕ). 7 ∷ l) p.encoded.joined)
-leaf_coded v whole _ p = (p.body, p.joined)
+leaf_coded version whole _ p = (p.body, p.joined)
 
 leaf_excluded : (expected : ValueType) (l : Leaf) → type_of_leaf l ≡ expected
     → (v : Version) (kind : ValueType) (prefix rest : List ℕ) (e : DeserializeError)
     → LeafRefused expected v kind (prefix ++ rest) e
     → Encodes NoLegacy v (type_prefix kind ++ prefix) (leaf l) → ⊥
-leaf_excluded expected l is v kind prefix rest e (other_type other) p =
-    let q = leaf_coded v (type_prefix kind ++ prefix) l p in
-    other ((same_coded kind (type_of_leaf l) prefix q.0 q.1).0 ∙ is)
-leaf_excluded expected l is v kind prefix rest e (in_body {cause} same f) p =
-    malformed_behind v kind prefix rest _ (leaf l) f p
+leaf_excluded expected the_leaf is version kind prefix rest error (other_type other) p =
+    let q = leaf_coded version (type_prefix kind ++ prefix) the_leaf p in
+    other ((same_coded kind (type_of_leaf the_leaf) prefix q.0 q.1).0 ∙ is)
+leaf_excluded expected the_leaf is version kind prefix rest error (in_body {cause} same f) p =
+    malformed_behind version kind prefix rest _ (leaf the_leaf) f p
 
 pub leaf_excludes : {X : Type 0} (expected : ValueType) (make : X → Leaf)
     → ((x : X) → type_of_leaf (make x) ≡ expected) → RefusalsExclude (IsLeafOf make) (LeafRefused expected)
@@ -136,16 +136,16 @@ leaf_excludes expected make typed v kind prefix rest e t x refused p same =
 
 code_excluded : (v : Version) (prefix rest : List ℕ) (e : DeserializeError) (t : Tree)
     → CodeRefused (prefix ++ rest) e → Encodes NoLegacy v prefix t → ⊥
-code_excluded v prefix rest e t (in_code {cause} f) p =
-    malformed v prefix rest _ t (code_value v (prefix ++ rest) cause f) p
+code_excluded version prefix rest error tree (in_code {cause} f) p =
+    malformed version prefix rest _ tree (code_value version (prefix ++ rest) cause f) p
 
 -- each value begins with the code of its type
 tree_coded : (v : Version) (whole : List ℕ) (t : Tree) → Encodes NoLegacy v whole t → (kind : ValueType)
     × (body : List ℕ) × (whole ≡ type_prefix kind ++ body)
-tree_coded v whole (leaf l) p = let q = leaf_coded v whole l p in (type_of_leaf l, q.0, q.1)
-tree_coded v whole (array ts) p = (types.Array, p.body, p.joined)
-tree_coded v whole (object es) (inl p) = (types.Object, p.body, p.joined)
-tree_coded v whole (object es) (inr p) = (types.JSONObject, p.body, p.joined)
+tree_coded version whole (leaf l) p = let q = leaf_coded version whole l p in (type_of_leaf l, q.0, q.1)
+tree_coded version whole (array ts) p = (types.Array, p.body, p.joined)
+tree_coded version whole (object es) (inl p) = (types.Object, p.body, p.joined)
+tree_coded version whole (object es) (inr p) = (types.JSONObject, p.body, p.joined)
 
 pub next_excludes : {X : Type 0} (is : Tree → X → Type 0)
     (refused : Version → ValueType → List ℕ → DeserializeError → Type 0) → RefusalsExclude is refused

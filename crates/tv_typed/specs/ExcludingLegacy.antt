@@ -18,19 +18,19 @@ use Rattle.tv_typed.specs.LegacyObjects.{MembersRefused, in_other, in_legacy_obj
 
 -- after the code of a legacy object nothing else is encoded
 no_other : (v : Version) (a : List ℕ) (t : Tree) → Encodes NoLegacy v (8 ∷ a) t → ⊥
-no_other v a (leaf l) p = let e = p.joined in let same : store_code (type_of l) ≡ 8 =
+no_other version a (leaf l) p = let e = p.joined in let same : store_code (type_of l) ≡ 8 =
     cc in (leaf_coded (type_of l)).no_legacy same
-no_other v a (array ts) p = let e = p.joined in absurd cc
-no_other v a (object es) (inl p) = let e = p.joined in absurd cc
-no_other v a (object es) (inr p) = p.encoded
+no_other version a (array ts) p = let e = p.joined in absurd cc
+no_other version a (object es) (inl p) = let e = p.joined in absurd cc
+no_other version a (object es) (inr p) = p.encoded
 
 pub members_exclude : (refused : Version → ValueType → List ℕ → DeserializeError → Type 0) (v : Version)
     (kind : ValueType) (prefix rest : List ℕ) (e : DeserializeError) (t : Tree)
     → (refused v kind (prefix ++ rest) e → ⊥)
     → MembersRefused refused v kind (prefix ++ rest) e → Encodes NoLegacy v (type_prefix kind ++ prefix) t → ⊥
-members_exclude refused v kind prefix rest e t none (in_other other f) p = none f
-members_exclude refused v kind prefix rest e t none (in_legacy_object same f) p =
-    no_other v prefix t (subst (λ k. Encodes NoLegacy v (type_prefix k ++ prefix) t) same p)
+members_exclude refused version kind prefix rest error tree none (in_other other f) p = none f
+members_exclude refused version kind prefix rest error tree none (in_legacy_object same f) p =
+    no_other version prefix tree (subst (λ k. Encodes NoLegacy version (type_prefix k ++ prefix) tree) same p)
 
 -- what is read of the entries of such an object
 pub entries_exclude : {X C : Type 0} (is : Tree → X → Type 0)

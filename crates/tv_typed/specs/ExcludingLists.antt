@@ -68,10 +68,10 @@ each_excludes Item Plain Encoded Is Refused one parts more none (suc n) (u ∷ u
 length_excluded : (collection : ValueType) (total : ℕ → ℕ) (kind : ValueType) (m : ℕ) (whole a rest : List ℕ)
     (e : DeserializeError) → LengthRefused collection total kind whole e → Length collection total kind a m
     → whole ≡ a ++ rest → ⊥
-length_excluded collection total kind m whole a rest e (other_collection other) p joined = other p.0
-length_excluded collection total kind m whole a rest e (in_length {cause} same f) p joined =
+length_excluded collection total kind m whole a rest error (other_collection other) p joined = other p.0
+length_excluded collection total kind m whole a rest error (in_length {cause} same f) p joined =
     (excludes_number (total m)).excludes whole a rest cause f p.1 joined
-length_excluded collection total kind m whole a rest e
+length_excluded collection total kind m whole a rest error
     (no_total n prefix after same cut number none) p joined =
     none m (sym (one_number prefix a after rest n (total m) number p.1 (sym cut ∙ joined)).1)
 
@@ -105,14 +105,14 @@ items_exclude collection total kind apart Item Plain Encoded Is Refused one part
 
 pub each_elements : (v : Version) (ts : List Tree) (b : List ℕ) → EncodesElements NoLegacy v b (elements ts)
     → Each (Encodes NoLegacy v) b ts
-each_elements v [] b h = h
-each_elements v (t ∷ ts) b h =
+each_elements version [] b h = h
+each_elements version (t ∷ ts) b h =
     record {
       prefix = h.prefix;
       rest = h.rest;
       joined = h.joined;
       first = h.first;
-      second = each_elements v ts h.rest h.second;
+      second = each_elements version ts h.rest h.second;
     }
 
 pub array_excludes : {X : Type 0} (is : Tree → X → Type 0)
@@ -143,17 +143,17 @@ array_excludes is refused excludes v kind prefix rest e t xs r p o =
 
 -- a key, and the tree after it
 abbrev pub KeyAndTree : (List ℕ → Entries → Type 0) → Version → List ℕ → List ℕ × Tree → Type 0
-KeyAndTree L v b e = Then (λ w. Key v w e.0) (λ w. Encodes L v w e.1) b
+KeyAndTree L version b e = Then (λ w. Key version w e.0) (λ w. Encodes L version w e.1) b
 
 pub one_entry : (v : Version) → OneReading (KeyAndTree Legacy v)
-one_entry v = one_from (KeyAndTree Legacy v)
+one_entry version = one_from (KeyAndTree Legacy version)
     (λ p q. agree_map (λ h. λ i. (h.0 i, h.1 i))
-    (agree_then (agree_key v p.0 q.0) (λ _. agree_tree Legacy v one_legacy p.1 q.1)))
+    (agree_then (agree_key version p.0 q.0) (λ _. agree_tree Legacy version one_legacy p.1 q.1)))
 
 pub each_entries : (v : Version) (es : List (List ℕ × Tree)) (b : List ℕ)
     → EncodesEntries NoLegacy v b (entries es) → Each (KeyAndTree NoLegacy v) b es
-each_entries v [] b h = h
-each_entries v (e ∷ es) b h = record {
+each_entries version [] b h = h
+each_entries version (e ∷ es) b h = record {
   prefix = h.prefix ++ h.second.prefix;
   rest = h.second.rest;
   joined = h.joined ∙ ap (λ (l : List ℕ). h.prefix ++ l) h.second.joined
@@ -165,7 +165,7 @@ each_entries v (e ∷ es) b h = record {
     first = h.first;
     second = h.second.first;
   };
-  second = each_entries v es h.second.rest h.second.second;
+  second = each_entries version es h.second.rest h.second.second;
 }
 
 entry_excludes : {X : Type 0} (is : Tree → X → Type 0)

@@ -22,4 +22,4 @@ is_null_leaf _ = false
 
 -- what a leaf of some kind holds, where the tree is one
 abbrev pub in_leaf : {A : Type 0} → (Leaf → Option A) → Tree → Option A
-in_leaf held t = option_and_then held (leaf_in t)
+in_leaf held tree = option_and_then held (leaf_in tree)

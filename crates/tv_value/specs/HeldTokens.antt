@@ -35,7 +35,7 @@ HeldTokens kept encoded count = (tokens : List Token) × ∥ AreHeld kept encode
 
 one_list : (kept : List tokenizer.Token) (encoded : List ℕ) (count : ℕ) (s t : List Token)
     → AreHeld kept encoded count s → AreHeld kept encoded count t → s ≡ t
-one_list kept encoded count s t p q =
+one_list kept encoded count tokens t p q =
     let many : length p.others ≡ length q.others = p.counted ∙ sym q.counted in
     let whole : p.begins.prefix ++ p.behind ≡ q.begins.prefix ++ q.behind =
         sym p.begins.joined ∙ q.begins.joined in

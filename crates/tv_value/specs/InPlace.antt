@@ -4,8 +4,8 @@ use Rattle.tv_base.specs.Parts.{Begins, Each}
 use Rattle.tv_format.specs.Encoding.{TokenEncoding, Tokenized}
 use Rattle.tv_format.specs.Tree.{Token}
 
-pub record NoPrefix (P : List ℕ → Type 0) (whole : List ℕ) : Type 0 where
-  pub none : (prefix rest : List ℕ) → whole ≡ prefix ++ rest → P prefix → ⊥
+pub record NoPrefix (Holds : List ℕ → Type 0) (whole : List ℕ) : Type 0 where
+  pub none : (prefix rest : List ℕ) → whole ≡ prefix ++ rest → Holds prefix → ⊥
 
 -- this many tokens begin the bytes, and this is what follows them
 pub record BeginsTokens (count : ℕ) (whole rest : List ℕ) : Type 0 where

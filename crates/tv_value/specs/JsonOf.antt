@@ -32,13 +32,13 @@ abbrev pub count_json : ℕ → Data
 count_json n = json.number (json.unsigned n)
 
 abbrev pub token_json : Token → Data
-token_json t =
+token_json token =
     json.object
-    (json.member (codes "offset_from") (count_json t.offset_from)
-    (json.member (codes "offset_to") (count_json t.offset_to)
-    (json.member (codes "position") (count_json t.position)
-    (json.member (codes "position_length") (count_json t.position_length)
-    (json.member (codes "text") (json.string t.text) json.no_members)))))
+    (json.member (codes "offset_from") (count_json token.offset_from)
+    (json.member (codes "offset_to") (count_json token.offset_to)
+    (json.member (codes "position") (count_json token.position)
+    (json.member (codes "position_length") (count_json token.position_length)
+    (json.member (codes "text") (json.string token.text) json.no_members)))))
 
 abbrev pub tokens_json : List Token → Items
 tokens_json [] = json.no_items
@@ -65,7 +65,7 @@ content_json (tokens_content t ts) = tokenized_json t ts
 abbrev pub leaf_json : Leaf → Data
 leaf_json (date z) = json.string (moment_text z)
 leaf_json (facet t) = json.string (printed t)
-leaf_json l = content_json (content l)
+leaf_json the_leaf = content_json (content the_leaf)
 
 -- Arrays and objects by their parts. The entries of an object go in one after the other, so the last of equal
 -- keys stands.

@@ -43,7 +43,7 @@ abbrev mutual
 
 -- the tree of a JSON value, which has none where a number in it isn't whole or doesn't fit 64 bits
 abbrev pub json_tree : Data → Option Tree
-json_tree d = if has_float d then None else Some (whole_tree d)
+json_tree data = if has_float data then None else Some (whole_tree data)
 
 -- the tree that a JSON value is lent as
 abbrev pub lent_json_tree : Value → Tree
@@ -55,6 +55,6 @@ lent_json_entries = map (λ m. (string_bytes m.0, lent_json_tree m.1))
 
 -- what is returned for a JSON value
 abbrev pub AnswersJson : Data → Result OwnedValue JsonError → Type 0
-AnswersJson d (Ok made) = json_tree d ≡ Some (owned_tree made)
-AnswersJson d (Err FloatNumber) = json_tree d ≡ None
-AnswersJson d (Err Memory) = IsSome (json_tree d)
+AnswersJson data (Ok made) = json_tree data ≡ Some (owned_tree made)
+AnswersJson data (Err FloatNumber) = json_tree data ≡ None
+AnswersJson data (Err Memory) = IsSome (json_tree data)

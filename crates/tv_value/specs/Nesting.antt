@@ -24,4 +24,4 @@ abbrev mutual
 
 -- each pair's tree does
 abbrev pub AllNestWithin : ℕ → Document → Type 0
-AllNestWithin n d = AllByRecursion (λ pair. NestsWithin n pair.1) d
+AllNestWithin n document = AllByRecursion (λ pair. NestsWithin n pair.1) document

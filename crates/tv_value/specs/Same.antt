@@ -28,7 +28,7 @@ content_eq _ _ = false
 
 -- of one type, with the same content
 abbrev pub leaf_eq : Leaf → Leaf → Bool
-leaf_eq l m = nat_eq (leaf_code l) (leaf_code m) && content_eq (content l) (content m)
+leaf_eq the_leaf m = nat_eq (leaf_code the_leaf) (leaf_code m) && content_eq (content the_leaf) (content m)
 
 abbrev mutual
   pub tree_eq : Tree → Tree → Bool

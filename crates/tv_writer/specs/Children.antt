@@ -21,18 +21,19 @@ IsSingle (object es) = ⊥
 
 -- of a list what stands before its children, and of another value all
 abbrev pub short_head : Version → Tree → List ℕ
-short_head v (leaf l) = short v (leaf l)
-short_head v (array ts) = 12 ∷ vnum (element_count ts)
-short_head v (object es) = 13 ∷ vnum (entry_total v (entry_count es))
+short_head version (leaf l) = short version (leaf l)
+short_head version (array ts) = 12 ∷ vnum (element_count ts)
+short_head version (object es) = 13 ∷ vnum (entry_total version (entry_count es))
 
 -- each in its shortest encoding, after its key, if it has one
 abbrev pub short_key_of : Version → Option (List ℕ) → List ℕ
-short_key_of v None = []
-short_key_of v (Some key) = short_key v key
+short_key_of version None = []
+short_key_of version (Some key) = short_key version key
 
 abbrev pub short_children : Version → List Child → List ℕ
-short_children v [] = []
-short_children v (child ∷ children) = short_key_of v child.0 ++ (short v child.1 ++ short_children v children)
+short_children version [] = []
+short_children version (child ∷ children) = short_key_of version child.0
+    ++ (short version child.1 ++ short_children version children)
 
 -- each value has an encoding
 abbrev pub AreValues : List Child → Type 0

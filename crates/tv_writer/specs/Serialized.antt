@@ -26,7 +26,7 @@ RefusesOrLacksMemory old new result = WritesNothing TooMany old new result
 
 -- a value after its key, if it has one
 abbrev pub short_child : Version → Option (Bor (List ℕ)) → Tree → List ℕ
-short_child v key t = short_key_of v (option_map (λ k. k.now) key) ++ short v t
+short_child version key tree = short_key_of version (option_map (λ k. k.now) key) ++ short version tree
 
 -- A write of this text returned the error: it left the sink so, with a failure more, of the kind that is
 -- reported.
@@ -36,30 +36,30 @@ FailsToWrite {S} sink old error text = (new : S) × WritesStore {T = ℕ} sink o
 -- The text of a value that has an encoding and nests within this many lists is written, unless the sink
 -- fails, and any other is refused:
 -- that it nests too deep is reported first.
-pub record WritesWithin {S T : Type 0} (depth : ℕ) (t : Tree) (sink : Ghosts S) (old new : S)
+pub record WritesWithin {S T : Type 0} (depth : ℕ) (tree : Tree) (sink : Ghosts S) (old new : S)
     (result : Result T SerializeError) (text : List ℕ) : Type 0 where
-  pub writes : NestsWithin depth t → IsValue t → WritesStore sink old new result (Ok text)
-  pub io : NestsWithin depth t → IsValue t → IfErr result IsIo
-  pub many : NestsWithin depth t → ¬ IsValue t → WritesNothing TooMany old new result
-  pub deep : ¬ NestsWithin depth t → WritesNothing TooDeep old new result
+  pub writes : NestsWithin depth tree → IsValue tree → WritesStore sink old new result (Ok text)
+  pub io : NestsWithin depth tree → IsValue tree → IfErr result IsIo
+  pub many : NestsWithin depth tree → ¬ IsValue tree → WritesNothing TooMany old new result
+  pub deep : ¬ NestsWithin depth tree → WritesNothing TooDeep old new result
 
 -- The text of a value that has an encoding is written, unless the sink fails or, where it nests in more than
 -- `MAX_DEPTH` lists, memory is
 -- refused. Any other is refused, and nothing is written.
-pub record WritesAnyDepth {S T : Type 0} (t : Tree) (sink : Ghosts S) (old new : S)
+pub record WritesAnyDepth {S T : Type 0} (tree : Tree) (sink : Ghosts S) (old new : S)
     (result : Result T SerializeError) (text : List ℕ) : Type 0 where
-  pub writes : IsValue t → WritesStore sink old new result (Ok text)
-  pub errors : IsValue t → IfErr result IsIoOrMemory
-  pub only_io : NestsWithin MAX_DEPTH t → IsValue t → IfErr result IsIo
-  pub many : NestsWithin MAX_DEPTH t → ¬ IsValue t → WritesNothing TooMany old new result
-  pub many_or_memory : ¬ IsValue t → RefusesOrLacksMemory old new result
+  pub writes : IsValue tree → WritesStore sink old new result (Ok text)
+  pub errors : IsValue tree → IfErr result IsIoOrMemory
+  pub only_io : NestsWithin MAX_DEPTH tree → IsValue tree → IfErr result IsIo
+  pub many : NestsWithin MAX_DEPTH tree → ¬ IsValue tree → WritesNothing TooMany old new result
+  pub many_or_memory : ¬ IsValue tree → RefusesOrLacksMemory old new result
 
 -- what is written of a value, by how deep those nest that are written
 abbrev pub WritesToDepth : {S T : Type 0} → Depth → Tree → Ghosts S → S → S → Result T SerializeError → List ℕ
     → Type 0
-WritesToDepth (depths.Within levels) t sink old new result text =
-    WritesWithin levels t sink old new result text
-WritesToDepth (depths.Any alloc) t sink old new result text = WritesAnyDepth t sink old new result text
+WritesToDepth (depths.Within levels) tree sink old new result text =
+    WritesWithin levels tree sink old new result text
+WritesToDepth (depths.Any alloc) tree sink old new result text = WritesAnyDepth tree sink old new result text
 
 -- how many are awaited after a call that gives one
 abbrev pub awaited_after : {T : Type 0} → ℕ → Result T SerializeError → ℕ
