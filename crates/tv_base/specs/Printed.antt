@@ -22,4 +22,4 @@ count_printed entry = child_printed entry.0 ++? Some (codes ": " ++ decimal entr
 abbrev pub count_debug_printed : List ℕ × ℕ → Option (List ℕ)
 count_debug_printed entry =
     Some (codes "FacetCount { child: ") ++? child_debug_printed entry.0 ++? Some
-        (codes ", count: " ++ decimal entry.1 ++ codes " }")
+    (codes ", count: " ++ decimal entry.1 ++ codes " }")

@@ -118,13 +118,23 @@ SaysNoCause Memory = Unit {0}
 
 -- the errors of reading a value
 abbrev pub value_errors : Errors Cause ReadError
-value_errors = record { end = UnexpectedEnd; stop = read_stop; IsFull = λ _. ⊥; MayCome = λ _. Unit {0};
-    MayComeStill = λ _. SaysNoCause; IsCounted = λ e. CountsStop (read_stop e) }
+value_errors = record {
+  end = UnexpectedEnd;
+  stop = read_stop;
+  IsFull = λ _. ⊥;
+  MayCome = λ _. Unit {0};
+  MayComeStill = λ _. SaysNoCause;
+  IsCounted = λ e. CountsStop (read_stop e);
+}
 
 -- values that these bytes encode: there is always room
 abbrev pub values : {Y : Type 0} → (List ℕ → Y → Type 0) → (List ℕ → Cause → Type 0) → Grammar Cause Y
-values Encodes HasError = record { Encodes = Encodes; HasError = HasError; HasRoom = λ _. Unit {0};
-    NoRoom = λ _. ⊥ }
+values Encodes HasError = record {
+  Encodes = Encodes;
+  HasError = HasError;
+  HasRoom = λ _. Unit {0};
+  NoRoom = λ _. ⊥;
+}
 
 -- a value is read
 abbrev pub ReadsAs : {S X Y : Type 0} (source : Ghosts S) (old new : S) (view : X → Y)

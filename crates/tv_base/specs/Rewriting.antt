@@ -9,7 +9,7 @@ use Rattle.tv_base.specs.declared.text_rules.Rule.TheVariants as rules
 abbrev pub path_byte : Bool → Bool → ℕ → List ℕ
 path_byte expand_dots unescaped b =
     if unescaped && (b == 92) then [] else (if (unescaped || expand_dots) && (b == 46) then 1 ∷ []
-        else b ∷ [])
+    else b ∷ [])
 
 abbrev pub stands_for : Rule → Bool → ℕ → List ℕ
 stands_for rules.Facet unescaped b = decoded_byte unescaped b

@@ -45,8 +45,8 @@ abbrev pub TakesIf : {S X Y : Type 0} (May : ReadError → ℕ → Type 0) (is_k
     → Type 0
 TakesIf May is_known left failures old old_count new new_count view result reading =
     Takes read_stop May (told is_known) (λ p. left p.source) (λ p. p.count) (λ p. failures p.source)
-        (record { source = old; count = old_count })
-        (record { source = new; count = new_count }) view result reading
+    (record { source = old; count = old_count })
+    (record { source = new; count = new_count }) view result reading
 
 -- the same of a source, as contracts say it
 abbrev pub TakesBy : {S X Y : Type 0} (source : Ghosts S) (old : S) (old_count : ℕ) (new : S) (new_count : ℕ)

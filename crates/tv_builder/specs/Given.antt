@@ -21,8 +21,12 @@ abbrev pub still_lacks : Frame → Bool
 still_lacks frame = nat_lt (suc frame.finished) (total frame.kind frame.announced)
 
 abbrev pub one_more : Frame → Frame
-one_more frame = record { kind = frame.kind; announced = frame.announced; finished = frame.finished + 1;
-    first = frame.first }
+one_more frame = record {
+  kind = frame.kind;
+  announced = frame.announced;
+  finished = frame.finished + 1;
+  first = frame.first;
+}
 
 pub record Given : Type 0 where
   pub heap : List ℕ

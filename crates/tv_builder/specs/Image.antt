@@ -17,9 +17,12 @@ lists_places base (l ∷ ls) = lists_places base ls ++ elements_places (lists_he
     (elements l.children)
 
 abbrev pub list_frame : List ℕ → OpenList → List OpenList → Frame
-list_frame base list lists = record { kind = list.kind; announced = list.announced;
-    finished = length list.children;
-    first = length (lists_places base lists) }
+list_frame base list lists = record {
+  kind = list.kind;
+  announced = list.announced;
+  finished = length list.children;
+  first = length (lists_places base lists);
+}
 
 abbrev pub lists_frames : List ℕ → List OpenList → List Frame
 lists_frames base [] = []
@@ -28,16 +31,32 @@ lists_frames base (l ∷ ls) = list_frame base l ls ∷ lists_frames base ls
 -- the heap, the places of finished children, the open lists from the innermost, and where the complete value
 -- stands
 abbrev pub held : Building → Given
-held building = record { heap = building.heap.items; places = building.places.items;
-    frames = frames_of building; complete = building.complete }
+held building = record {
+  heap = building.heap.items;
+  places = building.places.items;
+  frames = frames_of building;
+  complete = building.complete;
+}
 
 abbrev pub image_of : List ℕ → State → Given
-image_of base (complete t) = record { heap = tree_heap base t; places = []; frames = [];
-    complete = Some (tree_place base t) }
-image_of base (in_lists ls) = record { heap = lists_heap base ls; places = lists_places base ls;
-    frames = lists_frames base ls; complete = None }
-image_of base (in_bytes ls kind n bs) = record { heap = lists_heap base ls ++ (vnum n ++ bs);
-    places = lists_places base ls; frames = lists_frames base ls; complete = None }
+image_of base (complete t) = record {
+  heap = tree_heap base t;
+  places = [];
+  frames = [];
+  complete = Some (tree_place base t);
+}
+image_of base (in_lists ls) = record {
+  heap = lists_heap base ls;
+  places = lists_places base ls;
+  frames = lists_frames base ls;
+  complete = None;
+}
+image_of base (in_bytes ls kind n bs) = record {
+  heap = lists_heap base ls ++ (vnum n ++ bs);
+  places = lists_places base ls;
+  frames = lists_frames base ls;
+  complete = None;
+}
 
 -- the state stands there, and all that a building holds is that state after this heap
 pub record ShowsBehind (base : List ℕ) (building : Building) (state : State) : Type 0 where

@@ -58,7 +58,7 @@ state_same (complete s) (complete t) e = ap complete (coded_tree.inj s t (ap tai
 state_same (in_lists s) (in_lists t) e = ap in_lists (coded_lists.inj s t (ap tail e))
 state_same (in_bytes ls k n bs) (in_bytes ms j m cs) e =
     ap (λ (p : Piece). in_bytes p.0 p.1.0 p.1.1.0 p.1.1.1)
-        (coded_piece.inj (ls, (k, (n, bs))) (ms, (j, (m, cs))) (ap tail e))
+    (coded_piece.inj (ls, (k, (n, bs))) (ms, (j, (m, cs))) (ap tail e))
 state_same _ _ e = cc
 
 abbrev pub coded_state : Coded State
@@ -73,8 +73,8 @@ one_lists heap (f ∷ fs) places (l ∷ ls) (m ∷ ms) h g =
     let kind : l.kind ≡ m.kind = h.0.same_kind ∙ sym g.0.same_kind in
     let announced : l.announced ≡ m.announced = h.0.same_announced ∙ sym g.0.same_announced in
     let children : l.children ≡ m.children = same_list l.children m.children
-        (one_elements heap (length heap) (length heap) (drop f.first places) (elements l.children)
-        (elements m.children) h.0.reads g.0.reads) in
+    (one_elements heap (length heap) (length heap) (drop f.first places) (elements l.children)
+    (elements m.children) h.0.reads g.0.reads) in
     let others = one_lists heap fs (take f.first places) ls ms h.1 g.1 in
     λ i. record { kind = kind i; announced = announced i; children = children i } ∷ others i
 one_lists heap [] places [] (m ∷ ms) h g = absurd g
@@ -92,8 +92,8 @@ one_state heap frames places whole bytes (complete s) (complete t) h g =
     let e : Some h.at ≡ Some g.at = sym h.is ∙ g.is in
     let same_at : h.at ≡ g.at = cc in
     ap complete (one_tree heap (type_code h.at.value_type) h.at.address s t h.placed.reads
-        (subst (λ (p : Place). ReadsTree heap (type_code p.value_type) p.address t)
-        (sym same_at) g.placed.reads))
+    (subst (λ (p : Place). ReadsTree heap (type_code p.value_type) p.address t)
+    (sym same_at) g.placed.reads))
 one_state heap frames places whole bytes (in_lists ls) (in_lists ms) h g =
     ap in_lists (one_lists heap frames places ls ms h.lists g.lists)
 one_state heap frames places whole bytes (in_bytes ls k n bs) (in_bytes ms j m cs) h g =
@@ -101,16 +101,16 @@ one_state heap frames places whole bytes (in_bytes ls k n bs) (in_bytes ms j m c
     let same_piece : h.piece ≡ g.piece = cc in
     let kind : k ≡ j = sym h.same_kind ∙ ap (λ (o : OpenBytes). o.kind) same_piece ∙ g.same_kind in
     let announced : n ≡ m = sym h.same_announced ∙ ap
-        (λ (o : OpenBytes). o.announced) same_piece ∙ g.same_announced in
+    (λ (o : OpenBytes). o.announced) same_piece ∙ g.same_announced in
     let at : length h.stand.before ≡ length g.stand.before =
-        h.stand.place ∙ ap (λ (o : OpenBytes). o.address) same_piece ∙ sym g.stand.place in
+    h.stand.place ∙ ap (λ (o : OpenBytes). o.address) same_piece ∙ sym g.stand.place in
     let joined : h.stand.before ++ (vnum n ++ bs) ≡ g.stand.before ++ (vnum m ++ cs) =
-        sym h.stand.joined ∙ g.stand.joined in
+    sym h.stand.joined ∙ g.stand.joined in
     let prefix = same_prefix h.stand.before g.stand.before (vnum n ++ bs) (vnum m ++ cs) at joined in
     let behind : vnum n ++ bs ≡ vnum m ++ cs = append_cancel_left g.stand.before (vnum n ++ bs) (vnum m ++ cs)
-        (ap (λ z. z ++ (vnum n ++ bs)) (sym prefix) ∙ joined) in
+    (ap (λ z. z ++ (vnum n ++ bs)) (sym prefix) ∙ joined) in
     let so_far : bs ≡ cs = append_cancel_left (vnum m) bs cs
-        (ap (λ z. vnum z ++ bs) (sym announced) ∙ behind) in
+    (ap (λ z. vnum z ++ bs) (sym announced) ∙ behind) in
     let lists = one_lists heap frames places ls ms h.lists g.lists in
     λ i. in_bytes (lists i) (kind i) (announced i) (so_far i)
 one_state heap frames places whole bytes (complete s) (in_lists ms) h g = absurd (both whole h.at h.is g.none)
@@ -128,8 +128,8 @@ pub HoldsSomeState-prop : (b : Building) → IsProp (HoldsSomeState b)
 HoldsSomeState-prop building x y =
     let set = Coded-set coded_state x.0 y.0 in
     Σ_prop_path (λ s. ∥∥₁_prop) (∥∥₁_elim x.1 set
-        (λ p. ∥∥₁_elim y.1 set (λ q. one_state building.heap.items
-        (frames_of building) building.places.items building.complete building.open x.0 y.0 p.at q.at)))
+    (λ p. ∥∥₁_elim y.1 set (λ q. one_state building.heap.items
+    (frames_of building) building.places.items building.complete building.open x.0 y.0 p.at q.at)))
 
 -- the state does not depend on how it was shown
 pub same_state : (b : Building) (x y : HoldsSomeState b) → x.0 ≡ y.0

@@ -70,8 +70,11 @@ list_tree lists.Array trees = array (elements trees)
 list_tree lists.Object trees = object (entries (pairs_of trees))
 
 abbrev pub with_child : OpenList → Tree → OpenList
-with_child list tree = record { kind = list.kind; announced = list.announced;
-    children = list.children ++ tree ∷ [] }
+with_child list tree = record {
+  kind = list.kind;
+  announced = list.announced;
+  children = list.children ++ tree ∷ [];
+}
 
 -- with one child more it still lacks one
 abbrev pub lacks_more : OpenList → Bool

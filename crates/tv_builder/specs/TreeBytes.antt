@@ -15,8 +15,10 @@ use Rattle.tv_builder.specs.declared.heap_pairs.HeapPair.{HeapPair}
 
 -- where a leaf stands that is written at the end of a heap of this length
 abbrev pub leaf_place : ℕ → Leaf → Place
-leaf_place len the_leaf = record { value_type = leaf_value_type the_leaf;
-    address = leaf_address len the_leaf }
+leaf_place len the_leaf = record {
+  value_type = leaf_value_type the_leaf;
+  address = leaf_address len the_leaf;
+}
 
 abbrev mutual
   -- the heap after the value

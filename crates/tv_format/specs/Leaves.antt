@@ -82,7 +82,7 @@ last_code = 13
 abbrev pub leaf_types : List LeafType
 leaf_types =
     types.Str ∷ types.U64 ∷ types.I64 ∷ types.Facet ∷ types.Bytes ∷ types.Date ∷ types.PreTokStr ∷ types.Bool
-        ∷ types.IpAddr ∷ types.Null ∷ []
+    ∷ types.IpAddr ∷ types.Null ∷ []
 
 -- the first of these types that has the code, and the type of a code
 abbrev pub first_with : ℕ → List LeafType → Option LeafType

@@ -62,8 +62,12 @@ is_held _ _ e = cc
 pub making : (t : LeafType) (c : Content) → form_of c ≡ form t → Made t c
 making t c e =
     let there = is_made t c e in
-    record { made = or_null (leaf_with t c); is = is_there (leaf_with t c) there; typed = is_typed t c there;
-        holds = is_held t c there }
+    record {
+      made = or_null (leaf_with t c);
+      is = is_there (leaf_with t c) there;
+      typed = is_typed t c there;
+      holds = is_held t c there;
+    }
 
 coded : (t : LeafType) → type_with (store_code t) ≡ Some t
 coded types.Null = refl
@@ -85,10 +89,20 @@ pub record IsLeafCode (code : ℕ) : Type 0 where
   pub no_object : code ≢ 13
 
 pub leaf_coded : (t : LeafType) → IsLeafCode (store_code t)
-leaf_coded types.Null = record { known = omega arith; no_float = λ e. omega arith;
-    no_legacy = λ e. omega arith; no_array = λ e. omega arith; no_object = λ e. omega arith }
-leaf_coded _ = record { known = omega arith; no_float = λ e. omega arith; no_legacy = λ e. omega arith;
-    no_array = λ e. omega arith; no_object = λ e. omega arith }
+leaf_coded types.Null = record {
+  known = omega arith;
+  no_float = λ e. omega arith;
+  no_legacy = λ e. omega arith;
+  no_array = λ e. omega arith;
+  no_object = λ e. omega arith;
+}
+leaf_coded _ = record {
+  known = omega arith;
+  no_float = λ e. omega arith;
+  no_legacy = λ e. omega arith;
+  no_array = λ e. omega arith;
+  no_object = λ e. omega arith;
+}
 
 abbrev or_text : Option LeafType → LeafType
 or_text (Some t) = t
@@ -121,8 +135,11 @@ or_else true b e f = cc
 or_else false b e f = e
 
 is_same : (m n : ℕ) → (m == n) ≡ true → m ≡ n
-is_same m n e = elim (eqb_tells m n) [ inl p ↦ p.1 | inr p ↦ absurd (let f : true ≡ false = sym e ∙ p.0 in
-    cc) ]
+is_same m n e = elim (eqb_tells m n) [
+  | inl p ↦ p.1
+  | inr p ↦ absurd (let f : true ≡ false = sym e ∙ p.0 in
+      cc)
+]
 
 -- every such code is one of a leaf
 pub code_of_leaf : (code : ℕ) → IsLeafCode code → (t : LeafType) × (store_code t ≡ code)

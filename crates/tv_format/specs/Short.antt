@@ -15,7 +15,7 @@ use Rattle.tv_format.specs.Tree.{Entries, no_entries, entry, element_count, entr
 abbrev pub short_token : Token → List ℕ
 short_token token =
     vnum token.offset_from ++ (vnum token.offset_to
-        ++ (vnum token.position ++ (short_sized token.text ++ vnum token.position_length)))
+    ++ (vnum token.position ++ (short_sized token.text ++ vnum token.position_length)))
 
 abbrev pub short_tokenized : List ℕ → List Token → List ℕ
 short_tokenized content tokens = short_sized content ++ (vnum (length tokens) ++ flat_map short_token tokens)

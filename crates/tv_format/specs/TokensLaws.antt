@@ -9,8 +9,13 @@ use Rattle.tv_format.specs.Tree.{Token}
 
 pub agree_token : (s t : Token) → Agree (λ b. TokenEncoding b s) (λ b. TokenEncoding b t) (s ≡ t)
 agree_token s t =
-    agree_map (λ e. λ i. record { offset_from = e.0 i; offset_to = e.1.0 i; position = e.1.1.0 i;
-        text = e.1.1.1.0 i; position_length = e.1.1.1.1 i })
+    agree_map (λ e. λ i. record {
+      offset_from = e.0 i;
+      offset_to = e.1.0 i;
+      position = e.1.1.0 i;
+      text = e.1.1.1.0 i;
+      position_length = e.1.1.1.1 i;
+    })
     (agree_then (agree_number s.offset_from t.offset_from) (λ _.
     (agree_then (agree_number s.offset_to t.offset_to) (λ _.
     (agree_then (agree_number s.position t.position) (λ _.

@@ -17,10 +17,15 @@ coded_text = coded_list coded_ℕ
 abbrev pub coded_token : Coded Token
 coded_token =
     code_by (ℕ × (ℕ × (ℕ × (List ℕ × ℕ)))) (coded× coded_ℕ
-        (coded× coded_ℕ (coded× coded_ℕ (coded× coded_text coded_ℕ))))
+    (coded× coded_ℕ (coded× coded_ℕ (coded× coded_text coded_ℕ))))
     (λ t. (t.offset_from, (t.offset_to, (t.position, (t.text, t.position_length)))))
-    (λ p. record { offset_from = p.0; offset_to = p.1.0; position = p.1.1.0; text = p.1.1.1.0;
-    position_length = p.1.1.1.1 })
+    (λ p. record {
+      offset_from = p.0;
+      offset_to = p.1.0;
+      position = p.1.1.0;
+      text = p.1.1.1.0;
+      position_length = p.1.1.1.1;
+    })
     (λ _. refl)
 
 abbrev pub coded_tokenized : Coded (List ℕ × List Token)
@@ -102,7 +107,7 @@ mutual
   entries_same no_entries no_entries e = refl
   entries_same (entry k t es) (entry l u fs) e =
       λ i. entry (coded_text.inj k l (ap head e) i) (tree_same t u (ap (λ g. head (tail g)) e) i)
-          (entries_same es fs (ap (λ g. tail (tail g)) e) i)
+      (entries_same es fs (ap (λ g. tail (tail g)) e) i)
   entries_same _ _ e = cc
 
 abbrev pub coded_leaf : Coded Leaf

@@ -17,7 +17,7 @@ Held heap code at = (t : Tree) × ∥ ReadsTree heap code at t ∥₁
 pub Held-prop : (heap : List ℕ) (code at : ℕ) → IsProp (Held heap code at)
 Held-prop heap code at x y =
     Σ_prop_path (λ t. ∥∥₁_prop) (∥∥₁_elim x.1 (Coded-set coded_tree x.0 y.0)
-        (λ p. ∥∥₁_elim y.1 (Coded-set coded_tree x.0 y.0) (λ q. one_tree heap code at x.0 y.0 p q)))
+    (λ p. ∥∥₁_elim y.1 (Coded-set coded_tree x.0 y.0) (λ q. one_tree heap code at x.0 y.0 p q)))
 
 -- the tree does not depend on how it was shown
 pub same_held : (heap : List ℕ) (code at : ℕ) (x y : Held heap code at) → x.0 ≡ y.0
@@ -41,8 +41,8 @@ pub HeldElements-prop : (heap whole : List ℕ) → IsProp (HeldElements heap wh
 HeldElements-prop heap whole x y =
     let set = Coded-set (coded_list coded_tree) x.0 y.0 in
     Σ_prop_path (λ d. ∥∥₁_prop) (∥∥₁_elim x.1 set
-        (λ p. ∥∥₁_elim y.1 set (λ q. same_list x.0 y.0
-        (one_elements heap p.0 q.0 whole (elements x.0) (elements y.0) p.1 q.1))))
+    (λ p. ∥∥₁_elim y.1 set (λ q. same_list x.0 y.0
+    (one_elements heap p.0 q.0 whole (elements x.0) (elements y.0) p.1 q.1))))
 
 -- the keys and trees that are left
 abbrev pub ReadAsEntries : List ℕ → List ℕ → List (List ℕ × Tree) → Type 0
@@ -62,5 +62,5 @@ pub HeldEntries-prop : (heap whole : List ℕ) → IsProp (HeldEntries heap whol
 HeldEntries-prop heap whole x y =
     let set = Coded-set (coded_list (coded× coded_text coded_tree)) x.0 y.0 in
     Σ_prop_path (λ d. ∥∥₁_prop) (∥∥₁_elim x.1 set
-        (λ p. ∥∥₁_elim y.1 set (λ q. same_entry_list x.0 y.0
-        (one_entries heap p.0 q.0 whole (entries x.0) (entries y.0) p.1 q.1))))
+    (λ p. ∥∥₁_elim y.1 set (λ q. same_entry_list x.0 y.0
+    (one_entries heap p.0 q.0 whole (entries x.0) (entries y.0) p.1 q.1))))

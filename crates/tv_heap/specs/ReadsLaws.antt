@@ -32,12 +32,17 @@ stands_agree r p q = (r.agree p.whole q.whole p.behind q.behind p.stands q.stand
     (one_place p.before q.before _ _ (p.place ∙ sym q.place) (sym p.joined ∙ q.joined))).1
 
 as_sized : (s w : List ℕ) → ShortSized s w → Sized w s
-as_sized s w p = record { size = vnum (length s); joined = p.is;
-    number = vnum_encodes (length s) (omega (arith, p.fits)) }
+as_sized s w p = record {
+  size = vnum (length s);
+  joined = p.is;
+  number = vnum_encodes (length s) (omega (arith, p.fits));
+}
 
 agree_short : (s t : List ℕ) → Agree (λ w. ShortSized s w) (λ w. ShortSized t w) (s ≡ t)
-agree_short s t = record { agree = λ a b x y p q e. (agree_sized s t).agree a b x y (as_sized s a p)
-    (as_sized t b q) e }
+agree_short s t = record {
+  agree = λ a b x y p q e. (agree_sized s t).agree a b x y (as_sized s a p)
+      (as_sized t b q) e;
+}
 
 agree_short_text : (s t : List ℕ) → Agree (λ w. ShortText s w) (λ w. ShortText t w) (s ≡ t)
 agree_short_text s t = record { agree = λ a b x y p q e. (agree_short s t).agree a b x y p.sized q.sized e }
@@ -79,7 +84,7 @@ pub one_leaf : (heap : List ℕ) (at : ℕ) (l m : Leaf) → leaf_type_byte l �
 one_leaf heap at l m e p q =
     let same = one_heap_code (type_of l) (type_of m) e in
     leaf_of_parts l m same (one_content heap at (content l) (content m)
-        (form_of_content l ∙ ap form same ∙ sym (form_of_content m)) p q)
+    (form_of_content l ∙ ap form same ∙ sym (form_of_content m)) p q)
 
 pub leaf_type_small : (l : Leaf) → leaf_type_byte l < 11
 leaf_type_small l = small_heap_code (type_of l)
@@ -92,7 +97,7 @@ one_child c d m n x y whole f g p q =
     let code : c ≡ d = cc in
     let left : vnum m ++ x ≡ vnum n ++ y = cc in
     let r = one_number (vnum m) (vnum n) x y m n (vnum_encodes m (omega arith))
-        (vnum_encodes n (omega arith)) left in
+    (vnum_encodes n (omega arith)) left in
     (code, r.1, append_cancel_left (vnum n) x y (ap (λ z. z ++ x) (sym r.0) ∙ left))
 
 mutual
@@ -102,11 +107,11 @@ mutual
   one_tree heap code at (array ts) (array us) p q =
       let e : p.1.list ≡ q.1.list = stands_agree (agree_short _ _) p.1.stands q.1.stands in
       ap array (one_elements heap at at q.1.list ts us
-          (subst (λ b. ReadsElements heap at b ts) e p.1.children) q.1.children)
+      (subst (λ b. ReadsElements heap at b ts) e p.1.children) q.1.children)
   one_tree heap code at (object es) (object fs) p q =
       let e : p.1.list ≡ q.1.list = stands_agree (agree_short _ _) p.1.stands q.1.stands in
       ap object (one_entries heap at at q.1.list es fs
-          (subst (λ b. ReadsEntries heap at b es) e p.1.children) q.1.children)
+      (subst (λ b. ReadsEntries heap at b es) e p.1.children) q.1.children)
   one_tree heap code at (leaf l) (array us) p q = absurd (omega (arith, p.0, q.0, leaf_type_small l))
   one_tree heap code at (leaf l) (object fs) p q = absurd (omega (arith, p.0, q.0, leaf_type_small l))
   one_tree heap code at (array ts) (leaf m) p q = absurd (omega (arith, p.0, q.0, leaf_type_small m))
@@ -120,10 +125,10 @@ mutual
   one_elements heap a b whole (element t ts) (element u us) p q =
       let same = one_child p.code q.code p.at q.at p.rest q.rest whole p.fits q.fits p.joined q.joined in
       let first = one_tree heap q.code q.at t u
-          (subst (λ c. ReadsTree heap c q.at t) same.0
-          (subst (λ m. ReadsTree heap p.code m t) same.1 p.reads)) q.reads in
+      (subst (λ c. ReadsTree heap c q.at t) same.0
+      (subst (λ m. ReadsTree heap p.code m t) same.1 p.reads)) q.reads in
       let others = one_elements heap a b q.rest ts us
-          (subst (λ r. ReadsElements heap a r ts) same.2 p.others) q.others in
+      (subst (λ r. ReadsElements heap a r ts) same.2 p.others) q.others in
       λ i. element (first i) (others i)
   one_elements heap a b whole no_elements (element u us) p q = let e = sym p ∙ q.joined in absurd (cc)
   one_elements heap a b whole (element t ts) no_elements p q = let e = sym q ∙ p.joined in absurd (cc)
@@ -134,17 +139,17 @@ mutual
   one_entries heap a b whole (entry k t es) (entry l u fs) p q =
       let same = one_child p.code q.code p.at q.at p.rest q.rest whole p.fits q.fits p.joined q.joined in
       let key : k ≡ l = stands_agree (agree_short_text k l)
-          (subst (λ m. Stands heap m (λ w. ShortText k w)) same.1 p.reads.1) q.reads.1 in
+      (subst (λ m. Stands heap m (λ w. ShortText k w)) same.1 p.reads.1) q.reads.1 in
       let pp = subst (λ r. ListedChild a (λ code at. ReadsTree heap code at t)
-          (λ c. ReadsEntries heap a c es) r) same.2 p.others in
+      (λ c. ReadsEntries heap a c es) r) same.2 p.others in
       let qq = q.others in
       let next = one_child pp.code qq.code pp.at qq.at pp.rest qq.rest q.rest pp.fits qq.fits pp.joined
-          qq.joined in
+      qq.joined in
       let value = one_tree heap qq.code qq.at t u
-          (subst (λ c. ReadsTree heap c qq.at t) next.0
-          (subst (λ m. ReadsTree heap pp.code m t) next.1 pp.reads)) qq.reads in
+      (subst (λ c. ReadsTree heap c qq.at t) next.0
+      (subst (λ m. ReadsTree heap pp.code m t) next.1 pp.reads)) qq.reads in
       let others = one_entries heap a b qq.rest es fs
-          (subst (λ r. ReadsEntries heap a r es) next.2 pp.others) qq.others in
+      (subst (λ r. ReadsEntries heap a r es) next.2 pp.others) qq.others in
       λ i. entry (key i) (value i) (others i)
   one_entries heap a b whole no_entries (entry l u fs) p q = let e = sym p ∙ q.joined in absurd (cc)
   one_entries heap a b whole (entry k t es) no_entries p q = let e = sym q ∙ p.joined in absurd (cc)

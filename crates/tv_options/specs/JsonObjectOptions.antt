@@ -6,5 +6,9 @@ use Rattle.tv_options.specs.declared.textual_options.TextualOptions.{TextualOpti
 
 -- stored, indexed and fast as the texts, with dots in keys as they stand
 abbrev pub of_text : TextualOptions Coercion → TextualOptions DotExpansion
-of_text text = record { indexing = text.indexing; stored = text.stored; fast = text.fast;
-    part = record { expand_dots_enabled = false } }
+of_text text = record {
+  indexing = text.indexing;
+  stored = text.stored;
+  fast = text.fast;
+  part = record { expand_dots_enabled = false };
+}

@@ -57,6 +57,6 @@ abbrev pub Opens : Version → ℕ → List ℕ → Type 0
 Opens version zero whole = (whole ≡ 12 ∷ []) ⊎ (whole ≡ 13 ∷ [])
 Opens version (suc n) whole =
     Behind 12 (λ b. (count : ℕ) × Then (λ c. VNum c count)
-        (AmongElements version n (Opens version n) count) b) whole
+    (AmongElements version n (Opens version n) count) b) whole
     ⊎ Behind 13 (λ b. (count : ℕ) × Then (λ c. VNum c (entry_total version count))
     (AmongEntries version n (Opens version n) count) b) whole

@@ -80,8 +80,8 @@ abbrev pub StoreTakesIf : {S X Y : Type 0} (May : DeserializeError → ℕ → T
     (reading : List ℕ → Result (Y × List ℕ) (Refusal × List ℕ)) → Type 0
 StoreTakesIf May is_known left failures old old_count new new_count view result reading =
     Takes store_stop May (told is_known) (λ p. left p.source) (λ p. p.count) (λ p. failures p.source)
-        (record { source = old; count = old_count })
-        (record { source = new; count = new_count }) view result reading
+    (record { source = old; count = old_count })
+    (record { source = new; count = new_count }) view result reading
 
 -- a lean reader of a source, as contracts say it
 abbrev pub StoreTakesLean : {S X Y : Type 0} (source : Ghosts S) (old : S) (old_count : ℕ) (new : S)

@@ -45,8 +45,16 @@ token_at whole = do
   position ← vint_at to.1
   content ← text_at position.1
   positions ← vint_at content.1
-  Ok (record { offset_from = from.0; offset_to = to.0; position = position.0; text = content.0;
-      position_length = positions.0 }, positions.1)
+  Ok (
+    record {
+      offset_from = from.0;
+      offset_to = to.0;
+      position = position.0;
+      text = content.0;
+      position_length = positions.0;
+    },
+    positions.1,
+  )
 
 -- this many tokens
 abbrev pub tokens_at : ℕ → List ℕ → Result (List Token × List ℕ) (Cause × List ℕ)
@@ -98,10 +106,14 @@ content_at version t forms.Unsigned whole = u64_at whole >>= λ x.
     Ok (leaf (leaf_holding t (unsigned_content x.0)), x.1)
 content_at version t forms.Signed whole = number_at version t whole >>= λ x.
     Ok (leaf (leaf_holding t (signed_content x.0)), x.1)
-content_at version t forms.Wide whole = u128_at whole >>= λ x. Ok (leaf (leaf_holding t (wide_content x.0)),
-    x.1)
-content_at version t forms.Text whole = text_at whole >>= λ x. Ok (leaf (leaf_holding t (text_content x.0)),
-    x.1)
+content_at version t forms.Wide whole = u128_at whole >>= λ x. Ok (
+  leaf (leaf_holding t (wide_content x.0)),
+  x.1,
+)
+content_at version t forms.Text whole = text_at whole >>= λ x. Ok (
+  leaf (leaf_holding t (text_content x.0)),
+  x.1,
+)
 content_at version t forms.Bytes whole = sized_at whole >>= λ x.
     Ok (leaf (leaf_holding t (bytes_content x.0)), x.1)
 content_at version t forms.Tokens whole = tokenized_at whole >>= λ x.

@@ -16,8 +16,10 @@ IsBetweenParts-prop (in_lists ls) x y = refl
 IsBetweenParts-prop (in_bytes ls kind n bs) x y = le_prop x y
 
 IsPlace-prop : (a : Option ℕ) (d : Document) (f : Option ℕ) (s : State) → IsProp (IsPlace a d f s)
-IsPlace-prop None d None s x y = λ i. (Coded-set coded_document _ _ x.0 y.0 i,
-    Coded-set coded_state _ _ x.1 y.1 i)
+IsPlace-prop None d None s x y = λ i. (
+  Coded-set coded_document _ _ x.0 y.0 i,
+  Coded-set coded_state _ _ x.1 y.1 i,
+)
 IsPlace-prop None d (Some f) s x y = absurd x
 IsPlace-prop (Some n) d None s x y = λ i. (le_prop x.0 y.0 i, Coded-set coded_state _ _ x.1 y.1 i)
 IsPlace-prop (Some n) d (Some f) s x y = λ i. (le_prop x.0 y.0 i, IsBetweenParts-prop s x.1 y.1 i)
@@ -25,8 +27,11 @@ IsPlace-prop (Some n) d (Some f) s x y = λ i. (le_prop x.0 y.0 i, IsBetweenPart
 IsSound-prop : (r : Reading) → IsProp (IsSound r)
 IsSound-prop r x y =
     let place = IsPlace-prop r.announced (built r.builder) r.field (state_of r.builder) x.place y.place in
-    λ i. record { not_failed = Coded-set coded_bool _ _ x.not_failed y.not_failed i;
-        counted = ℕ_set _ _ x.counted y.counted i; place = place i }
+    λ i. record {
+      not_failed = Coded-set coded_bool _ _ x.not_failed y.not_failed i;
+      counted = ℕ_set _ _ x.counted y.counted i;
+      place = place i;
+    }
 
 -- as long as no step has failed
 pub SoundUnless-prop : (failed : Bool) (r : Reading) → IsProp (failed ≡ false → IsSound r)

@@ -21,7 +21,7 @@ field_of_prefix schema prefix = option_or (field_named schema prefix)
 abbrev pub parted_at : List Entry → List ℕ → ℕ → Option (ℕ × List ℕ)
 parted_at schema path place =
     if is_splitting_dot path place then option_map (λ field. (field, drop (place + 1) path))
-        (field_of_prefix schema (take place path))
+    (field_of_prefix schema (take place path))
     else None
 
 -- what is given at the last place below n at which something is
@@ -35,7 +35,7 @@ last_given give (suc n) = option_or (give n) (last_given give n)
 abbrev pub find : List Entry → List ℕ → Option (ℕ × List ℕ)
 find schema path =
     option_or (option_map (λ field. (field, [])) (field_named schema path))
-        (last_given (parted_at schema path) (length path))
+    (last_given (parted_at schema path) (length path))
 
 abbrev pub is_json_type : FieldType → Bool
 is_json_type (types.JsonObject options) = true

@@ -174,8 +174,13 @@ numeric_options_of members = do
   fieldnorms ← fieldnorms_or indexed members
   fast ← bool_or false keys.Fast members
   coerce ← bool_or false keys.Coerce members
-  Ok (record { indexed = indexed; fieldnorms = fieldnorms; fast = fast; stored = stored;
-      part = record { coerce = coerce } })
+  Ok (record {
+    indexed = indexed;
+    fieldnorms = fieldnorms;
+    fast = fast;
+    stored = stored;
+    part = record { coerce = coerce };
+  })
 
 unfoldable pub bytes_options_of : Members → Result (FlagOptions OfBytes) SchemaKey
 bytes_options_of members = do
@@ -210,8 +215,12 @@ json_object_options_of members = do
   fast ← required_fast_field members
   indexing ← optional_indexing members
   expand_dots_enabled ← bool_or false keys.ExpandDots members
-  Ok (record { stored = stored; indexing = indexing; fast = fast;
-      part = record { expand_dots_enabled = expand_dots_enabled } })
+  Ok (record {
+    stored = stored;
+    indexing = indexing;
+    fast = fast;
+    part = record { expand_dots_enabled = expand_dots_enabled };
+  })
 
 unfoldable pub ip_addr_options_of : Members → Result (FlagOptions OfIpAddrs) SchemaKey
 ip_addr_options_of members = do

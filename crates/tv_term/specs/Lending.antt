@@ -11,4 +11,4 @@ overwritten bytes written = take (length bytes) (written ++ drop (length written
 abbrev pub LendsFrom : MutBor (List ℕ) → ℕ → MutBor (List ℕ) → Fml
 LendsFrom term start part =
     Lends the_row (Array u8 0) term part (λ written. take start term.now
-        ++ overwritten (drop start term.now) written)
+    ++ overwritten (drop start term.now) written)

@@ -47,7 +47,7 @@ value_printed (Some tag.Bytes) bytes = printed_or_nothing (debug_list (λ b. Som
     (payload_of tag.Bytes bytes)
 value_printed (Some tag.IpAddr) bytes =
     printed_or_nothing (λ segments. Some (ipv6_text segments))
-        (option_map (λ n. segments_of (to_be_bytes w128 n)) (address_of bytes))
+    (option_map (λ n. segments_of (to_be_bytes w128 n)) (address_of bytes))
 value_printed (Some tag.Json) bytes = Some []
 value_printed None bytes = Some []
 

@@ -17,8 +17,13 @@ use Rattle.tv_format.specs.TreeCode.{coded_token}
 
 -- a token that is kept
 abbrev pub token_of : tokenizer.Token → Token
-token_of t = record { offset_from = t.offset_from; offset_to = t.offset_to; position = t.position;
-    text = string_bytes t.text; position_length = t.position_length }
+token_of t = record {
+  offset_from = t.offset_from;
+  offset_to = t.offset_to;
+  position = t.position;
+  text = string_bytes t.text;
+  position_length = t.position_length;
+}
 
 -- the tokens, each of which has a valid encoding
 pub record AreHeld (kept : List tokenizer.Token) (encoded : List ℕ) (count : ℕ)
@@ -38,9 +43,9 @@ one_list : (kept : List tokenizer.Token) (encoded : List ℕ) (count : ℕ) (s t
 one_list kept encoded count tokens t p q =
     let many : length p.others ≡ length q.others = p.counted ∙ sym q.counted in
     let whole : p.begins.prefix ++ p.behind ≡ q.begins.prefix ++ q.behind =
-        sym p.begins.joined ∙ q.begins.joined in
+    sym p.begins.joined ∙ q.begins.joined in
     let same = (agree_each {R = TokenEncoding} one_token p.others q.others many).agree p.begins.prefix
-        q.begins.prefix p.behind q.behind p.begins.encoded q.begins.encoded whole in
+    q.begins.prefix p.behind q.behind p.begins.encoded q.begins.encoded whole in
     p.joined ∙ ap (λ z. map token_of kept ++ z) same.1 ∙ sym q.joined
 
 -- there is one such list

@@ -56,7 +56,7 @@ leaf_same : (l m : Leaf) → leaf_eq l m ≡ true → l ≡ m
 leaf_same l m h =
     let code : leaf_code l ≡ leaf_code m = (Decides-eqb (leaf_code l) (leaf_code m)).0 (and_parts _ _ h).0 in
     one_leaf l m (one_code (type_of l) (type_of m) code)
-        (content_same (content l) (content m) (and_parts _ _ h).1)
+    (content_same (content l) (content m) (and_parts _ _ h).1)
 
 leaf_refl : (l : Leaf) → leaf_eq l l ≡ true
 leaf_refl l = and_from _ _ (number_refl (leaf_code l)) (content_refl (content l))
@@ -72,7 +72,7 @@ mutual
   elements_same no_elements no_elements h = refl
   elements_same (element t ts) (element u us) h =
       ap (λ x. element x ts) (tree_same t u (and_parts _ _ h).0) ∙ ap (element u)
-          (elements_same ts us (and_parts _ _ h).1)
+      (elements_same ts us (and_parts _ _ h).1)
   elements_same _ _ h = cc
 
   entries_same : (es fs : Entries) → entries_eq es fs ≡ true → es ≡ fs
@@ -81,7 +81,7 @@ mutual
       let head = (and_parts _ _ h).0 in
       ap (λ x. entry x t es) ((bytes_eq-Decides k j).0 (and_parts _ _ head).0)
       ∙ (ap (λ x. entry j x es) (tree_same t u (and_parts _ _ head).1) ∙ ap (entry j u)
-          (entries_same es fs (and_parts _ _ h).1))
+      (entries_same es fs (and_parts _ _ h).1))
   entries_same _ _ h = cc
 
 mutual

@@ -7,7 +7,7 @@ abbrev pub token_eq : Token → Token → Bool
 token_eq token t =
     nat_eq token.offset_from t.offset_from
     && (nat_eq token.offset_to t.offset_to && (nat_eq token.position t.position
-        && (pointwise nat_eq token.text t.text && nat_eq token.position_length t.position_length)))
+    && (pointwise nat_eq token.text t.text && nat_eq token.position_length t.position_length)))
 
 abbrev pub tokens_eq : List Token → List Token → Bool
 tokens_eq = pointwise token_eq

@@ -15,10 +15,20 @@ text_eq-Decides s t = slice_eq-Decides unsigned_Decides s t (pointwise nat_eq s 
 pub token_eq-Decides : (s t : Token) → Decides (token_eq s t) (s ≡ t)
 token_eq-Decides s t =
     Decides-like (token_eq s t)
-    (λ e. λ i. record { offset_from = e.0 i; offset_to = e.1.0 i; position = e.1.1.0 i; text = e.1.1.1.0 i;
-    position_length = e.1.1.1.1 i })
-    (λ e. (ap (λ z. z.offset_from) e, (ap (λ z. z.offset_to) e,
-    (ap (λ z. z.position) e, (ap (λ z. z.text) e, ap (λ z. z.position_length) e)))))
+    (λ e. λ i. record {
+      offset_from = e.0 i;
+      offset_to = e.1.0 i;
+      position = e.1.1.0 i;
+      text = e.1.1.1.0 i;
+      position_length = e.1.1.1.1 i;
+    })
+    (λ e. (
+      ap (λ z. z.offset_from) e,
+      (
+        ap (λ z. z.offset_to) e,
+        (ap (λ z. z.position) e, (ap (λ z. z.text) e, ap (λ z. z.position_length) e)),
+      ),
+    ))
     (Decides-and _ _ (unsigned_Decides s.offset_from t.offset_from)
     (Decides-and _ _ (unsigned_Decides s.offset_to t.offset_to)
     (Decides-and _ _ (unsigned_Decides s.position t.position)
