@@ -83,4 +83,4 @@ module _ (Legacy : List ℕ → Entries → Type 0) (v : Version) where
 
 -- no legacy object
 abbrev pub NoLegacy : List ℕ → Entries → Type 0
-NoLegacy whole entries = ⊥
+NoLegacy whole members = ⊥

@@ -90,7 +90,7 @@ or_null None = null
 
 -- the leaf of a type that holds this; a content of another form than the type's makes none
 abbrev pub leaf_holding : LeafType → Content → Leaf
-leaf_holding t content = or_null (leaf_with t content)
+leaf_holding t held = or_null (leaf_with t held)
 
 -- a signed number: a date's counts microseconds in version 1
 abbrev pub number_at : Version → LeafType → List ℕ → Result (ℤ × List ℕ) (Cause × List ℕ)
