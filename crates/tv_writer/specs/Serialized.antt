@@ -1,17 +1,19 @@
 -- What the serializers of values, arrays and objects do.
 use Rattle.std.specs.Borrow.{Bor}
-use Rattle.std.specs.Prelude.{◌≡◌, ◌-◌, ◌⊎◌, ◌++◌, ℕ, List, Option, Result, Ok, Err, IfErr, is_ok}
+use Rattle.std.specs.Prelude.{◌≡◌, ◌-◌, ◌⊎◌, ◌++◌, ◌<◌, ◌≤◌, ◌^◌, ℕ, List, Option, Result, Ok, Err, IfErr, is_ok}
 use Rattle.std.specs.Prelude.{if◌then◌else◌, option_map}
+use Rattle.tv_base.specs.Number.{vnum}
 use Rattle.tv_base.specs.declared.sink.ByteSink.{Ghosts}
 use Rattle.tv_format.specs.Short.{short, IsValue}
 use Rattle.tv_format.specs.Tree.{Tree}
 use Rattle.tv_format.specs.Version.{Version}
+use Rattle.tv_format.specs.declared.leaf_type.WriteVersion.{WriteVersion}
 use Rattle.tv_value.specs.Nesting.{NestsWithin}
 use Rattle.tv_value.specs.declared.nested.TheConstants.{MAX_DEPTH}
 use Rattle.tv_writer.specs.Children.{short_key_of}
 use Rattle.tv_writer.specs.Error.{WritesStore, IsIo, IsIoOrMemory}
 use Rattle.tv_writer.specs.declared.serializers.SerializeError.{SerializeError}
-use Rattle.tv_writer.specs.declared.serializers.SerializeError.TheVariants.{TooMany, TooDeep, Memory}
+use Rattle.tv_writer.specs.declared.serializers.SerializeError.TheVariants.{TooMany, TooDeep, WrongCount, Memory}
 use Rattle.tv_writer.specs.declared.serializers.Depth.{Depth}
 use Rattle.tv_writer.specs.declared.serializers.Depth.TheVariants as depths
 
@@ -31,7 +33,22 @@ short_child version key tree = short_key_of version (option_map (λ k. k.now) ke
 -- A write of this text returned the error: it left the sink so, with a failure more, of the kind that is
 -- reported.
 abbrev pub FailsToWrite : {S : Type 0} → Ghosts S → S → SerializeError → List ℕ → Type 0
-FailsToWrite {S} sink old error text = (new : S) × WritesStore {T = ℕ} sink old new (Err error) (Ok text)
+FailsToWrite {S} sink old error text =
+    IsIo error × (new : S) × WritesStore {T = ℕ} sink old new (Err error) (Ok text)
+
+-- The number that an object announces isn't written: it is above 2^64 - 1, or else the sink failed.
+pub record FailsToAnnounce {S T : Type 0} (sink : Ghosts S) (old : S) (announced : ℕ)
+    (result : Result T SerializeError) : Type 0 where
+  pub too_many : 2 ^ 64 ≤ announced → result ≡ Err TooMany
+  pub fails : announced < 2 ^ 64 → IfErr result (λ error. FailsToWrite sink old error (vnum announced))
+
+-- A serializer was begun for `count` values, as `version` has them: all of them are awaited, and each nests
+-- within `MAX_DEPTH` lists.
+pub record IsBegun (count : ℕ) (version : WriteVersion) (awaited : ℕ) (its_version : WriteVersion)
+    (depth : Depth) : Type 0 where
+  pub all : awaited ≡ count
+  pub same : its_version ≡ version
+  pub within : depth ≡ depths.Within MAX_DEPTH
 
 -- The text of a value that has an encoding and nests within this many lists is written, unless the sink
 -- fails, and any other is refused:
@@ -64,3 +81,11 @@ WritesToDepth (depths.Any alloc) tree sink old new result text = WritesAnyDepth 
 -- how many are awaited after a call that gives one
 abbrev pub awaited_after : {T : Type 0} → ℕ → Result T SerializeError → ℕ
 awaited_after n result = if is_ok result then n - 1 else n
+
+-- One of the awaited values is given: where none is awaited, nothing is written; else this text is, as
+-- `WritesToDepth` says. After success one less is awaited.
+pub record WritesNext {S T : Type 0} (awaited awaited_new : ℕ) (depth : Depth) (tree : Tree) (sink : Ghosts S)
+    (old new : S) (result : Result T SerializeError) (text : List ℕ) : Type 0 where
+  pub complete : awaited ≡ 0 → WritesNothing WrongCount old new result
+  pub writes : 0 < awaited → WritesToDepth depth tree sink old new result text
+  pub counted : awaited_new ≡ awaited_after awaited result

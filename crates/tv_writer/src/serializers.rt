@@ -5,7 +5,7 @@ ghost use Rattle.tv_base.specs.Number.{vnum};
 ghost use Rattle.tv_base.specs.Writing.{Writes};
 ghost use Rattle.tv_writer.specs.Error as store;
 ghost use Rattle.tv_writer.specs.Error.{IsIo, IsIoOrMemory, write_error};
-ghost use Rattle.tv_writer.specs.Serialized.{FailsToWrite, WritesNothing, WritesToDepth, awaited_after, RefusesOrLacksMemory, short_child};
+ghost use Rattle.tv_writer.specs.Serialized.{FailsToAnnounce, FailsToWrite, IsBegun, RefusesOrLacksMemory, WritesNext, WritesNothing, WritesToDepth, short_child};
 ghost use Rattle.tv_format.specs.Short.{short, short_key, IsValue};
 ghost use Rattle.tv_format.specs.Version.{entry_total};
 ghost use Rattle.tv_format.specs.WriteVersion.{written_version};
@@ -271,10 +271,8 @@ impl<'se, K: ByteSink> BinaryArraySerializer<'se, K> {
         ensures same_sink { IfOk result (λ made. made.sink.ghost_name ≡ sink.entry.ghost_name) }
         ensures writes { IfOk result (λ made. store.WritesStore K.ByteSink sink.old made.sink.now result
             (Ok (vnum count))) }
-        ensures awaited { IfOk result (λ made. made.awaited ≡ count) }
-        ensures version { IfOk result (λ made. made.version ≡ WriteVersion.V2) }
-        ensures depth { IfOk result (λ made. made.depth ≡ Depth.Within MAX_DEPTH) }
-        ensures io { IfErr result IsIo }
+        ensures begun { IfOk result
+            (λ made. IsBegun count WriteVersion.V2 made.awaited made.version made.depth) }
         ensures fails { IfErr result (λ e. FailsToWrite K.ByteSink sink.old e (vnum count)) }
     {
         BinaryArraySerializer::with_version(count, sink, WriteVersion::V2)
@@ -289,10 +287,8 @@ impl<'se, K: ByteSink> BinaryArraySerializer<'se, K> {
         ensures same_sink { IfOk result (λ made. made.sink.ghost_name ≡ sink.entry.ghost_name) }
         ensures writes { IfOk result (λ made. store.WritesStore K.ByteSink sink.old made.sink.now result
             (Ok (vnum count))) }
-        ensures awaited { IfOk result (λ made. made.awaited ≡ count) }
-        ensures version { IfOk result (λ made. made.version ≡ version) }
-        ensures depth { IfOk result (λ made. made.depth ≡ Depth.Within MAX_DEPTH) }
-        ensures io { IfErr result IsIo }
+        ensures begun { IfOk result
+            (λ made. IsBegun count version made.awaited made.version made.depth) }
         ensures fails { IfErr result (λ e. FailsToWrite K.ByteSink sink.old e (vnum count)) }
     {
         write_vint(sink, count)?;
@@ -340,13 +336,9 @@ impl<'se, K: ByteSink> BinaryArraySerializer<'se, K> {
     /// many are awaited as before.
     pub fn serialize_value<'a, V: Value<'a>>(&mut self, value: &V) -> Result<(), SerializeError>
         ensures same_sink { self.new.sink.ghost_name ≡ self.old.sink.ghost_name }
-        ensures complete { self.old.awaited ≡ 0
-            → WritesNothing SerializeError.WrongCount self.old.sink.now self.new.sink.now result }
-        ensures writes { 0 < self.old.awaited
-            → WritesToDepth self.old.depth (V.tree value.now) K.ByteSink
-            self.old.sink.now self.new.sink.now result
+        ensures writes { WritesNext self.old.awaited self.new.awaited self.old.depth
+            (V.tree value.now) K.ByteSink self.old.sink.now self.new.sink.now result
             (short (written_version self.old.version) (V.tree value.now)) }
-        ensures awaited { self.new.awaited ≡ awaited_after self.old.awaited result }
         ensures version { self.new.version ≡ self.old.version }
         ensures depth { self.new.depth ≡ self.old.depth }
     {
@@ -391,13 +383,9 @@ impl<'se, K: ByteSink> BinaryObjectSerializer<'se, K> {
         ensures same_sink { IfOk result (λ made. made.sink.ghost_name ≡ sink.entry.ghost_name) }
         ensures writes { IfOk result (λ made. store.WritesStore K.ByteSink sink.old made.sink.now result
             (Ok (vnum (2 * count)))) }
-        ensures awaited { IfOk result (λ made. made.awaited ≡ count) }
-        ensures version { IfOk result (λ made. made.version ≡ WriteVersion.V2) }
-        ensures depth { IfOk result (λ made. made.depth ≡ Depth.Within MAX_DEPTH) }
-        ensures too_many { 2 ^ 64 ≤ 2 * count → result ≡ Err SerializeError.TooMany }
-        ensures io { 2 * count < 2 ^ 64 → IfErr result IsIo }
-        ensures fails { 2 * count < 2 ^ 64 → IfErr result
-            (λ e. FailsToWrite K.ByteSink sink.old e (vnum (2 * count))) }
+        ensures begun { IfOk result
+            (λ made. IsBegun count WriteVersion.V2 made.awaited made.version made.depth) }
+        ensures fails { FailsToAnnounce K.ByteSink sink.old (2 * count) result }
     {
         BinaryObjectSerializer::with_version(count, sink, WriteVersion::V2)
     }
@@ -415,15 +403,10 @@ impl<'se, K: ByteSink> BinaryObjectSerializer<'se, K> {
         ensures same_sink { IfOk result (λ made. made.sink.ghost_name ≡ sink.entry.ghost_name) }
         ensures writes { IfOk result (λ made. store.WritesStore K.ByteSink sink.old made.sink.now result
             (Ok (vnum (entry_total (written_version version) count)))) }
-        ensures awaited { IfOk result (λ made. made.awaited ≡ count) }
-        ensures version { IfOk result (λ made. made.version ≡ version) }
-        ensures depth { IfOk result (λ made. made.depth ≡ Depth.Within MAX_DEPTH) }
-        ensures too_many { 2 ^ 64 ≤ entry_total (written_version version) count
-            → result ≡ Err SerializeError.TooMany }
-        ensures io { entry_total (written_version version) count < 2 ^ 64 → IfErr result IsIo }
-        ensures fails { entry_total (written_version version) count < 2 ^ 64 → IfErr result
-            (λ e. FailsToWrite K.ByteSink sink.old e
-            (vnum (entry_total (written_version version) count))) }
+        ensures begun { IfOk result
+            (λ made. IsBegun count version made.awaited made.version made.depth) }
+        ensures fails { FailsToAnnounce K.ByteSink sink.old
+            (entry_total (written_version version) count) result }
     {
         let Some(total) = version.object_total(count) else {
             return Err(SerializeError::TooMany);
@@ -477,14 +460,10 @@ impl<'se, K: ByteSink> BinaryObjectSerializer<'se, K> {
         value: &V,
     ) -> Result<(), SerializeError>
         ensures same_sink { self.new.sink.ghost_name ≡ self.old.sink.ghost_name }
-        ensures complete { self.old.awaited ≡ 0
-            → WritesNothing SerializeError.WrongCount self.old.sink.now self.new.sink.now result }
-        ensures writes { 0 < self.old.awaited
-            → WritesToDepth self.old.depth (V.tree value.now) K.ByteSink
+        ensures writes { let version = written_version self.old.version in
+            WritesNext self.old.awaited self.new.awaited self.old.depth (V.tree value.now) K.ByteSink
             self.old.sink.now self.new.sink.now result
-            (short_key (written_version self.old.version) key.now
-            ++ short (written_version self.old.version) (V.tree value.now)) }
-        ensures awaited { self.new.awaited ≡ awaited_after self.old.awaited result }
+            (short_key version key.now ++ short version (V.tree value.now)) }
         ensures version { self.new.version ≡ self.old.version }
         ensures depth { self.new.depth ≡ self.old.depth }
     {

@@ -13,4 +13,6 @@ returns-in_err-write_vint-clause-fails g c =
     let w = c.in_err-write_vint.ensures in
     let K = g.K.ByteSink in
     let same : c.in-Some.total ≡ entry_total (written_version c.args.version) c.args.count = omega (arith, c.in-Some.ensures.1) in
-    λ fits. rw (p.1, p.2) (subst (λ n. FailsToWrite K c.args.sink.now (write_error c.in_err-write_vint.field-0.0) (vnum n)) same (c.write_vint.new.sink, record { appends = w.appends; stays_known = w.stays_known; counts = w.counts }))
+    let written = subst (λ n. FailsToWrite K c.args.sink.now (write_error c.in_err-write_vint.field-0.0) (vnum n)) same
+        (tt, c.write_vint.new.sink, record { appends = w.appends; stays_known = w.stays_known; counts = w.counts }) in
+    record { too_many = λ big. absurd (omega (arith, big, same)); fails = λ fits. rw (p.1, p.2) written }
