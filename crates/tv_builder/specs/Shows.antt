@@ -38,11 +38,11 @@ ShowsLists heap _ places _ = ⊥
 
 -- The bytes so far are the heap's last, after the shortest encoding of their length, and there is room for
 -- the others.
-pub record BytesStand (heap : List ℕ) (open : OpenBytes) (announced : ℕ) (so_far : List ℕ) : Type 0 where
+pub record BytesStand (heap : List ℕ) (piece : OpenBytes) (announced : ℕ) (so_far : List ℕ) : Type 0 where
   pub before : List ℕ
   pub joined : heap ≡ before ++ (vnum announced ++ so_far)
-  pub place : length before ≡ open.address
-  pub counted : length so_far + open.missing ≡ announced
+  pub place : length before ≡ piece.address
+  pub counted : length so_far + piece.missing ≡ announced
   pub fits : length before + (length (vnum announced) + announced) ≤ 4294967295
 
 pub record ShowsTree (heap : List ℕ) (fs : List Frame) (places : List ℕ) (whole : Option Place)

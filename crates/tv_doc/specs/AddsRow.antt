@@ -9,5 +9,5 @@ use Rattle.tv_doc.specs.declared.document.CompactDoc.{CompactDoc}
 
 -- the addition of the tree that the table has for this value is accepted
 abbrev pub AddsRow : CompactDoc → CompactDoc → ℕ → FieldType → Data → Type 0
-AddsRow old new field field_type data = (tree : Tree) × Table field_type data (Ok tree)
+AddsRow old new field field_type datum = (tree : Tree) × Table field_type datum (Ok tree)
     × Accepts old new field tree

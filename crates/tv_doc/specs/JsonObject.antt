@@ -46,30 +46,38 @@ abbrev pub item_values : List ℕ → ℕ → FieldType → Items → List Field
 item_values name field field_type json.no_items = []
 item_values name field field_type (json.item d ds) =
     record { name = name; field = field; field_type = field_type; value = d }
-        ∷ item_values name field field_type ds
+    ∷ item_values name field field_type ds
 
 -- the values that a field of the schema is given, for private clauses
 abbrev pub value_for : NamedField → Data → FieldJson
-value_for to data = record { name = to.name.now; field = to.field.id; field_type = to.field_type.now;
-    value = data }
+value_for to datum = record {
+  name = to.name.now;
+  field = to.field.id;
+  field_type = to.field_type.now;
+  value = datum;
+}
 
 abbrev pub items_for : NamedField → Items → List FieldJson
 items_for to ds = item_values to.name.now to.field.id to.field_type.now ds
 
 abbrev pub values_for : List ℕ → ℕ → FieldType → Data → List FieldJson
 values_for name field field_type (json.array ds) = item_values name field field_type ds
-values_for name field field_type data = record { name = name; field = field; field_type = field_type;
-    value = data }
+values_for name field field_type datum = record {
+  name = name;
+  field = field;
+  field_type = field_type;
+  value = datum;
+}
     ∷ []
 
 abbrev pub values_of_entry : List ℕ → ℕ → Option Entry → Data → List FieldJson
-values_of_entry name field None data = []
-values_of_entry name field (Some entry) data = values_for name field entry.field_type data
+values_of_entry name field None datum = []
+values_of_entry name field (Some entry) datum = values_for name field entry.field_type datum
 
 -- a key that names no field is skipped, whatever its value
 abbrev pub values_at : List Entry → List ℕ → Option ℕ → Data → List FieldJson
-values_at schema name None data = []
-values_at schema name (Some field) data = values_of_entry name field (slice_get schema field) data
+values_at schema name None datum = []
+values_at schema name (Some field) datum = values_of_entry name field (slice_get schema field) datum
 
 -- the values of an object for the fields of a schema, in byte order of the keys
 abbrev pub object_values : List Entry → Members → List FieldJson
@@ -111,10 +119,10 @@ IsRefused v doc error.Memory = IsShort v doc
 
 -- the error for a value that the type of the field with this name refuses for this
 abbrev pub IsValueError : List ℕ → Data → JsonRefusal → DocParsingError → Type 0
-IsValueError name data r (error.ValueError copy e) = (refusal : TableRefusal) × (string_bytes copy ≡ name)
-    × (error_of e ≡ Some refusal) × (refusal_of data r ≡ Some refusal)
-IsValueError name data r error.Memory = Unit {0}
-IsValueError name data r e = ⊥
+IsValueError name datum r (error.ValueError copy e) = (refusal : TableRefusal) × (string_bytes copy ≡ name)
+    × (error_of e ≡ Some refusal) × (refusal_of datum r ≡ Some refusal)
+IsValueError name datum r error.Memory = Unit {0}
+IsValueError name datum r e = ⊥
 
 -- the trees that the table has for these values are added, one after the other
 pub record AddsFieldValues (values : List FieldJson) (old new : CompactDoc) : Type 0 where

@@ -28,21 +28,21 @@ lent_tree (lent.Object o) = lent_json_tree o.json.now
 -- a text, and of another value none
 abbrev pub string_in : Data → List ℕ
 string_in (json.string s) = s
-string_in data = []
+string_in datum = []
 
 -- what a refusal says of the value, where memory wasn't refused
 abbrev pub refusal_of : Data → JsonRefusal → Option TableRefusal
-refusal_of data (refusal.Overflow expected) = Some (overflow expected.now data)
-refusal_of data (refusal.Mismatch expected) = Some (mismatch expected.now data)
-refusal_of data (refusal.Parse cause) = Some (bad_text cause data)
-refusal_of data refusal.InvalidBase64 = Some (bad_base64 (string_in data))
-refusal_of data refusal.FloatNumber = Some float_number
-refusal_of data refusal.Memory = None
+refusal_of datum (refusal.Overflow expected) = Some (overflow expected.now datum)
+refusal_of datum (refusal.Mismatch expected) = Some (mismatch expected.now datum)
+refusal_of datum (refusal.Parse cause) = Some (bad_text cause datum)
+refusal_of datum refusal.InvalidBase64 = Some (bad_base64 (string_in datum))
+refusal_of datum refusal.FloatNumber = Some float_number
+refusal_of datum refusal.Memory = None
 
 -- the outcome for the value that was lent satisfies P, unless memory was refused
 abbrev pub Lends : Data → (Outcome → Type 0) → Result LentFieldValue JsonRefusal → Type 0
-Lends data P (Ok found) = P (Ok (lent_tree found))
-Lends data P (Err e) = IfSome (refusal_of data e) (λ r. P (Err r))
+Lends datum P (Ok found) = P (Ok (lent_tree found))
+Lends datum P (Err e) = IfSome (refusal_of datum e) (λ r. P (Err r))
 
 -- the same of an error that holds the value
 abbrev pub error_of : ValueParsingError → Option TableRefusal
@@ -60,8 +60,8 @@ AnswersOwned P (Err e) = IfSome (error_of e) (λ r. P (Err r))
 
 -- and of a value without children that is lent
 abbrev pub LendsLeaf : Data → (Outcome → Type 0) → Result ReferenceValueLeaf JsonRefusal → Type 0
-LendsLeaf data P (Ok found) = P (Ok (leaf (leaf_of found)))
-LendsLeaf data P (Err e) = IfSome (refusal_of data e) (λ r. P (Err r))
+LendsLeaf datum P (Ok found) = P (Ok (leaf (leaf_of found)))
+LendsLeaf datum P (Err e) = IfSome (refusal_of datum e) (λ r. P (Err r))
 
 -- a text, as a query writes it, is this value of a field's type
 abbrev pub WritesValue : FieldType → List ℕ → Leaf → Type 0
@@ -73,7 +73,7 @@ RefusesText type s r = IfSome (refusal_of (json.string s) r) (λ why. TextRow ty
 
 -- the error says what the refusal says of the value
 abbrev pub RefusesJson : Data → JsonRefusal → ValueParsingError → Type 0
-RefusesJson data r e = error_of e ≡ refusal_of data r
+RefusesJson datum r e = error_of e ≡ refusal_of datum r
 
 -- a text; and what a field of texts prints, or reads with its tokens
 abbrev pub IsJsonString : Data → Type 0
@@ -96,12 +96,12 @@ IsNumberOrObject (json.array ds) = ⊥
 -- for a field of facets or
 -- of bytes.
 abbrev pub TakesMemory : FieldType → Data → Type 0
-TakesMemory (types.Str options) data = IsNumberOrObject data
-TakesMemory (types.Facet options) data = IsJsonString data
-TakesMemory (types.Bytes options) data = IsJsonString data
-TakesMemory (types.U64 options) data = ⊥
-TakesMemory (types.I64 options) data = ⊥
-TakesMemory (types.Bool options) data = ⊥
-TakesMemory (types.Date options) data = ⊥
-TakesMemory (types.JsonObject options) data = ⊥
-TakesMemory (types.IpAddr options) data = ⊥
+TakesMemory (types.Str options) datum = IsNumberOrObject datum
+TakesMemory (types.Facet options) datum = IsJsonString datum
+TakesMemory (types.Bytes options) datum = IsJsonString datum
+TakesMemory (types.U64 options) datum = ⊥
+TakesMemory (types.I64 options) datum = ⊥
+TakesMemory (types.Bool options) datum = ⊥
+TakesMemory (types.Date options) datum = ⊥
+TakesMemory (types.JsonObject options) datum = ⊥
+TakesMemory (types.IpAddr options) datum = ⊥

@@ -42,7 +42,7 @@ abbrev pub Outcome : Type 0
 Outcome = Result Tree TableRefusal
 
 abbrev pub mismatched : List ℕ → Data → Outcome
-mismatched expected data = Err (mismatch expected data)
+mismatched expected datum = Err (mismatch expected datum)
 
 -- the leaf where the fact holds, and else the refusal
 abbrev pub Chooses : Type 0 → Leaf → TableRefusal → Outcome → Type 0
@@ -73,7 +73,7 @@ str_row true json.null = Ok (leaf (text (codes "null")))
 str_row coerce (json.object ms) = leaf_or (tokenized_in (json.object ms))
     (mismatch (codes "a string or an pretokenized string") (json.object ms))
 str_row coerce (json.array ds) = mismatched (type_name tags.Str) (json.array ds)
-str_row false data = mismatched (codes "a string") data
+str_row false datum = mismatched (codes "a string") datum
 
 -- ---- numbers
 
@@ -102,12 +102,12 @@ abbrev pub U64Row : Bool → Data → Outcome → Type 0
 U64Row coerce (json.string s) o = UnsignedText coerce s o
 U64Row coerce (json.number n) o = o ≡ leaf_or (option_map unsigned (as_u64 n))
     (overflow (codes "u64") (json.number n))
-U64Row coerce data o = o ≡ mismatched (type_name tags.U64) data
+U64Row coerce datum o = o ≡ mismatched (type_name tags.U64) datum
 
 abbrev pub I64Row : Bool → Data → Outcome → Type 0
 I64Row coerce (json.string s) o = SignedText coerce s o
 I64Row coerce (json.number n) o = o ≡ signed_number n
-I64Row coerce data o = o ≡ mismatched (type_name tags.I64) data
+I64Row coerce datum o = o ≡ mismatched (type_name tags.I64) datum
 
 -- ---- truth values
 
@@ -123,7 +123,7 @@ abbrev pub bool_row : Bool → Data → Outcome
 bool_row coerce (json.string s) = boolean_text coerce s
 bool_row coerce (json.number n) = mismatched (codes "a boolean") (json.number n)
 bool_row coerce (json.boolean b) = Ok (leaf (boolean b))
-bool_row coerce data = mismatched (type_name tags.Bool) data
+bool_row coerce datum = mismatched (type_name tags.Bool) datum
 
 -- ---- dates
 
@@ -137,14 +137,14 @@ date_text s (Err date_error.OutOfRange) = Err (bad_text cause.DateOutOfRange (js
 abbrev pub date_row : Data → Outcome
 date_row (json.string s) = date_text s (rfc s)
 date_row (json.number n) = signed_number n
-date_row data = mismatched (type_name tags.Date) data
+date_row datum = mismatched (type_name tags.Date) datum
 
 -- ---- facets and bytes
 
 abbrev pub facet_row : Data → Outcome
 facet_row (json.string s) = leaf_or (option_map facet (parse s)) (bad_text cause.Facet (json.string s))
 facet_row (json.number n) = mismatched (codes "a string") (json.number n)
-facet_row data = mismatched (type_name tags.Facet) data
+facet_row datum = mismatched (type_name tags.Facet) datum
 
 abbrev pub base64_text : List ℕ → Result (List ℕ) DecodeError → Outcome
 base64_text s (Ok bs) = Ok (leaf (bytes bs))
@@ -153,7 +153,7 @@ base64_text s (Err e) = Err (bad_base64 s)
 abbrev pub bytes_row : Data → Outcome
 bytes_row (json.string s) = base64_text s (decode_of standard s)
 bytes_row (json.number n) = mismatched (codes "a string") (json.number n)
-bytes_row data = mismatched (type_name tags.Bytes) data
+bytes_row datum = mismatched (type_name tags.Bytes) datum
 
 -- ---- JSON objects
 
@@ -165,7 +165,7 @@ abbrev pub json_row : Data → Outcome
 json_row (json.object ms) = whole_or_float (json_tree (json.object ms))
 json_row (json.string s) = mismatched (codes "a json object") (json.string s)
 json_row (json.number n) = mismatched (codes "a json object") (json.number n)
-json_row data = mismatched (type_name tags.Json) data
+json_row datum = mismatched (type_name tags.Json) datum
 
 -- ---- IP addresses
 
@@ -177,20 +177,20 @@ IpText s o =
 abbrev pub IpRow : Data → Outcome → Type 0
 IpRow (json.string s) o = IpText s o
 IpRow (json.number n) o = o ≡ mismatched (codes "a string with an ip addr") (json.number n)
-IpRow data o = o ≡ mismatched (type_name tags.IpAddr) data
+IpRow datum o = o ≡ mismatched (type_name tags.IpAddr) datum
 
 -- ---- the table
 
 abbrev pub Table : FieldType → Data → Outcome → Type 0
-Table (types.Str options) data o = o ≡ str_row options.part.coerce data
-Table (types.U64 options) data o = U64Row options.part.coerce data o
-Table (types.I64 options) data o = I64Row options.part.coerce data o
-Table (types.Bool options) data o = o ≡ bool_row options.part.coerce data
-Table (types.Date options) data o = o ≡ date_row data
-Table (types.Facet options) data o = o ≡ facet_row data
-Table (types.Bytes options) data o = o ≡ bytes_row data
-Table (types.JsonObject options) data o = o ≡ json_row data
-Table (types.IpAddr options) data o = IpRow data o
+Table (types.Str options) datum o = o ≡ str_row options.part.coerce datum
+Table (types.U64 options) datum o = U64Row options.part.coerce datum o
+Table (types.I64 options) datum o = I64Row options.part.coerce datum o
+Table (types.Bool options) datum o = o ≡ bool_row options.part.coerce datum
+Table (types.Date options) datum o = o ≡ date_row datum
+Table (types.Facet options) datum o = o ≡ facet_row datum
+Table (types.Bytes options) datum o = o ≡ bytes_row datum
+Table (types.JsonObject options) datum o = o ≡ json_row datum
+Table (types.IpAddr options) datum o = IpRow datum o
 
 -- ---- texts of queries
 

@@ -43,7 +43,7 @@ abbrev mutual
 
 -- the tree of a JSON value, which has none where a number in it isn't whole or doesn't fit 64 bits
 abbrev pub json_tree : Data → Option Tree
-json_tree data = if has_float data then None else Some (whole_tree data)
+json_tree datum = if has_float datum then None else Some (whole_tree datum)
 
 -- the tree that a JSON value is lent as
 abbrev pub lent_json_tree : Value → Tree
@@ -55,6 +55,6 @@ lent_json_entries = map (λ m. (string_bytes m.0, lent_json_tree m.1))
 
 -- what is returned for a JSON value
 abbrev pub AnswersJson : Data → Result OwnedValue JsonError → Type 0
-AnswersJson data (Ok made) = json_tree data ≡ Some (owned_tree made)
-AnswersJson data (Err FloatNumber) = json_tree data ≡ None
-AnswersJson data (Err Memory) = IsSome (json_tree data)
+AnswersJson datum (Ok made) = json_tree datum ≡ Some (owned_tree made)
+AnswersJson datum (Err FloatNumber) = json_tree datum ≡ None
+AnswersJson datum (Err Memory) = IsSome (json_tree datum)

@@ -1,6 +1,7 @@
 -- What the serializers of values, arrays and objects do.
 use Rattle.std.specs.Borrow.{Bor}
-use Rattle.std.specs.Prelude.{◌≡◌, ◌-◌, ◌⊎◌, ◌++◌, ◌<◌, ◌≤◌, ◌^◌, ℕ, List, Option, Result, Ok, Err, IfErr, is_ok}
+use Rattle.std.specs.Prelude.{◌≡◌, ◌-◌, ◌⊎◌, ◌++◌, ◌<◌, ◌≤◌, ◌^◌, ℕ, List, Option, Result, Ok, Err, IfErr}
+use Rattle.std.specs.Prelude.{is_ok}
 use Rattle.std.specs.Prelude.{if◌then◌else◌, option_map}
 use Rattle.tv_base.specs.Number.{vnum}
 use Rattle.tv_base.specs.declared.sink.ByteSink.{Ghosts}
@@ -13,7 +14,8 @@ use Rattle.tv_value.specs.declared.nested.TheConstants.{MAX_DEPTH}
 use Rattle.tv_writer.specs.Children.{short_key_of}
 use Rattle.tv_writer.specs.Error.{WritesStore, IsIo, IsIoOrMemory}
 use Rattle.tv_writer.specs.declared.serializers.SerializeError.{SerializeError}
-use Rattle.tv_writer.specs.declared.serializers.SerializeError.TheVariants.{TooMany, TooDeep, WrongCount, Memory}
+use Rattle.tv_writer.specs.declared.serializers.SerializeError.TheVariants.{TooMany, TooDeep, WrongCount}
+use Rattle.tv_writer.specs.declared.serializers.SerializeError.TheVariants.{Memory}
 use Rattle.tv_writer.specs.declared.serializers.Depth.{Depth}
 use Rattle.tv_writer.specs.declared.serializers.Depth.TheVariants as depths
 

@@ -14,5 +14,5 @@ returns-in_err-write_vint-clause-fails g c =
     let K = g.K.ByteSink in
     let same : c.in-Some.total ≡ entry_total (written_version c.args.version) c.args.count = omega (arith, c.in-Some.ensures.1) in
     let written = subst (λ n. FailsToWrite K c.args.sink.now (write_error c.in_err-write_vint.field-0.0) (vnum n)) same
-        (tt, c.write_vint.new.sink, record { appends = w.appends; stays_known = w.stays_known; counts = w.counts }) in
+    (tt, c.write_vint.new.sink, record { appends = w.appends; stays_known = w.stays_known; counts = w.counts }) in
     record { too_many = λ big. absurd (omega (arith, big, same)); fails = λ fits. rw (p.1, p.2) written }
