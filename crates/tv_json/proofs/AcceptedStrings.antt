@@ -49,28 +49,28 @@ class-hex =
 
 -- ---- the classes of code units
 
-not_high : (a b c d : ℕ) → (a ≡ 13 → ⊥) → b < 16 → c < 16 → d < 16 → is_high_surrogate (a * 4096 + b * 256 + c * 16 + d) ≡ false
+pub not_high : (a b c d : ℕ) → (a ≡ 13 → ⊥) → b < 16 → c < 16 → d < 16 → is_high_surrogate (a * 4096 + b * 256 + c * 16 + d) ≡ false
 not_high a b c d n hb hc hd = grind (arith, nat_tests)
 
-not_low : (a b c d : ℕ) → (a ≡ 13 → ⊥) → b < 16 → c < 16 → d < 16 → is_low_surrogate (a * 4096 + b * 256 + c * 16 + d) ≡ false
+pub not_low : (a b c d : ℕ) → (a ≡ 13 → ⊥) → b < 16 → c < 16 → d < 16 → is_low_surrogate (a * 4096 + b * 256 + c * 16 + d) ≡ false
 not_low a b c d n hb hc hd = grind (arith, nat_tests)
 
-below_high : (b c d : ℕ) → b < 8 → c < 16 → d < 16 → is_high_surrogate (13 * 4096 + b * 256 + c * 16 + d) ≡ false
+pub below_high : (b c d : ℕ) → b < 8 → c < 16 → d < 16 → is_high_surrogate (13 * 4096 + b * 256 + c * 16 + d) ≡ false
 below_high b c d hb hc hd = grind (arith, nat_tests)
 
-below_low : (b c d : ℕ) → b < 12 → c < 16 → d < 16 → is_low_surrogate (13 * 4096 + b * 256 + c * 16 + d) ≡ false
+pub below_low : (b c d : ℕ) → b < 12 → c < 16 → d < 16 → is_low_surrogate (13 * 4096 + b * 256 + c * 16 + d) ≡ false
 below_low b c d hb hc hd = grind (arith, nat_tests)
 
 above_high : (b c d : ℕ) → 12 ≤ b → is_high_surrogate (13 * 4096 + b * 256 + c * 16 + d) ≡ false
 above_high b c d hb = grind (arith, nat_tests)
 
-is_low : (b c d : ℕ) → 12 ≤ b → b < 16 → c < 16 → d < 16 → is_low_surrogate (13 * 4096 + b * 256 + c * 16 + d) ≡ true
+pub is_low : (b c d : ℕ) → 12 ≤ b → b < 16 → c < 16 → d < 16 → is_low_surrogate (13 * 4096 + b * 256 + c * 16 + d) ≡ true
 is_low b c d hb hb' hc hd = grind (arith, nat_tests)
 
-is_high : (b c d : ℕ) → 8 ≤ b → b < 12 → c < 16 → d < 16 → is_high_surrogate (13 * 4096 + b * 256 + c * 16 + d) ≡ true
+pub is_high : (b c d : ℕ) → 8 ≤ b → b < 12 → c < 16 → d < 16 → is_high_surrogate (13 * 4096 + b * 256 + c * 16 + d) ≡ true
 is_high b c d hb hb' hc hd = grind (arith, nat_tests)
 
-not_13 : (x : ℕ) → digit_value x < 16 → (x ≡ 100 → ⊥) → (x ≡ 68 → ⊥) → digit_value x ≡ 13 → ⊥
+pub not_13 : (x : ℕ) → digit_value x < 16 → (x ≡ 100 → ⊥) → (x ≡ 68 → ⊥) → digit_value x ≡ 13 → ⊥
 not_13 x h n m same =
     true≢false (sym (eq-eqb (digit_value x) 13 same) ∙ by_hex (λ y. (y ≡ 100 → ⊥) → (y ≡ 68 → ⊥) → (digit_value y == 13) ≡ false)
     (λ n m. refl) (λ n m. refl) (λ n m. refl) (λ n m. refl) (λ n m. refl) (λ n m. refl) (λ n m. refl) (λ n m. refl) (λ n m. refl) (λ n m. refl) (λ n m. refl) (λ n m. refl) (λ n m. refl) (λ n m. absurd (m refl)) (λ n m. refl) (λ n m. refl) (λ n m. refl) (λ n m. refl) (λ n m. refl) (λ n m. absurd (n refl)) (λ n m. refl) (λ n m. refl)

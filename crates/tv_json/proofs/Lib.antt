@@ -20,3 +20,4 @@ mod AcceptedTokens
 mod AcceptedStrings
 mod AcceptedTurns
 mod AcceptedValues
+mod Derivations

@@ -1,0 +1,5 @@
+use Rattle.tv_json.proofs.laws.the_syntax_is_the_grammar.Goals as goal
+use Rattle.tv_json.proofs.Derivations.{derived}
+
+pub returns : goal.returns
+returns c = λ text. (derived text, ?)
