@@ -61,7 +61,7 @@ below_high b c d hb hc hd = grind (arith, nat_tests)
 pub below_low : (b c d : ℕ) → b < 12 → c < 16 → d < 16 → is_low_surrogate (13 * 4096 + b * 256 + c * 16 + d) ≡ false
 below_low b c d hb hc hd = grind (arith, nat_tests)
 
-above_high : (b c d : ℕ) → 12 ≤ b → is_high_surrogate (13 * 4096 + b * 256 + c * 16 + d) ≡ false
+pub above_high : (b c d : ℕ) → 12 ≤ b → is_high_surrogate (13 * 4096 + b * 256 + c * 16 + d) ≡ false
 above_high b c d hb = grind (arith, nat_tests)
 
 pub is_low : (b c d : ℕ) → 12 ≤ b → b < 16 → c < 16 → d < 16 → is_low_surrogate (13 * 4096 + b * 256 + c * 16 + d) ≡ true
@@ -83,7 +83,7 @@ pub record HexUnit (a b c d u : ℕ) : Type 0 where
   pub fourth : digit_value d < 16
   pub is : u ≡ digit_value a * 4096 + digit_value b * 256 + digit_value c * 16 + digit_value d
 
-hex_unit : (a b c d u : ℕ) → code_unit a b c d ≡ Some u → HexUnit a b c d u
+pub hex_unit : (a b c d u : ℕ) → code_unit a b c d ≡ Some u → HexUnit a b c d u
 unfolding code_unit
 hex_unit a b c d u e = go (is_digit a 16 && is_digit b 16 && is_digit c 16 && is_digit d 16) refl e
   where
@@ -109,7 +109,7 @@ unit_d b c d = 13 * 4096 + digit_value b * 256 + digit_value c * 16 + digit_valu
 not_less : (a b : ℕ) → nat_lt a b ≡ false → b ≤ a
 not_less a b e = grind (arith, nat_tests)
 
-low_is_high_digit : (b c d : ℕ) → is_low_surrogate (13 * 4096 + b * 256 + c * 16 + d) ≡ true → c < 16 → d < 16 → 12 ≤ b
+pub low_is_high_digit : (b c d : ℕ) → is_low_surrogate (13 * 4096 + b * 256 + c * 16 + d) ≡ true → c < 16 → d < 16 → 12 ≤ b
 low_is_high_digit b c d e hc hd = grind (arith, nat_tests)
 
 -- ---- what options hold
@@ -147,25 +147,25 @@ module _ (r : StringRole) (lists : List ListKind) where
   unfolding lex.lex
   hex_step x xs h e c = step lex.in_string lex.in_string x xs e (ap (λ k. lex_byte lex.in_string k x xs (λ m. lex.lex m xs)) (class-hex x h)) c
 
-  first_digit : (x : ℕ) → digit_value x < 16 → (x ≡ 100 → ⊥) → (x ≡ 68 → ⊥) → next (escaped escape.FirstDigit) x ≡ Ok (escaped escape.SecondDigit)
+  pub first_digit : (x : ℕ) → digit_value x < 16 → (x ≡ 100 → ⊥) → (x ≡ 68 → ⊥) → next (escaped escape.FirstDigit) x ≡ Ok (escaped escape.SecondDigit)
   first_digit x h n m =
       by_hex (λ y. (y ≡ 100 → ⊥) → (y ≡ 68 → ⊥) → next (escaped escape.FirstDigit) y ≡ Ok (escaped escape.SecondDigit))
       (λ n m. refl) (λ n m. refl) (λ n m. refl) (λ n m. refl) (λ n m. refl) (λ n m. refl) (λ n m. refl) (λ n m. refl) (λ n m. refl) (λ n m. refl) (λ n m. refl) (λ n m. refl) (λ n m. refl) (λ n m. absurd (m refl)) (λ n m. refl) (λ n m. refl) (λ n m. refl) (λ n m. refl) (λ n m. refl) (λ n m. absurd (n refl)) (λ n m. refl) (λ n m. refl)
       x h n m
 
-  second_digit : (x : ℕ) → digit_value x < 16 → next (escaped escape.SecondDigit) x ≡ Ok (escaped escape.ThirdDigit)
+  pub second_digit : (x : ℕ) → digit_value x < 16 → next (escaped escape.SecondDigit) x ≡ Ok (escaped escape.ThirdDigit)
   second_digit = by_hex (λ y. next (escaped escape.SecondDigit) y ≡ Ok (escaped escape.ThirdDigit)) refl refl refl refl refl refl refl refl refl refl refl refl refl refl refl refl refl refl refl refl refl refl
 
-  third_digit : (x : ℕ) → digit_value x < 16 → next (escaped escape.ThirdDigit) x ≡ Ok (escaped escape.FourthDigit)
+  pub third_digit : (x : ℕ) → digit_value x < 16 → next (escaped escape.ThirdDigit) x ≡ Ok (escaped escape.FourthDigit)
   third_digit = by_hex (λ y. next (escaped escape.ThirdDigit) y ≡ Ok (escaped escape.FourthDigit)) refl refl refl refl refl refl refl refl refl refl refl refl refl refl refl refl refl refl refl refl refl refl
 
-  fourth_digit : (x : ℕ) → digit_value x < 16 → next (escaped escape.FourthDigit) x ≡ Ok inside
+  pub fourth_digit : (x : ℕ) → digit_value x < 16 → next (escaped escape.FourthDigit) x ≡ Ok inside
   fourth_digit = by_hex (λ y. next (escaped escape.FourthDigit) y ≡ Ok inside) refl refl refl refl refl refl refl refl refl refl refl refl refl refl refl refl refl refl refl refl refl refl
 
-  high_third : (x : ℕ) → digit_value x < 16 → next (escaped escape.HighThirdDigit) x ≡ Ok (escaped escape.HighFourthDigit)
+  pub high_third : (x : ℕ) → digit_value x < 16 → next (escaped escape.HighThirdDigit) x ≡ Ok (escaped escape.HighFourthDigit)
   high_third = by_hex (λ y. next (escaped escape.HighThirdDigit) y ≡ Ok (escaped escape.HighFourthDigit)) refl refl refl refl refl refl refl refl refl refl refl refl refl refl refl refl refl refl refl refl refl refl
 
-  high_fourth : (x : ℕ) → digit_value x < 16 → next (escaped escape.HighFourthDigit) x ≡ Ok (escaped (escape.Low low.Backslash))
+  pub high_fourth : (x : ℕ) → digit_value x < 16 → next (escaped escape.HighFourthDigit) x ≡ Ok (escaped (escape.Low low.Backslash))
   high_fourth = by_hex (λ y. next (escaped escape.HighFourthDigit) y ≡ Ok (escaped (escape.Low low.Backslash))) refl refl refl refl refl refl refl refl refl refl refl refl refl refl refl refl refl refl refl refl refl refl
 
   plain_passes : (o s : Bool) (x : ℕ) (xs : List ℕ) (k : Mode → List Lexeme) →
@@ -261,7 +261,7 @@ module _ (r : StringRole) (lists : List ListKind) where
       (not_low (digit_value a) (digit_value b) (digit_value c) (digit_value d) other hb hc hd) f again))))) in
       go ha e
 
-  low_digit : (b : ℕ) → 12 ≤ digit_value b → digit_value b < 16 → next (escaped (escape.Low low.SecondDigit)) b ≡ Ok (escaped escape.ThirdDigit)
+  pub low_digit : (b : ℕ) → 12 ≤ digit_value b → digit_value b < 16 → next (escaped (escape.Low low.SecondDigit)) b ≡ Ok (escaped escape.ThirdDigit)
   low_digit b most less =
       (λ i. taken (escaped (escape.Low low.SecondDigit)) (option_map does.To
       (if le-leb 12 (digit_value b) most i && lt-ltb (digit_value b) 16 less i then Some (place.InEscape r escape.ThirdDigit) else None)))

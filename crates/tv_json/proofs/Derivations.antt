@@ -1,22 +1,21 @@
 -- A text that the table passes is derived by the grammar: what is left of it from each place.
-use Rattle.std.proofs.Common.{◌≡◌, ◌≢◌, ◌⊎◌, inl, inr, ℕ, zero, suc, ◌+◌, ◌*◌, ◌<◌, ◌≤◌, List, [], ◌∷◌, ◌++◌, length, drop, Bool, true, false, not, ◌==◌, ◌&&◌, ◌||◌, if◌then◌else◌, cond, nat_lt, nat_le, refl, sym, ap, ◌∙◌, subst, arith, Option, Some, None, Result, Ok, Err, option_map, append_assoc, slice_get, is_none}
-use Rattle.std.proofs.lemmas.Bool.{eqb-true, eqb-false, true≢false, false≢true, and_parts, ltb-true, ltb-false, leb-true, lt-ltb, or_cases, or_parts}
+use Rattle.std.proofs.Common.{◌≡◌, ◌⊎◌, inl, inr, ℕ, zero, suc, ◌+◌, ◌*◌, ◌<◌, ◌≤◌, List, [], ◌∷◌, ◌++◌, length, drop, Bool, true, false, not, ◌==◌, ◌&&◌, if◌then◌else◌, cond, nat_lt, nat_le, refl, sym, ap, ◌∙◌, subst, arith, Option, Some, None, Result, Ok, Err, option_map, append_assoc, slice_get}
+use Rattle.std.proofs.lemmas.Bool.{eqb-true, eqb-false, false≢true, and_parts, ltb-true, ltb-false, leb-true, lt-ltb, or_cases, or_parts}
 use Rattle.std.proofs.lemmas.Bool.Decides.{nat_tests}
-use Rattle.std.specs.Char.{is_ascii_digit, is_ascii_hexdigit, is_digit, digit_value}
+use Rattle.std.specs.Char.{is_ascii_digit, is_ascii_hexdigit, digit_value}
 use Rattle.json.specs.Ascii as ascii
 use Rattle.json.specs.Text.{code_unit, is_high_surrogate, is_low_surrogate}
 use Rattle.json.specs.Word.{is_space}
 use Rattle.serde_json.specs.Read.{max_depth}
-use Rattle.tv_json.specs.Faults.{start, next, taken, end_fault, Leads, no_bytes, byte, IsSyntax}
-use Rattle.tv_json.specs.Grammar.{Optional, absent, present, Repeated, no_more, another, IsOne, one, IsSpace, IsStructural, structural, AreDigits, AreSomeDigits, some_digits, IsMinus, minus, is_digit_from_one, IsInt, IsFrac, frac, IsExp, exp, IsNumber, IsUnit, spells, IsChar, unescaped, escaped, IsString, IsValue, the_false, the_null, the_true, an_object, an_array, a_number, a_string, IsObject, IsMembers, IsMember, IsArray, IsElements, one_value, more_values, one_member, more_members, IsJsonText, json_text, zero as zero_digit, from_one, number as the_number, unit as unit_char, pair as pair_char, string as the_string, member as the_member, object as the_object, array as the_array, empty_object, empty_array}
+use Rattle.tv_json.specs.Faults.{next, taken, end_fault, Leads, no_bytes, byte, IsSyntax}
+use Rattle.tv_json.specs.Grammar.{Optional, absent, present, Repeated, no_more, another, IsOne, one, IsSpace, IsStructural, structural, AreDigits, AreSomeDigits, some_digits, minus, is_digit_from_one, IsInt, IsFrac, frac, IsExp, exp, IsNumber, spells, IsChar, unescaped, escaped, IsString, IsValue, the_false, the_null, the_true, an_object, an_array, a_number, a_string, IsObject, IsMembers, IsMember, IsArray, IsElements, one_value, more_values, one_member, more_members, IsJsonText, json_text, zero as zero_digit, from_one, number as the_number, unit as unit_char, pair as pair_char, string as the_string, member as the_member, object as the_object, array as the_array, empty_object, empty_array}
 use Rattle.tv_json.specs.ListKinds.{innermost}
-use Rattle.tv_json.specs.Syntax.{first_place, step_at, word_text, spaced, value_begins, key_begins, value_ends, string_ends, in_string, in_escape, after_digit, is_letter_d, is_short_escape, is_e, is_sign, in_word, letter_leads, number_goes_on, is_whole_number, number_leads, in_number}
+use Rattle.tv_json.specs.Syntax.{first_place, step_at, word_text, spaced, value_begins, key_begins, value_ends, string_ends, in_string, in_escape, after_digit, is_letter_d, is_short_escape, is_e, is_sign, in_word, letter_leads, is_whole_number, number_leads, in_number}
 use Rattle.tv_json.specs.declared.json_expected.JsonWord.{JsonWord}
 use Rattle.tv_json.specs.declared.json_expected.JsonWord.TheVariants as words
 use Rattle.tv_json.specs.declared.json_expected.LowSurrogatePart.{LowSurrogatePart}
 use Rattle.tv_json.specs.declared.json_expected.LowSurrogatePart.TheVariants as low
 use Rattle.tv_json.specs.declared.json_fault.JsonFaultKind.{JsonFaultKind}
-use Rattle.tv_json.specs.declared.json_fault.JsonFaultKind.TheVariants.{TooDeep}
 use Rattle.tv_json.specs.declared.json_place.EscapePart.{EscapePart}
 use Rattle.tv_json.specs.declared.json_place.EscapePart.TheVariants as escape
 use Rattle.tv_json.specs.declared.json_place.ListKind.{ListKind}

@@ -21,3 +21,4 @@ mod AcceptedStrings
 mod AcceptedTurns
 mod AcceptedValues
 mod Derivations
+mod Derived

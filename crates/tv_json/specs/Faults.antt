@@ -21,7 +21,7 @@ taken s None = Err (Unexpected (expected s.place (innermost s.lists)))
 taken s (Some (does.To p)) = Ok (record { place = p; lists = s.lists })
 taken s (Some (does.Begin kind)) =
     if nat_lt (length s.lists) max_depth then Ok (record { place = first_place kind; lists = kind ∷ s.lists })
-        else Err TooDeep
+    else Err TooDeep
 taken s (Some does.End) = Ok (record { place = place.AfterValue; lists = drop 1 s.lists })
 
 -- what follows from a byte, or why it can't come

@@ -60,10 +60,10 @@ abbrev pub value_ends : Option ListKind → ℕ → Option Step
 value_ends None x = None
 value_ends (Some lists.Array) x =
     if x == ascii.comma then Some (does.To place.Value)
-        else (if x == ascii.close_bracket then Some does.End else None)
+    else (if x == ascii.close_bracket then Some does.End else None)
 value_ends (Some lists.Object) x =
     if x == ascii.comma then Some (does.To place.Key)
-        else (if x == ascii.close_brace then Some does.End else None)
+    else (if x == ascii.close_brace then Some does.End else None)
 
 -- ---- in strings
 
@@ -97,7 +97,7 @@ after_backslash r x =
 abbrev pub after_first_digit : StringRole → ℕ → Option Place
 after_first_digit r x =
     if is_letter_d x then Some (place.InEscape r escape.SecondDigitAfterD)
-        else after_digit x (place.InEscape r escape.SecondDigit)
+    else after_digit x (place.InEscape r escape.SecondDigit)
 
 -- `\ud000` to `\ud7ff` are characters, and `\ud800` to `\udbff` are high surrogates
 abbrev pub after_digit_d : StringRole → ℕ → Option Place
@@ -133,7 +133,7 @@ abbrev pub letter_leads : JsonWord → ℕ → ℕ → Option ℕ → Option Pla
 letter_leads w n x None = None
 letter_leads w n x (Some letter) =
     if x == letter then (if n + 1 == length (word_text w) then Some place.AfterValue
-        else Some (place.InWord w (n + 1))) else None
+    else Some (place.InWord w (n + 1))) else None
 
 -- after n letters of a word
 abbrev pub in_word : JsonWord → ℕ → ℕ → Option Place
