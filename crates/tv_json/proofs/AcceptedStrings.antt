@@ -43,7 +43,7 @@ by_hex P p0 p1 p2 p3 p4 p5 p6 p7 p8 p9 ua ub uc ud ue uf la lb lc ld le lf x h =
     is_or_not P x 101 le (λ me. is_or_not P x 102 lf (λ mf.
     absurd (none_left x (hex_range x h) n0 n1 n2 n3 n4 n5 n6 n7 n8 n9 na nb nc nd ne nf ma mb mc md me mf)))))))))))))))))))))))
 
-class-hex : (x : ℕ) → digit_value x < 16 → class x ≡ lex.other
+pub class-hex : (x : ℕ) → digit_value x < 16 → class x ≡ lex.other
 class-hex =
     by_hex (λ x. class x ≡ lex.other) refl refl refl refl refl refl refl refl refl refl refl refl refl refl refl refl refl refl refl refl refl refl
 
@@ -168,7 +168,7 @@ module _ (r : StringRole) (lists : List ListKind) where
   pub high_fourth : (x : ℕ) → digit_value x < 16 → next (escaped escape.HighFourthDigit) x ≡ Ok (escaped (escape.Low low.Backslash))
   high_fourth = by_hex (λ y. next (escaped escape.HighFourthDigit) y ≡ Ok (escaped (escape.Low low.Backslash))) refl refl refl refl refl refl refl refl refl refl refl refl refl refl refl refl refl refl refl refl refl refl
 
-  plain_passes : (o s : Bool) (x : ℕ) (xs : List ℕ) (k : Mode → List Lexeme) →
+  pub plain_passes : (o s : Bool) (x : ℕ) (xs : List ℕ) (k : Mode → List Lexeme) →
       lex_byte lex.in_string (cond o lex.operator (cond s lex.space lex.other)) x xs k ≡ k lex.in_string
   plain_passes true s x xs k = refl
   plain_passes false true x xs k = refl

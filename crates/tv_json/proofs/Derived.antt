@@ -31,11 +31,11 @@ pub Leads-append : {s t u : Scan} {xs ys : List ℕ} → Leads s xs t → Leads 
 Leads-append no_bytes h = h
 Leads-append (byte x e rest) h = byte x e (Leads-append rest h)
 
-two_bytes : (P : ℕ → Type 0) (a b : ℕ) → P a → P b → (x : ℕ) → ((x == a) || (x == b)) ≡ true → P x
+pub two_bytes : (P : ℕ → Type 0) (a b : ℕ) → P a → P b → (x : ℕ) → ((x == a) || (x == b)) ≡ true → P x
 two_bytes P a b p q x h = elim (or_cases (x == a) (x == b) h) [ inl e ↦ subst P (sym (eqb-true x a e)) p | inr e ↦ subst P (sym (eqb-true x b e)) q ]
 
 module _ (lists : List ListKind) where
-  spaces_pass : (q : Place) → is_between q ≡ true → {text : List ℕ} → IsSpace text → Leads (at q lists) text (at q lists)
+  pub spaces_pass : (q : Place) → is_between q ≡ true → {text : List ℕ} → IsSpace text → Leads (at q lists) text (at q lists)
   spaces_pass q b no_more = no_bytes
   spaces_pass q b (another (one x e) rest) = byte x (stays q b lists x e) (spaces_pass q b rest)
 
@@ -233,10 +233,10 @@ module _ (lists : List ListKind) where
     quote_ends role.Key = refl
     quote_ends role.Value = refl
 
-    string_passes : (s : Scan) → next s 34 ≡ Ok inside → {text : List ℕ} → IsString text → Leads s text (at (string_ends r) lists)
+    pub string_passes : (s : Scan) → next s 34 ≡ Ok inside → {text : List ℕ} → IsString text → Leads s text (at (string_ends r) lists)
     string_passes s e (the_string cs) = byte 34 e (Leads-append (chars_pass cs) (byte 34 (quote_ends r) no_bytes))
 
-structural_passes :
+pub structural_passes :
     (c : ℕ) (q p : Place) (outer inner : List ListKind) → is_between q ≡ true → is_between p ≡ true → next (at q outer) c ≡ Ok (at p inner) →
     (text : List ℕ) → IsStructural c text → Leads (at q outer) text (at p inner)
 structural_passes c q p outer inner b d e text (structural before after) = Leads-append (spaces_pass outer q b before) (byte c e (spaces_pass inner p d after))
@@ -244,29 +244,29 @@ structural_passes c q p outer inner b d e text (structural before after) = Leads
 -- ---- values
 
 -- a value is passed: it is complete, or it is a number that may be
-data Reaches (lists : List ListKind) (s : Scan) : List ℕ → Type 0 where
+pub data Reaches (lists : List ListKind) (s : Scan) : List ℕ → Type 0 where
   complete : {text : List ℕ} → Leads s text (at place.AfterValue lists) → Reaches lists s text
   whole_number : {text : List ℕ} (p : NumberPart) → is_whole_number p ≡ true → Leads s text (at (place.InNumber p) lists) → Reaches lists s text
 
 -- a byte that ends a number comes first
-data Delimited : List ℕ → Type 0 where
+pub data Delimited : List ℕ → Type 0 where
   delimited : (x : ℕ) {text : List ℕ} → (is_operator x || is_space x) ≡ true → Delimited (x ∷ text)
 
-number_leaves :
+pub number_leaves :
     (lists : List ListKind) (p : NumberPart) → is_whole_number p ≡ true → {u : Scan} (x : ℕ) (text : List ℕ) → (is_operator x || is_space x) ≡ true →
     Leads (at place.AfterValue lists) (x ∷ text) u → Leads (at (place.InNumber p) lists) (x ∷ text) u
 number_leaves lists p w x text d (byte y f rest) = byte y (ap (taken (at (place.InNumber p) lists)) (steps_alike lists p w y d) ∙ taken_alike lists p w _ ∙ f) rest
 
-leave :
+pub leave :
     (lists : List ListKind) {s u : Scan} {value more : List ℕ} → Reaches lists s value → Delimited more → Leads (at place.AfterValue lists) more u →
     (w : Scan) × Leads s value w × Leads w more u
 leave lists (complete l) d m = (at place.AfterValue lists, l, m)
 leave lists (whole_number p w l) (delimited x {text = t} d) m = (at (place.InNumber p) lists, l, number_leaves lists p w x t d m)
 
-space_delimits : (x : ℕ) → is_space x ≡ true → (is_operator x || is_space x) ≡ true
+pub space_delimits : (x : ℕ) → is_space x ≡ true → (is_operator x || is_space x) ≡ true
 space_delimits = by_space (λ x. (is_operator x || is_space x) ≡ true) refl refl refl refl
 
-structural_delimited : (c : ℕ) → (is_operator c || is_space c) ≡ true → {text : List ℕ} → IsStructural c text → Delimited text
+pub structural_delimited : (c : ℕ) → (is_operator c || is_space c) ≡ true → {text : List ℕ} → IsStructural c text → Delimited text
 structural_delimited c o (structural no_more after) = delimited c o
 structural_delimited c o (structural (another (one x e) before) after) = delimited x (space_delimits x e)
 
@@ -281,20 +281,20 @@ between_values : (first : Bool) → is_between (value_place first) ≡ true
 between_values true = refl
 between_values false = refl
 
-opens_array : (first : Bool) (lists : List ListKind) → length lists < 127 → (text : List ℕ) → IsStructural 91 text → Leads (at (value_place first) lists) text (at place.ValueOrEnd (Array ∷ lists))
+pub opens_array : (first : Bool) (lists : List ListKind) → length lists < 127 → (text : List ℕ) → IsStructural 91 text → Leads (at (value_place first) lists) text (at place.ValueOrEnd (Array ∷ lists))
 opens_array first lists h = structural_passes 91 (value_place first) place.ValueOrEnd lists (Array ∷ lists) (between_values first) refl (bracket_begins first lists h)
 
-opens_object : (first : Bool) (lists : List ListKind) → length lists < 127 → (text : List ℕ) → IsStructural 123 text → Leads (at (value_place first) lists) text (at place.KeyOrEnd (Object ∷ lists))
+pub opens_object : (first : Bool) (lists : List ListKind) → length lists < 127 → (text : List ℕ) → IsStructural 123 text → Leads (at (value_place first) lists) text (at place.KeyOrEnd (Object ∷ lists))
 opens_object first lists h = structural_passes 123 (value_place first) place.KeyOrEnd lists (Object ∷ lists) (between_values first) refl (brace_begins first lists h)
 
-comma_to_value : (lists : List ListKind) (text : List ℕ) → IsStructural 44 text → Leads (at place.AfterValue (Array ∷ lists)) text (at place.Value (Array ∷ lists))
+pub comma_to_value : (lists : List ListKind) (text : List ℕ) → IsStructural 44 text → Leads (at place.AfterValue (Array ∷ lists)) text (at place.Value (Array ∷ lists))
 comma_to_value lists = structural_passes 44 place.AfterValue place.Value (Array ∷ lists) (Array ∷ lists) refl refl refl
 
-comma_to_key : (lists : List ListKind) (text : List ℕ) → IsStructural 44 text → Leads (at place.AfterValue (Object ∷ lists)) text (at place.Key (Object ∷ lists))
+pub comma_to_key : (lists : List ListKind) (text : List ℕ) → IsStructural 44 text → Leads (at place.AfterValue (Object ∷ lists)) text (at place.Key (Object ∷ lists))
 comma_to_key lists = structural_passes 44 place.AfterValue place.Key (Object ∷ lists) (Object ∷ lists) refl refl refl
 
 mutual
-  value_passes : (levels : ℕ) (text : List ℕ) → IsValue levels text → (lists : List ListKind) (first : Bool) → length lists + levels ≤ 127 → Reaches lists (at (value_place first) lists) text
+  pub value_passes : (levels : ℕ) (text : List ℕ) → IsValue levels text → (lists : List ListKind) (first : Bool) → length lists + levels ≤ 127 → Reaches lists (at (value_place first) lists) text
   value_passes levels text the_false lists first h = complete (byte 102 (f_begins lists first) (byte 97 refl (byte 108 refl (byte 115 refl (byte 101 refl no_bytes)))))
   value_passes levels text the_null lists first h = complete (byte 110 (n_begins lists first) (byte 117 refl (byte 108 refl (byte 108 refl no_bytes))))
   value_passes levels text the_true lists first h = complete (byte 116 (t_begins lists first) (byte 114 refl (byte 117 refl (byte 101 refl no_bytes))))
@@ -312,14 +312,14 @@ mutual
       (leave (Object ∷ lists) (members_pass levels i m lists true (omega arith)) (structural_delimited 125 refl c)
       (structural_passes 125 place.AfterValue place.AfterValue (Object ∷ lists) lists refl refl refl e c))
 
-  members_pass : (levels : ℕ) (text : List ℕ) → IsMembers levels text → (lists : List ListKind) (first : Bool) → suc (length lists) + levels ≤ 127
+  pub members_pass : (levels : ℕ) (text : List ℕ) → IsMembers levels text → (lists : List ListKind) (first : Bool) → suc (length lists) + levels ≤ 127
       → Reaches (Object ∷ lists) (at (key_place first) (Object ∷ lists)) text
   members_pass levels text (one_member m) lists first h = member_passes levels text m lists first h
   members_pass levels text (more_members {first = f} {separator = s} {others = o} m c ms) lists first h =
       let w = leave (Object ∷ lists) (member_passes levels f m lists first h) (structural_delimited 44 refl c) (comma_to_key lists s c) in
       prefix w.1 w.2 (members_pass levels o ms lists false h)
 
-  member_passes : (levels : ℕ) (text : List ℕ) → IsMember levels text → (lists : List ListKind) (first : Bool) → suc (length lists) + levels ≤ 127
+  pub member_passes : (levels : ℕ) (text : List ℕ) → IsMember levels text → (lists : List ListKind) (first : Bool) → suc (length lists) + levels ≤ 127
       → Reaches (Object ∷ lists) (at (key_place first) (Object ∷ lists)) text
   member_passes levels text (the_member {separator = s} {text = t} n c v) lists first h =
       prefix (string_passes (Object ∷ lists) role.Key (at (key_place first) (Object ∷ lists)) (quote_begins_key first (Object ∷ lists)) n)
@@ -334,7 +334,7 @@ mutual
       (leave (Array ∷ lists) (values_pass levels i v lists true (omega arith)) (structural_delimited 93 refl c)
       (structural_passes 93 place.AfterValue place.AfterValue (Array ∷ lists) lists refl refl refl e c))
 
-  values_pass : (levels : ℕ) (text : List ℕ) → IsElements levels text → (lists : List ListKind) (first : Bool) → suc (length lists) + levels ≤ 127
+  pub values_pass : (levels : ℕ) (text : List ℕ) → IsElements levels text → (lists : List ListKind) (first : Bool) → suc (length lists) + levels ≤ 127
       → Reaches (Array ∷ lists) (at (value_place first) (Array ∷ lists)) text
   values_pass levels text (one_value v) lists first h = value_passes levels text v (Array ∷ lists) first h
   values_pass levels text (more_values {first = f} {separator = s} {others = o} v c vs) lists first h =

@@ -22,3 +22,5 @@ mod AcceptedTurns
 mod AcceptedValues
 mod Derivations
 mod Derived
+mod DerivedTokens
+mod DerivedValues
