@@ -43,34 +43,34 @@ by_hex P p0 p1 p2 p3 p4 p5 p6 p7 p8 p9 ua ub uc ud ue uf la lb lc ld le lf x h =
     is_or_not P x 101 le (λ me. is_or_not P x 102 lf (λ mf.
     absurd (none_left x (hex_range x h) n0 n1 n2 n3 n4 n5 n6 n7 n8 n9 na nb nc nd ne nf ma mb mc md me mf)))))))))))))))))))))))
 
-class-hex : (x : ℕ) → digit_value x < 16 → class x ≡ lex.other
+pub class-hex : (x : ℕ) → digit_value x < 16 → class x ≡ lex.other
 class-hex =
     by_hex (λ x. class x ≡ lex.other) refl refl refl refl refl refl refl refl refl refl refl refl refl refl refl refl refl refl refl refl refl refl
 
 -- ---- the classes of code units
 
-not_high : (a b c d : ℕ) → (a ≡ 13 → ⊥) → b < 16 → c < 16 → d < 16 → is_high_surrogate (a * 4096 + b * 256 + c * 16 + d) ≡ false
+pub not_high : (a b c d : ℕ) → (a ≡ 13 → ⊥) → b < 16 → c < 16 → d < 16 → is_high_surrogate (a * 4096 + b * 256 + c * 16 + d) ≡ false
 not_high a b c d n hb hc hd = grind (arith, nat_tests)
 
-not_low : (a b c d : ℕ) → (a ≡ 13 → ⊥) → b < 16 → c < 16 → d < 16 → is_low_surrogate (a * 4096 + b * 256 + c * 16 + d) ≡ false
+pub not_low : (a b c d : ℕ) → (a ≡ 13 → ⊥) → b < 16 → c < 16 → d < 16 → is_low_surrogate (a * 4096 + b * 256 + c * 16 + d) ≡ false
 not_low a b c d n hb hc hd = grind (arith, nat_tests)
 
-below_high : (b c d : ℕ) → b < 8 → c < 16 → d < 16 → is_high_surrogate (13 * 4096 + b * 256 + c * 16 + d) ≡ false
+pub below_high : (b c d : ℕ) → b < 8 → c < 16 → d < 16 → is_high_surrogate (13 * 4096 + b * 256 + c * 16 + d) ≡ false
 below_high b c d hb hc hd = grind (arith, nat_tests)
 
-below_low : (b c d : ℕ) → b < 12 → c < 16 → d < 16 → is_low_surrogate (13 * 4096 + b * 256 + c * 16 + d) ≡ false
+pub below_low : (b c d : ℕ) → b < 12 → c < 16 → d < 16 → is_low_surrogate (13 * 4096 + b * 256 + c * 16 + d) ≡ false
 below_low b c d hb hc hd = grind (arith, nat_tests)
 
-above_high : (b c d : ℕ) → 12 ≤ b → is_high_surrogate (13 * 4096 + b * 256 + c * 16 + d) ≡ false
+pub above_high : (b c d : ℕ) → 12 ≤ b → is_high_surrogate (13 * 4096 + b * 256 + c * 16 + d) ≡ false
 above_high b c d hb = grind (arith, nat_tests)
 
-is_low : (b c d : ℕ) → 12 ≤ b → b < 16 → c < 16 → d < 16 → is_low_surrogate (13 * 4096 + b * 256 + c * 16 + d) ≡ true
+pub is_low : (b c d : ℕ) → 12 ≤ b → b < 16 → c < 16 → d < 16 → is_low_surrogate (13 * 4096 + b * 256 + c * 16 + d) ≡ true
 is_low b c d hb hb' hc hd = grind (arith, nat_tests)
 
-is_high : (b c d : ℕ) → 8 ≤ b → b < 12 → c < 16 → d < 16 → is_high_surrogate (13 * 4096 + b * 256 + c * 16 + d) ≡ true
+pub is_high : (b c d : ℕ) → 8 ≤ b → b < 12 → c < 16 → d < 16 → is_high_surrogate (13 * 4096 + b * 256 + c * 16 + d) ≡ true
 is_high b c d hb hb' hc hd = grind (arith, nat_tests)
 
-not_13 : (x : ℕ) → digit_value x < 16 → (x ≡ 100 → ⊥) → (x ≡ 68 → ⊥) → digit_value x ≡ 13 → ⊥
+pub not_13 : (x : ℕ) → digit_value x < 16 → (x ≡ 100 → ⊥) → (x ≡ 68 → ⊥) → digit_value x ≡ 13 → ⊥
 not_13 x h n m same =
     true≢false (sym (eq-eqb (digit_value x) 13 same) ∙ by_hex (λ y. (y ≡ 100 → ⊥) → (y ≡ 68 → ⊥) → (digit_value y == 13) ≡ false)
     (λ n m. refl) (λ n m. refl) (λ n m. refl) (λ n m. refl) (λ n m. refl) (λ n m. refl) (λ n m. refl) (λ n m. refl) (λ n m. refl) (λ n m. refl) (λ n m. refl) (λ n m. refl) (λ n m. refl) (λ n m. absurd (m refl)) (λ n m. refl) (λ n m. refl) (λ n m. refl) (λ n m. refl) (λ n m. refl) (λ n m. absurd (n refl)) (λ n m. refl) (λ n m. refl)
@@ -83,7 +83,7 @@ pub record HexUnit (a b c d u : ℕ) : Type 0 where
   pub fourth : digit_value d < 16
   pub is : u ≡ digit_value a * 4096 + digit_value b * 256 + digit_value c * 16 + digit_value d
 
-hex_unit : (a b c d u : ℕ) → code_unit a b c d ≡ Some u → HexUnit a b c d u
+pub hex_unit : (a b c d u : ℕ) → code_unit a b c d ≡ Some u → HexUnit a b c d u
 unfolding code_unit
 hex_unit a b c d u e = go (is_digit a 16 && is_digit b 16 && is_digit c 16 && is_digit d 16) refl e
   where
@@ -109,7 +109,7 @@ unit_d b c d = 13 * 4096 + digit_value b * 256 + digit_value c * 16 + digit_valu
 not_less : (a b : ℕ) → nat_lt a b ≡ false → b ≤ a
 not_less a b e = grind (arith, nat_tests)
 
-low_is_high_digit : (b c d : ℕ) → is_low_surrogate (13 * 4096 + b * 256 + c * 16 + d) ≡ true → c < 16 → d < 16 → 12 ≤ b
+pub low_is_high_digit : (b c d : ℕ) → is_low_surrogate (13 * 4096 + b * 256 + c * 16 + d) ≡ true → c < 16 → d < 16 → 12 ≤ b
 low_is_high_digit b c d e hc hd = grind (arith, nat_tests)
 
 -- ---- what options hold
@@ -147,28 +147,28 @@ module _ (r : StringRole) (lists : List ListKind) where
   unfolding lex.lex
   hex_step x xs h e c = step lex.in_string lex.in_string x xs e (ap (λ k. lex_byte lex.in_string k x xs (λ m. lex.lex m xs)) (class-hex x h)) c
 
-  first_digit : (x : ℕ) → digit_value x < 16 → (x ≡ 100 → ⊥) → (x ≡ 68 → ⊥) → next (escaped escape.FirstDigit) x ≡ Ok (escaped escape.SecondDigit)
+  pub first_digit : (x : ℕ) → digit_value x < 16 → (x ≡ 100 → ⊥) → (x ≡ 68 → ⊥) → next (escaped escape.FirstDigit) x ≡ Ok (escaped escape.SecondDigit)
   first_digit x h n m =
       by_hex (λ y. (y ≡ 100 → ⊥) → (y ≡ 68 → ⊥) → next (escaped escape.FirstDigit) y ≡ Ok (escaped escape.SecondDigit))
       (λ n m. refl) (λ n m. refl) (λ n m. refl) (λ n m. refl) (λ n m. refl) (λ n m. refl) (λ n m. refl) (λ n m. refl) (λ n m. refl) (λ n m. refl) (λ n m. refl) (λ n m. refl) (λ n m. refl) (λ n m. absurd (m refl)) (λ n m. refl) (λ n m. refl) (λ n m. refl) (λ n m. refl) (λ n m. refl) (λ n m. absurd (n refl)) (λ n m. refl) (λ n m. refl)
       x h n m
 
-  second_digit : (x : ℕ) → digit_value x < 16 → next (escaped escape.SecondDigit) x ≡ Ok (escaped escape.ThirdDigit)
+  pub second_digit : (x : ℕ) → digit_value x < 16 → next (escaped escape.SecondDigit) x ≡ Ok (escaped escape.ThirdDigit)
   second_digit = by_hex (λ y. next (escaped escape.SecondDigit) y ≡ Ok (escaped escape.ThirdDigit)) refl refl refl refl refl refl refl refl refl refl refl refl refl refl refl refl refl refl refl refl refl refl
 
-  third_digit : (x : ℕ) → digit_value x < 16 → next (escaped escape.ThirdDigit) x ≡ Ok (escaped escape.FourthDigit)
+  pub third_digit : (x : ℕ) → digit_value x < 16 → next (escaped escape.ThirdDigit) x ≡ Ok (escaped escape.FourthDigit)
   third_digit = by_hex (λ y. next (escaped escape.ThirdDigit) y ≡ Ok (escaped escape.FourthDigit)) refl refl refl refl refl refl refl refl refl refl refl refl refl refl refl refl refl refl refl refl refl refl
 
-  fourth_digit : (x : ℕ) → digit_value x < 16 → next (escaped escape.FourthDigit) x ≡ Ok inside
+  pub fourth_digit : (x : ℕ) → digit_value x < 16 → next (escaped escape.FourthDigit) x ≡ Ok inside
   fourth_digit = by_hex (λ y. next (escaped escape.FourthDigit) y ≡ Ok inside) refl refl refl refl refl refl refl refl refl refl refl refl refl refl refl refl refl refl refl refl refl refl
 
-  high_third : (x : ℕ) → digit_value x < 16 → next (escaped escape.HighThirdDigit) x ≡ Ok (escaped escape.HighFourthDigit)
+  pub high_third : (x : ℕ) → digit_value x < 16 → next (escaped escape.HighThirdDigit) x ≡ Ok (escaped escape.HighFourthDigit)
   high_third = by_hex (λ y. next (escaped escape.HighThirdDigit) y ≡ Ok (escaped escape.HighFourthDigit)) refl refl refl refl refl refl refl refl refl refl refl refl refl refl refl refl refl refl refl refl refl refl
 
-  high_fourth : (x : ℕ) → digit_value x < 16 → next (escaped escape.HighFourthDigit) x ≡ Ok (escaped (escape.Low low.Backslash))
+  pub high_fourth : (x : ℕ) → digit_value x < 16 → next (escaped escape.HighFourthDigit) x ≡ Ok (escaped (escape.Low low.Backslash))
   high_fourth = by_hex (λ y. next (escaped escape.HighFourthDigit) y ≡ Ok (escaped (escape.Low low.Backslash))) refl refl refl refl refl refl refl refl refl refl refl refl refl refl refl refl refl refl refl refl refl refl
 
-  plain_passes : (o s : Bool) (x : ℕ) (xs : List ℕ) (k : Mode → List Lexeme) →
+  pub plain_passes : (o s : Bool) (x : ℕ) (xs : List ℕ) (k : Mode → List Lexeme) →
       lex_byte lex.in_string (cond o lex.operator (cond s lex.space lex.other)) x xs k ≡ k lex.in_string
   plain_passes true s x xs k = refl
   plain_passes false true x xs k = refl
@@ -261,7 +261,7 @@ module _ (r : StringRole) (lists : List ListKind) where
       (not_low (digit_value a) (digit_value b) (digit_value c) (digit_value d) other hb hc hd) f again))))) in
       go ha e
 
-  low_digit : (b : ℕ) → 12 ≤ digit_value b → digit_value b < 16 → next (escaped (escape.Low low.SecondDigit)) b ≡ Ok (escaped escape.ThirdDigit)
+  pub low_digit : (b : ℕ) → 12 ≤ digit_value b → digit_value b < 16 → next (escaped (escape.Low low.SecondDigit)) b ≡ Ok (escaped escape.ThirdDigit)
   low_digit b most less =
       (λ i. taken (escaped (escape.Low low.SecondDigit)) (option_map does.To
       (if le-leb 12 (digit_value b) most i && lt-ltb (digit_value b) 16 less i then Some (place.InEscape r escape.ThirdDigit) else None)))

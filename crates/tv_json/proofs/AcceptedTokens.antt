@@ -112,13 +112,13 @@ module _ (lists : List ListKind) (first : Bool) where
       if_passed (ends_word rest) _ (λ r. Passed lists first t r)
       (λ ended. record { is_word = is_number _; rest = rest; passed = number_passes lists first rest ended t e })
 
-  t_begins : next (at (value_place first) lists) 116 ≡ Ok (at (place.InWord words.True 1) lists)
+  pub t_begins : next (at (value_place first) lists) 116 ≡ Ok (at (place.InWord words.True 1) lists)
   t_begins = elim first as (λ b. next (at (value_place b) lists) 116 ≡ Ok (at (place.InWord words.True 1) lists)) [ true ↦ refl | false ↦ refl ]
 
-  f_begins : next (at (value_place first) lists) 102 ≡ Ok (at (place.InWord words.False 1) lists)
+  pub f_begins : next (at (value_place first) lists) 102 ≡ Ok (at (place.InWord words.False 1) lists)
   f_begins = elim first as (λ b. next (at (value_place b) lists) 102 ≡ Ok (at (place.InWord words.False 1) lists)) [ true ↦ refl | false ↦ refl ]
 
-  n_begins : next (at (value_place first) lists) 110 ≡ Ok (at (place.InWord words.Null 1) lists)
+  pub n_begins : next (at (value_place first) lists) 110 ≡ Ok (at (place.InWord words.Null 1) lists)
   n_begins = elim first as (λ b. next (at (value_place b) lists) 110 ≡ Ok (at (place.InWord words.Null 1) lists)) [ true ↦ refl | false ↦ refl ]
 
   pub word_passes : (t : List ℕ) → is_good (word t) ≡ true → Passed lists first t (word t)

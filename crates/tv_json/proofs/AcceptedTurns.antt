@@ -26,7 +26,7 @@ pub data Turn (p : lex.Place) (x : ℕ) (ys : List ℕ) (ts : List Token) : Type
   comma : x ≡ 44 → p ≡ lex.after_value → ts ≡ punctuate lex.after_comma (lex.lex lex.between ys) → Turn p x ys ts
   colon : x ≡ 58 → p ≡ lex.after_key → ts ≡ punctuate lex.fresh (lex.lex lex.between ys) → Turn p x ys ts
 
-punctuate-token : (p : lex.Place) (t : Token) (ls : List Lexeme) → punctuate p (lex.token t ∷ ls) ≡ place_token p t (begins_colon ls) (λ next. punctuate next ls)
+pub punctuate-token : (p : lex.Place) (t : Token) (ls : List Lexeme) → punctuate p (lex.token t ∷ ls) ≡ place_token p t (begins_colon ls) (λ next. punctuate next ls)
 unfolding punctuate
 punctuate-token lex.fresh t ls = refl
 punctuate-token lex.after_value t ls = refl
@@ -45,7 +45,7 @@ bad_is (token.boolean b) e = absurd (true≢false e)
 bad_is token.null e = absurd (true≢false e)
 bad_is token.bad e = refl
 
-place-word :
+pub place-word :
     (p : lex.Place) (w : Token) → WordToken w → (b : Bool) (k : lex.Place → List Token) → place_token p w b k ≡ if_allowed (may_begin p) w k lex.after_value
 place-word p w (is_number s) b k = refl
 place-word p w (is_boolean v) b k = refl

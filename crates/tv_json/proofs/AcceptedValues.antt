@@ -27,7 +27,7 @@ use Rattle.tv_json.proofs.AcceptedTurns.{Turn, fault, value_string, key_string, 
 
 -- ---- spaces
 
-abbrev is_between : Place → Bool
+abbrev pub is_between : Place → Bool
 is_between place.Value = true
 is_between place.ValueOrEnd = true
 is_between place.Key = true
@@ -39,10 +39,10 @@ is_between (place.InEscape r part) = false
 is_between (place.InNumber part) = false
 is_between (place.InWord w n) = false
 
-abbrev Stays : Place → List ListKind → ℕ → Type 0
+abbrev pub Stays : Place → List ListKind → ℕ → Type 0
 Stays q lists x = next (at q lists) x ≡ Ok (at q lists)
 
-stays : (q : Place) → is_between q ≡ true → (lists : List ListKind) (x : ℕ) → is_space x ≡ true → Stays q lists x
+pub stays : (q : Place) → is_between q ≡ true → (lists : List ListKind) (x : ℕ) → is_space x ≡ true → Stays q lists x
 stays place.Value h lists = by_space (Stays place.Value lists) refl refl refl refl
 stays place.ValueOrEnd h lists = by_space (Stays place.ValueOrEnd lists) refl refl refl refl
 stays place.Key h lists = by_space (Stays place.Key lists) refl refl refl refl
@@ -305,7 +305,7 @@ colon_of lists xs h =
     ]
 
 -- the first key of an object, or any other
-abbrev key_place : Bool → Place
+abbrev pub key_place : Bool → Place
 key_place true = place.KeyOrEnd
 key_place false = place.Key
 
@@ -313,7 +313,7 @@ abbrev key_begins_at : Bool → lex.Place
 key_begins_at true = lex.fresh
 key_begins_at false = lex.after_comma
 
-quote_begins_key : (first : Bool) (lists : List ListKind) → next (at (key_place first) lists) 34 ≡ Ok (at (place.InString role.Key) lists)
+pub quote_begins_key : (first : Bool) (lists : List ListKind) → next (at (key_place first) lists) 34 ≡ Ok (at (place.InString role.Key) lists)
 quote_begins_key true lists = refl
 quote_begins_key false lists = refl
 
@@ -433,20 +433,20 @@ word_read (suc d) t ts (is_number s) = refl
 word_read (suc d) t ts (is_boolean b) = refl
 word_read (suc d) t ts is_null = refl
 
-quote_begins : (first : Bool) (lists : List ListKind) → next (at (value_place first) lists) 34 ≡ Ok (at (place.InString role.Value) lists)
+pub quote_begins : (first : Bool) (lists : List ListKind) → next (at (value_place first) lists) 34 ≡ Ok (at (place.InString role.Value) lists)
 quote_begins true lists = refl
 quote_begins false lists = refl
 
-begin_leads :
+pub begin_leads :
     (kind : ListKind) (q : Place) (lists : List ListKind) → length lists < 127 →
     (if nat_lt (length lists) max_depth then Ok (at (first_place kind) (kind ∷ lists)) else Err TooDeep) ≡ Ok (at (first_place kind) (kind ∷ lists))
 begin_leads kind q lists h = ap (λ b. if b then Ok (at (first_place kind) (kind ∷ lists)) else Err TooDeep) (lt-ltb (length lists) 127 h)
 
-brace_begins : (first : Bool) (lists : List ListKind) → length lists < 127 → next (at (value_place first) lists) 123 ≡ Ok (at place.KeyOrEnd (Object ∷ lists))
+pub brace_begins : (first : Bool) (lists : List ListKind) → length lists < 127 → next (at (value_place first) lists) 123 ≡ Ok (at place.KeyOrEnd (Object ∷ lists))
 brace_begins true lists h = begin_leads Object place.ValueOrEnd lists h
 brace_begins false lists h = begin_leads Object place.Value lists h
 
-bracket_begins : (first : Bool) (lists : List ListKind) → length lists < 127 → next (at (value_place first) lists) 91 ≡ Ok (at place.ValueOrEnd (Array ∷ lists))
+pub bracket_begins : (first : Bool) (lists : List ListKind) → length lists < 127 → next (at (value_place first) lists) 91 ≡ Ok (at place.ValueOrEnd (Array ∷ lists))
 bracket_begins true lists h = begin_leads Array place.ValueOrEnd lists h
 bracket_begins false lists h = begin_leads Array place.Value lists h
 

@@ -45,7 +45,7 @@ module _ (lists : List ListKind) where
   abbrev pub in_number : NumberPart → Scan
   in_number p = at (place.InNumber p) lists
 
-  taken_alike : (p : NumberPart) → is_whole_number p ≡ true → (o : Option Step) → taken (in_number p) o ≡ taken (at place.AfterValue lists) o
+  pub taken_alike : (p : NumberPart) → is_whole_number p ≡ true → (o : Option Step) → taken (in_number p) o ≡ taken (at place.AfterValue lists) o
   taken_alike part.Minus h o = absurd (true≢false (sym h))
   taken_alike part.Point h o = absurd (true≢false (sym h))
   taken_alike part.LetterE h o = absurd (true≢false (sym h))
@@ -70,7 +70,7 @@ module _ (lists : List ListKind) where
   abbrev Alike : NumberPart → ℕ → Type 0
   Alike p x = step_at (place.InNumber p) (innermost lists) x ≡ step_at place.AfterValue (innermost lists) x
 
-  steps_alike : (p : NumberPart) → is_whole_number p ≡ true → (x : ℕ) → (is_operator x || is_space x) ≡ true → Alike p x
+  pub steps_alike : (p : NumberPart) → is_whole_number p ≡ true → (x : ℕ) → (is_operator x || is_space x) ≡ true → Alike p x
   steps_alike part.Minus h = absurd (true≢false (sym h))
   steps_alike part.Point h = absurd (true≢false (sym h))
   steps_alike part.LetterE h = absurd (true≢false (sym h))
@@ -80,7 +80,7 @@ module _ (lists : List ListKind) where
   steps_alike part.Fraction h = by_delimiter (Alike part.Fraction) refl refl refl refl refl refl refl refl refl refl
   steps_alike part.Exponent h = by_delimiter (Alike part.Exponent) refl refl refl refl refl refl refl refl refl refl
 
-  ends_alike : (p : NumberPart) → is_whole_number p ≡ true → end_fault (at place.AfterValue lists) ≡ None → end_fault (in_number p) ≡ None
+  pub ends_alike : (p : NumberPart) → is_whole_number p ≡ true → end_fault (at place.AfterValue lists) ≡ None → end_fault (in_number p) ≡ None
   ends_alike part.Minus h e = absurd (true≢false (sym h))
   ends_alike part.Point h e = absurd (true≢false (sym h))
   ends_alike part.LetterE h e = absurd (true≢false (sym h))

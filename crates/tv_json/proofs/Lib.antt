@@ -20,3 +20,7 @@ mod AcceptedTokens
 mod AcceptedStrings
 mod AcceptedTurns
 mod AcceptedValues
+mod Derivations
+mod Derived
+mod DerivedTokens
+mod DerivedValues

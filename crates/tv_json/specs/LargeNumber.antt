@@ -5,7 +5,6 @@ use Rattle.std.specs.Char.{is_ascii_digit}
 use Rattle.json.specs.Ascii as ascii
 use Rattle.serde_json.specs.Read.{number_of}
 use Rattle.tv_json.specs.Faults.{start, Leads}
-use Rattle.tv_json.specs.Syntax.{is_e, is_sign}
 use Rattle.tv_json.specs.declared.json_place.Place.{Place}
 use Rattle.tv_json.specs.declared.json_place.Place.TheVariants as place
 use Rattle.tv_json.specs.declared.json_scan.Scan.{Scan}

@@ -10,3 +10,4 @@ pub mod Syntax
 pub mod ListKinds
 pub mod Faults
 pub mod LargeNumber
+pub mod Grammar
