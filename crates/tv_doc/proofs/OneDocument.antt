@@ -1,5 +1,5 @@
 -- The values of an object make one document, or have one first refusal.
-use Rattle.std.proofs.Common.{String, ◌≡◌, ◌≢◌, ◌⊎◌, ◌<◌, ◌≤◌, ◌+◌, ℕ, List, [], ◌∷◌, ◌++◌, inl, inr, length, Result, Ok, Err, Some, refl, sym, subst, ◌∙◌, ap, arith, string_bytes}
+use Rattle.std.proofs.Common.{String, ◌≡◌, ◌≢◌, ◌+◌, ℕ, List, [], ◌∷◌, ◌++◌, length, Result, Ok, Err, Some, refl, sym, subst, ◌∙◌, ap, arith, string_bytes}
 use Rattle.std.specs.Fmt.{take_chars}
 use Rattle.std.specs.declared.alloc.Global.{Global}
 use Rattle.serde_json.specs.Data as json
@@ -10,7 +10,6 @@ use Rattle.tv_builder.specs.declared.errors.AddError.{AddError}
 use Rattle.tv_builder.specs.declared.errors.AddError.TheVariants as add_error
 use Rattle.tv_heap.specs.Room.{room}
 use Rattle.tv_field.specs.Entry.{Entry}
-use Rattle.tv_field.specs.JsonAnswer.{error_of}
 use Rattle.tv_field.specs.JsonTable.{Outcome, Table, TableRefusal}
 use Rattle.tv_field.proofs.OneOutcome.{one_outcome}
 use Rattle.tv_format.specs.Tree.{Document, Tree}

@@ -4,6 +4,8 @@ use Rattle.tv_doc.specs.Document.{document_of}
 use Rattle.tv_doc.specs.declared.document.CompactDoc.{CompactDoc}
 use Rattle.tv_doc.specs.declared.errors.DocParsingError.{DocParsingError}
 use Rattle.tv_doc.specs.declared.errors.DocParsingError.TheVariants as errors
+use Rattle.tv_doc.specs.declared.errors.StrictParsingError.{StrictParsingError}
+use Rattle.tv_doc.specs.declared.errors.StrictParsingError.TheVariants.{Parsing, UnknownKey, RepeatedKey}
 use Rattle.tv_field.specs.JsonAnswer.{error_of}
 
 -- both errors say the same
@@ -20,3 +22,19 @@ AreAlike (Ok made) (Ok other) = document_of made ≡ document_of other
 AreAlike (Ok made) (Err error) = error ≡ errors.Memory
 AreAlike (Err error) (Ok made) = error ≡ errors.Memory
 AreAlike (Err error) (Err other) = error ≢ errors.Memory → other ≢ errors.Memory → SaySame error other
+
+-- ---- where each key names a field, once
+
+abbrev pub SayStrictlySame : StrictParsingError → StrictParsingError → Type 0
+SayStrictlySame (Parsing error) (Parsing other) = SaySame error other
+SayStrictlySame (UnknownKey start) (UnknownKey other) = string_bytes start ≡ string_bytes other
+SayStrictlySame (RepeatedKey start) (RepeatedKey other) = string_bytes start ≡ string_bytes other
+SayStrictlySame error other = ⊥
+
+abbrev pub AreStrictlyAlike : Result CompactDoc StrictParsingError → Result CompactDoc StrictParsingError
+    → Type 0
+AreStrictlyAlike (Ok made) (Ok other) = document_of made ≡ document_of other
+AreStrictlyAlike (Ok made) (Err error) = error ≡ Parsing errors.Memory
+AreStrictlyAlike (Err error) (Ok made) = error ≡ Parsing errors.Memory
+AreStrictlyAlike (Err error) (Err other) = error ≢ Parsing errors.Memory → other ≢ Parsing errors.Memory
+    → SayStrictlySame error other

@@ -9,9 +9,11 @@ ghost use Rattle.tv_format.specs.Tree.{Document as Pairs};
 ghost use Rattle.tv_doc.specs.declared.document.CompactDoc.{CompactDoc};
 ghost use Rattle.tv_doc.specs.declared.builder.TreeBuilder.{TreeBuilder};
 ghost use Rattle.tv_doc.specs.Additions.{Addition, AddsAsBuilt, AreKept};
-ghost use Rattle.tv_doc.specs.Alike.{AreAlike};
+ghost use Rattle.tv_doc.specs.Alike.{AreAlike, AreStrictlyAlike};
 ghost use Rattle.tv_doc.specs.JsonObject.{MakesFromObject, ParsesDocument, ParsesInto};
+ghost use Rattle.tv_doc.specs.StrictJson.{ParsesStrictDocument, ParsesStrictInto};
 ghost use Rattle.tv_doc.specs.declared.errors.DocParsingError.{DocParsingError};
+ghost use Rattle.tv_doc.specs.declared.errors.StrictParsingError.{StrictParsingError};
 ghost use Rattle.tv_doc.specs.Builder.{HoldsState};
 ghost use Rattle.tv_doc.specs.Document.{document_of, IsFull, IsWithinRoom, IsWrittenInOrder};
 ghost use Rattle.tv_doc.specs.Named.{Named};
@@ -120,6 +122,17 @@ pub fn texts_make_one_document()
     ensures left { (schema : List Entry) (text : List ℕ) (new twin : CompactDoc)
         (one other : Result (Unit {0}) DocParsingError) → ParsesInto schema text new one
         → ParsesInto schema text twin other → AreAlike (in_place one new) (in_place other twin) }
+{}
+
+/// The same where each key of the object has to name a field, and none may stand twice.
+pub fn strict_texts_make_one_document()
+    ensures returned { (schema : List Entry) (text : List ℕ)
+        (one other : Result CompactDoc StrictParsingError) → ParsesStrictDocument schema text one
+        → ParsesStrictDocument schema text other → AreStrictlyAlike one other }
+    ensures left { (schema : List Entry) (text : List ℕ) (new twin : CompactDoc)
+        (one other : Result (Unit {0}) StrictParsingError) → ParsesStrictInto schema text new one
+        → ParsesStrictInto schema text twin other
+        → AreStrictlyAlike (in_place one new) (in_place other twin) }
 {}
 
 /// And so do values by name.
