@@ -2,6 +2,8 @@ pub mod Grouping
 pub mod Valid
 pub mod Pairs
 pub mod Additions
+pub mod OneDocument
+pub mod OneStrictDocument
 pub mod TextFaults
 pub mod JsonDocuments
 pub mod PlainValues

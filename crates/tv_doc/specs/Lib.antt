@@ -5,6 +5,7 @@ pub mod MapValue
 pub mod Grouped
 pub mod Belongs
 pub mod Additions
+pub mod Alike
 pub mod AdditionError
 pub mod AddsRow
 pub mod JsonObject

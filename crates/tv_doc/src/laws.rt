@@ -1,6 +1,7 @@
 //! Laws of documents, each the contract of a function that does nothing.
 
-ghost use Rattle.std.specs.Prelude.{◌≡◌, ◌⊎◌, List, IfErr, IfOk, IsErrOf};
+ghost use Rattle.std.specs.Prelude.{◌≡◌, ◌⊎◌, ℕ, List, IfErr, IfOk, IsErrOf, Result};
+ghost use Rattle.serde_json.specs.Data.{Members};
 ghost use Rattle.tv_builder.specs.declared.errors.BuildError.TheVariants.{HeapFull, Memory};
 ghost use Rattle.tv_field.specs.Entry.{Entry};
 ghost use Rattle.tv_format.specs.Short.{IsDocument};
@@ -8,10 +9,16 @@ ghost use Rattle.tv_format.specs.Tree.{Document as Pairs};
 ghost use Rattle.tv_doc.specs.declared.document.CompactDoc.{CompactDoc};
 ghost use Rattle.tv_doc.specs.declared.builder.TreeBuilder.{TreeBuilder};
 ghost use Rattle.tv_doc.specs.Additions.{Addition, AddsAsBuilt, AreKept};
+ghost use Rattle.tv_doc.specs.Alike.{AreAlike, AreStrictlyAlike};
+ghost use Rattle.tv_doc.specs.JsonObject.{MakesFromObject, ParsesDocument, ParsesInto};
+ghost use Rattle.tv_doc.specs.StrictJson.{ParsesStrictDocument, ParsesStrictInto};
+ghost use Rattle.tv_doc.specs.declared.errors.DocParsingError.{DocParsingError};
+ghost use Rattle.tv_doc.specs.declared.errors.StrictParsingError.{StrictParsingError};
 ghost use Rattle.tv_doc.specs.Builder.{HoldsState};
 ghost use Rattle.tv_doc.specs.Document.{document_of, IsFull, IsWithinRoom, IsWrittenInOrder};
 ghost use Rattle.tv_doc.specs.Named.{Named};
-ghost use Rattle.tv_doc.specs.NamedPairs.{ConvertsBack, KeepsNamed};
+ghost use Rattle.tv_doc.specs.InPlace.{in_place};
+ghost use Rattle.tv_doc.specs.NamedPairs.{ConvertsBack, ConvertsNamed, KeepsNamed};
 
 use crate::builder::{BuildError, TreeBuilder};
 use crate::document::CompactDoc;
@@ -98,3 +105,38 @@ pub fn built_values_are_as_added<'a, V: Value<'a>>(
     builder.finish(field)?;
     Ok((added, builder.into_doc()))
 }
+
+/// The values of an object make one document, by one schema, or have one first refusal: of two outcomes, neither of which is for want of memory,
+/// both are documents of the same pairs, or both are errors that say the same.
+pub fn objects_make_one_document()
+    ensures { (schema : List Entry) (members : Members)
+        (one other : Result CompactDoc DocParsingError) → MakesFromObject schema members one
+        → MakesFromObject schema members other → AreAlike one other }
+{}
+
+/// A text of JSON makes one document, too, whether it is returned or left in the place of another.
+pub fn texts_make_one_document()
+    ensures returned { (schema : List Entry) (text : List ℕ)
+        (one other : Result CompactDoc DocParsingError) → ParsesDocument schema text one
+        → ParsesDocument schema text other → AreAlike one other }
+    ensures left { (schema : List Entry) (text : List ℕ) (new twin : CompactDoc)
+        (one other : Result (Unit {0}) DocParsingError) → ParsesInto schema text new one
+        → ParsesInto schema text twin other → AreAlike (in_place one new) (in_place other twin) }
+{}
+
+/// The same where each key of the object has to name a field, and none may stand twice.
+pub fn strict_texts_make_one_document()
+    ensures returned { (schema : List Entry) (text : List ℕ)
+        (one other : Result CompactDoc StrictParsingError) → ParsesStrictDocument schema text one
+        → ParsesStrictDocument schema text other → AreStrictlyAlike one other }
+    ensures left { (schema : List Entry) (text : List ℕ) (new twin : CompactDoc)
+        (one other : Result (Unit {0}) StrictParsingError) → ParsesStrictInto schema text new one
+        → ParsesStrictInto schema text twin other
+        → AreStrictlyAlike (in_place one new) (in_place other twin) }
+{}
+
+/// And so do values by name.
+pub fn values_by_name_make_one_document()
+    ensures { (schema : List Entry) (named : Named) (one other : Result CompactDoc DocParsingError)
+        → ConvertsNamed schema named one → ConvertsNamed schema named other → AreAlike one other }
+{}

@@ -1,1 +1,2 @@
 pub mod JsonTokens
+pub mod OneOutcome

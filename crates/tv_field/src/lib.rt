@@ -5,6 +5,7 @@ pub mod field_entry;
 pub mod field_type;
 mod json_tokens;
 pub mod json_value;
+pub mod laws;
 pub mod value_parsing_error;
 
 pub use field_entry::{FieldEntry, SchemaError, is_valid_field_name};

@@ -7,6 +7,7 @@ mod LineSteps
 mod Lines
 mod Merging
 mod OneCutting
+mod OneOutcome
 pub mod Prints
 mod Progress
 mod ReadingBack

@@ -7,6 +7,7 @@ pub mod RefusedValues
 pub mod LineDocuments
 pub mod Importing
 pub mod WholeImports
+pub mod Alike
 pub mod Answers
 pub mod Run
 pub mod Unwritten

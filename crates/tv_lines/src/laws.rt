@@ -1,10 +1,20 @@
-//! Laws of lines and of runs, each the contract of a function that does nothing: what is read of an input is read in one way.
+//! Laws of lines, imports and runs, each the contract of a function that does nothing: what is read of an input is read in one way.
 
-ghost use Rattle.std.specs.Prelude.{◌≡◌, ℕ, List};
+ghost use Rattle.std.specs.Prelude.{◌≡◌, ℕ, Bool, List, Option};
 ghost use Rattle.tv_base.specs.declared.cause.Cause.TheVariants.{UnexpectedEnd};
 ghost use Rattle.tv_base.specs.declared.cause.ReadError.TheVariants.{Corrupted};
+ghost use Rattle.tv_doc.specs.Document.{document_of};
+ghost use Rattle.tv_doc.specs.declared.document.CompactDoc.{CompactDoc};
+ghost use Rattle.tv_field.specs.Entry.{Entry};
+ghost use Rattle.tv_lines.specs.Alike.{AreCountedAlike, SaySame, SaySameErrors};
+ghost use Rattle.tv_lines.specs.Importing.{IsOutcome};
+ghost use Rattle.tv_lines.specs.LineDocuments.{IsParsed};
 ghost use Rattle.tv_lines.specs.Lines.{FirstLine, Lines};
 ghost use Rattle.tv_lines.specs.TermRuns.{IsRun, Pair, RefusesRun};
+ghost use Rattle.tv_lines.specs.WholeImports.{Outcomes};
+ghost use Rattle.tv_lines.specs.declared.import.ImportRules.{ImportRules};
+ghost use Rattle.tv_lines.specs.declared.import.LineOutcome.{LineOutcome};
+ghost use Rattle.tv_lines.specs.declared.line_document.LineError.{LineError};
 
 /// An input is cut into lines in one way.
 pub fn inputs_have_one_cutting()
@@ -16,6 +26,30 @@ pub fn inputs_have_one_cutting()
 pub fn inputs_have_one_first_line()
     ensures { (input line other rest behind : List ℕ) → FirstLine input line rest
         → FirstLine input other behind → (line ≡ other) × (rest ≡ behind) }
+{}
+
+/// A line makes one document by one schema, strictly or not, or it makes none for a reason that says the same.
+pub fn lines_make_one_document()
+    ensures { (schema : List Entry) (strict : Bool) (line : List ℕ) (made twin : CompactDoc)
+        (error other : Option LineError) → IsParsed schema strict line made error
+        → IsParsed schema strict line twin other
+        → (document_of made ≡ document_of twin) × SaySameErrors error other }
+{}
+
+/// A line has one outcome by one schema and the same rules: the same bytes are stored, with the same fault of its terms, or it is refused for a reason
+/// that says the same.
+pub fn lines_have_one_outcome()
+    ensures { (schema : List Entry) (rules : ImportRules) (line text other : List ℕ)
+        (said also : LineOutcome) → IsOutcome schema rules line text said
+        → IsOutcome schema rules line other also → (text ≡ other) × SaySame said also }
+{}
+
+/// So all lines of an input have one block, and as many of them are stored, can't be searched, and are refused.
+pub fn lines_have_one_block()
+    ensures { (schema : List Entry) (rules : ImportRules) (lines : List (List ℕ))
+        (block other : List ℕ) (said also : List LineOutcome)
+        → Outcomes schema rules lines block said → Outcomes schema rules lines other also
+        → (block ≡ other) × AreCountedAlike said also }
 {}
 
 /// The bytes of a run are those of one list of pairs.
