@@ -1,6 +1,6 @@
--- The grammar of JSON by RFC 8259, production by production. A text is its bytes, and is UTF-8, so a character
--- from U+0080 on is two to four unescaped bytes. Two things are narrower than in the RFC: a surrogate comes only
--- in a pair, and lists nest no deeper than a number of levels.
+-- The grammar of JSON by RFC 8259, production by production. A text is its bytes, and is UTF-8, so a
+-- character from U+0080 on is two to four unescaped bytes. Two things are narrower than in the RFC: a
+-- surrogate comes only in a pair, and lists nest no deeper than a number of levels.
 use Rattle.std.specs.Prelude.{◌≡◌, ◌≢◌, ◌≤◌, ℕ, suc, List, [], ◌∷◌, ◌++◌, Bool, true, false, not, ◌&&◌}
 use Rattle.std.specs.Prelude.{◌==◌, Some}
 use Rattle.std.specs.Char.{is_ascii_digit}
