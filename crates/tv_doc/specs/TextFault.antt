@@ -6,21 +6,19 @@
 -- large for a float; or it is JSON. `object`: that there is no object is said exactly where the text is JSON.
 -- `TellsFault`: the text is no object, and this is where and why (`IsFault`); where nothing is told, it is an
 -- object.
-use Rattle.std.specs.Prelude.{◌≡◌, ◌⊎◌, ◌↔◌, ℕ, List, length, Option, Some, None, IsSome}
+use Rattle.std.specs.Prelude.{◌≡◌, ◌↔◌, ℕ, List, Option, Some, None, IsSome}
 use Rattle.serde_json.specs.Read.{read}
 use Rattle.tv_doc.specs.JsonObject.{IsNoObject}
 use Rattle.tv_doc.specs.StrictJson.{IsObject}
 use Rattle.tv_json.specs.Faults.{IsSyntax, IsFaultOf}
-use Rattle.tv_json.specs.LargeNumber.{IsFirstLargeNumber, NoLargeNumber}
+use Rattle.tv_json.specs.LargeNumber.{IsFirstLargeNumber}
 use Rattle.tv_json.specs.declared.json_fault.JsonFault.{JsonFault}
 use Rattle.tv_json.specs.declared.json_fault.JsonFaultKind.{JsonFaultKind}
 use Rattle.tv_json.specs.declared.json_fault.JsonFaultKind.TheVariants as kind
 
--- The first number that is too large for a float begins there. Where no number is, the place is the end of
--- the text.
+-- The text is JSON by its syntax, and the first number that is too large for a float begins there.
 abbrev pub IsNumberPlace : List ℕ → ℕ → Type 0
-IsNumberPlace text offset = IsSyntax text × (IsFirstLargeNumber text offset
-    ⊎ (NoLargeNumber text × (offset ≡ length text)))
+IsNumberPlace text offset = IsSyntax text × IsFirstLargeNumber text offset
 
 abbrev pub IsPlace : List ℕ → JsonFault → JsonFaultKind → Type 0
 IsPlace text fault (kind.EndsEarly expected) = IsFaultOf text fault

@@ -23,6 +23,7 @@ use tv_field::json_value::{JsonRefusal, JsonScratch, LentFieldValue};
 use tv_json::json_fault::{JsonFault, JsonFaultKind};
 use tv_json::json_scan::syntax_fault;
 use tv_json::large_number::large_number;
+use tv_json::laws::texts_with_the_syntax_are_read;
 use tv_schema::Schema;
 use tv_value::field::Field;
 
@@ -276,6 +277,7 @@ fn fault_of(text: &str) -> JsonFault
     if let Some(fault) = syntax_fault(text) {
         return fault;
     }
+    texts_with_the_syntax_are_read();
     JsonFault {
         offset: large_number(text).unwrap_or(text.len()),
         kind: JsonFaultKind::NumberTooLarge,

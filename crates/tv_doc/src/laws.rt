@@ -1,11 +1,13 @@
 //! Laws of documents, each the contract of a function that does nothing.
 
-ghost use Rattle.std.specs.Prelude.{◌≡◌, ◌⊎◌, ℕ, List, IfErr, IfOk, IsErrOf, Result};
+ghost use Rattle.std.specs.Prelude.{◌≡◌, ◌⊎◌, ℕ, List, IfErr, IfOk, IsErrOf, Option, Result};
 ghost use Rattle.serde_json.specs.Data.{Members};
 ghost use Rattle.tv_builder.specs.declared.errors.BuildError.TheVariants.{HeapFull, Memory};
 ghost use Rattle.tv_field.specs.Entry.{Entry};
 ghost use Rattle.tv_format.specs.Short.{IsDocument};
+ghost use Rattle.tv_json.specs.declared.json_fault.JsonFault.{JsonFault};
 ghost use Rattle.tv_format.specs.Tree.{Document as Pairs};
+ghost use Rattle.tv_doc.specs.TextFault.{TellsFault};
 ghost use Rattle.tv_doc.specs.declared.document.CompactDoc.{CompactDoc};
 ghost use Rattle.tv_doc.specs.declared.builder.TreeBuilder.{TreeBuilder};
 ghost use Rattle.tv_doc.specs.Additions.{Addition, AddsAsBuilt, AreKept};
@@ -25,6 +27,7 @@ use crate::document::CompactDoc;
 use crate::document_trait::Document;
 use crate::errors::NamedBackError;
 use std::alloc::Global;
+use tv_json::laws::syntax_faults_are_unique;
 use tv_schema::Schema;
 use tv_schema::laws::names_are_of_one_field;
 use tv_value::field::Field;
@@ -140,3 +143,11 @@ pub fn values_by_name_make_one_document()
     ensures { (schema : List Entry) (named : Named) (one other : Result CompactDoc DocParsingError)
         → ConvertsNamed schema named one → ConvertsNamed schema named other → AreAlike one other }
 {}
+
+/// A text that is no JSON object is none at one place, and for one reason.
+pub fn texts_have_one_fault()
+    ensures { (text : List ℕ) (one other : Option JsonFault) → TellsFault text one
+        → TellsFault text other → one ≡ other }
+{
+    syntax_faults_are_unique();
+}

@@ -11,5 +11,5 @@ returns-in-Some c = syntax_is_fault c.args.text.now c.in-Some.fault c.requires c
 pub returns : goal.returns
 returns c =
     let text = c.args.text.now in
-    let found = number_is_fault text c.large_number.result c.requires c.in_default.ensures c.large_number.ensures in
+    let found = number_is_fault c.texts_with_the_syntax_are_read.ensures text c.large_number.result c.requires c.in_default.ensures c.large_number.ensures in
     subst (λ n. let f : JsonFault = record { offset = n; kind = NumberTooLarge } in IsFault text f) (sym c.unwrap_or.ensures) found
