@@ -3,6 +3,7 @@ pub mod Valid
 pub mod Pairs
 pub mod Additions
 pub mod OneDocument
+pub mod OneGrouping
 pub mod OneStrictDocument
 pub mod TextFaults
 pub mod JsonDocuments

@@ -1,5 +1,5 @@
 -- Where and why a text is no JSON object.
-use Rattle.std.proofs.Common.{◌≡◌, ◌↔◌, ◌⊎◌, ◌<◌, ◌∙◌, sym, inl, inr, ℕ, List, length, Bool, true, false, Option, Some, None, IsSome, MatchOption, unwrap_or, refl, ap, subst}
+use Rattle.std.proofs.Common.{◌≡◌, ◌↔◌, ◌∙◌, sym, inl, inr, ℕ, List, length, true, Option, Some, None, IsSome, MatchOption, unwrap_or, refl, ap, subst}
 use Rattle.std.proofs.lemmas.Bool.{cases_order}
 use Rattle.serde_json.specs.Data.{Data}
 use Rattle.serde_json.specs.Read.{read}

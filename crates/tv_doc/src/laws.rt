@@ -6,7 +6,7 @@ ghost use Rattle.tv_builder.specs.declared.errors.BuildError.TheVariants.{HeapFu
 ghost use Rattle.tv_field.specs.Entry.{Entry};
 ghost use Rattle.tv_format.specs.Short.{IsDocument};
 ghost use Rattle.tv_json.specs.declared.json_fault.JsonFault.{JsonFault};
-ghost use Rattle.tv_format.specs.Tree.{Document as Pairs};
+ghost use Rattle.tv_format.specs.Tree.{Document as Pairs, Tree};
 ghost use Rattle.tv_doc.specs.TextFault.{TellsFault};
 ghost use Rattle.tv_doc.specs.declared.document.CompactDoc.{CompactDoc};
 ghost use Rattle.tv_doc.specs.declared.builder.TreeBuilder.{TreeBuilder};
@@ -18,7 +18,8 @@ ghost use Rattle.tv_doc.specs.declared.errors.DocParsingError.{DocParsingError};
 ghost use Rattle.tv_doc.specs.declared.errors.StrictParsingError.{StrictParsingError};
 ghost use Rattle.tv_doc.specs.Builder.{HoldsState};
 ghost use Rattle.tv_doc.specs.Document.{document_of, IsFull, IsWithinRoom, IsWrittenInOrder};
-ghost use Rattle.tv_doc.specs.Named.{Named};
+ghost use Rattle.tv_doc.specs.Grouped.{IsGrouped};
+ghost use Rattle.tv_doc.specs.Named.{IsJsonText, IsNamed, Named};
 ghost use Rattle.tv_doc.specs.InPlace.{in_place};
 ghost use Rattle.tv_doc.specs.NamedPairs.{ConvertsBack, ConvertsNamed, KeepsNamed};
 
@@ -108,6 +109,16 @@ pub fn built_values_are_as_added<'a, V: Value<'a>>(
     builder.finish(field)?;
     Ok((added, builder.into_doc()))
 }
+
+/// A document has one list of its values by field, one list of its values by name, and one text of JSON.
+pub fn documents_are_listed_in_one_way()
+    ensures grouped { (document : Pairs) (groups others : List (ℕ × List Tree))
+        → IsGrouped document groups → IsGrouped document others → groups ≡ others }
+    ensures named { (names : List (List ℕ)) (document : Pairs) (named other : Named)
+        → IsNamed names document named → IsNamed names document other → named ≡ other }
+    ensures printed { (names : List (List ℕ)) (document : Pairs) (text other : List ℕ)
+        → IsJsonText names document text → IsJsonText names document other → text ≡ other }
+{}
 
 /// The values of an object make one document, by one schema, or have one first refusal: of two outcomes, neither of which is for want of memory,
 /// both are documents of the same pairs, or both are errors that say the same.
