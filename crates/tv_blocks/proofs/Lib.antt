@@ -6,6 +6,7 @@ pub mod LineDocuments
 pub mod Documents
 pub mod Importing
 pub mod Records
+pub mod OneContent
 pub mod FacetPairs
 pub mod Queries
 pub mod Stops

@@ -15,6 +15,7 @@ pub mod field_path;
 pub mod field_values;
 pub mod import;
 mod kept;
+pub mod laws;
 pub mod line_refusal;
 pub mod migration;
 pub mod query;
