@@ -17,8 +17,10 @@ IsBetweenParts-prop (in_bytes ls kind number bs) one other = le_prop one other
 
 IsPlace-prop : (announced : Option ℕ) (document : Document) (field : Option ℕ) (state : State)
     → IsProp (IsPlace announced document field state)
-IsPlace-prop None document None state one other = λ i. (Coded-set coded_document _ _ one.0 other.0 i,
-    Coded-set coded_state _ _ one.1 other.1 i)
+IsPlace-prop None document None state one other = λ i. (
+  Coded-set coded_document _ _ one.0 other.0 i,
+  Coded-set coded_state _ _ one.1 other.1 i,
+)
 IsPlace-prop None document (Some field) state one other = absurd one
 IsPlace-prop (Some number) document None state one other =
     λ i. (le_prop one.0 other.0 i, Coded-set coded_state _ _ one.1 other.1 i)
@@ -28,9 +30,12 @@ IsPlace-prop (Some number) document (Some field) state one other =
 IsSound-prop : (reading : Reading) → IsProp (IsSound reading)
 IsSound-prop reading one other =
     let place = IsPlace-prop reading.announced (built reading.builder) reading.field
-        (state_of reading.builder) one.place other.place in
-    λ i. record { not_failed = Coded-set coded_bool _ _ one.not_failed other.not_failed i;
-        counted = ℕ_set _ _ one.counted other.counted i; place = place i }
+    (state_of reading.builder) one.place other.place in
+    λ i. record {
+      not_failed = Coded-set coded_bool _ _ one.not_failed other.not_failed i;
+      counted = ℕ_set _ _ one.counted other.counted i;
+      place = place i;
+    }
 
 -- as long as no step has failed
 pub SoundUnless-prop : (failed : Bool) (reading : Reading) → IsProp (failed ≡ false → IsSound reading)

@@ -102,7 +102,7 @@ compared v (d ∷ ds) [] block rest second other each none joined =
     second_ends d next.0 next.1
 compared v (d ∷ ds) (e ∷ es) block rest second other each also joined =
     let both : each.prefix ++ (each.rest ++ rest) ≡ also.prefix ++ (also.rest ++ other) =
-        sym (append_assoc each.prefix each.rest rest) ∙ ap (λ (l : List ℕ). l ++ rest) (sym each.joined) ∙ joined ∙ ap (λ (l : List ℕ). l ++ other) also.joined ∙ append_assoc also.prefix also.rest other in
+    sym (append_assoc each.prefix each.rest rest) ∙ ap (λ (l : List ℕ). l ++ rest) (sym each.joined) ∙ joined ∙ ap (λ (l : List ℕ). l ++ other) also.joined ∙ append_assoc also.prefix also.rest other in
     let one = one_document Legacy v one_legacy each.prefix also.prefix (each.rest ++ rest) (also.rest ++ other) d e each.first also.first both in
     more_compared d e one.1 (compared v ds es each.rest rest also.rest other each.second also.second (cancel each.prefix also.prefix (each.rest ++ rest) (also.rest ++ other) one.0 both))
   where

@@ -105,9 +105,9 @@ module _ {S : Type 0} (source : Ghosts S) (v : Version) (limits : ReadLimits) (o
       let few = few_of {X = CompactDoc} new other (Err (limited.Read e)) shows.taken shows.joined stops all in
       elim (is_end r.0) [
         | inl is ↦ (
-            same_error e (errors.CorruptedValue UnexpectedEnd) r.0 (corrupted UnexpectedEnd) r.1 is_corrupted is,
-            shows.all is ∙ sym (none_of (source.left other) (omega (arith, few, ap length (shows.all is), ap length shows.joined, ap length all.joined, length-append shows.taken (source.left new), length-append all.taken (source.left other)))),
-          )
+          same_error e (errors.CorruptedValue UnexpectedEnd) r.0 (corrupted UnexpectedEnd) r.1 is_corrupted is,
+          shows.all is ∙ sym (none_of (source.left other) (omega (arith, few, ap length (shows.all is), ap length shows.joined, ap length all.joined, length-append shows.taken (source.left new), length-append all.taken (source.left other)))),
+        )
         | inr apart ↦ absurd (by_cut r.0 apart shows few (cut shows.taken all.taken (source.left new) (source.left other) (sym shows.joined ∙ all.joined)))
       ]
     where

@@ -99,7 +99,7 @@ abbrev pub PassesDocument : Version
     → {S : Type 0} (source : Ghosts S) (old new : S) (result : Result (Unit {0}) DeserializeError) → Type 0
 PassesDocument version source old new result =
     Reads reading (passed (IsDocumentEncoding version) (NoDocument version)) source old new
-        (λ value. value) result
+    (λ value. value) result
 
 abbrev pub PassesValue : Version
     → {S : Type 0} (source : Ghosts S) (old new : S) (result : Result (Unit {0}) DeserializeError) → Type 0
