@@ -15,3 +15,4 @@ pub mod ByteNumbers
 pub mod ReadBack
 pub mod OneAnswer
 pub mod OneRange
+pub mod TakingMemory

@@ -7,8 +7,10 @@ pub mod KeyBytes
 pub mod Payloads
 pub mod JsonWalk
 pub mod Unless
+pub mod Tells
 pub mod Agree
 pub mod IndexedField
+pub mod TakesMemory
 pub mod TextTerms
 pub mod TextRange
 pub mod JsonBounds

@@ -14,6 +14,7 @@ use Rattle.tv_field.specs.declared.field_type.FieldType.{FieldType}
 use Rattle.tv_field.specs.declared.field_type.FieldType.TheVariants as types
 use Rattle.tv_indexing.specs.IndexedField.{AtPathAs, FoundField}
 use Rattle.tv_indexing.specs.JsonRanges.{RangesOfText}
+use Rattle.tv_indexing.specs.TakesMemory.{TakesMemory as RefusalTakesMemory, TakesMemoryIn}
 use Rattle.tv_indexing.specs.TextRange.{BelowInField}
 use Rattle.tv_indexing.specs.TextTerms.{TermsInField}
 use Rattle.tv_indexing.specs.declared.text_terms_error.TextTermsError.{TextTermsError}
@@ -78,12 +79,10 @@ Selects schema path wanted selection = AnswersClause schema path wanted (Ok sele
 abbrev pub RefusesClause : List Entry → List ℕ → WantedText → QueryReason → Type 0
 RefusesClause schema path wanted reason = AnswersClause schema path wanted (Err reason)
 
--- the refusals of a clause that take memory to find: all but a field that isn't indexed, and one that has no
--- prefixes
-abbrev pub TakesMemory : QueryReason → Type 0
-TakesMemory (Clause (texts.NotIndexed field)) = ⊥
-TakesMemory (Clause e) = Unit {0}
-TakesMemory reason = ⊥
+-- the refusals of a clause that take memory to find: those of its text or its path that do
+abbrev pub TakesMemory : List Entry → QueryReason → Type 0
+TakesMemory schema (Clause error) = RefusalTakesMemory schema error
+TakesMemory schema reason = ⊥
 
 -- ---- wanted terms
 
@@ -102,6 +101,11 @@ HasWanted terms selection = Any (IsWanted selection) terms
 abbrev pub reason_of : TextTermsError → QueryReason
 reason_of texts.Memory = Memory
 reason_of e = Clause e
+
+-- in a field of this type
+abbrev pub TakesMemoryAt : FieldType → QueryReason → Type 0
+TakesMemoryAt type (Clause error) = TakesMemoryIn type error
+TakesMemoryAt type reason = ⊥
 
 -- these are the terms of a text, or it is refused
 abbrev pub HasTermsOfText : FoundField → List ℕ → Result (List (List ℕ)) QueryReason → Type 0
