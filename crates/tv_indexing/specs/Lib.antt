@@ -1,6 +1,7 @@
 pub mod TermPlaces
 pub mod LeafTerms
 pub mod DocumentTerms
+pub mod DocumentMemory
 pub mod TermFault
 pub mod Visits
 pub mod KeyBytes

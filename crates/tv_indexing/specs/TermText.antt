@@ -78,7 +78,7 @@ IsTermOfField (types.Bool options) (boolean b) = Unit {0}
 IsTermOfField (types.Date options) (date z) = FitsSigned w64 z
 IsTermOfField (types.Facet options) (facet encoded) = Unit {0}
 IsTermOfField (types.Bytes options) (bytes bs) = IsBytes bs
-IsTermOfField type l = ⊥
+IsTermOfField type leaf = ⊥
 
 -- ---- for private clauses: the same from the bytes of a value
 

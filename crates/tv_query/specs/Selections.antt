@@ -46,21 +46,21 @@ AreOfFirst (first ∷ terms) ranges = (range : TermRange) × (ranges ≡ range �
 
 -- in a field of facets a text has one range, of its term and those of the facets below
 abbrev pub WantsInField : FoundField → WantedText → Selection → Type 0
-WantsInField at (of_text s) selection =
+WantsInField at (of_text text) selection =
     MatchBool (is_of_facets at.type) ((selection.exact ≡ []) × (range : TermRange)
-    × (selection.ranges.items ≡ range ∷ []) × BelowInField at s (Ok range))
-    (TermsInField at s (Ok selection.exact) × (selection.ranges.items ≡ []))
-WantsInField at (of_prefix s) selection =
+    × (selection.ranges.items ≡ range ∷ []) × BelowInField at text (Ok range))
+    (TermsInField at text (Ok selection.exact) × (selection.ranges.items ≡ []))
+WantsInField at (of_prefix text) selection =
     (has_prefixes at.type ≡ true) × (selection.exact ≡ []) × (terms : List (List ℕ))
-    × TermsInField at s (Ok terms) × AreOfFirst terms selection.ranges.items
-WantsInField at (of_range s) selection = (selection.exact ≡ [])
-    × RangesOfText at s (Ok selection.ranges.items)
+    × TermsInField at text (Ok terms) × AreOfFirst terms selection.ranges.items
+WantsInField at (of_range text) selection = (selection.exact ≡ [])
+    × RangesOfText at text (Ok selection.ranges.items)
 
 abbrev pub RefusesInField : FoundField → WantedText → QueryReason → Type 0
-RefusesInField at (of_text s) (Clause e) = TermsInField at s (Err e)
-RefusesInField at (of_prefix s) (Clause e) = (has_prefixes at.type ≡ true) × TermsInField at s (Err e)
-RefusesInField at (of_prefix s) NoPrefix = has_prefixes at.type ≡ false
-RefusesInField at (of_range s) (Clause e) = RangesOfText at s (Err e)
+RefusesInField at (of_text text) (Clause error) = TermsInField at text (Err error)
+RefusesInField at (of_prefix text) (Clause error) = (has_prefixes at.type ≡ true) × TermsInField at text (Err error)
+RefusesInField at (of_prefix text) NoPrefix = has_prefixes at.type ≡ false
+RefusesInField at (of_range text) (Clause error) = RangesOfText at text (Err error)
 RefusesInField at wanted reason = ⊥
 
 -- the selection is of the field
@@ -100,7 +100,7 @@ HasWanted terms selection = Any (IsWanted selection) terms
 -- the reason for an error of a path or of a text
 abbrev pub reason_of : TextTermsError → QueryReason
 reason_of texts.Memory = Memory
-reason_of e = Clause e
+reason_of error = Clause error
 
 -- in a field of this type
 abbrev pub TakesMemoryAt : FieldType → QueryReason → Type 0
@@ -109,5 +109,5 @@ TakesMemoryAt type reason = ⊥
 
 -- these are the terms of a text, or it is refused
 abbrev pub HasTermsOfText : FoundField → List ℕ → Result (List (List ℕ)) QueryReason → Type 0
-HasTermsOfText at s (Ok terms) = TermsInField at s (Ok terms)
-HasTermsOfText at s (Err reason) = RefusesInField at (of_text s) reason
+HasTermsOfText at text (Ok terms) = TermsInField at text (Ok terms)
+HasTermsOfText at text (Err reason) = RefusesInField at (of_text text) reason
