@@ -2,8 +2,8 @@
 --
 -- The word of the public contract, `IsFoundLate`: the reason stands below the keys of JSON objects, or isn't
 -- that of the first value whose field is wanted and indexed, or is none.
-use Rattle.std.specs.Prelude.{◌≢◌, ℕ, List, [], ◌∷◌, Bool, true, false, not, if◌then◌else◌, Option, Some, None}
-use Rattle.std.specs.Prelude.{Ok, Err, slice_get}
+use Rattle.std.specs.Prelude.{◌≢◌, ℕ, List, [], ◌∷◌, Bool, true, false, not, if◌then◌else◌, Option, Some}
+use Rattle.std.specs.Prelude.{None, Ok, Err, slice_get}
 use Rattle.std.specs.Borrow.{Bor}
 use Rattle.tv_field.specs.Entry.{Entry, is_indexed_type}
 use Rattle.tv_format.specs.Tree.{Document}

@@ -63,7 +63,8 @@ abbrev mutual
   pub json_entries_terms : Field → Bool → List (List ℕ) → Entries → Terms
   json_entries_terms field expand_dots keys no_entries = Ok []
   json_entries_terms field expand_dots keys (entry key tree entries) =
-      followed_by (if has_zero key then Err (NulInPath field) else json_terms field expand_dots (keys ++ key ∷ [])
+      followed_by (if has_zero key then Err (NulInPath field)
+      else json_terms field expand_dots (keys ++ key ∷ [])
       tree) (json_entries_terms field expand_dots keys entries)
 
 -- ---- other fields
@@ -117,7 +118,8 @@ AreAppended old new (Ok made) = new ≡ old ++ made
 AreAppended old new (Err why) = ⊥
 
 -- these were appended, or this is why they are refused
-abbrev pub AppendsOrRefuses : List (List ℕ) → List (List ℕ) → Terms → Result (Unit {0}) TermValuesError → Type 0
+abbrev pub AppendsOrRefuses : List (List ℕ) → List (List ℕ) → Terms → Result (Unit {0}) TermValuesError
+    → Type 0
 AppendsOrRefuses old new terms (Ok done) = AreAppended old new terms
 AppendsOrRefuses old new terms (Err why) = terms ≡ Err why
 

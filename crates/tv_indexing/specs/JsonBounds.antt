@@ -16,7 +16,8 @@ above (Some (signed first)) (Some (signed last)) = Some (is_lt (int_cmp last fir
 above (Some (unsigned first)) (Some (unsigned last)) = Some (is_lt (nat_cmp last first))
 above (Some (unsigned first)) (Some (signed last)) = Some true
 above (Some (signed first)) (Some (unsigned last)) = Some false
-above (Some (date first)) (Some (date last)) = Some (is_lt (int_cmp (truncated Seconds last) (truncated Seconds first)))
+above (Some (date first)) (Some (date last)) =
+    Some (is_lt (int_cmp (truncated Seconds last) (truncated Seconds first)))
 above (Some (boolean first)) (Some (boolean last)) = Some (is_lt (bool_cmp last first))
 above first last = None
 

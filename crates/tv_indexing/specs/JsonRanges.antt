@@ -75,7 +75,8 @@ WritesEnd of_signed of_unsigned kinds.Signed is_within written bound =
     (number : Option Leaf) × WritesNumber written number × (bound ≡ of_signed is_within number)
 WritesEnd of_signed of_unsigned kinds.Truth is_within written bound =
     bound ≡ option_map (placed_bound is_within) (truth_in written)
-WritesEnd of_signed of_unsigned kinds.Text is_within written bound = bound ≡ Some (placed_bound is_within (text written))
+WritesEnd of_signed of_unsigned kinds.Text is_within written bound =
+    bound ≡ Some (placed_bound is_within (text written))
 WritesEnd of_signed of_unsigned kinds.Unsigned is_within written bound =
     (number : Option Leaf) × WritesNumber written number × (bound ≡ of_unsigned is_within number)
 

@@ -121,7 +121,8 @@ abbrev pub IsOrIsBelow : ℕ → TermValue → ℕ → TermValue → Type 0
 IsOrIsBelow id upper field value = (field ≡ id) × ((value ≡ upper) ⊎ IsBelowValue upper value)
 
 abbrev pub RangeWithBelow : Field → FieldType → List ℕ → RangeAnswer → Type 0
-RangeWithBelow field type text (Ok range) = (leaf : Leaf) × (value : TermValue) × WritesTerm type text leaf value
+RangeWithBelow field type text (Ok range) = (leaf : Leaf) × (value : TermValue)
+    × WritesTerm type text leaf value
     × HasTerms (IsOrIsBelow field.id value) range
 RangeWithBelow field type text (Err error) = RefusesBound field type (Included text) error
 
@@ -170,7 +171,8 @@ pub data WritesBounds (text : List ℕ) (start end : Bound (List ℕ)) : Type 0 
 -- what a text has that writes the bounds itself, where this is what two bounds have
 pub data InWrittenBounds {T : Type 0} (Answers : Bound (List ℕ) → Bound (List ℕ) → Result T TextTermsError
     → Type 0) (text : List ℕ) (answer : Result T TextTermsError) : Type 0 where
-  no_bounds_written : ((start end : Bound (List ℕ)) → ¬ WritesBounds text start end) → (error : TextTermsError)
+  no_bounds_written : ((start end : Bound (List ℕ)) → ¬ WritesBounds text start end)
+      → (error : TextTermsError)
       → IsWrongRange text error → answer ≡ Err error → InWrittenBounds Answers text answer
   bounds_written : (start end : Bound (List ℕ)) → WritesBounds text start end → Answers start end answer
       → InWrittenBounds Answers text answer

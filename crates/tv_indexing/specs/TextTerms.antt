@@ -49,12 +49,14 @@ date_written_in (Err error) = None
 -- itself, and the number, the truth value and the date that it also writes
 abbrev pub WritesLeaves : List ℕ → List Leaf → Type 0
 WritesLeaves written leaves = (number : Option Leaf) × WritesNumber written number
-    × (leaves ≡ text written ∷ (listed number ++ (listed (truth_in written) ++ listed (date_written_in (rfc written)))))
+    × (leaves ≡ text written ∷ (listed number
+    ++ (listed (truth_in written) ++ listed (date_written_in (rfc written)))))
 
 -- the terms of values at one path
 abbrev pub leaves_terms : Field → List ℕ → List Leaf → Terms
 leaves_terms field path [] = Ok []
-leaves_terms field path (leaf ∷ leaves) = followed_by (json_leaf_terms field path leaf) (leaves_terms field path leaves)
+leaves_terms field path (leaf ∷ leaves) = followed_by (json_leaf_terms field path leaf)
+    (leaves_terms field path leaves)
 
 -- ---- what a text has
 
@@ -74,21 +76,25 @@ TermsAnswer = Result (List (List ℕ)) TextTermsError
 -- the terms of all that a text writes at a joined path
 abbrev pub WritesTerms : Field → List ℕ → List ℕ → TermsAnswer → Type 0
 WritesTerms field path written (Ok made) = (leaves : List Leaf) × WritesLeaves written leaves
-    × AllByRecursion (λ leaf. IfSome (json_value leaf) Fits) leaves × (leaves_terms field path leaves ≡ Ok made)
+    × AllByRecursion (λ leaf. IfSome (json_value leaf) Fits) leaves
+    × (leaves_terms field path leaves ≡ Ok made)
 WritesTerms field path written (Err error) = ⊥
 
 abbrev pub TermsBelow : Field → Bool → List ℕ → List ℕ → TermsAnswer → Type 0
-TermsBelow field expand_dots path written answer = BelowJson (WritesTerms field (joined_path expand_dots path) written)
+TermsBelow field expand_dots path written answer =
+    BelowJson (WritesTerms field (joined_path expand_dots path) written)
     field path answer
 
 abbrev pub TermOfText : Field → FieldType → List ℕ → TermsAnswer → Type 0
-TermOfText field type written (Ok made) = (leaf : Leaf) × WritesValue type written leaf × IfSome (leaf_value leaf) Fits
+TermOfText field type written (Ok made) = (leaf : Leaf) × WritesValue type written leaf
+    × IfSome (leaf_value leaf) Fits
     × (plain_terms field (value_type type) (leaf_value leaf) ≡ Ok made)
 TermOfText field type written (Err error) = (why : JsonRefusal) × RefusesText type written why
     × IsWrongText field (value_type type) why written error
 
 abbrev pub TermsInField : FoundField → List ℕ → TermsAnswer → Type 0
-TermsInField at written answer = JsonOrPlain at.type (λ expand_dots. TermsBelow at.field expand_dots at.rest written
+TermsInField at written answer = JsonOrPlain at.type
+    (λ expand_dots. TermsBelow at.field expand_dots at.rest written
     answer) (TermOfText at.field at.type written answer)
 
 abbrev pub AnswersText : List Entry → List ℕ → List ℕ → TermsAnswer → Type 0

@@ -171,17 +171,23 @@ shaped schema _ _ _ (one_factor {tokens = ts} {tree = t} w) =
     let s = shaped schema factor ts t w in (s.0, s.1, λ operators shapes ends. ap take_and (s.2 operators shapes) ∙ no_nots operators s.0 shapes ends)
 shaped schema _ _ _ (and_of {first = xs} {second = ys} {left = l} {right = r} v w) =
     let a = shaped schema all xs l v in
-    let b = shaped schema factor ys r w in
-    (all_of a.0 b.0, (a.1, b.1), λ operators shapes ends.
-    ap take_and (run_on xs (and_word ∷ ys) (holding operators shapes) ∙ ap (λ (m : Machine). run ys (put And m)) (a.2 operators shapes ends) ∙ b.2 (And ∷ operators) (a.0 ∷ shapes)))
+    let b = shaped schema factor ys r w in (
+      all_of a.0 b.0,
+      (a.1, b.1),
+      λ operators shapes ends.
+          ap take_and (run_on xs (and_word ∷ ys) (holding operators shapes) ∙ ap (λ (m : Machine). run ys (put And m)) (a.2 operators shapes ends) ∙ b.2 (And ∷ operators) (a.0 ∷ shapes)),
+    )
 shaped schema _ _ _ (all_alone {tokens = ts} {tree = t} w) =
     let s = shaped schema all ts t w in (s.0, s.1, λ operators shapes ends. ap take_or (s.2 operators shapes (any_all operators ends)) ∙ no_or operators (s.0 ∷ shapes) ends)
 shaped schema _ _ _ (or_of {first = xs} {second = ys} {left = l} {right = r} v w) =
     let a = shaped schema any xs l v in
-    let b = shaped schema all ys r w in
-    (one_of a.0 b.0, (a.1, b.1), λ operators shapes ends.
-    ap (λ (m : Machine). take_or (take_and m)) (run_on xs (or_word ∷ ys) (holding operators shapes) ∙ ap (λ (m : Machine). run ys (put Or m)) (a.2 operators shapes ends))
-    ∙ ap take_or (b.2 (Or ∷ operators) (a.0 ∷ shapes) tt))
+    let b = shaped schema all ys r w in (
+      one_of a.0 b.0,
+      (a.1, b.1),
+      λ operators shapes ends.
+          ap (λ (m : Machine). take_or (take_and m)) (run_on xs (or_word ∷ ys) (holding operators shapes) ∙ ap (λ (m : Machine). run ys (put Or m)) (a.2 operators shapes ends))
+          ∙ ap take_or (b.2 (Or ∷ operators) (a.0 ∷ shapes) tt),
+    )
 
 pub tokens_one : (schema : List Entry) (tokens : List QueryToken) (tree other : QueryTree) → WritesQuery schema any tokens tree → WritesQuery schema any tokens other → MatchSame tree other
 tokens_one schema tokens tree other v w =

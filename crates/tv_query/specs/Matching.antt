@@ -40,9 +40,11 @@ IsTruthOf terms (steps.Clause selection) old new truth =
     (new ≡ old) × (IsTrue truth ↔ HasWanted terms selection)
 IsTruthOf terms steps.Not old new truth = (before : List Bool) (first : Bool) → old ≡ before ++ first ∷ []
     → (new ≡ before) × (truth ≡ not first)
-IsTruthOf terms steps.And old new truth = (before : List Bool) (first second : Bool) → old ≡ before ++ first ∷ second ∷ []
+IsTruthOf terms steps.And old new truth = (before : List Bool) (first second : Bool)
+    → old ≡ before ++ first ∷ second ∷ []
     → (new ≡ before) × (truth ≡ (first && second))
-IsTruthOf terms steps.Or old new truth = (before : List Bool) (first second : Bool) → old ≡ before ++ first ∷ second ∷ []
+IsTruthOf terms steps.Or old new truth = (before : List Bool) (first second : Bool)
+    → old ≡ before ++ first ∷ second ∷ []
     → (new ≡ before) × (truth ≡ (first || second))
 
 -- of a clause it was told, and is now told of this term too

@@ -58,7 +58,8 @@ WantsInField at (of_range text) selection = (selection.exact ≡ [])
 
 abbrev pub RefusesInField : FoundField → WantedText → QueryReason → Type 0
 RefusesInField at (of_text text) (Clause error) = TermsInField at text (Err error)
-RefusesInField at (of_prefix text) (Clause error) = (has_prefixes at.type ≡ true) × TermsInField at text (Err error)
+RefusesInField at (of_prefix text) (Clause error) = (has_prefixes at.type ≡ true)
+    × TermsInField at text (Err error)
 RefusesInField at (of_prefix text) NoPrefix = has_prefixes at.type ≡ false
 RefusesInField at (of_range text) (Clause error) = RangesOfText at text (Err error)
 RefusesInField at wanted reason = ⊥

@@ -60,7 +60,7 @@ returns-in_err-visit_wanted-clause-answers g c =
     let p = err_from_is_err_and c.from_residual.result c.from_residual.ensures.1 in
     rw (p.1, p.2) (
       λ some. taken_refused g.V.TermVisitor.has_taken c.args.visitor.now l.visitor (wanted_terms schema wanted (document_of c.args.document.now)) (wanted_terms schema wanted (pairs_left l.field-iterator)) rest _
-    (ap (wanted_terms schema wanted) cut ∙ one_pair schema wanted pair (pairs_left c.next.new.self) ∙ ap (λ t. followed_by t rest) (c.in_err-visit_wanted.ensures.refused some)) l.invariant.so_far,
+          (ap (wanted_terms schema wanted) cut ∙ one_pair schema wanted pair (pairs_left c.next.new.self) ∙ ap (λ t. followed_by t rest) (c.in_err-visit_wanted.ensures.refused some)) l.invariant.so_far,
       λ is why h.
           let m = c.in_err-visit_wanted.ensures.memory (ap Err is) in
           found_late schema wanted (document_of c.args.document.now) (pairs_left l.field-iterator) (pairs_left c.next.new.self) pair why cut m.0 (m.1 why) l.invariant.late,
