@@ -94,8 +94,10 @@ pub use Rattle.tv_indexing.specs.DocumentTerms
 pub use Rattle.tv_indexing.specs.TermFault
 pub use Rattle.tv_indexing.specs.Visits as TermVisits
 pub use Rattle.tv_indexing.specs.Unless
+pub use Rattle.tv_indexing.specs.Tells
 pub use Rattle.tv_indexing.specs.Agree
 pub use Rattle.tv_indexing.specs.IndexedField
+pub use Rattle.tv_indexing.specs.TakesMemory
 pub use Rattle.tv_indexing.specs.TextTerms
 pub use Rattle.tv_indexing.specs.TextRange
 pub use Rattle.tv_indexing.specs.JsonBounds

@@ -39,8 +39,10 @@ pub use tv_format::laws::{
 };
 pub use tv_heap::laws::places_read_as_one_tree;
 pub use tv_indexing::laws::{
-    ranges_of_texts_are_determined, terms_of_texts_are_determined,
-    terms_of_texts_are_of_no_other_value, texts_of_values_are_read_back,
+    fields_of_paths_are_determined, leaves_have_one_term, ranges_between_texts_are_determined,
+    ranges_of_texts_are_determined, single_ranges_are_determined, terms_have_one_text,
+    terms_of_texts_are_determined, terms_of_texts_are_of_no_other_value,
+    texts_of_values_are_read_back,
 };
 pub use tv_json::laws::{
     no_text_goes_on_from_a_fault, syntax_faults_are_unique, texts_that_are_read_have_the_syntax,

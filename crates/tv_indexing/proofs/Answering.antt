@@ -5,22 +5,28 @@ use Rattle.tv_field.specs.declared.field_type.FieldType.{FieldType}
 use Rattle.tv_field.specs.declared.field_type.FieldType.TheVariants as types
 use Rattle.tv_indexing.specs.IndexedField.{AtPathAs, FindsField, FoundField, JsonOrPlain, Names, indexed, refused}
 use Rattle.tv_indexing.specs.TextTerms.{AppendsAnswer, TermsAnswer}
+use Rattle.tv_indexing.specs.Tells.{UnlessFirst}
 use Rattle.tv_indexing.specs.Unless.{Unless}
 use Rattle.tv_indexing.specs.declared.text_terms_error.TextTermsError.{TextTermsError}
-use Rattle.tv_indexing.specs.declared.text_terms_error.TextTermsError.TheVariants.{Memory}
 use Rattle.tv_options.specs.declared.own_part.DotExpansion.{DotExpansion}
 use Rattle.tv_options.specs.declared.textual_options.TextualOptions.{TextualOptions}
 
 -- ---- an answer of one kind is one of another kind, too
 
-pub answers-weaker : {T E : Type 0} (error : E) (P Q : Result T E → Type 0) (result : Result T E) → ((answer : Result T E) → P answer → Q answer) → Unless error P result → Unless error Q result
-answers-weaker error P Q (Ok made) h answers = h (Ok made) answers
-answers-weaker error P Q (Err e) h answers = λ some. h (Err e) (answers some)
+-- a call that may be refused memory before it has found these reasons
+pub first_told : {T E : Type 0} (memory : E) (Takes : E → Type 0) (P Q : Result T E → Type 0) (result : Result T E) → ((answer : Result T E) → P answer → Q answer) → (result ≡ Err memory → (why : E) → Q (Err why) → Takes why)
+    → Unless memory P result → UnlessFirst memory Takes Q result
+first_told memory Takes P Q (Ok made) h takes answers = h (Ok made) answers
+first_told memory Takes P Q (Err e) h takes answers = (λ some. h (Err e) (answers some), λ is. takes (ap Err is))
 
-pub appends-weaker : (P Q : TermsAnswer → Type 0) (old new : List (List ℕ)) (result : Result (Unit {0}) TextTermsError) → ((answer : TermsAnswer) → P answer → Q answer)
-    → Unless Memory (AppendsAnswer P old new) result → Unless Memory (AppendsAnswer Q old new) result
-appends-weaker P Q old new (Ok done) h answers = (answers.0, h (Ok answers.0) answers.1, answers.2)
-appends-weaker P Q old new (Err e) h answers = λ some. h (Err e) (answers some)
+pub first-weaker : {T E : Type 0} (memory : E) (Takes May : E → Type 0) (P Q : Result T E → Type 0) (result : Result T E) → ((answer : Result T E) → P answer → Q answer)
+    → (((why : E) → P (Err why) → Takes why) → (why : E) → Q (Err why) → May why) → UnlessFirst memory Takes P result → UnlessFirst memory May Q result
+first-weaker memory Takes May P Q (Ok made) h takes answers = h (Ok made) answers
+first-weaker memory Takes May P Q (Err e) h takes answers = (λ some. h (Err e) (answers.0 some), λ is. takes (answers.1 is))
+
+pub appends : (P Q : TermsAnswer → Type 0) (old new : List (List ℕ)) → ((answer : TermsAnswer) → P answer → Q answer) → (result : Result (Unit {0}) TextTermsError) → AppendsAnswer P old new result → AppendsAnswer Q old new result
+appends P Q old new h (Ok done) answers = (answers.0, h (Ok answers.0) answers.1, answers.2)
+appends P Q old new h (Err e) answers = h (Err e) answers
 
 -- ---- by the field's type
 

@@ -3,6 +3,7 @@ pub mod Answering
 pub mod BelowSteps
 pub mod Following
 pub mod Visiting
+pub mod Late
 pub mod Walks
 pub mod Wanted
 pub mod Steps
@@ -15,3 +16,4 @@ pub mod ByteNumbers
 pub mod ReadBack
 pub mod OneAnswer
 pub mod OneRange
+pub mod TakingMemory

@@ -17,7 +17,7 @@ use Rattle.tv_indexing.specs.Agree.{Agree, SaySame}
 use Rattle.tv_indexing.specs.DocumentTerms.{Terms, has_zero, plain_terms}
 use Rattle.tv_indexing.specs.IndexedField.{AtPathAs, BelowJson, FoundField, IsUnknownPath, JsonOrPlain, Names, RefusesPath, indexed, not_indexed, refused, unknown}
 use Rattle.tv_indexing.specs.LeafTerms.{leaf_value}
-use Rattle.tv_indexing.specs.TextTerms.{IsWrongText, TermOfText, TermsAnswer, TermsBelow, TermsInField, WritesNumber, WritesTerms, date_written_in, leaves_terms, listed}
+use Rattle.tv_indexing.specs.TextTerms.{AppendsAnswer, IsWrongText, TermOfText, TermsAnswer, TermsBelow, TermsInField, WritesNumber, WritesTerms, date_written_in, leaves_terms, listed}
 use Rattle.tv_indexing.specs.declared.text_terms_error.TextTermsError.{TextTermsError}
 use Rattle.tv_indexing.specs.declared.text_terms_error.TextTermsError.TheVariants as errors
 use Rattle.tv_options.specs.declared.types.TypeTag.{TypeTag}
@@ -72,7 +72,7 @@ row_refused : (type : FieldType) (s : List ℕ) (why : JsonRefusal) → RefusesT
 row_refused type s why refuses some =
     let t = says s why some in (t.0, t.1, subst (λ (o : Option TableRefusal). IfSome o (λ r. TextRow type s (Err r))) t.1 refuses)
 
-wrong_text_is : (field : Field) (type : TypeTag) (why : JsonRefusal) (s : List ℕ) (e : TextTermsError) → IsWrongText field type why s e
+pub wrong_text_is : (field : Field) (type : TypeTag) (why : JsonRefusal) (s : List ℕ) (e : TextTermsError) → IsWrongText field type why s e
     → (start : _) × (e ≡ errors.WrongText field type why start) × (why ≢ refusals.Memory) × (string_bytes start ≡ take_chars 40 s)
 wrong_text_is field type why s (errors.WrongText f t w start) h =
     (start, ap (λ x. errors.WrongText x t w start) h.0 ∙ ap (λ x. errors.WrongText field x w start) h.1 ∙ ap (λ x. errors.WrongText field type x start) h.2, h.3, h.4)
@@ -209,6 +209,14 @@ terms_one at s a b x y =
     (λ d v w. below_one (λ made also. made ≡ also) (WritesTerms at.field (joined_path d at.rest) s) at.field at.rest a b (written_one at.field (joined_path d at.rest) s a b) v w)
     (plain_one at.field at.type s a b) x y
 
+-- the lists that are left
+pub appended_one : (Answers : TermsAnswer → Type 0) (old new also : List (List ℕ)) (a b : Result (Unit {0}) TextTermsError) → ((x y : TermsAnswer) → Answers x → Answers y → SameTerms x y) → AppendsAnswer Answers old new a → AppendsAnswer Answers old also b
+    → Agree SaySame (λ done too. new ≡ also) a b
+appended_one Answers old new also (Ok x) (Ok y) same v w = v.2 ∙ ap (λ (l : List (List ℕ)). old ++ l) (same (Ok v.0) (Ok w.0) v.1 w.1) ∙ sym w.2
+appended_one Answers old new also (Ok x) (Err f) same v w = same (Ok v.0) (Err f) v.1 w
+appended_one Answers old new also (Err e) (Ok y) same v w = same (Err e) (Ok w.0) v w.1
+appended_one Answers old new also (Err e) (Err f) same v w = same (Err e) (Err f) v w
+
 -- ---- what a path names
 
 pub names_one : (schema : List Entry) (path : List ℕ) (a b : FoundField) → Names schema path a → Names schema path b → a ≡ b
@@ -222,19 +230,19 @@ names_one schema path a b x y =
     let typed : a.type ≡ b.type = sym x.has_type ∙ ap (λ (e : Entry). e.field_type) entry ∙ y.has_type in
     λ i. record { field = record { id = ids i }; type = typed i; rest = rests i }
 
+pub unknown_is : (path : List ℕ) (e : TextTermsError) → IsUnknownPath path e → (start : _) × (e ≡ errors.UnknownPath start) × (string_bytes start ≡ take_chars 40 path)
+unknown_is path (errors.UnknownPath start) h = (start, refl, h)
+unknown_is path (errors.NotIndexed f) h = absurd h
+unknown_is path (errors.PathEnds f) h = absurd h
+unknown_is path (errors.NulInPath f) h = absurd h
+unknown_is path (errors.WrongText f t w start) h = absurd h
+unknown_is path (errors.WrongRange start) h = absurd h
+unknown_is path (errors.Backwards f) h = absurd h
+unknown_is path (errors.NoRange f) h = absurd h
+unknown_is path errors.Memory h = absurd h
+
 unknown_one : (path : List ℕ) (e f : TextTermsError) → IsUnknownPath path e → IsUnknownPath path f → SaySame e f
 unknown_one path e f x y = let a = unknown_is path e x in let b = unknown_is path f y in rw (a.1, b.1) (a.2 ∙ sym b.2)
-  where
-    unknown_is : (path : List ℕ) (e : TextTermsError) → IsUnknownPath path e → (start : _) × (e ≡ errors.UnknownPath start) × (string_bytes start ≡ take_chars 40 path)
-    unknown_is path (errors.UnknownPath start) h = (start, refl, h)
-    unknown_is path (errors.NotIndexed f) h = absurd h
-    unknown_is path (errors.PathEnds f) h = absurd h
-    unknown_is path (errors.NulInPath f) h = absurd h
-    unknown_is path (errors.WrongText f t w start) h = absurd h
-    unknown_is path (errors.WrongRange start) h = absurd h
-    unknown_is path (errors.Backwards f) h = absurd h
-    unknown_is path (errors.NoRange f) h = absurd h
-    unknown_is path errors.Memory h = absurd h
 
 pub named_or_none : (schema : List Entry) (path : List ℕ) (at : FoundField) → Names schema path at → find_or schema path None ≡ None → ⊥
 named_or_none schema path at names none = let e : ◌≡◌ {A = Option (ℕ × List ℕ)} (Some (at.field.id, at.rest)) None = sym names.found ∙ none in absurd (cc)

@@ -1,6 +1,7 @@
 -- A text has one answer as a range: two that the definitions allow agree.
-use Rattle.std.proofs.Common.{◌≡◌, ◌↔◌, ◌⊎◌, ◌<◌, ◌+◌, ℕ, zero, suc, Bool, true, false, List, [], ◌∷◌, ◌++◌, length, codes, get_or, Option, Some, None, Result, Ok, Err, arith, refl, sym, subst, ap, ◌∙◌, inl, inr}
+use Rattle.std.proofs.Common.{◌≡◌, ◌↔◌, ◌⊎◌, ◌<◌, ◌+◌, ℕ, zero, suc, Bool, true, false, List, [], ◌∷◌, ◌++◌, length, codes, get_or, Option, Some, None, Result, Ok, Err, arith, refl, sym, subst, ap, ◌∙◌, inl, inr, string_bytes}
 use Rattle.std.proofs.lemmas.List.{append_cancel_left, length-append, same_from_push}
+use Rattle.std.specs.Fmt.{take_chars}
 use Rattle.std.specs.List.{Any}
 use Rattle.std.specs.Cmp.Lexicographic.{slice_cmp}
 use Rattle.std.specs.Ordering.{is_lt, nat_cmp}
@@ -13,13 +14,13 @@ use Rattle.tv_field.specs.Entry.{value_type}
 use Rattle.tv_field.specs.JsonTable.{truth_in}
 use Rattle.tv_field.specs.declared.field_type.FieldType.{FieldType}
 use Rattle.tv_format.specs.Tree.{Leaf}
-use Rattle.tv_indexing.specs.Agree.{Agree, FindSame, IsSomeTerm, SaySame}
+use Rattle.tv_indexing.specs.Agree.{Agree, FindSame, HaveSame, SaySame}
 use Rattle.tv_indexing.specs.IndexedField.{FoundField}
 use Rattle.tv_indexing.specs.JsonBounds.{RunBackwards, above, told_or}
 use Rattle.tv_indexing.specs.JsonRanges.{AreBoundValues, AreOfKind, AreRangesOf, EndsIn, IsBetweenAt, OneRange, RangesAnswer, RangesAt, RangesBelow, RangesInField, RangesOfText, StartsIn, WritesEnd, type_of_kind}
 use Rattle.tv_indexing.specs.JsonRanges.{signed_end, signed_start, unsigned_end, unsigned_start}
 use Rattle.tv_indexing.specs.LeafTerms.{leaf_value}
-use Rattle.tv_indexing.specs.TextRange.{ArePartedBounds, InWrittenBounds, IsEndBound, IsOrIsBelow, IsStartBound, RangeAnswer, RangeOfTexts, RangeWithBelow, RefusesBoth, RefusesBound, WriteBoth, WritesBound, WritesBounds, WritesTerm}
+use Rattle.tv_indexing.specs.TextRange.{ArePartedBounds, BelowInField, InWrittenBounds, IsEndBound, IsOrIsBelow, IsStartBound, RangeAnswer, RangeInField, RangeOfTexts, RangeWithBelow, RefusesBoth, RefusesBound, WriteBoth, WritesBound, WritesBounds, WritesTerm}
 use Rattle.tv_indexing.specs.TextRange.{are_backwards, backwards, bound_of, bounding, bounds, bounds_written, closing_bracket, first, no_bounds, no_bounds_written, opening_bracket, outer_bound, second}
 use Rattle.tv_indexing.specs.TextTerms.{IsWrongRange, date_written_in}
 use Rattle.tv_indexing.specs.declared.json_ranges.JsonKind.{JsonKind}
@@ -67,9 +68,6 @@ any_after P (x ∷ xs) ys a = any_rest P x (xs ++ ys) (any_after P xs ys a)
 
 -- ---- ranges that have the same terms
 
-abbrev pub HaveSame : TermRange → TermRange → Type 0
-HaveSame range other = (term : List ℕ) → IsSomeTerm term → IsIn range term ↔ IsIn other term
-
 pub has_same : (P : ℕ → TermValue → Type 0) (range other : TermRange) → HasTerms P range → HasTerms P other → HaveSame range other
 has_same P range other has also = λ term some.
     let a = has term some.1 some.2 some.0 some.3 in
@@ -88,7 +86,7 @@ find_both a b c d front rest = λ term some.
       λ i. elim (any_parts P b d i) [ inl x ↦ any_before P a c ((front term some).1 x) | inr y ↦ any_after P a c ((rest term some).1 y) ],
     )
 
-find_itself : (a b : List TermRange) → a ≡ b → FindSame a b
+pub find_itself : (a b : List TermRange) → a ≡ b → FindSame a b
 find_itself a b same = λ term some. rw same (λ i. i, λ i. i)
 
 -- ---- two texts that are values of a field
@@ -210,7 +208,7 @@ kind_one field path start end kind a b x y =
     ranges_of_one field path kind x.0 x.1 a b x.4
     (subst (λ (o : Option (Bound Leaf)). AreRangesOf field path kind x.0 o b) (ends_one kind end y.1 x.1 y.3 x.3) (subst (λ (o : Option (Bound Leaf)). AreRangesOf field path kind o y.1 b) (starts_one kind start y.0 x.0 y.2 x.2) y.4))
 
-backwards_one : (a b : Option (List ℕ)) (x y : Bool) → RunBackwards a b x → RunBackwards a b y → x ≡ y
+pub backwards_one : (a b : Option (List ℕ)) (x y : Bool) → RunBackwards a b x → RunBackwards a b y → x ≡ y
 backwards_one (Some s) (Some t) x y v w =
     v.4 ∙ ap (λ n. told_or (above n v.1) (told_or (above (date_written_in (rfc s)) (date_written_in (rfc t))) (told_or (above (truth_in s) (truth_in t)) (is_lt (slice_cmp nat_cmp t s))))) (number_one s v.0 w.0 v.2 w.2)
     ∙ ap (λ n. told_or (above w.0 n) (told_or (above (date_written_in (rfc s)) (date_written_in (rfc t))) (told_or (above (truth_in s) (truth_in t)) (is_lt (slice_cmp nat_cmp t s))))) (number_one t v.1 w.1 v.3 w.3) ∙ sym w.4
@@ -236,6 +234,16 @@ ranges_one at start end a b x y =
     typed_one FindSame at.type (λ d. RangesBelow at.field d at.rest start end) (OneRange at.field at.type start end) a b
     (λ d v w. below_one FindSame (RangesAt at.field (joined_path d at.rest) start end) at.field at.rest a b (ranges_at_one at.field (joined_path d at.rest) start end a b) v w)
     (listed_one at.field at.type start end a b) x y
+
+-- ---- one range
+
+pub single_one : (at : FoundField) (start end : Bound (List ℕ)) (a b : RangeAnswer) → RangeInField at start end a → RangeInField at start end b → Agree SaySame HaveSame a b
+single_one at start end a b x y =
+    typed_one HaveSame at.type (λ d answer. answer ≡ Err (errors.NoRange at.field)) (RangeOfTexts at.field at.type start end) a b (λ d v w. no_range at.field a b v w) (range_one at.field at.type start end a b) x y
+
+pub below_range_one : (at : FoundField) (s : List ℕ) (a b : RangeAnswer) → BelowInField at s a → BelowInField at s b → Agree SaySame HaveSame a b
+below_range_one at s a b x y =
+    typed_one HaveSame at.type (λ d answer. answer ≡ Err (errors.NoRange at.field)) (RangeWithBelow at.field at.type s) a b (λ d v w. no_range at.field a b v w) (with_below_one at.field at.type s a b) x y
 
 -- ---- the bounds that a text writes
 
@@ -277,24 +285,19 @@ bounds_one text a b c d (bounds p) (bounds q) =
     let back : p.behind ≡ q.behind = append_cancel_left (codes " TO ") p.behind q.behind after in
     (start_bound_one q.before a c (subst (λ (s : List ℕ). IsStartBound s a) front p.starts) q.starts, end_bound_one q.behind b d (subst (λ (s : List ℕ). IsEndBound s b) back p.ends) q.ends)
 
+pub wrong_range_is : (s : List ℕ) (e : TextTermsError) → IsWrongRange s e → (start : _) × (e ≡ errors.WrongRange start) × (string_bytes start ≡ take_chars 40 s)
+wrong_range_is s (errors.WrongRange start) h = (start, refl, h)
+wrong_range_is s (errors.UnknownPath start) h = absurd h
+wrong_range_is s (errors.NotIndexed f) h = absurd h
+wrong_range_is s (errors.PathEnds f) h = absurd h
+wrong_range_is s (errors.NulInPath f) h = absurd h
+wrong_range_is s (errors.WrongText f t w start) h = absurd h
+wrong_range_is s (errors.Backwards f) h = absurd h
+wrong_range_is s (errors.NoRange f) h = absurd h
+wrong_range_is s errors.Memory h = absurd h
+
 wrong_range_one : (s : List ℕ) (e f : TextTermsError) → IsWrongRange s e → IsWrongRange s f → SaySame e f
-wrong_range_one s (errors.WrongRange start) (errors.WrongRange other) x y = x ∙ sym y
-wrong_range_one s (errors.WrongRange start) (errors.UnknownPath other) x y = absurd y
-wrong_range_one s (errors.WrongRange start) (errors.NotIndexed f) x y = absurd y
-wrong_range_one s (errors.WrongRange start) (errors.PathEnds f) x y = absurd y
-wrong_range_one s (errors.WrongRange start) (errors.NulInPath f) x y = absurd y
-wrong_range_one s (errors.WrongRange start) (errors.WrongText f t w o) x y = absurd y
-wrong_range_one s (errors.WrongRange start) (errors.Backwards f) x y = absurd y
-wrong_range_one s (errors.WrongRange start) (errors.NoRange f) x y = absurd y
-wrong_range_one s (errors.WrongRange start) errors.Memory x y = absurd y
-wrong_range_one s (errors.UnknownPath start) f x y = absurd x
-wrong_range_one s (errors.NotIndexed g) f x y = absurd x
-wrong_range_one s (errors.PathEnds g) f x y = absurd x
-wrong_range_one s (errors.NulInPath g) f x y = absurd x
-wrong_range_one s (errors.WrongText g t w o) f x y = absurd x
-wrong_range_one s (errors.Backwards g) f x y = absurd x
-wrong_range_one s (errors.NoRange g) f x y = absurd x
-wrong_range_one s errors.Memory f x y = absurd x
+wrong_range_one s e f x y = let a = wrong_range_is s e x in let b = wrong_range_is s f y in rw (a.1, b.1) (a.2 ∙ sym b.2)
 
 -- what a text has that writes the bounds itself
 pub in_bounds_one : {T : Type 0} (Same : T → T → Type 0) (Answers : Bound (List ℕ) → Bound (List ℕ) → Result T TextTermsError → Type 0) (s : List ℕ) (a b : Result T TextTermsError)

@@ -24,8 +24,8 @@ Terms = Result (List (List ℕ)) TermValuesError
 
 -- those of one thing, and then those of the next, or the first refusal
 abbrev pub followed_by : Terms → Terms → Terms
-followed_by (Err e) others = Err e
-followed_by (Ok made) (Err e) = Err e
+followed_by (Err why) others = Err why
+followed_by (Ok made) (Err why) = Err why
 followed_by (Ok made) (Ok others) = Ok (made ++ others)
 
 -- ---- a field of JSON objects
@@ -42,29 +42,30 @@ value_or_refused field path (Some value) = json_term_of field path value
 -- null has no term
 abbrev pub json_leaf_terms : Field → List ℕ → Leaf → Terms
 json_leaf_terms field path null = Ok []
-json_leaf_terms field path l = value_or_refused field path (json_value l)
+json_leaf_terms field path value = value_or_refused field path (json_value value)
 
 -- whether a key has U+0000
 abbrev pub has_zero : List ℕ → Bool
-has_zero key = list_any (λ b. b == 0) key
+has_zero key = list_any (λ byte. byte == 0) key
 
 -- those of a value below these keys, the outermost first
 abbrev mutual
   pub json_terms : Field → Bool → List (List ℕ) → Tree → Terms
-  json_terms field expand_dots keys (leaf l) = json_leaf_terms field (joined expand_dots keys) l
-  json_terms field expand_dots keys (array ts) = json_elements_terms field expand_dots keys ts
-  json_terms field expand_dots keys (object es) = json_entries_terms field expand_dots keys es
+  json_terms field expand_dots keys (leaf value) = json_leaf_terms field (joined expand_dots keys) value
+  json_terms field expand_dots keys (array trees) = json_elements_terms field expand_dots keys trees
+  json_terms field expand_dots keys (object entries) = json_entries_terms field expand_dots keys entries
 
   pub json_elements_terms : Field → Bool → List (List ℕ) → Elements → Terms
   json_elements_terms field expand_dots keys no_elements = Ok []
-  json_elements_terms field expand_dots keys (element t ts) =
-      followed_by (json_terms field expand_dots keys t) (json_elements_terms field expand_dots keys ts)
+  json_elements_terms field expand_dots keys (element tree trees) =
+      followed_by (json_terms field expand_dots keys tree) (json_elements_terms field expand_dots keys trees)
 
   pub json_entries_terms : Field → Bool → List (List ℕ) → Entries → Terms
   json_entries_terms field expand_dots keys no_entries = Ok []
-  json_entries_terms field expand_dots keys (entry k t es) =
-      followed_by (if has_zero k then Err (NulInPath field) else json_terms field expand_dots (keys ++ k ∷ [])
-      t) (json_entries_terms field expand_dots keys es)
+  json_entries_terms field expand_dots keys (entry key tree entries) =
+      followed_by (if has_zero key then Err (NulInPath field)
+      else json_terms field expand_dots (keys ++ key ∷ [])
+      tree) (json_entries_terms field expand_dots keys entries)
 
 -- ---- other fields
 
@@ -88,7 +89,7 @@ field_terms field (Some found) tree = if is_indexed_type found.field_type then t
 
 -- the field of this number
 abbrev pub field_of : ℕ → Field
-field_of n = record { id = n }
+field_of number = record { id = number }
 
 abbrev pub pair_terms : List Entry → ℕ × Tree → Terms
 pair_terms schema pair = field_terms (field_of pair.0) (slice_get schema pair.0) pair.1
@@ -100,21 +101,27 @@ document_terms schema (pair ∷ pairs) = followed_by (pair_terms schema pair) (d
 
 -- whether the field of this number is among these
 abbrev pub is_among : List Field → ℕ → Bool
-is_among fields number = list_any (λ f. f.id == number) fields
+is_among fields number = list_any (λ one. one.id == number) fields
 
 -- those of the pairs whose field is among these
 abbrev pub fields_terms : List Entry → List Field → Document → Terms
-fields_terms schema fields d = document_terms schema (filter (λ pair. is_among fields pair.0) d)
+fields_terms schema fields document = document_terms schema (filter (λ pair. is_among fields pair.0) document)
 
 -- the terms of these fields, or of all
 abbrev pub wanted_terms : List Entry → Option (Bor (List Field)) → Document → Terms
-wanted_terms schema None d = document_terms schema d
-wanted_terms schema (Some fields) d = fields_terms schema fields.now d
+wanted_terms schema None document = document_terms schema document
+wanted_terms schema (Some fields) document = fields_terms schema fields.now document
 
 -- these were appended, and they aren't refused
 abbrev pub AreAppended : List (List ℕ) → List (List ℕ) → Terms → Type 0
 AreAppended old new (Ok made) = new ≡ old ++ made
-AreAppended old new (Err e) = ⊥
+AreAppended old new (Err why) = ⊥
+
+-- these were appended, or this is why they are refused
+abbrev pub AppendsOrRefuses : List (List ℕ) → List (List ℕ) → Terms → Result (Unit {0}) TermValuesError
+    → Type 0
+AppendsOrRefuses old new terms (Ok done) = AreAppended old new terms
+AppendsOrRefuses old new terms (Err why) = terms ≡ Err why
 
 -- ---- for private clauses
 

@@ -12,13 +12,14 @@ use Rattle.tv_indexing.specs.TextTerms.{WritesNumber, date_written_in}
 -- Whether the first of two values of one kind is above the second one. A number without a sign is 2^63 or
 -- more, so it is above all with one; dates are compared by their seconds.
 abbrev pub above : Option Leaf → Option Leaf → Option Bool
-above (Some (signed a)) (Some (signed b)) = Some (is_lt (int_cmp b a))
-above (Some (unsigned a)) (Some (unsigned b)) = Some (is_lt (nat_cmp b a))
-above (Some (unsigned a)) (Some (signed b)) = Some true
-above (Some (signed a)) (Some (unsigned b)) = Some false
-above (Some (date a)) (Some (date b)) = Some (is_lt (int_cmp (truncated Seconds b) (truncated Seconds a)))
-above (Some (boolean a)) (Some (boolean b)) = Some (is_lt (bool_cmp b a))
-above a b = None
+above (Some (signed first)) (Some (signed last)) = Some (is_lt (int_cmp last first))
+above (Some (unsigned first)) (Some (unsigned last)) = Some (is_lt (nat_cmp last first))
+above (Some (unsigned first)) (Some (signed last)) = Some true
+above (Some (signed first)) (Some (unsigned last)) = Some false
+above (Some (date first)) (Some (date last)) =
+    Some (is_lt (int_cmp (truncated Seconds last) (truncated Seconds first)))
+above (Some (boolean first)) (Some (boolean last)) = Some (is_lt (bool_cmp last first))
+above first last = None
 
 -- what is reported first
 abbrev pub told_or : Option Bool → Bool → Bool

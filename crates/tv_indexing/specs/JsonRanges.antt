@@ -44,49 +44,50 @@ type_of_kind kinds.Unsigned = tag.U64
 
 -- within the range itself, or not
 abbrev pub placed_bound : Bool → Leaf → Bound Leaf
-placed_bound true l = Included l
-placed_bound false l = Excluded l
+placed_bound true leaf = Included leaf
+placed_bound false leaf = Excluded leaf
 
 -- a number of 64 bits without a sign is above all with one, and no start of these
 abbrev pub signed_start : Bool → Option Leaf → Option (Bound Leaf)
-signed_start is_within (Some (signed z)) = Some (placed_bound is_within (signed z))
+signed_start is_within (Some (signed number)) = Some (placed_bound is_within (signed number))
 signed_start is_within number = None
 
 abbrev pub unsigned_start : Bool → Option Leaf → Option (Bound Leaf)
-unsigned_start is_within (Some (unsigned n)) = Some (placed_bound is_within (unsigned n))
-unsigned_start is_within (Some (signed z)) = Some Unbounded
+unsigned_start is_within (Some (unsigned number)) = Some (placed_bound is_within (unsigned number))
+unsigned_start is_within (Some (signed number)) = Some Unbounded
 unsigned_start is_within number = None
 
 abbrev pub signed_end : Bool → Option Leaf → Option (Bound Leaf)
-signed_end is_within (Some (signed z)) = Some (placed_bound is_within (signed z))
-signed_end is_within (Some (unsigned n)) = Some Unbounded
+signed_end is_within (Some (signed number)) = Some (placed_bound is_within (signed number))
+signed_end is_within (Some (unsigned number)) = Some Unbounded
 signed_end is_within number = None
 
 abbrev pub unsigned_end : Bool → Option Leaf → Option (Bound Leaf)
-unsigned_end is_within (Some (unsigned n)) = Some (placed_bound is_within (unsigned n))
+unsigned_end is_within (Some (unsigned number)) = Some (placed_bound is_within (unsigned number))
 unsigned_end is_within number = None
 
 -- what a text writes of each kind; of a date the second is within
 abbrev pub WritesEnd : (Bool → Option Leaf → Option (Bound Leaf)) → (Bool → Option Leaf → Option (Bound Leaf))
     → JsonKind → Bool → List ℕ → Option (Bound Leaf) → Type 0
-WritesEnd of_signed of_unsigned kinds.Date is_within s bound =
-    bound ≡ option_map Included (date_written_in (rfc s))
-WritesEnd of_signed of_unsigned kinds.Signed is_within s bound =
-    (number : Option Leaf) × WritesNumber s number × (bound ≡ of_signed is_within number)
-WritesEnd of_signed of_unsigned kinds.Truth is_within s bound =
-    bound ≡ option_map (placed_bound is_within) (truth_in s)
-WritesEnd of_signed of_unsigned kinds.Text is_within s bound = bound ≡ Some (placed_bound is_within (text s))
-WritesEnd of_signed of_unsigned kinds.Unsigned is_within s bound =
-    (number : Option Leaf) × WritesNumber s number × (bound ≡ of_unsigned is_within number)
+WritesEnd of_signed of_unsigned kinds.Date is_within written bound =
+    bound ≡ option_map Included (date_written_in (rfc written))
+WritesEnd of_signed of_unsigned kinds.Signed is_within written bound =
+    (number : Option Leaf) × WritesNumber written number × (bound ≡ of_signed is_within number)
+WritesEnd of_signed of_unsigned kinds.Truth is_within written bound =
+    bound ≡ option_map (placed_bound is_within) (truth_in written)
+WritesEnd of_signed of_unsigned kinds.Text is_within written bound =
+    bound ≡ Some (placed_bound is_within (text written))
+WritesEnd of_signed of_unsigned kinds.Unsigned is_within written bound =
+    (number : Option Leaf) × WritesNumber written number × (bound ≡ of_unsigned is_within number)
 
 abbrev pub StartsIn : JsonKind → Bound (List ℕ) → Option (Bound Leaf) → Type 0
-StartsIn kind (Included s) bound = WritesEnd signed_start unsigned_start kind true s bound
-StartsIn kind (Excluded s) bound = WritesEnd signed_start unsigned_start kind false s bound
+StartsIn kind (Included written) bound = WritesEnd signed_start unsigned_start kind true written bound
+StartsIn kind (Excluded written) bound = WritesEnd signed_start unsigned_start kind false written bound
 StartsIn kind Unbounded bound = bound ≡ Some Unbounded
 
 abbrev pub EndsIn : JsonKind → Bound (List ℕ) → Option (Bound Leaf) → Type 0
-EndsIn kind (Included s) bound = WritesEnd signed_end unsigned_end kind true s bound
-EndsIn kind (Excluded s) bound = WritesEnd signed_end unsigned_end kind false s bound
+EndsIn kind (Included written) bound = WritesEnd signed_end unsigned_end kind true written bound
+EndsIn kind (Excluded written) bound = WritesEnd signed_end unsigned_end kind false written bound
 EndsIn kind Unbounded bound = bound ≡ Some Unbounded
 
 -- ---- the terms of each kind
@@ -104,10 +105,10 @@ IsBetweenAt id path type lo hi field value =
 
 -- the value of the term of a leaf that is a bound
 abbrev pub AreBoundValues : Bound Leaf → Bound TermValue → Type 0
-AreBoundValues (Included l) (Included value) = leaf_value l ≡ Some value
-AreBoundValues (Excluded l) (Excluded value) = leaf_value l ≡ Some value
+AreBoundValues (Included leaf) (Included value) = leaf_value leaf ≡ Some value
+AreBoundValues (Excluded leaf) (Excluded value) = leaf_value leaf ≡ Some value
 AreBoundValues Unbounded Unbounded = Unit {0}
-AreBoundValues l value = ⊥
+AreBoundValues leaf value = ⊥
 
 -- the range of a kind, where both bounds are of it
 abbrev pub AreRangesOf : Field → List ℕ → JsonKind → Option (Bound Leaf) → Option (Bound Leaf)
@@ -146,8 +147,8 @@ RangesAnswer = Result (List TermRange) TextTermsError
 abbrev pub RangesAt : Field → List ℕ → Bound (List ℕ) → Bound (List ℕ) → RangesAnswer → Type 0
 RangesAt field path start end (Ok ranges) = RunBackwards (bounding start) (bounding end) false
     × AreOfAllKinds field path start end ranges
-RangesAt field path start end (Err e) = RunBackwards (bounding start) (bounding end) true
-    × (e ≡ Backwards field)
+RangesAt field path start end (Err error) = RunBackwards (bounding start) (bounding end) true
+    × (error ≡ Backwards field)
 
 abbrev pub RangesBelow : Field → Bool → List ℕ → Bound (List ℕ) → Bound (List ℕ) → RangesAnswer → Type 0
 RangesBelow field expand_dots path start end answer =
@@ -157,7 +158,7 @@ RangesBelow field expand_dots path start end answer =
 abbrev pub OneRange : Field → FieldType → Bound (List ℕ) → Bound (List ℕ) → RangesAnswer → Type 0
 OneRange field type start end (Ok ranges) = (range : TermRange) × (ranges ≡ range ∷ [])
     × RangeOfTexts field type start end (Ok range)
-OneRange field type start end (Err e) = RangeOfTexts field type start end (Err e)
+OneRange field type start end (Err error) = RangeOfTexts field type start end (Err error)
 
 abbrev pub RangesInField : FoundField → Bound (List ℕ) → Bound (List ℕ) → RangesAnswer → Type 0
 RangesInField at start end answer = JsonOrPlain at.type
@@ -169,17 +170,17 @@ AnswersBetween schema path start end answer = AtPath (λ at. RangesInField at st
 
 -- what a text has that writes the bounds itself
 abbrev pub RangesOfText : FoundField → List ℕ → RangesAnswer → Type 0
-RangesOfText at s answer = InWrittenBounds (RangesInField at) s answer
+RangesOfText at written answer = InWrittenBounds (RangesInField at) written answer
 
 abbrev pub AnswersRanges : List Entry → List ℕ → List ℕ → RangesAnswer → Type 0
-AnswersRanges schema path s answer = InWrittenBounds (AnswersBetween schema path) s answer
+AnswersRanges schema path written answer = InWrittenBounds (AnswersBetween schema path) written answer
 
 -- ---- for public clauses
 
 -- the ranges of a list
 abbrev pub ranges_in : Result (Vec TermRange) TextTermsError → RangesAnswer
 ranges_in (Ok ranges) = Ok ranges.items
-ranges_in (Err e) = Err e
+ranges_in (Err error) = Err error
 
 -- ---- for private clauses
 

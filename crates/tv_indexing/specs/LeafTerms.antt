@@ -29,11 +29,11 @@ json_value (facet f) = None
 json_value (bytes bs) = None
 json_value (ip_address n) = None
 json_value (tokenized t ts) = None
-json_value l = leaf_value l
+json_value other = leaf_value other
 
 -- arrays and objects have none
 abbrev pub tree_value : Tree → Option TermValue
-tree_value (leaf l) = leaf_value l
+tree_value (leaf other) = leaf_value other
 tree_value (array ts) = None
 tree_value (object es) = None
 

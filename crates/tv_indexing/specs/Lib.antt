@@ -1,14 +1,17 @@
 pub mod TermPlaces
 pub mod LeafTerms
 pub mod DocumentTerms
+pub mod DocumentMemory
 pub mod TermFault
 pub mod Visits
 pub mod KeyBytes
 pub mod Payloads
 pub mod JsonWalk
 pub mod Unless
+pub mod Tells
 pub mod Agree
 pub mod IndexedField
+pub mod TakesMemory
 pub mod TextTerms
 pub mod TextRange
 pub mod JsonBounds

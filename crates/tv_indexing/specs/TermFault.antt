@@ -12,4 +12,4 @@ fault_of (Err why) = Some why
 
 -- the reason of the first value of the document that has no term
 abbrev pub document_fault : List Entry → Document → Option TermValuesError
-document_fault schema d = fault_of (document_terms schema d)
+document_fault schema document = fault_of (document_terms schema document)

@@ -5,7 +5,8 @@
 -- a JSON object the text of that value. A text and a facet that aren't UTF-8 have none, nor has a value in a
 -- JSON object that is one in a JSON object again: no constructor makes its term. `IsTermOfField`: which
 -- values of a field are said to be read back of their texts.
-use Rattle.std.specs.Prelude.{◌==◌, ◌<◌, ◌^◌, ℕ, FitsSigned, List, [], Bool, true, false, Option, Some, None}
+use Rattle.std.specs.Prelude.{◌≡◌, ◌==◌, ◌<◌, ◌^◌, ℕ, FitsSigned, List, [], Bool, true, false, Option, Some}
+use Rattle.std.specs.Prelude.{IsSome, None}
 use Rattle.std.specs.Prelude.{if◌then◌else◌}
 use Rattle.std.specs.Fmt.{decimal, signed_decimal}
 use Rattle.std.specs.Int.{w64}
@@ -23,6 +24,7 @@ use Rattle.tv_value.specs.JsonOf.{address_text}
 use Rattle.tv_options.specs.declared.types.TypeTag.{TypeTag}
 use Rattle.tv_options.specs.declared.types.TypeTag.TheVariants as tag
 use Rattle.tv_term.specs.Key.{TermValue, Text, Unsigned, Signed, Truth, Date, Facet, Bytes, Address, Json}
+use Rattle.tv_term.specs.Key.{IsTerm}
 use Rattle.tv_term.specs.Printed.{text_if_utf8}
 use Rattle.tv_term.specs.Reading.{address_of, bytes_of, date_of, number_of, payload_of, signed_of, type_at}
 use Rattle.tv_term.specs.Reading.{unsigned_of}
@@ -60,6 +62,11 @@ inner value = value
 abbrev pub text_of_value : TermValue → Option (List ℕ)
 text_of_value value = option_map leaf_text (value_leaf (inner value))
 
+-- the text of the value whose term the bytes are, or none, where they are no term
+pub record IsTextOf (bytes : List ℕ) (text : Option (List ℕ)) : Type 0 where
+  pub of_value : (field : ℕ) (value : TermValue) → IsTerm bytes field value → text ≡ text_of_value value
+  pub of_term : IsSome text → (field : ℕ) × (value : TermValue) × IsTerm bytes field value
+
 -- ---- texts that are read back
 
 -- a value of a field's type, which has a term; addresses aside
@@ -71,7 +78,7 @@ IsTermOfField (types.Bool options) (boolean b) = Unit {0}
 IsTermOfField (types.Date options) (date z) = FitsSigned w64 z
 IsTermOfField (types.Facet options) (facet encoded) = Unit {0}
 IsTermOfField (types.Bytes options) (bytes bs) = IsBytes bs
-IsTermOfField type l = ⊥
+IsTermOfField type leaf = ⊥
 
 -- ---- for private clauses: the same from the bytes of a value
 

@@ -34,9 +34,9 @@ use Rattle.tv_value.specs.declared.field.Field.{Field}
 -- ---- bounds
 
 -- the text is a value of the field, whose term stands for this one
-pub record WritesTerm (type : FieldType) (s : List ℕ) (l : Leaf) (value : TermValue) : Type 0 where
-  pub is_value : WritesValue type s l
-  pub has_term : leaf_value l ≡ Some value
+pub record WritesTerm (type : FieldType) (text : List ℕ) (leaf : Leaf) (value : TermValue) : Type 0 where
+  pub is_value : WritesValue type text leaf
+  pub has_term : leaf_value leaf ≡ Some value
 
 -- a bound that isn't within the range itself; of dates its second is
 abbrev pub outer_bound : FieldType → TermValue → Bound TermValue
@@ -45,19 +45,19 @@ outer_bound type value = Excluded value
 
 -- the texts of a bound are values of the field, and these their terms' values
 abbrev pub WritesBound : FieldType → Bound (List ℕ) → Bound TermValue → Type 0
-WritesBound type (Included s) bound = (l : Leaf) × (value : TermValue) × WritesTerm type s l value
+WritesBound type (Included text) bound = (leaf : Leaf) × (value : TermValue) × WritesTerm type text leaf value
     × (bound ≡ Included value)
-WritesBound type (Excluded s) bound = (l : Leaf) × (value : TermValue) × WritesTerm type s l value
+WritesBound type (Excluded text) bound = (leaf : Leaf) × (value : TermValue) × WritesTerm type text leaf value
     × (bound ≡ outer_bound type value)
 WritesBound type Unbounded bound = bound ≡ Unbounded
 
 -- the text of a bound is refused
 abbrev pub RefusesBound : Field → FieldType → Bound (List ℕ) → TextTermsError → Type 0
-RefusesBound field type (Included s) e = (why : JsonRefusal) × RefusesText type s why
-    × IsWrongText field (value_type type) why s e
-RefusesBound field type (Excluded s) e = (why : JsonRefusal) × RefusesText type s why
-    × IsWrongText field (value_type type) why s e
-RefusesBound field type Unbounded e = ⊥
+RefusesBound field type (Included text) error = (why : JsonRefusal) × RefusesText type text why
+    × IsWrongText field (value_type type) why text error
+RefusesBound field type (Excluded text) error = (why : JsonRefusal) × RefusesText type text why
+    × IsWrongText field (value_type type) why text error
+RefusesBound field type Unbounded error = ⊥
 
 abbrev pub bounding : {A : Type 0} → Bound A → Option A
 bounding (Included value) = Some value
@@ -83,13 +83,13 @@ pub record WriteBoth (type : FieldType) (start end : Bound (List ℕ)) (lo hi : 
 
 -- why they bound no range: the first is refused, or only the second, or they run backwards
 pub data RefusesBoth (field : Field) (type : FieldType) (start end : Bound (List ℕ))
-    (e : TextTermsError) : Type 0 where
-  first : RefusesBound field type start e → RefusesBoth field type start end e
-  second : (lo : Bound TermValue) → WritesBound type start lo → RefusesBound field type end e
-      → RefusesBoth field type start end e
+    (error : TextTermsError) : Type 0 where
+  first : RefusesBound field type start error → RefusesBoth field type start end error
+  second : (lo : Bound TermValue) → WritesBound type start lo → RefusesBound field type end error
+      → RefusesBoth field type start end error
   backwards : (lo hi : Bound TermValue) → WriteBoth type start end lo hi
-      → are_backwards (bounding lo) (bounding hi) ≡ true → e ≡ Backwards field
-      → RefusesBoth field type start end e
+      → are_backwards (bounding lo) (bounding hi) ≡ true → error ≡ Backwards field
+      → RefusesBoth field type start end error
 
 abbrev pub RangeAnswer : Type 0
 RangeAnswer = Result TermRange TextTermsError
@@ -99,7 +99,7 @@ RangeOfTexts field type start end (Ok range) =
     (lo : Bound TermValue) × (hi : Bound TermValue) × WriteBoth type start end lo hi
     × (are_backwards (bounding lo) (bounding hi) ≡ false)
     × HasTerms (IsBetween field.id (value_type type) lo hi) range
-RangeOfTexts field type start end (Err e) = RefusesBoth field type start end e
+RangeOfTexts field type start end (Err error) = RefusesBoth field type start end error
 
 -- a field of JSON objects has terms of several types
 abbrev pub RangeInField : FoundField → Bound (List ℕ) → Bound (List ℕ) → RangeAnswer → Type 0
@@ -121,13 +121,14 @@ abbrev pub IsOrIsBelow : ℕ → TermValue → ℕ → TermValue → Type 0
 IsOrIsBelow id upper field value = (field ≡ id) × ((value ≡ upper) ⊎ IsBelowValue upper value)
 
 abbrev pub RangeWithBelow : Field → FieldType → List ℕ → RangeAnswer → Type 0
-RangeWithBelow field type s (Ok range) = (l : Leaf) × (value : TermValue) × WritesTerm type s l value
+RangeWithBelow field type text (Ok range) = (leaf : Leaf) × (value : TermValue)
+    × WritesTerm type text leaf value
     × HasTerms (IsOrIsBelow field.id value) range
-RangeWithBelow field type s (Err e) = RefusesBound field type (Included s) e
+RangeWithBelow field type text (Err error) = RefusesBound field type (Included text) error
 
 abbrev pub BelowInField : FoundField → List ℕ → RangeAnswer → Type 0
-BelowInField at s answer = JsonOrPlain at.type (λ expand_dots. answer ≡ Err (NoRange at.field))
-    (RangeWithBelow at.field at.type s answer)
+BelowInField at text answer = JsonOrPlain at.type (λ expand_dots. answer ≡ Err (NoRange at.field))
+    (RangeWithBelow at.field at.type text answer)
 
 -- ---- the bounds that a text writes
 
@@ -141,15 +142,15 @@ closing_bracket false = codes "}"
 
 -- `*` is no bound
 abbrev pub bound_of : Bool → List ℕ → Bound (List ℕ)
-bound_of is_within s = if bytes_eq s (codes "*") then Unbounded else
-    (if is_within then Included s else Excluded s)
+bound_of is_within text = if bytes_eq text (codes "*") then Unbounded else
+    (if is_within then Included text else Excluded text)
 
 abbrev pub IsStartBound : List ℕ → Bound (List ℕ) → Type 0
-IsStartBound s start = (is_within : Bool) × (inner : List ℕ) × (s ≡ opening_bracket is_within ++ inner)
+IsStartBound text start = (is_within : Bool) × (inner : List ℕ) × (text ≡ opening_bracket is_within ++ inner)
     × (start ≡ bound_of is_within inner)
 
 abbrev pub IsEndBound : List ℕ → Bound (List ℕ) → Type 0
-IsEndBound s end = (is_within : Bool) × (inner : List ℕ) × (s ≡ inner ++ closing_bracket is_within)
+IsEndBound text end = (is_within : Bool) × (inner : List ℕ) × (text ≡ inner ++ closing_bracket is_within)
     × (end ≡ bound_of is_within inner)
 
 -- a bound in its bracket, the first ` TO ` of the text, and another bound in its bracket
@@ -170,8 +171,9 @@ pub data WritesBounds (text : List ℕ) (start end : Bound (List ℕ)) : Type 0 
 -- what a text has that writes the bounds itself, where this is what two bounds have
 pub data InWrittenBounds {T : Type 0} (Answers : Bound (List ℕ) → Bound (List ℕ) → Result T TextTermsError
     → Type 0) (text : List ℕ) (answer : Result T TextTermsError) : Type 0 where
-  no_bounds_written : ((start end : Bound (List ℕ)) → ¬ WritesBounds text start end) → (e : TextTermsError)
-      → IsWrongRange text e → answer ≡ Err e → InWrittenBounds Answers text answer
+  no_bounds_written : ((start end : Bound (List ℕ)) → ¬ WritesBounds text start end)
+      → (error : TextTermsError)
+      → IsWrongRange text error → answer ≡ Err error → InWrittenBounds Answers text answer
   bounds_written : (start end : Bound (List ℕ)) → WritesBounds text start end → Answers start end answer
       → InWrittenBounds Answers text answer
 
@@ -188,16 +190,16 @@ bound_text bound = bound_map (λ text. text.now) bound
 
 -- the term of the value that a text is, or why it is none
 abbrev pub IsTermOfText : Field → FieldType → List ℕ → Result (List ℕ) TextTermsError → Type 0
-IsTermOfText field type s (Ok made) = (l : Leaf) × (value : TermValue) × WritesTerm type s l value
+IsTermOfText field type text (Ok made) = (leaf : Leaf) × (value : TermValue) × WritesTerm type text leaf value
     × IsTerm made field.id value
-IsTermOfText field type s (Err e) = RefusesBound field type (Included s) e
+IsTermOfText field type text (Err error) = RefusesBound field type (Included text) error
 
 -- the same of a bound
 abbrev pub AreTermsOfBound : Field → FieldType → Bound (List ℕ) → Result (Bound (List ℕ)) TextTermsError
     → Type 0
 AreTermsOfBound field type bound (Ok made) = (value : Bound TermValue) × WritesBound type bound value
     × AreTermsOf field.id value made
-AreTermsOfBound field type bound (Err e) = RefusesBound field type bound e
+AreTermsOfBound field type bound (Err error) = RefusesBound field type bound error
 
 -- where the terms of a value and of those below it end, among those that begin with its term
 abbrev pub EndsBelowTerm : FieldType → List ℕ → Bound (List ℕ) → Type 0

@@ -32,70 +32,76 @@ use Rattle.tv_value.specs.declared.field.Field.{Field}
 
 abbrev pub listed : {A : Type 0} → Option A → List A
 listed None = []
-listed (Some l) = l ∷ []
+listed (Some leaf) = leaf ∷ []
 
 -- a number that fits a signed one of 64 bits is one; else it is one without a sign, if it fits that
 abbrev pub WritesNumber : List ℕ → Option Leaf → Type 0
-WritesNumber s None = (¬ IsSignedText s) × (¬ IsUnsignedText s)
-WritesNumber s (Some (signed z)) = IsSignedText s × (z ≡ signed_digits_value 10 s)
-WritesNumber s (Some (unsigned n)) = (¬ IsSignedText s) × IsUnsignedText s
-    × (n ≡ digits_value 10 (without_leading_plus s))
-WritesNumber s (Some l) = ⊥
+WritesNumber written None = (¬ IsSignedText written) × (¬ IsUnsignedText written)
+WritesNumber written (Some (signed number)) = IsSignedText written × (number ≡ signed_digits_value 10 written)
+WritesNumber written (Some (unsigned number)) = (¬ IsSignedText written) × IsUnsignedText written
+    × (number ≡ digits_value 10 (without_leading_plus written))
+WritesNumber written (Some leaf) = ⊥
 
 abbrev pub date_written_in : Result ℤ DateError → Option Leaf
-date_written_in (Ok z) = Some (date z)
-date_written_in (Err e) = None
+date_written_in (Ok number) = Some (date number)
+date_written_in (Err error) = None
 
 -- itself, and the number, the truth value and the date that it also writes
 abbrev pub WritesLeaves : List ℕ → List Leaf → Type 0
-WritesLeaves s ls = (number : Option Leaf) × WritesNumber s number
-    × (ls ≡ text s ∷ (listed number ++ (listed (truth_in s) ++ listed (date_written_in (rfc s)))))
+WritesLeaves written leaves = (number : Option Leaf) × WritesNumber written number
+    × (leaves ≡ text written ∷ (listed number
+    ++ (listed (truth_in written) ++ listed (date_written_in (rfc written)))))
 
 -- the terms of values at one path
 abbrev pub leaves_terms : Field → List ℕ → List Leaf → Terms
 leaves_terms field path [] = Ok []
-leaves_terms field path (l ∷ ls) = followed_by (json_leaf_terms field path l) (leaves_terms field path ls)
+leaves_terms field path (leaf ∷ leaves) = followed_by (json_leaf_terms field path leaf)
+    (leaves_terms field path leaves)
 
 -- ---- what a text has
 
 -- the error for such a text; want of memory is no reason of a text
 abbrev pub IsWrongText : Field → TypeTag → JsonRefusal → List ℕ → TextTermsError → Type 0
-IsWrongText field type why s (WrongText f t w start) =
-    (f ≡ field) × (t ≡ type) × (w ≡ why) × (why ≢ NoMemory) × IsStartOf s start
-IsWrongText field type why s e = ⊥
+IsWrongText field type why written (WrongText other wanted reason start) =
+    (other ≡ field) × (wanted ≡ type) × (reason ≡ why) × (why ≢ NoMemory) × IsStartOf written start
+IsWrongText field type why written error = ⊥
 
 abbrev pub IsWrongRange : List ℕ → TextTermsError → Type 0
-IsWrongRange s (WrongRange start) = IsStartOf s start
-IsWrongRange s e = ⊥
+IsWrongRange written (WrongRange start) = IsStartOf written start
+IsWrongRange written error = ⊥
 
 abbrev pub TermsAnswer : Type 0
 TermsAnswer = Result (List (List ℕ)) TextTermsError
 
 -- the terms of all that a text writes at a joined path
 abbrev pub WritesTerms : Field → List ℕ → List ℕ → TermsAnswer → Type 0
-WritesTerms field path s (Ok made) = (ls : List Leaf) × WritesLeaves s ls
-    × AllByRecursion (λ l. IfSome (json_value l) Fits) ls × (leaves_terms field path ls ≡ Ok made)
-WritesTerms field path s (Err e) = ⊥
+WritesTerms field path written (Ok made) = (leaves : List Leaf) × WritesLeaves written leaves
+    × AllByRecursion (λ leaf. IfSome (json_value leaf) Fits) leaves
+    × (leaves_terms field path leaves ≡ Ok made)
+WritesTerms field path written (Err error) = ⊥
 
 abbrev pub TermsBelow : Field → Bool → List ℕ → List ℕ → TermsAnswer → Type 0
-TermsBelow field expand_dots path s answer = BelowJson (WritesTerms field (joined_path expand_dots path) s)
+TermsBelow field expand_dots path written answer =
+    BelowJson (WritesTerms field (joined_path expand_dots path) written)
     field path answer
 
 abbrev pub TermOfText : Field → FieldType → List ℕ → TermsAnswer → Type 0
-TermOfText field type s (Ok made) = (l : Leaf) × WritesValue type s l × IfSome (leaf_value l) Fits
-    × (plain_terms field (value_type type) (leaf_value l) ≡ Ok made)
-TermOfText field type s (Err e) = (why : JsonRefusal) × RefusesText type s why
-    × IsWrongText field (value_type type) why s e
+TermOfText field type written (Ok made) = (leaf : Leaf) × WritesValue type written leaf
+    × IfSome (leaf_value leaf) Fits
+    × (plain_terms field (value_type type) (leaf_value leaf) ≡ Ok made)
+TermOfText field type written (Err error) = (why : JsonRefusal) × RefusesText type written why
+    × IsWrongText field (value_type type) why written error
 
 abbrev pub TermsInField : FoundField → List ℕ → TermsAnswer → Type 0
-TermsInField at s answer = JsonOrPlain at.type (λ expand_dots. TermsBelow at.field expand_dots at.rest s
-    answer) (TermOfText at.field at.type s answer)
+TermsInField at written answer = JsonOrPlain at.type
+    (λ expand_dots. TermsBelow at.field expand_dots at.rest written
+    answer) (TermOfText at.field at.type written answer)
 
 abbrev pub AnswersText : List Entry → List ℕ → List ℕ → TermsAnswer → Type 0
-AnswersText schema path s answer = AtPath (λ at. TermsInField at s) schema path answer
+AnswersText schema path written answer = AtPath (λ at. TermsInField at written) schema path answer
 
 -- terms that are such an answer are appended, or such an error is the answer
 abbrev pub AppendsAnswer : (TermsAnswer → Type 0) → List (List ℕ) → List (List ℕ)
     → Result (Unit {0}) TextTermsError → Type 0
 AppendsAnswer Answers old new (Ok done) = (made : List (List ℕ)) × Answers (Ok made) × (new ≡ old ++ made)
-AppendsAnswer Answers old new (Err e) = Answers (Err e)
+AppendsAnswer Answers old new (Err error) = Answers (Err error)

@@ -1,11 +1,14 @@
 //! Terms of documents.
 
-ghost use Rattle.std.specs.Prelude.{◌≡◌, ◌≢◌, ◌∷◌, ◌≤◌, [], ℕ, List, length, Err, IfErr, IfOk, OnErr, OnOk};
+ghost use Rattle.std.specs.Prelude.{◌≡◌, ◌≢◌, ◌∷◌, ◌≤◌, [], ℕ, List, length, false, slice_get, Err, IfErr, IfOk, None, OnErr, OnOk, Some};
 ghost use Rattle.tv_doc.specs.Document.{document_of};
 ghost use Rattle.tv_heap.specs.Value.{tree_of};
-ghost use Rattle.tv_indexing.specs.DocumentTerms.{AreAppended, document_terms, fields_terms, is_among, is_wanted, pair_terms, wanted_pair_terms, wanted_terms};
+ghost use Rattle.tv_indexing.specs.DocumentMemory.{IsBelowKeys, IsFoundLate, is_passed, is_unindexed};
+ghost use Rattle.tv_indexing.specs.DocumentTerms.{AppendsOrRefuses, document_terms, fields_terms, is_among, is_wanted, pair_terms, wanted_pair_terms, wanted_terms};
 ghost use Rattle.tv_indexing.specs.TermFault.{document_fault};
-ghost use Rattle.tv_indexing.specs.Visits.{TakesTerms, TakesAll, TakesSome};
+ghost use Rattle.tv_indexing.specs.Tells.{UnlessFirst};
+ghost use Rattle.tv_indexing.specs.Visits.{TakesTerms, TakesAll, TakesOrRefuses, TakesSome};
+ghost use Rattle.tv_indexing.specs.declared.document.TermValuesError.{TermValuesError};
 ghost use Rattle.tv_indexing.specs.declared.document.TermValuesError.TheVariants.{Memory};
 
 use crate::json::{JsonField, OpenList, visit_json};
@@ -48,6 +51,9 @@ fn visit_field<'a, V: TermVisitor>(
         (pair_terms schema.now (field.id, tree_of value.entry))) }
     ensures refused { IfErr result
         (λ e. e ≢ Memory → pair_terms schema.now (field.id, tree_of value.entry) ≡ Err e) }
+    ensures memory { result ≡ Err Memory → (is_unindexed (slice_get schema.now field.id) ≡ false)
+        × ((why : TermValuesError)
+        → pair_terms schema.now (field.id, tree_of value.entry) ≡ Err why → IsBelowKeys why) }
     ensures kept { OnErr result (TakesSome V.has_taken visitor.old visitor.new) }
 {
     if !schema.has_field(field) {
@@ -104,6 +110,9 @@ fn visit_wanted<'a, V: TermVisitor>(
     ensures refused { IfErr result
         (λ e. e ≢ Memory
         → wanted_pair_terms schema.now wanted.entry (field.id, tree_of value.entry) ≡ Err e) }
+    ensures memory { result ≡ Err Memory → (is_passed schema.now wanted.entry field.id ≡ false)
+        × ((why : TermValuesError)
+        → pair_terms schema.now (field.id, tree_of value.entry) ≡ Err why → IsBelowKeys why) }
     ensures kept { OnErr result (TakesSome V.has_taken visitor.old visitor.new) }
 {
     if is_wanted(wanted, field) {
@@ -121,7 +130,8 @@ fn visit_wanted<'a, V: TermVisitor>(
 /// No term is passed over for its length, as tantivy's indexer passes over a token of more than 65,530 bytes: that is the visitor's to do.
 ///
 /// Errors: those of `term_values`, of the named fields alone, for the first value that has one; or `Memory`, also where the visitor returns an
-/// error. After each the visitor may have taken terms of the document.
+/// error. After each the visitor may have taken terms of the document. `Memory` doesn't hide that the first value which is looked at is of no field, or
+/// not of its field's type.
 pub fn visit_terms<V: TermVisitor>(
     alloc: Global,
     schema: &Schema,
@@ -129,11 +139,10 @@ pub fn visit_terms<V: TermVisitor>(
     document: &CompactDoc,
     visitor: &mut V,
 ) -> Result<(), TermValuesError>
-    ensures made { OnOk result (TakesAll V.has_taken visitor.old visitor.new
-        (wanted_terms schema.now fields.entry (document_of document.now))) }
-    ensures refused { IfErr result
-        (λ e. e ≢ Memory
-        → wanted_terms schema.now fields.entry (document_of document.now) ≡ Err e) }
+    ensures answers { UnlessFirst Memory
+        (IsFoundLate schema.now fields.entry (document_of document.now))
+        (TakesOrRefuses V.has_taken visitor.old visitor.new
+        (wanted_terms schema.now fields.entry (document_of document.now))) result }
     ensures kept { OnErr result (TakesSome V.has_taken visitor.old visitor.new) }
 {
     let mut buffer = TermBuffer::new(alloc);
@@ -160,12 +169,10 @@ fn append_terms(
     document: &CompactDoc,
     terms: &mut TermList,
 ) -> Result<(), TermValuesError>
-    ensures made { OnOk result
-        (AreAppended terms.old terms.new
-        (wanted_terms schema.now wanted.entry (document_of document.now))) }
-    ensures refused { IfErr result
-        (λ e. e ≢ Memory
-        → wanted_terms schema.now wanted.entry (document_of document.now) ≡ Err e) }
+    ensures answers { UnlessFirst Memory
+        (IsFoundLate schema.now wanted.entry (document_of document.now))
+        (AppendsOrRefuses terms.old terms.new
+        (wanted_terms schema.now wanted.entry (document_of document.now))) result }
     ensures unchanged { OnErr result (terms.new ≡ terms.old) }
 {
     let len = terms.len();
@@ -188,8 +195,8 @@ fn append_terms(
 /// taken as they stand; where the field's dots are expanded, a dot in a key parts it. Null has none. A number without a sign that fits one
 /// with a sign stands as one with a sign.
 ///
-/// Errors, the first that a value in this order has: `UnknownField`, `WrongType`, `NulInPath`, `NoJsonTerm`; or `Memory`. After each the list
-/// is as it was. However deep a value nests, it takes memory and no more of the machine's stack.
+/// Errors, the first that a value in this order has: `UnknownField`, `WrongType`, `NulInPath`, `NoJsonTerm`; or `Memory`, which doesn't hide that the
+/// first value of an indexed field is of no field or not of its field's type. After each the list is as it was. However deep a value nests, it takes memory and no more of the machine's stack.
 ///
 /// ```
 /// pub fn indexed_terms(alloc: Global) -> Result<String> {
@@ -217,10 +224,10 @@ pub fn term_values(
     document: &CompactDoc,
     terms: &mut TermList,
 ) -> Result<(), TermValuesError>
-    ensures made { OnOk result
-        (AreAppended terms.old terms.new (document_terms schema.now (document_of document.now))) }
-    ensures refused { IfErr result
-        (λ e. e ≢ Memory → document_terms schema.now (document_of document.now) ≡ Err e) }
+    ensures answers { UnlessFirst Memory
+        (IsFoundLate schema.now None (document_of document.now))
+        (AppendsOrRefuses terms.old terms.new
+        (document_terms schema.now (document_of document.now))) result }
     ensures unchanged { OnErr result (terms.new ≡ terms.old) }
 {
     append_terms(alloc, schema, None, document, terms)
@@ -239,12 +246,10 @@ pub fn term_values_of_fields(
     document: &CompactDoc,
     terms: &mut TermList,
 ) -> Result<(), TermValuesError>
-    ensures made { OnOk result
-        (AreAppended terms.old terms.new
-        (fields_terms schema.now fields.now (document_of document.now))) }
-    ensures refused { IfErr result
-        (λ e. e ≢ Memory
-        → fields_terms schema.now fields.now (document_of document.now) ≡ Err e) }
+    ensures answers { UnlessFirst Memory
+        (IsFoundLate schema.now (Some fields.entry) (document_of document.now))
+        (AppendsOrRefuses terms.old terms.new
+        (fields_terms schema.now fields.now (document_of document.now))) result }
     ensures unchanged { OnErr result (terms.new ≡ terms.old) }
 {
     append_terms(alloc, schema, Some(fields), document, terms)

@@ -1,17 +1,21 @@
 //! Ranges of terms between texts of queries, also at paths into JSON objects.
 
-ghost use Rattle.std.specs.Prelude.{◌≡◌, ◌++◌, List, [], Some, IfErr, IfOk, OnOk, option_map};
+ghost use Rattle.std.specs.Prelude.{◌≡◌, ◌≢◌, ◌++◌, List, [], false, Err, Some, IfErr, IfOk, OnOk, option_map};
 ghost use Rattle.std.specs.Range.Bound.{bound_map};
 ghost use Rattle.std.specs.declared.ops.Bound.{Bound};
 ghost use Rattle.std.specs.declared.ops.Bound.TheVariants.{Included};
 ghost use Rattle.tv_base.specs.JsonPath.{joined_path};
 ghost use Rattle.tv_date.specs.Rfc3339.{rfc};
 ghost use Rattle.tv_field.specs.JsonTable.{truth_in};
+ghost use Rattle.tv_indexing.specs.DocumentTerms.{has_zero};
+ghost use Rattle.tv_indexing.specs.JsonBounds.{RunBackwards};
 ghost use Rattle.tv_indexing.specs.JsonRanges.{AnswersBetween, AnswersRanges, AreBoundValues, AreOfKind, AreRangesOf, AreTermsAt, EndsIn, IsBetweenAt};
 ghost use Rattle.tv_indexing.specs.JsonRanges.{IsTypedAt, OneRange, RangesBelow, RangesInField, RangesOfText, StartsIn, WritesEnd, placed_bound, ranges_in};
 ghost use Rattle.tv_indexing.specs.JsonRanges.{signed_end, signed_start, type_of_kind, unsigned_end, unsigned_start};
 ghost use Rattle.tv_indexing.specs.LeafTerms.{leaf_value};
-ghost use Rattle.tv_indexing.specs.TextRange.{bound_text};
+ghost use Rattle.tv_indexing.specs.TakesMemory.{TakesMemory, TakesMemoryIn};
+ghost use Rattle.tv_indexing.specs.Tells.{UnlessFirst};
+ghost use Rattle.tv_indexing.specs.TextRange.{bound_text, bounding};
 ghost use Rattle.tv_indexing.specs.TextTerms.{date_written_in, listed};
 ghost use Rattle.tv_indexing.specs.Unless.{Unless};
 ghost use Rattle.tv_indexing.specs.declared.text_terms_error.TextTermsError.TheVariants.{Memory};
@@ -327,8 +331,10 @@ fn ranges_below(
     start: Bound<&str>,
     end: Bound<&str>,
 ) -> Result<Vec<TermRange>, TextTermsError>
-    ensures { Unless Memory (RangesBelow at.field at.expand_dots path.now
+    ensures answers { Unless Memory (RangesBelow at.field at.expand_dots path.now
         (bound_text start.entry) (bound_text end.entry)) (ranges_in result) }
+    ensures memory { result ≡ Err Memory → ((path.now ≢ []) × (has_zero path.now ≡ false))
+        × RunBackwards (bounding (bound_text start.entry)) (bounding (bound_text end.entry)) false }
 {
     if path.is_empty() {
         return Err(TextTermsError::PathEnds(at.field));
@@ -373,14 +379,14 @@ impl IndexedField<'_, '_> {
     /// The ranges of terms between two texts of a query: those of `ranges_between_texts`.
     ///
     /// Errors: of a path into JSON objects `PathEnds`, `NulInPath`; of other fields `WrongText`; `Backwards`, where the start is above the end;
-    /// or `Memory`.
+    /// or `Memory`, which hides none of those at a path into JSON objects.
     pub fn ranges(
         &self,
         alloc: Global,
         start: Bound<&str>,
         end: Bound<&str>,
     ) -> Result<Vec<TermRange>, TextTermsError>
-        ensures { Unless Memory (RangesInField self.now
+        ensures { UnlessFirst Memory (TakesMemoryIn self.now.type) (RangesInField self.now
             (bound_text start.entry) (bound_text end.entry)) (ranges_in result) }
     {
         let field = self.field;
@@ -407,7 +413,8 @@ impl IndexedField<'_, '_> {
         alloc: Global,
         text: &str,
     ) -> Result<Vec<TermRange>, TextTermsError>
-        ensures { Unless Memory (RangesOfText self.now text.now) (ranges_in result) }
+        ensures { UnlessFirst Memory (TakesMemoryIn self.now.type)
+            (RangesOfText self.now text.now) (ranges_in result) }
     {
         match bounds_of_text(text) {
             Some((start, end)) => self.ranges(alloc, start, end),
@@ -424,7 +431,7 @@ impl IndexedField<'_, '_> {
 /// one. Two bounds that are both numbers, dates or truth values run backwards as these do, and all others as texts.
 ///
 /// Errors: `UnknownPath`, `NotIndexed`; of a path into JSON objects `PathEnds`, `NulInPath`; of other fields `WrongText`; `Backwards`, where the
-/// start is above the end; or `Memory`.
+/// start is above the end; or `Memory`, which hides neither `NotIndexed` nor what is wrong at a path into JSON objects.
 pub fn ranges_between_texts(
     alloc: Global,
     schema: &Schema,
@@ -432,7 +439,7 @@ pub fn ranges_between_texts(
     start: Bound<&str>,
     end: Bound<&str>,
 ) -> Result<Vec<TermRange>, TextTermsError>
-    ensures { Unless Memory (AnswersBetween schema.now path.now
+    ensures { UnlessFirst Memory (TakesMemory schema.now) (AnswersBetween schema.now path.now
         (bound_text start.entry) (bound_text end.entry)) (ranges_in result) }
 {
     match IndexedField::of(alloc, schema, path) {
@@ -457,7 +464,8 @@ pub fn ranges_of_text(
     path: &str,
     text: &str,
 ) -> Result<Vec<TermRange>, TextTermsError>
-    ensures { Unless Memory (AnswersRanges schema.now path.now text.now) (ranges_in result) }
+    ensures { UnlessFirst Memory (TakesMemory schema.now)
+        (AnswersRanges schema.now path.now text.now) (ranges_in result) }
 {
     match bounds_of_text(text) {
         Some((start, end)) => ranges_between_texts(alloc, schema, path, start, end),

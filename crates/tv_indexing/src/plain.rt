@@ -6,6 +6,7 @@ ghost use Rattle.tv_heap.specs.Value.{tree_of};
 ghost use Rattle.tv_indexing.specs.DocumentTerms.{plain_terms};
 ghost use Rattle.tv_indexing.specs.LeafTerms.{leaf_value, tree_value};
 ghost use Rattle.tv_indexing.specs.Visits.{TakesTerms, TakesAll};
+ghost use Rattle.tv_indexing.specs.declared.document.TermValuesError.{TermValuesError};
 ghost use Rattle.tv_indexing.specs.declared.document.TermValuesError.TheVariants.{Memory};
 ghost use Rattle.tv_term.specs.Key.{Fits};
 ghost use Rattle.tv_value.specs.Lent.{leaf_of};
@@ -42,6 +43,8 @@ pub(crate) fn visit_leaf<V: TermVisitor>(
         (plain_terms field wanted (leaf_value (leaf_of leaf.entry)))) }
     ensures refused { IfErr result
         (λ e. e ≢ Memory → plain_terms field wanted (leaf_value (leaf_of leaf.entry)) ≡ Err e) }
+    ensures memory { result ≡ Err Memory → (why : TermValuesError)
+        → plain_terms field wanted (leaf_value (leaf_of leaf.entry)) ≢ Err why }
     ensures fits { IfSome (leaf_value (leaf_of leaf.entry)) Fits }
     ensures untaken { OnErr result (TakesTerms V.has_taken visitor.old visitor.new []) }
 {
@@ -71,6 +74,8 @@ pub(crate) fn visit_value<V: TermVisitor>(
         (plain_terms field wanted (tree_value (tree_of value.entry)))) }
     ensures refused { IfErr result
         (λ e. e ≢ Memory → plain_terms field wanted (tree_value (tree_of value.entry)) ≡ Err e) }
+    ensures memory { result ≡ Err Memory → (why : TermValuesError)
+        → plain_terms field wanted (tree_value (tree_of value.entry)) ≢ Err why }
     ensures untaken { OnErr result (TakesTerms V.has_taken visitor.old visitor.new []) }
 {
     match value.as_value() {

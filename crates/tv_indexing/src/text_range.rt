@@ -3,6 +3,8 @@
 ghost use Rattle.std.specs.Prelude.{◌≡◌, List, ℕ, IfOk, MatchOption};
 ghost use Rattle.std.specs.Option.{option_copied};
 ghost use Rattle.std.specs.declared.ops.Bound.{Bound};
+ghost use Rattle.tv_indexing.specs.TakesMemory.{TakesMemory, TakesMemoryIn};
+ghost use Rattle.tv_indexing.specs.Tells.{UnlessFirst};
 ghost use Rattle.tv_indexing.specs.TextRange.{AnswersBounds, AnswersRange, AreTermsOfBound, BelowInField, EndsBelowTerm, IsEndBound, IsStartBound};
 ghost use Rattle.tv_indexing.specs.TextRange.{IsTermOfText, RangeInField, RangeOfTexts, RangeWithBelow, WritesBounds, bound_of, bound_text, bounding};
 ghost use Rattle.tv_indexing.specs.TextRange.{bytes_run_backwards, outer_bound};
@@ -165,14 +167,15 @@ fn range_with_below(
 impl IndexedField<'_, '_> {
     /// The range of the field's terms between two texts of a query: that of `range_between_texts`.
     ///
-    /// Errors: `NoRange`; `WrongText`, for the start before the end; `Backwards`, where the start is above the end; or `Memory`.
+    /// Errors: `NoRange`; `WrongText`, for the start before the end; `Backwards`, where the start is above the end; or `Memory`, which doesn't hide
+    /// `NoRange`.
     pub fn range(
         &self,
         alloc: Global,
         start: Bound<&str>,
         end: Bound<&str>,
     ) -> Result<TermRange, TextTermsError>
-        ensures { Unless Memory
+        ensures { UnlessFirst Memory (TakesMemoryIn self.now.type)
             (RangeInField self.now (bound_text start.entry) (bound_text end.entry)) result }
     {
         match self.field_type {
@@ -185,9 +188,10 @@ impl IndexedField<'_, '_> {
     /// and more, as tantivy finds documents by a facet above theirs. In a field of another type no value is below another one, and the range has
     /// the text's own term.
     ///
-    /// Errors: `NoRange`, exactly where the field is of JSON objects; `WrongText`; or `Memory`.
+    /// Errors: `NoRange`, exactly where the field is of JSON objects; `WrongText`; or `Memory`, which of these hides `WrongText` alone.
     pub fn below(&self, alloc: Global, text: &str) -> Result<TermRange, TextTermsError>
-        ensures { Unless Memory (BelowInField self.now text.now) result }
+        ensures { UnlessFirst Memory (TakesMemoryIn self.now.type)
+            (BelowInField self.now text.now) result }
     {
         match self.field_type {
             FieldType::JsonObject(_) => Err(TextTermsError::NoRange(self.field)),
@@ -202,7 +206,8 @@ impl IndexedField<'_, '_> {
 /// just those of the field's terms whose values lie within the bounds. A term of a date stands for all dates of its second: so the range has the
 /// terms of all dates within the bounds, and of those in the same second as a bound, whether that one is within or not.
 ///
-/// Errors: `UnknownPath`, `NotIndexed`, `NoRange`; `WrongText`, for the start before the end; `Backwards`, where the start is above the end; or `Memory`.
+/// Errors: `UnknownPath`, `NotIndexed`, `NoRange`; `WrongText`, for the start before the end; `Backwards`, where the start is above the end; or `Memory`,
+/// which hides neither `NotIndexed` nor `NoRange`.
 pub fn range_between_texts(
     alloc: Global,
     schema: &Schema,
@@ -210,7 +215,7 @@ pub fn range_between_texts(
     start: Bound<&str>,
     end: Bound<&str>,
 ) -> Result<TermRange, TextTermsError>
-    ensures { Unless Memory (AnswersBounds schema.now path.now
+    ensures { UnlessFirst Memory (TakesMemory schema.now) (AnswersBounds schema.now path.now
         (bound_text start.entry) (bound_text end.entry)) result }
 {
     match IndexedField::of(alloc, schema, path) {
@@ -300,7 +305,8 @@ pub fn range_of_text(
     path: &str,
     text: &str,
 ) -> Result<TermRange, TextTermsError>
-    ensures { Unless Memory (AnswersRange schema.now path.now text.now) result }
+    ensures { UnlessFirst Memory (TakesMemory schema.now)
+        (AnswersRange schema.now path.now text.now) result }
 {
     match bounds_of_text(text) {
         Some((start, end)) => range_between_texts(alloc, schema, path, start, end),

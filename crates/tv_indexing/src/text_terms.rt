@@ -1,14 +1,16 @@
 //! Terms of texts of queries, by the types of their fields.
 
-ghost use Rattle.std.specs.Prelude.{◌≡◌, ◌≢◌, drop, Err, IfErr, IfSome, OnErr, OnOk, option_map, List};
+ghost use Rattle.std.specs.Prelude.{◌≡◌, ◌≢◌, [], drop, false, Err, IfErr, IfSome, OnErr, OnOk, option_map, List};
 ghost use Rattle.std.specs.List.{AllByRecursion};
 ghost use Rattle.tv_base.specs.JsonPath.{joined_path};
 ghost use Rattle.tv_date.specs.Rfc3339.{rfc};
 ghost use Rattle.tv_field.specs.JsonTable.{truth_in};
 ghost use Rattle.tv_format.specs.Tree.{Leaf};
-ghost use Rattle.tv_indexing.specs.DocumentTerms.{AreAppended, plain_terms};
+ghost use Rattle.tv_indexing.specs.DocumentTerms.{AreAppended, has_zero, plain_terms};
 ghost use Rattle.tv_indexing.specs.JsonWalk.{ExtendsPath};
 ghost use Rattle.tv_indexing.specs.LeafTerms.{json_value, leaf_value};
+ghost use Rattle.tv_indexing.specs.TakesMemory.{TakesMemory, TakesMemoryIn};
+ghost use Rattle.tv_indexing.specs.Tells.{UnlessFirst};
 ghost use Rattle.tv_indexing.specs.TextTerms.{TermsBelow, TermOfText, AnswersText, TermsInField, AppendsAnswer, WritesLeaves, WritesNumber, date_written_in};
 ghost use Rattle.tv_indexing.specs.TextTerms.{leaves_terms, listed};
 ghost use Rattle.tv_indexing.specs.Unless.{Unless};
@@ -117,6 +119,7 @@ fn push_text_below(
 ) -> Result<(), TextTermsError>
     ensures answers { Unless Memory (AppendsAnswer
         (TermsBelow at.field at.expand_dots path.now text.now) terms.old terms.new) result }
+    ensures memory { result ≡ Err Memory → (path.now ≢ []) × (has_zero path.now ≡ false) }
     ensures kept { OnErr result (ExtendsPath terms.old terms.new) }
 {
     if path.is_empty() {
@@ -188,7 +191,7 @@ impl IndexedField<'_, '_> {
         text: &str,
         terms: &mut TermList,
     ) -> Result<(), TextTermsError>
-        ensures answers { Unless Memory
+        ensures answers { UnlessFirst Memory (TakesMemoryIn self.now.type)
             (AppendsAnswer (TermsInField self.now text.now) terms.old terms.new) result }
         ensures kept { OnErr result (ExtendsPath terms.old terms.new) }
     {
@@ -210,14 +213,14 @@ impl IndexedField<'_, '_> {
 
     /// Appends the terms of a text of a query: those of `terms_of_text`.
     ///
-    /// Errors: `PathEnds`, `NulInPath`, `WrongText`; or `Memory`. After each the list is as it was.
+    /// Errors: `PathEnds`, `NulInPath`, `WrongText`; or `Memory`, which of these hides `WrongText` alone. After each the list is as it was.
     pub fn terms(
         &self,
         alloc: Global,
         text: &str,
         terms: &mut TermList,
     ) -> Result<(), TextTermsError>
-        ensures answers { Unless Memory
+        ensures answers { UnlessFirst Memory (TakesMemoryIn self.now.type)
             (AppendsAnswer (TermsInField self.now text.now) terms.old terms.new) result }
         ensures unchanged { OnErr result (terms.new ≡ terms.old) }
     {
@@ -240,7 +243,8 @@ impl IndexedField<'_, '_> {
 /// address, or itself. It has the one term of that value; a text is whole, and a date is cut to the second. In a field of JSON objects, at a path
 /// below it, the text writes itself, and also a number, a truth value and a date where it is the text of one: it has the term of each of these.
 ///
-/// Errors: `UnknownPath`, `NotIndexed`, `PathEnds`, `NulInPath`, `WrongText`; or `Memory`. After each the list is as it was.
+/// Errors: `UnknownPath`, `NotIndexed`, `PathEnds`, `NulInPath`, `WrongText`; or `Memory`, which of these hides `UnknownPath` and `WrongText` alone.
+/// After each the list is as it was.
 ///
 /// ```
 /// pub fn terms_of_price(alloc: Global, schema: &Schema) -> Result<TermList> {
@@ -256,7 +260,7 @@ pub fn terms_of_text(
     text: &str,
     terms: &mut TermList,
 ) -> Result<(), TextTermsError>
-    ensures answers { Unless Memory
+    ensures answers { UnlessFirst Memory (TakesMemory schema.now)
         (AppendsAnswer (AnswersText schema.now path.now text.now) terms.old terms.new) result }
     ensures unchanged { OnErr result (terms.new ≡ terms.old) }
 {

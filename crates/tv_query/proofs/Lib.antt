@@ -9,3 +9,6 @@ mod Reading
 mod OneToken
 mod Refusing
 mod OneQuery
+mod OneClause
+mod Machine
+mod OneText

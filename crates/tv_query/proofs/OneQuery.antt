@@ -44,35 +44,35 @@ path_unspaced : (text path rest : List ℕ) → BeginsWithPath text path rest �
 path_unspaced text path rest (bare up_to some) = word_unspaced text path (58 ∷ rest) up_to some
 path_unspaced text path rest (quoted q) = subst (BeginsWithout is_ascii_whitespace) (sym q.text_is) (quote_unspaced q.quote q.is_quote)
 
-token_unspaced : (text : List ℕ) (token : QueryToken) (rest : List ℕ) → BeginsWithToken text token rest → BeginsWithout is_ascii_whitespace text
+pub token_unspaced : (text : List ℕ) (token : QueryToken) (rest : List ℕ) → BeginsWithToken text token rest → BeginsWithout is_ascii_whitespace text
 token_unspaced text _ _ (opens is) = subst (BeginsWithout is_ascii_whitespace) (sym is) refl
 token_unspaced text _ _ (closes is) = subst (BeginsWithout is_ascii_whitespace) (sym is) refl
 token_unspaced text _ _ (operates {word = w} {rest = r} o is) = word_unspaced text w r o.up_to o.some
 token_unspaced text _ _ (selects {path = p} {middle = m} begins wants) = path_unspaced text p m begins
 
-one_space : (s t u v : List ℕ) → IsSpace s → IsSpace t → BeginsWithout is_ascii_whitespace u → BeginsWithout is_ascii_whitespace v → s ++ u ≡ t ++ v → u ≡ v
+pub one_space : (s t u v : List ℕ) → IsSpace s → IsSpace t → BeginsWithout is_ascii_whitespace u → BeginsWithout is_ascii_whitespace v → s ++ u ≡ t ++ v → u ≡ v
 one_space [] [] u v x y no_u no_v e = e
 one_space [] (b ∷ bs) u v x y no_u no_v e = let both : true ≡ false = sym y.0 ∙ subst (BeginsWithout is_ascii_whitespace) e no_u in absurd (cc)
 one_space (b ∷ bs) [] u v x y no_u no_v e = let both : true ≡ false = sym x.0 ∙ subst (BeginsWithout is_ascii_whitespace) (sym e) no_v in absurd (cc)
 one_space (b ∷ bs) (c ∷ cs) u v x y no_u no_v e = let tails : bs ++ u ≡ cs ++ v = cc in one_space bs cs u v x.1 y.1 no_u no_v tails
 
-space_rest : (s u : List ℕ) → IsSpace (s ++ u) → IsSpace u
+pub space_rest : (s u : List ℕ) → IsSpace (s ++ u) → IsSpace u
 space_rest [] u x = x
 space_rest (b ∷ bs) u x = space_rest bs u x.1
 
-only_space : (u : List ℕ) → IsSpace u → BeginsWithout is_ascii_whitespace u → u ≡ []
+pub only_space : (u : List ℕ) → IsSpace u → BeginsWithout is_ascii_whitespace u → u ≡ []
 only_space [] x no_u = refl
 only_space (b ∷ bs) x no_u = let both : true ≡ false = sym x.0 ∙ no_u in absurd (cc)
 
 -- ---- tokens one after the other
 
-first_of : (text : List ℕ) (token : QueryToken) (more : List QueryToken) (left : List ℕ) → BeginsWithTokens text (token ∷ more) left → (space : List ℕ) × (here : List ℕ) × (middle : List ℕ) × (text ≡ space ++ here) × IsSpace space × BeginsWithToken here token middle
+pub first_of : (text : List ℕ) (token : QueryToken) (more : List QueryToken) (left : List ℕ) → BeginsWithTokens text (token ∷ more) left → (space : List ℕ) × (here : List ℕ) × (middle : List ℕ) × (text ≡ space ++ here) × IsSpace space × BeginsWithToken here token middle
 first_of _ _ _ _ (next_token space {text = t} {middle = m} is_space begins more) = (space, t, m, refl, is_space, begins)
 
-none_of : (text left : List ℕ) → BeginsWithTokens text [] left → text ≡ left
+pub none_of : (text left : List ℕ) → BeginsWithTokens text [] left → text ≡ left
 none_of _ _ no_tokens = refl
 
-abbrev Leads : List QueryToken → List QueryToken → List ℕ → List ℕ → Type 0
+abbrev pub Leads : List QueryToken → List QueryToken → List ℕ → List ℕ → Type 0
 Leads xs ys left rest = (more : List QueryToken) × (ys ≡ xs ++ more) × BeginsWithTokens left more rest
 
 one_more : (x y : QueryToken) (xs ys : List QueryToken) (left rest : List ℕ) → x ≡ y → Leads xs ys left rest ⊎ Leads ys xs rest left → Leads (x ∷ xs) (y ∷ ys) left rest ⊎ Leads (y ∷ ys) (x ∷ xs) rest left
@@ -80,7 +80,7 @@ one_more x y xs ys left rest same (inl l) = inl (l.0, ap (λ (z : QueryToken). z
 one_more x y xs ys left rest same (inr l) = inr (l.0, ap (λ (z : QueryToken). z ∷ xs) same ∙ ap (λ (zs : List QueryToken). y ∷ zs) l.1, l.2)
 
 -- of two beginnings of a text that are tokens one goes on where the other ends
-leads : (text other : List ℕ) (xs ys : List QueryToken) (left rest : List ℕ) → text ≡ other → BeginsWithTokens text xs left → BeginsWithTokens other ys rest → Leads xs ys left rest ⊎ Leads ys xs rest left
+pub leads : (text other : List ℕ) (xs ys : List QueryToken) (left rest : List ℕ) → text ≡ other → BeginsWithTokens text xs left → BeginsWithTokens other ys rest → Leads xs ys left rest ⊎ Leads ys xs rest left
 leads _ _ _ ys _ rest is (no_tokens {text = t}) b = inl (ys, refl, subst (λ (l : List ℕ). BeginsWithTokens l ys rest) (sym is) b)
 leads _ _ xs _ left _ is a (no_tokens {text = t}) = inr (xs, refl, subst (λ (l : List ℕ). BeginsWithTokens l xs left) is a)
 leads _ _ _ _ left rest is (next_token s {text = t} {middle = m} {token = x} {tokens = xs} is_s begins more) (next_token z {text = u} {middle = n} {token = y} {tokens = ys} is_z also others) =
@@ -90,7 +90,7 @@ leads _ _ _ _ left rest is (next_token s {text = t} {middle = m} {token = x} {to
 
 -- ---- a clause has one answer
 
-facet_or_refused : (field : Field) (type : FieldType) (rest s : List ℕ) (range : TermRange) (e : TextTermsError) → is_of_facets type ≡ true → BelowInField (record { field = field; type = type; rest = rest }) s (Ok range)
+pub facet_or_refused : (field : Field) (type : FieldType) (rest s : List ℕ) (range : TermRange) (e : TextTermsError) → is_of_facets type ≡ true → BelowInField (record { field = field; type = type; rest = rest }) s (Ok range)
     → TermsInField (record { field = field; type = type; rest = rest }) s (Err e) → ⊥
 facet_or_refused field (types.Facet options) rest s range e test x h = no_value field (types.Facet options) s x.0 e x.2.is_value h
 facet_or_refused field (types.Str options) rest s range e test x h = absurd (cc)
@@ -107,7 +107,7 @@ text_or_refused : (at : FoundField) (s : List ℕ) (selection : Selection) (e : 
 text_or_refused at s selection e true test w h = facet_or_refused at.field at.type at.rest s w.1 e test w.3 h
 text_or_refused at s selection e false test w h = terms_one at s (Ok selection.exact) (Err e) w.0 h
 
-wants_or_refuses : (at : FoundField) (wanted : WantedText) (selection : Selection) (why : QueryReason) → WantsInField at wanted selection → RefusesInField at wanted why → ⊥
+pub wants_or_refuses : (at : FoundField) (wanted : WantedText) (selection : Selection) (why : QueryReason) → WantsInField at wanted selection → RefusesInField at wanted why → ⊥
 wants_or_refuses at (of_text s) selection (Clause e) w h = text_or_refused at s selection e (is_of_facets at.type) refl w h
 wants_or_refuses at (of_prefix s) selection (Clause e) w h = terms_one at s (Ok w.2) (Err e) w.3 h.1
 wants_or_refuses at (of_prefix s) selection reasons.NoPrefix w h = let e : true ≡ false = sym w.0 ∙ h in absurd (cc)
@@ -168,7 +168,7 @@ may_stand schema state not_word why may taken r = not_refused state not_word why
 
 module _ {schema : List Entry} {text : List ℕ} {error : QueryError} (r : Refuses schema text error) where
   -- no token can go on there
-  goes_on : (token : QueryToken) (more : List QueryToken) (left : List ℕ) (state : ParserState) (why : QueryReason) → BeginsWithTokens (r.space ++ r.rest) (token ∷ more) left → after_all (wants_operand 0) (r.tokens ++ token ∷ more) ≡ Some state
+  pub goes_on : (token : QueryToken) (more : List QueryToken) (left : List ℕ) (state : ParserState) (why : QueryReason) → BeginsWithTokens (r.space ++ r.rest) (token ∷ more) left → after_all (wants_operand 0) (r.tokens ++ token ∷ more) ≡ Some state
       → AllByRecursion (IsTaken schema) (r.tokens ++ token ∷ more) → RefusesRest schema r.state r.rest why → ⊥
   goes_on token more left state why begins follow all refuses =
       let f = first_of (r.space ++ r.rest) token more left begins in

@@ -9,7 +9,7 @@ use Rattle.tv_query.specs.Grammar.{Level, ParserState, QueryTree, WritesQuery, a
 use Rattle.tv_query.specs.Grammar.{all_alone, and_of, in_parentheses, not_of, of_clause, one_factor, or_of}
 use Rattle.tv_query.specs.Parsing.{Awaits, Follows, IsAt, after_and, after_not, after_open, after_or, at_start, state_of}
 use Rattle.tv_query.specs.Refusals.{IsTaken, Refuses, RefusesRest, TakesMemoryAfter}
-use Rattle.tv_query.specs.Tells.{Tells}
+use Rattle.tv_indexing.specs.Tells.{Tells}
 use Rattle.tv_query.specs.declared.query_error.QueryReason.TheVariants.{Memory}
 use Rattle.tv_query.specs.Tokens.{BeginsWithPath, BeginsWithToken, BeginsWithTokens, BeginsWithWanted, BeginsWithout, IsSpace, QueryToken, and_word, closed, no_tokens, next_token, not_word, opened, or_word, star}
 use Rattle.tv_query.specs.Tokens.{IsQuoted, WantedText, all, bare, bracketed, closes, opens, operates, quoted, quoted_prefix, quoted_text, selects, word_prefix, word_text}
@@ -161,7 +161,7 @@ module _ {schema : List Entry} {text : List ℕ} {parser : Parser} {rest : List 
         at = at.1;
       }
 
-  pub refuses_here : (error : QueryError) → error.place + length rest ≡ length text → Tells Memory (TakesMemoryAfter r.tokens) (RefusesRest schema (state_of parser r.depth) rest) error.reason → Refuses schema text error
+  pub refuses_here : (error : QueryError) → error.place + length rest ≡ length text → Tells Memory (TakesMemoryAfter schema r.tokens) (RefusesRest schema (state_of parser r.depth) rest) error.reason → Refuses schema text error
   refuses_here error place reason = record {
     tokens = r.tokens;
     space = r.space;

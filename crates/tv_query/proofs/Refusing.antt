@@ -1,7 +1,7 @@
 -- Reasons for a token that is refused, and when want of memory may stand in their place.
 use Rattle.std.proofs.Common.{◌≡◌, ◌≢◌, ℕ, List, [], length, None, Result, Err, IfErr, arith, subst, ap}
 use Rattle.tv_field.specs.Entry.{Entry}
-use Rattle.tv_query.specs.Tells.{Tells}
+use Rattle.tv_indexing.specs.Tells.{Tells}
 use Rattle.tv_query.specs.Grammar.{ParserState, after, wants_operand, wants_operator}
 use Rattle.tv_query.specs.Refusals.{RefusesEnd, RefusesNext, RefusesRest, RefusesTaken, RefusesToken, TakesMemoryAfter, ended, misplaced, no_path, no_place, no_token, quoted_alone, refused, unquoted_path, wants_nothing, word_alone}
 use Rattle.tv_query.specs.Refusals.{RefusesWanted, nothing, unclosed, unquoted}
@@ -29,7 +29,7 @@ tells-weaker memory Takes May Holds Is e holds takes h = (λ some. holds (h.0 so
 
 -- ---- a token that may follow
 
-next_none : (state : ParserState) (token : QueryToken) (why : QueryReason) → RefusesNext state token why → after state token ≡ None
+pub next_none : (state : ParserState) (token : QueryToken) (why : QueryReason) → RefusesNext state token why → after state token ≡ None
 next_none (wants_operand depth) token why n = n.0
 next_none (wants_operator depth) closed why n = ap (λ (d : ℕ). after (wants_operator d) closed) n.0
 next_none (wants_operator depth) opened why n = n.0
@@ -39,18 +39,18 @@ next_none (wants_operator depth) not_word why n = n.0
 next_none (wants_operator depth) (clause path wanted) why n = n.0
 
 -- what a clause takes
-pub takes_after : (tokens : List QueryToken) (why : QueryReason) → TakesMemory why → TakesMemoryAfter tokens why
-takes_after tokens (reasons.Clause e) t = t
-takes_after tokens reasons.NoOperand t = absurd t
-takes_after tokens reasons.NoOperator t = absurd t
-takes_after tokens reasons.Unopened t = absurd t
-takes_after tokens reasons.Unclosed t = absurd t
-takes_after tokens reasons.NoColon t = absurd t
-takes_after tokens reasons.NoPath t = absurd t
-takes_after tokens reasons.NoText t = absurd t
-takes_after tokens reasons.Unended t = absurd t
-takes_after tokens reasons.NoPrefix t = absurd t
-takes_after tokens reasons.Memory t = absurd t
+pub takes_after : (schema : List Entry) (tokens : List QueryToken) (why : QueryReason) → TakesMemory schema why → TakesMemoryAfter schema tokens why
+takes_after schema tokens (reasons.Clause e) t = t
+takes_after schema tokens reasons.NoOperand t = absurd t
+takes_after schema tokens reasons.NoOperator t = absurd t
+takes_after schema tokens reasons.Unopened t = absurd t
+takes_after schema tokens reasons.Unclosed t = absurd t
+takes_after schema tokens reasons.NoColon t = absurd t
+takes_after schema tokens reasons.NoPath t = absurd t
+takes_after schema tokens reasons.NoText t = absurd t
+takes_after schema tokens reasons.Unended t = absurd t
+takes_after schema tokens reasons.NoPrefix t = absurd t
+takes_after schema tokens reasons.Memory t = absurd t
 
 module _ {schema : List Entry} where
   pub not_refused : (state : ParserState) (token : QueryToken) (why : QueryReason) → after state token ≢ None → ((path : List ℕ) (wanted : WantedText) → token ≢ clause path wanted) → RefusesTaken schema state token why → ⊥
@@ -76,9 +76,9 @@ module _ {schema : List Entry} where
       subst (λ (x : QueryToken). RefusesTaken schema state x why) (one_token text t token r rest b begins).0 taken
 
 -- at the end of a text
-pub end_told : (schema : List Entry) (state : ParserState) (text : List ℕ) (tokens : List QueryToken) (e : QueryReason) → text ≡ [] → Tells Memory (TakesMemoryAfter tokens) (RefusesEnd state) e → Tells Memory (TakesMemoryAfter tokens) (RefusesRest schema state text) e
+pub end_told : (schema : List Entry) (state : ParserState) (text : List ℕ) (tokens : List QueryToken) (e : QueryReason) → text ≡ [] → Tells Memory (TakesMemoryAfter schema tokens) (RefusesEnd state) e → Tells Memory (TakesMemoryAfter schema tokens) (RefusesRest schema state text) e
 end_told schema state text tokens e none h =
-    tells-weaker Memory (TakesMemoryAfter tokens) (TakesMemoryAfter tokens) (RefusesEnd state) (RefusesRest schema state text) e (ended none) (λ takes why r. takes why (refused_end schema state text why none r)) h
+    tells-weaker Memory (TakesMemoryAfter schema tokens) (TakesMemoryAfter schema tokens) (RefusesEnd state) (RefusesRest schema state text) e (ended none) (λ takes why r. takes why (refused_end schema state text why none r)) h
   where
     refused_end : (schema : List Entry) (state : ParserState) (text : List ℕ) (why : QueryReason) → text ≡ [] → RefusesRest schema state text why → RefusesEnd state why
     refused_end schema state text why none (ended is r) = r

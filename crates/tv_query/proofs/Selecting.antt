@@ -1,22 +1,19 @@
 -- What a clause has in the field of its path.
-use Rattle.std.proofs.Common.{◌≡◌, ◌≢◌, List, ℕ, [], ◌∷◌, None, Result, Ok, Err, Bool, true, false, refl, sym, ap, subst, ◌∙◌}
-use Rattle.std.specs.declared.ops.Bound.{Bound}
-use Rattle.std.specs.declared.ops.Bound.TheVariants.{Included, Excluded, Unbounded}
-use Rattle.tv_field.specs.Entry.{Entry, is_indexed_type}
+use Rattle.std.proofs.Common.{◌≡◌, ◌≢◌, List, ℕ, [], ◌∷◌, Result, Ok, Err, true, false, refl, sym, subst, ◌∙◌}
+use Rattle.tv_field.specs.Entry.{Entry}
 use Rattle.tv_field.specs.declared.field_type.FieldType.{FieldType}
 use Rattle.tv_field.specs.declared.field_type.FieldType.TheVariants as types
-use Rattle.tv_indexing.specs.IndexedField.{FindsField, FoundField, IsUnknownPath, JsonOrPlain, Names, indexed, not_indexed, refused, unknown}
-use Rattle.tv_indexing.specs.JsonRanges.{OneRange, RangesBelow, RangesInField, RangesOfText}
-use Rattle.tv_indexing.specs.TextRange.{BelowInField, RefusesBound, RefusesBoth, backwards, bounds_written, first, no_bounds_written, second}
-use Rattle.tv_indexing.specs.TextTerms.{IsWrongRange, TermOfText, TermsBelow, TermsInField}
-use Rattle.tv_indexing.proofs.Answering.{in_found}
-use Rattle.tv_indexing.specs.Unless.{Unless}
-use Rattle.tv_query.specs.Tells.{UnlessFirst}
-use Rattle.tv_indexing.proofs.OneAnswer.{named_or_none, names_one, path_or_field}
-use Rattle.tv_schema.specs.Path.{find_or}
+use Rattle.tv_indexing.specs.IndexedField.{FindsField, FoundField, Names}
+use Rattle.tv_indexing.specs.JsonRanges.{RangesOfText}
+use Rattle.tv_indexing.specs.TakesMemory.{TakesMemoryIn}
+use Rattle.tv_indexing.specs.Tells.{Tells, UnlessFirst}
+use Rattle.tv_indexing.specs.TextRange.{BelowInField, bounds_written, no_bounds_written}
+use Rattle.tv_indexing.specs.TextTerms.{IsWrongRange, TermsInField}
+use Rattle.tv_indexing.proofs.Answering.{first-weaker, in_found}
+use Rattle.tv_indexing.proofs.TakingMemory.{found_takes, in_schema, ranges_of_field, terms_of_field}
 use Rattle.tv_indexing.specs.declared.text_terms_error.TextTermsError.{TextTermsError}
 use Rattle.tv_indexing.specs.declared.text_terms_error.TextTermsError.TheVariants as texts
-use Rattle.tv_query.specs.Selections.{AnswersClause, AnswersInField, RefusesClause, RefusesInField, Selects, TakesMemory, WantsInField, has_prefixes, is_of_facets, reason_of}
+use Rattle.tv_query.specs.Selections.{AnswersClause, AnswersInField, RefusesInField, TakesMemory, TakesMemoryAt, WantsInField, has_prefixes, is_of_facets, reason_of}
 use Rattle.tv_query.specs.Tokens.{WantedText, of_prefix, of_range, of_text}
 use Rattle.tv_query.specs.declared.query_error.QueryReason.{QueryReason}
 use Rattle.tv_query.specs.declared.query_error.QueryReason.TheVariants.{Clause, Memory}
@@ -90,128 +87,99 @@ reason_memory (texts.WrongRange start) is = absurd (cc)
 reason_memory (texts.Backwards field) is = absurd (cc)
 reason_memory (texts.NoRange field) is = absurd (cc)
 
-takes_unless : (e : TextTermsError) → ((field : Field) → e ≡ texts.NotIndexed field → ⊥) → TakesMemory (Clause e)
-takes_unless (texts.NotIndexed field) other = other field refl
-takes_unless (texts.UnknownPath start) other = tt
-takes_unless (texts.PathEnds field) other = tt
-takes_unless (texts.NulInPath field) other = tt
-takes_unless (texts.WrongText field type why start) other = tt
-takes_unless (texts.WrongRange start) other = tt
-takes_unless (texts.Backwards field) other = tt
-takes_unless (texts.NoRange field) other = tt
-takes_unless texts.Memory other = tt
-
-unknown_takes : (path : List ℕ) (e : TextTermsError) → IsUnknownPath path e → TakesMemory (Clause e)
-unknown_takes path e h = takes_unless e (λ field is. subst (IsUnknownPath path) is h)
-
--- where the path names no field
-pub none_takes : (schema : List Entry) (path : List ℕ) (wanted : WantedText) (why : QueryReason) → find_or schema path None ≡ None → RefusesClause schema path wanted why → TakesMemory why
-none_takes schema path wanted why none (refused e (unknown also h) is) = let same : why ≡ Clause e = cc in subst TakesMemory (sym same) (unknown_takes path e h)
-none_takes schema path wanted why none (refused e (not_indexed at names no_index h) is) = absurd (named_or_none schema path at names none)
-none_takes schema path wanted why none (indexed at names is_indexed h) = absurd (named_or_none schema path at names none)
-
-neither : (type : FieldType) (Json : Bool → Type 0) (Plain : Type 0) → ((d : Bool) → Json d → ⊥) → (Plain → ⊥) → JsonOrPlain type Json Plain → ⊥
-neither (types.JsonObject options) Json Plain no_json no_plain h = no_json options.part.expand_dots_enabled h
-neither (types.Str options) Json Plain no_json no_plain h = no_plain h
-neither (types.U64 options) Json Plain no_json no_plain h = no_plain h
-neither (types.I64 options) Json Plain no_json no_plain h = no_plain h
-neither (types.Bool options) Json Plain no_json no_plain h = no_plain h
-neither (types.Date options) Json Plain no_json no_plain h = no_plain h
-neither (types.Facet options) Json Plain no_json no_plain h = no_plain h
-neither (types.Bytes options) Json Plain no_json no_plain h = no_plain h
-neither (types.IpAddr options) Json Plain no_json no_plain h = no_plain h
-
-terms_indexed : (at : FoundField) (s : List ℕ) (f : Field) → TermsInField at s (Err (texts.NotIndexed f)) → ⊥
-terms_indexed at s f h = neither at.type (λ d. TermsBelow at.field d at.rest s (Err (texts.NotIndexed f))) (TermOfText at.field at.type s (Err (texts.NotIndexed f))) (λ d b. b.2) (λ p. p.2) h
-
-bound_indexed : (field : Field) (type : FieldType) (bound : Bound (List ℕ)) (f : Field) → RefusesBound field type bound (texts.NotIndexed f) → ⊥
-bound_indexed field type (Included s) f h = h.2
-bound_indexed field type (Excluded s) f h = h.2
-bound_indexed field type Unbounded f h = h
-
-both_indexed : (field : Field) (type : FieldType) (start end : Bound (List ℕ)) (f : Field) → RefusesBoth field type start end (texts.NotIndexed f) → ⊥
-both_indexed field type start end f (first x) = bound_indexed field type start f x
-both_indexed field type start end f (second lo w x) = bound_indexed field type end f x
-both_indexed field type start end f (backwards lo hi w told x) = absurd (cc)
-
-between_indexed : (at : FoundField) (start end : Bound (List ℕ)) (f : Field) → RangesInField at start end (Err (texts.NotIndexed f)) → ⊥
-between_indexed at start end f h =
-    neither at.type (λ d. RangesBelow at.field d at.rest start end (Err (texts.NotIndexed f))) (OneRange at.field at.type start end (Err (texts.NotIndexed f)))
-    (λ d b. let e = b.2.1 in absurd (cc)) (both_indexed at.field at.type start end f) h
-
-ranges_indexed : (at : FoundField) (s : List ℕ) (f : Field) → RangesOfText at s (Err (texts.NotIndexed f)) → ⊥
-ranges_indexed at s f (no_bounds_written none e wrong is) = let same : e ≡ texts.NotIndexed f = cc in subst (IsWrongRange s) same wrong
-ranges_indexed at s f (bounds_written start end writes h) = between_indexed at start end f h
-
-field_takes : (at : FoundField) (wanted : WantedText) (why : QueryReason) → why ≢ reasons.NoPrefix → RefusesInField at wanted why → TakesMemory why
-field_takes at (of_text s) (Clause e) other h = takes_unless e (λ f is. terms_indexed at s f (subst (λ x. TermsInField at s (Err x)) is h))
-field_takes at (of_prefix s) (Clause e) other h = takes_unless e (λ f is. terms_indexed at s f (subst (λ x. TermsInField at s (Err x)) is h.1))
-field_takes at (of_range s) (Clause e) other h = takes_unless e (λ f is. ranges_indexed at s f (subst (λ x. RangesOfText at s (Err x)) is h))
-field_takes at wanted reasons.NoPrefix other h = absurd (other refl)
-field_takes at (of_text s) reasons.NoOperand other h = h
-field_takes at (of_text s) reasons.NoOperator other h = h
-field_takes at (of_text s) reasons.Unopened other h = h
-field_takes at (of_text s) reasons.Unclosed other h = h
-field_takes at (of_text s) reasons.NoColon other h = h
-field_takes at (of_text s) reasons.NoPath other h = h
-field_takes at (of_text s) reasons.NoText other h = h
-field_takes at (of_text s) reasons.Unended other h = h
-field_takes at (of_text s) reasons.Memory other h = h
-field_takes at (of_prefix s) reasons.NoOperand other h = h
-field_takes at (of_prefix s) reasons.NoOperator other h = h
-field_takes at (of_prefix s) reasons.Unopened other h = h
-field_takes at (of_prefix s) reasons.Unclosed other h = h
-field_takes at (of_prefix s) reasons.NoColon other h = h
-field_takes at (of_prefix s) reasons.NoPath other h = h
-field_takes at (of_prefix s) reasons.NoText other h = h
-field_takes at (of_prefix s) reasons.Unended other h = h
-field_takes at (of_prefix s) reasons.Memory other h = h
-field_takes at (of_range s) reasons.NoOperand other h = h
-field_takes at (of_range s) reasons.NoOperator other h = h
-field_takes at (of_range s) reasons.Unopened other h = h
-field_takes at (of_range s) reasons.Unclosed other h = h
-field_takes at (of_range s) reasons.NoColon other h = h
-field_takes at (of_range s) reasons.NoPath other h = h
-field_takes at (of_range s) reasons.NoText other h = h
-field_takes at (of_range s) reasons.Unended other h = h
-field_takes at (of_range s) reasons.Memory other h = h
-
-has_no_prefix : (at : FoundField) (wanted : WantedText) → RefusesInField at wanted reasons.NoPrefix → (s : List ℕ) × (wanted ≡ of_prefix s) × (has_prefixes at.type ≡ false)
-has_no_prefix at (of_text s) h = absurd h
-has_no_prefix at (of_prefix s) h = (s, refl, h)
-has_no_prefix at (of_range s) h = absurd h
-
--- where it names a field that is indexed
-named_takes : (schema : List Entry) (path : List ℕ) (wanted : WantedText) (at : FoundField) (why : QueryReason) → Names schema path at → is_indexed_type at.type ≡ true → ((s : List ℕ) → wanted ≡ of_prefix s → has_prefixes at.type ≡ true)
-    → RefusesClause schema path wanted why → TakesMemory why
-named_takes schema path wanted at why names is_indexed prefixes (refused e x be) = absurd (path_or_field schema path at e names is_indexed x)
-named_takes schema path wanted at why names is_indexed prefixes (indexed other also has h) =
-    let one : other ≡ at = names_one schema path other at also names in
-    let here : RefusesInField at wanted why = subst (λ (f : FoundField). RefusesInField f wanted why) one h in
-    field_takes at wanted why (λ no_prefix.
-    let p = has_no_prefix at wanted (subst (RefusesInField at wanted) no_prefix here) in
-    let e : true ≡ false = sym (prefixes p.0 p.1) ∙ p.2 in absurd (cc)) here
-
-found_takes : (schema : List Entry) (path : List ℕ) (wanted : WantedText) (at : FoundField) (why : QueryReason) → FindsField schema path (Ok at) → ((s : List ℕ) → wanted ≡ of_prefix s → has_prefixes at.type ≡ true) → RefusesClause schema path wanted why → TakesMemory why
-found_takes schema path wanted at why (refused e x is) prefixes refuses = absurd (cc)
-found_takes schema path wanted at why (indexed found names is_indexed is) prefixes refuses =
-    let same : found ≡ at = cc in
-    named_takes schema path wanted at why (subst (Names schema path) same names) (subst (λ (f : FoundField). is_indexed_type f.type ≡ true) same is_indexed) prefixes refuses
-
-wants_prefixes : (at : FoundField) (wanted : WantedText) (selection : Selection) → WantsInField at wanted selection → (s : List ℕ) → wanted ≡ of_prefix s → has_prefixes at.type ≡ true
-wants_prefixes at (of_text t) selection w s is = absurd (cc)
-wants_prefixes at (of_prefix t) selection w s is = w.0
-wants_prefixes at (of_range t) selection w s is = absurd (cc)
-
--- where it has terms
-pub selected_takes : (schema : List Entry) (path : List ℕ) (wanted : WantedText) (selection : Selection) (why : QueryReason) → Selects schema path wanted selection → RefusesClause schema path wanted why → TakesMemory why
-selected_takes schema path wanted selection why (refused e x is) refuses = absurd (cc)
-selected_takes schema path wanted selection why (indexed at names is_indexed w) refuses = named_takes schema path wanted at why names is_indexed (wants_prefixes at wanted selection w.1) refuses
-
-pub unless_first : (schema : List Entry) (path : List ℕ) (wanted : WantedText) (at : FoundField) (result : Result Selection QueryReason) → FindsField schema path (Ok at) → (result ≡ Err Memory → (s : List ℕ) → wanted ≡ of_prefix s → has_prefixes at.type ≡ true)
-    → Unless Memory (AnswersInField at wanted) result → UnlessFirst Memory TakesMemory (AnswersClause schema path wanted) result
-unless_first schema path wanted at (Ok selection) finds prefixes h = in_found Clause (λ at. AnswersInField at wanted) schema path at (Ok selection) finds h
-unless_first schema path wanted at (Err reason) finds prefixes h = (
-  λ some. in_found Clause (λ at. AnswersInField at wanted) schema path at (Err reason) finds (h some),
-  λ is why refuses. found_takes schema path wanted at why finds (prefixes (ap (λ (r : QueryReason). Err r) is)) refuses,
+-- an error of a text or a path as a reason
+pub reason_told : (Takes Holds : TextTermsError → Type 0) (May Is : QueryReason → Type 0) (e : TextTermsError) (reason : QueryReason) → reason ≡ reason_of e → ((x : TextTermsError) → Holds x → Is (Clause x))
+    → (((x : TextTermsError) → Holds x → Takes x) → (why : QueryReason) → Is why → May why) → Tells texts.Memory Takes Holds e → Tells Memory May Is reason
+reason_told Takes Holds May Is e reason is holds takes h = (
+  λ some. let r = is_reason e reason is some in subst Is (sym r.0) (holds e (h.0 r.1)),
+  λ memory. takes (h.1 (reason_memory e (sym is ∙ memory))),
 )
+
+pub memory_first : {T : Type 0} (Takes : QueryReason → Type 0) (IsAnswer : Result T QueryReason → Type 0) (result : Result T QueryReason) (y : QueryReason) → result ≡ Err y → y ≡ Memory → ((why : QueryReason) → IsAnswer (Err why) → Takes why)
+    → UnlessFirst Memory Takes IsAnswer result
+memory_first Takes IsAnswer result y is memory takes = rw is (λ some. absurd (some memory), λ also. takes)
+
+-- the errors of the text of what is wanted are told
+abbrev pub Told : FoundField → WantedText → Type 0
+Told at (of_text s) = (e : TextTermsError) → TermsInField at s (Err e) → TakesMemoryIn at.type e
+Told at (of_prefix s) = (has_prefixes at.type ≡ true) × ((e : TextTermsError) → TermsInField at s (Err e) → TakesMemoryIn at.type e)
+Told at (of_range s) = (e : TextTermsError) → RangesOfText at s (Err e) → TakesMemoryIn at.type e
+
+pub field_takes : (at : FoundField) (wanted : WantedText) (why : QueryReason) → Told at wanted → RefusesInField at wanted why → TakesMemoryAt at.type why
+field_takes at (of_text s) (Clause e) told h = told e h
+field_takes at (of_prefix s) (Clause e) told h = told.1 e h.1
+field_takes at (of_range s) (Clause e) told h = told e h
+field_takes at (of_prefix s) reasons.NoPrefix told h = let e : true ≡ false = sym told.0 ∙ h in absurd (cc)
+field_takes at (of_text s) reasons.NoOperand told h = h
+field_takes at (of_text s) reasons.NoOperator told h = h
+field_takes at (of_text s) reasons.Unopened told h = h
+field_takes at (of_text s) reasons.Unclosed told h = h
+field_takes at (of_text s) reasons.NoColon told h = h
+field_takes at (of_text s) reasons.NoPath told h = h
+field_takes at (of_text s) reasons.NoText told h = h
+field_takes at (of_text s) reasons.Unended told h = h
+field_takes at (of_text s) reasons.NoPrefix told h = h
+field_takes at (of_text s) reasons.Memory told h = h
+field_takes at (of_prefix s) reasons.NoOperand told h = h
+field_takes at (of_prefix s) reasons.NoOperator told h = h
+field_takes at (of_prefix s) reasons.Unopened told h = h
+field_takes at (of_prefix s) reasons.Unclosed told h = h
+field_takes at (of_prefix s) reasons.NoColon told h = h
+field_takes at (of_prefix s) reasons.NoPath told h = h
+field_takes at (of_prefix s) reasons.NoText told h = h
+field_takes at (of_prefix s) reasons.Unended told h = h
+field_takes at (of_prefix s) reasons.Memory told h = h
+field_takes at (of_range s) reasons.NoOperand told h = h
+field_takes at (of_range s) reasons.NoOperator told h = h
+field_takes at (of_range s) reasons.Unopened told h = h
+field_takes at (of_range s) reasons.Unclosed told h = h
+field_takes at (of_range s) reasons.NoColon told h = h
+field_takes at (of_range s) reasons.NoPath told h = h
+field_takes at (of_range s) reasons.NoText told h = h
+field_takes at (of_range s) reasons.Unended told h = h
+field_takes at (of_range s) reasons.NoPrefix told h = h
+field_takes at (of_range s) reasons.Memory told h = h
+
+below_by_type : (field : Field) (type : FieldType) (rest s : List ℕ) (e : TextTermsError) → is_of_facets type ≡ true → TermsInField (found_at field type rest) s (Err e) → BelowInField (found_at field type rest) s (Err e)
+below_by_type field (types.Facet options) rest s e test h = h
+below_by_type field (types.Str options) rest s e test h = absurd (cc)
+below_by_type field (types.U64 options) rest s e test h = absurd (cc)
+below_by_type field (types.I64 options) rest s e test h = absurd (cc)
+below_by_type field (types.Bool options) rest s e test h = absurd (cc)
+below_by_type field (types.Date options) rest s e test h = absurd (cc)
+below_by_type field (types.Bytes options) rest s e test h = absurd (cc)
+below_by_type field (types.JsonObject options) rest s e test h = absurd (cc)
+below_by_type field (types.IpAddr options) rest s e test h = absurd (cc)
+
+pub facet_below : (at : FoundField) (s : List ℕ) (e : TextTermsError) → is_of_facets at.type ≡ true → TermsInField at s (Err e) → BelowInField at s (Err e)
+facet_below at s e test h = below_by_type at.field at.type at.rest s e test h
+
+-- ---- in a schema
+
+written_field : (at : FoundField) (s : List ℕ) (e : TextTermsError) (field : Field) → RangesOfText at s (Err e) → e ≡ texts.Backwards field → field ≡ at.field
+written_field at s e field (no_bounds_written none f wrong be) is = let same : f ≡ texts.Backwards field = cc in absurd (subst (IsWrongRange s) same wrong)
+written_field at s e field (bounds_written start end writes h) is = ranges_of_field at start end e field h is
+
+wanted_field : (at : FoundField) (wanted : WantedText) (e : TextTermsError) (field : Field) → RefusesInField at wanted (Clause e) → e ≡ texts.Backwards field → field ≡ at.field
+wanted_field at (of_text s) e field h is = terms_of_field at s e field h is
+wanted_field at (of_prefix s) e field h is = terms_of_field at s e field h.1 is
+wanted_field at (of_range s) e field h is = written_field at s e field h is
+
+clause_takes : (schema : List Entry) (path : List ℕ) (at : FoundField) (wanted : WantedText) (why : QueryReason) → Names schema path at → RefusesInField at wanted why → TakesMemoryAt at.type why → TakesMemory schema why
+clause_takes schema path at wanted (Clause e) names h takes = in_schema schema path at e names (λ field is. wanted_field at wanted e field h is) takes
+clause_takes schema path at wanted reasons.NoOperand names h takes = takes
+clause_takes schema path at wanted reasons.NoOperator names h takes = takes
+clause_takes schema path at wanted reasons.Unopened names h takes = takes
+clause_takes schema path at wanted reasons.Unclosed names h takes = takes
+clause_takes schema path at wanted reasons.NoColon names h takes = takes
+clause_takes schema path at wanted reasons.NoPath names h takes = takes
+clause_takes schema path at wanted reasons.NoText names h takes = takes
+clause_takes schema path at wanted reasons.Unended names h takes = takes
+clause_takes schema path at wanted reasons.NoPrefix names h takes = takes
+clause_takes schema path at wanted reasons.Memory names h takes = takes
+
+pub unless_first : (schema : List Entry) (path : List ℕ) (wanted : WantedText) (at : FoundField) (result : Result Selection QueryReason) → FindsField schema path (Ok at) → UnlessFirst Memory (TakesMemoryAt at.type) (AnswersInField at wanted) result
+    → UnlessFirst Memory (TakesMemory schema) (AnswersClause schema path wanted) result
+unless_first schema path wanted at result finds h =
+    first-weaker Memory (TakesMemoryAt at.type) (TakesMemory schema) (AnswersInField at wanted) (AnswersClause schema path wanted) result (λ answer a. in_found Clause (λ found. AnswersInField found wanted) schema path at answer finds a)
+    (λ told why r. found_takes Clause (λ found. AnswersInField found wanted) schema path at (TakesMemory schema) why finds (λ names x. clause_takes schema path at wanted why names x (told why x)) r) h

@@ -17,4 +17,4 @@ names_field query number = list_any (step_names number) query
 
 -- no field stands twice
 abbrev pub AreDistinct : List Field → Type 0
-AreDistinct fields = IsDistinct (λ f g. f.id == g.id) fields
+AreDistinct fields = IsDistinct (λ one other. one.id == other.id) fields

@@ -1,4 +1,3 @@
-pub mod Tells
 pub mod Tokens
 pub mod Selections
 pub mod Grammar
@@ -6,3 +5,4 @@ pub mod Fields
 pub mod Matching
 pub mod Refusals
 pub mod Parsing
+pub mod SameQuery

@@ -25,8 +25,8 @@ IsTold terms step told = Unit {0}
 
 -- so it is of each step, by what stands at its place; past the end of the list that is `false`
 abbrev pub AreTold : List (List ℕ) → List Step → List Bool → Type 0
-AreTold terms query told = (k : ℕ) (step : Step) → slice_get query k ≡ Some step
-    → IsTold terms step (get_or told k false)
+AreTold terms query told = (place : ℕ) (step : Step) → slice_get query place ≡ Some step
+    → IsTold terms step (get_or told place false)
 
 abbrev pub HasTaken : List (List ℕ) → QueryMatcher → Type 0
 HasTaken terms matcher = AreTold terms matcher.query.now.steps.items matcher.wanted.items
@@ -38,12 +38,14 @@ HasTaken terms matcher = AreTold terms matcher.query.now.steps.items matcher.wan
 abbrev pub IsTruthOf : List (List ℕ) → Step → List Bool → List Bool → Bool → Type 0
 IsTruthOf terms (steps.Clause selection) old new truth =
     (new ≡ old) × (IsTrue truth ↔ HasWanted terms selection)
-IsTruthOf terms steps.Not old new truth = (before : List Bool) (a : Bool) → old ≡ before ++ a ∷ []
-    → (new ≡ before) × (truth ≡ not a)
-IsTruthOf terms steps.And old new truth = (before : List Bool) (a b : Bool) → old ≡ before ++ a ∷ b ∷ []
-    → (new ≡ before) × (truth ≡ (a && b))
-IsTruthOf terms steps.Or old new truth = (before : List Bool) (a b : Bool) → old ≡ before ++ a ∷ b ∷ []
-    → (new ≡ before) × (truth ≡ (a || b))
+IsTruthOf terms steps.Not old new truth = (before : List Bool) (first : Bool) → old ≡ before ++ first ∷ []
+    → (new ≡ before) × (truth ≡ not first)
+IsTruthOf terms steps.And old new truth = (before : List Bool) (first second : Bool)
+    → old ≡ before ++ first ∷ second ∷ []
+    → (new ≡ before) × (truth ≡ (first && second))
+IsTruthOf terms steps.Or old new truth = (before : List Bool) (first second : Bool)
+    → old ≡ before ++ first ∷ second ∷ []
+    → (new ≡ before) × (truth ≡ (first || second))
 
 -- of a clause it was told, and is now told of this term too
 abbrev pub IsTested : List ℕ → Step → Bool → Bool → Type 0

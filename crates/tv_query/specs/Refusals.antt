@@ -10,7 +10,7 @@ use Rattle.std.specs.List.{AllByRecursion, Contains}
 use Rattle.std.specs.Str.{NonePass}
 use Rattle.tv_field.specs.Entry.{Entry}
 use Rattle.tv_query.specs.Grammar.{ParserState, after, after_all, wants_operand, wants_operator}
-use Rattle.tv_query.specs.Tells.{Tells}
+use Rattle.tv_indexing.specs.Tells.{Tells}
 use Rattle.tv_query.specs.Selections.{RefusesClause, Selects, TakesMemory}
 use Rattle.tv_query.specs.Tokens.{BeginsWithOperator, BeginsWithPath, BeginsWithToken, BeginsWithTokens}
 use Rattle.tv_query.specs.Tokens.{BeginsWithout, IsEmptyOrBegins, IsOperator, IsQuoted, IsSpace}
@@ -93,10 +93,10 @@ HaveOperator tokens = Contains tokens and_word ⊎ Contains tokens or_word
 
 -- The reasons that take memory to find, after these tokens: of parentheses, where a step that joins two
 -- operands is written first; and those of a clause.
-abbrev pub TakesMemoryAfter : List QueryToken → QueryReason → Type 0
-TakesMemoryAfter tokens Unopened = HaveOperator tokens
-TakesMemoryAfter tokens Unclosed = HaveOperator tokens
-TakesMemoryAfter tokens reason = TakesMemory reason
+abbrev pub TakesMemoryAfter : List Entry → List QueryToken → QueryReason → Type 0
+TakesMemoryAfter schema tokens Unopened = HaveOperator tokens
+TakesMemoryAfter schema tokens Unclosed = HaveOperator tokens
+TakesMemoryAfter schema tokens reason = TakesMemory schema reason
 
 -- the schema refuses no clause that the token is
 abbrev pub IsTaken : List Entry → QueryToken → Type 0
@@ -115,4 +115,4 @@ pub record Refuses (schema : List Entry) (text : List ℕ) (error : QueryError) 
   pub place : error.place + length rest ≡ length text
   pub follow : after_all (wants_operand 0) tokens ≡ Some state
   pub taken : AllByRecursion (IsTaken schema) tokens
-  pub reason : Tells Memory (TakesMemoryAfter tokens) (RefusesRest schema state rest) error.reason
+  pub reason : Tells Memory (TakesMemoryAfter schema tokens) (RefusesRest schema state rest) error.reason

@@ -14,6 +14,7 @@ use Rattle.tv_field.specs.declared.field_type.FieldType.{FieldType}
 use Rattle.tv_field.specs.declared.field_type.FieldType.TheVariants as types
 use Rattle.tv_indexing.specs.IndexedField.{AtPathAs, FoundField}
 use Rattle.tv_indexing.specs.JsonRanges.{RangesOfText}
+use Rattle.tv_indexing.specs.TakesMemory.{TakesMemory as RefusalTakesMemory, TakesMemoryIn}
 use Rattle.tv_indexing.specs.TextRange.{BelowInField}
 use Rattle.tv_indexing.specs.TextTerms.{TermsInField}
 use Rattle.tv_indexing.specs.declared.text_terms_error.TextTermsError.{TextTermsError}
@@ -45,21 +46,22 @@ AreOfFirst (first ∷ terms) ranges = (range : TermRange) × (ranges ≡ range �
 
 -- in a field of facets a text has one range, of its term and those of the facets below
 abbrev pub WantsInField : FoundField → WantedText → Selection → Type 0
-WantsInField at (of_text s) selection =
+WantsInField at (of_text text) selection =
     MatchBool (is_of_facets at.type) ((selection.exact ≡ []) × (range : TermRange)
-    × (selection.ranges.items ≡ range ∷ []) × BelowInField at s (Ok range))
-    (TermsInField at s (Ok selection.exact) × (selection.ranges.items ≡ []))
-WantsInField at (of_prefix s) selection =
+    × (selection.ranges.items ≡ range ∷ []) × BelowInField at text (Ok range))
+    (TermsInField at text (Ok selection.exact) × (selection.ranges.items ≡ []))
+WantsInField at (of_prefix text) selection =
     (has_prefixes at.type ≡ true) × (selection.exact ≡ []) × (terms : List (List ℕ))
-    × TermsInField at s (Ok terms) × AreOfFirst terms selection.ranges.items
-WantsInField at (of_range s) selection = (selection.exact ≡ [])
-    × RangesOfText at s (Ok selection.ranges.items)
+    × TermsInField at text (Ok terms) × AreOfFirst terms selection.ranges.items
+WantsInField at (of_range text) selection = (selection.exact ≡ [])
+    × RangesOfText at text (Ok selection.ranges.items)
 
 abbrev pub RefusesInField : FoundField → WantedText → QueryReason → Type 0
-RefusesInField at (of_text s) (Clause e) = TermsInField at s (Err e)
-RefusesInField at (of_prefix s) (Clause e) = (has_prefixes at.type ≡ true) × TermsInField at s (Err e)
-RefusesInField at (of_prefix s) NoPrefix = has_prefixes at.type ≡ false
-RefusesInField at (of_range s) (Clause e) = RangesOfText at s (Err e)
+RefusesInField at (of_text text) (Clause error) = TermsInField at text (Err error)
+RefusesInField at (of_prefix text) (Clause error) = (has_prefixes at.type ≡ true)
+    × TermsInField at text (Err error)
+RefusesInField at (of_prefix text) NoPrefix = has_prefixes at.type ≡ false
+RefusesInField at (of_range text) (Clause error) = RangesOfText at text (Err error)
 RefusesInField at wanted reason = ⊥
 
 -- the selection is of the field
@@ -78,12 +80,10 @@ Selects schema path wanted selection = AnswersClause schema path wanted (Ok sele
 abbrev pub RefusesClause : List Entry → List ℕ → WantedText → QueryReason → Type 0
 RefusesClause schema path wanted reason = AnswersClause schema path wanted (Err reason)
 
--- the refusals of a clause that take memory to find: all but a field that isn't indexed, and one that has no
--- prefixes
-abbrev pub TakesMemory : QueryReason → Type 0
-TakesMemory (Clause (texts.NotIndexed field)) = ⊥
-TakesMemory (Clause e) = Unit {0}
-TakesMemory reason = ⊥
+-- the refusals of a clause that take memory to find: those of its text or its path that do
+abbrev pub TakesMemory : List Entry → QueryReason → Type 0
+TakesMemory schema (Clause error) = RefusalTakesMemory schema error
+TakesMemory schema reason = ⊥
 
 -- ---- wanted terms
 
@@ -101,9 +101,14 @@ HasWanted terms selection = Any (IsWanted selection) terms
 -- the reason for an error of a path or of a text
 abbrev pub reason_of : TextTermsError → QueryReason
 reason_of texts.Memory = Memory
-reason_of e = Clause e
+reason_of error = Clause error
+
+-- in a field of this type
+abbrev pub TakesMemoryAt : FieldType → QueryReason → Type 0
+TakesMemoryAt type (Clause error) = TakesMemoryIn type error
+TakesMemoryAt type reason = ⊥
 
 -- these are the terms of a text, or it is refused
 abbrev pub HasTermsOfText : FoundField → List ℕ → Result (List (List ℕ)) QueryReason → Type 0
-HasTermsOfText at s (Ok terms) = TermsInField at s (Ok terms)
-HasTermsOfText at s (Err reason) = RefusesInField at (of_text s) reason
+HasTermsOfText at text (Ok terms) = TermsInField at text (Ok terms)
+HasTermsOfText at text (Err reason) = RefusesInField at (of_text text) reason

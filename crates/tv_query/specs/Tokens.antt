@@ -146,9 +146,9 @@ WritesTokens text tokens = (rest : List ℕ) × BeginsWithTokens text tokens res
 -- ---- for private clauses
 
 abbrev pub wanted_text : Wanted → WantedText
-wanted_text (wants.Text s) = of_text s.now
-wanted_text (wants.Prefix s) = of_prefix s.now
-wanted_text (wants.Range s) = of_range s.now
+wanted_text (wants.Text text) = of_text text.now
+wanted_text (wants.Prefix text) = of_prefix text.now
+wanted_text (wants.Range text) = of_range text.now
 
 abbrev pub token_of : Token → QueryToken
 token_of tokens.Open = opened

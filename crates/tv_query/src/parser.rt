@@ -4,7 +4,7 @@ ghost use Rattle.std.specs.Prelude.{◌≡◌, ◌++◌, ◌∷◌, [], ℕ, fal
 ghost use Rattle.tv_field.specs.Entry.{Entry};
 ghost use Rattle.tv_query.specs.Grammar.{QueryTree, WritesQuery, any, factor, steps_of, wants_operand, wants_operator};
 ghost use Rattle.tv_query.specs.Parsing.{Awaits, EndsWithout, Follows, FollowsAll, FollowsAny, IsAt, state_of};
-ghost use Rattle.tv_query.specs.Tells.{Tells};
+ghost use Rattle.tv_indexing.specs.Tells.{Tells};
 ghost use Rattle.tv_query.specs.Refusals.{HaveOperator, RefusesEnd, RefusesTaken, TakesMemoryAfter};
 ghost use Rattle.tv_query.specs.Selections.{Selects};
 ghost use Rattle.tv_query.specs.Tokens.{QueryToken, WantedText, and_word, clause, closed, or_word, token_of};
@@ -150,7 +150,7 @@ impl Parser {
             → OnOk result ((next : ℕ)
             × IsAt schema.now self.new (tokens ++ token_of token.entry ∷ []) next) }
         ensures refused { (tokens : List QueryToken) (depth : ℕ)
-            → IfErr result (Tells Memory (TakesMemoryAfter tokens)
+            → IfErr result (Tells Memory (TakesMemoryAfter schema.now tokens)
             (RefusesTaken schema.now (wants_operand depth) (token_of token.entry))) }
     {
         match token {
@@ -215,7 +215,7 @@ impl Parser {
         ensures refused { (schema : List Entry) (tokens : List QueryToken) (depth : ℕ)
             → Follows schema factor self.old.operators.items tokens self.old.steps.items depth
             → EndsWithout Not self.old.operators.items
-            → IfErr result (Tells Memory (TakesMemoryAfter tokens)
+            → IfErr result (Tells Memory (TakesMemoryAfter schema tokens)
             (RefusesTaken schema (wants_operator depth) (token_of token.entry))) }
     {
         match token {
@@ -241,7 +241,7 @@ impl Parser {
             × IsAt schema.now self.new (tokens ++ token_of token.entry ∷ []) next) }
         ensures refused { (tokens : List QueryToken) (depth : ℕ)
             → IsAt schema.now self.old tokens depth
-            → IfErr result (Tells Memory (TakesMemoryAfter tokens)
+            → IfErr result (Tells Memory (TakesMemoryAfter schema.now tokens)
             (RefusesTaken schema.now (state_of self.old depth) (token_of token.entry))) }
     {
         if self.wants_operand {
@@ -261,7 +261,7 @@ impl Parser {
             × (query.steps.items ≡ steps_of tree)) }
         ensures refused { (schema : List Entry) (tokens : List QueryToken) (depth : ℕ)
             → IsAt schema self tokens depth
-            → IfErr result (Tells Memory (TakesMemoryAfter tokens)
+            → IfErr result (Tells Memory (TakesMemoryAfter schema tokens)
             (RefusesEnd (state_of self depth))) }
     {
         let mut parser = self;

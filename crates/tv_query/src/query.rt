@@ -4,7 +4,7 @@ ghost use Rattle.std.specs.Prelude.{◌≡◌, ◌≢◌, ◌<◌, ◌++◌, ◌
 ghost use Rattle.std.proofs.Props.{props};
 ghost use Rattle.std.specs.Char.{is_ascii_whitespace};
 ghost use Rattle.tv_indexing.specs.DocumentTerms.{is_among};
-ghost use Rattle.tv_query.specs.Tells.{Tells};
+ghost use Rattle.tv_indexing.specs.Tells.{Tells};
 ghost use Rattle.tv_query.specs.Fields.{AreDistinct, names_field, step_names};
 ghost use Rattle.tv_query.specs.Grammar.{QueryTree, WritesQuery, any, steps_of};
 ghost use Rattle.tv_query.specs.Parsing.{IsAt, state_of};
@@ -99,7 +99,7 @@ fn take_first<'q>(
     ensures shorter { IfOk result (λ rest. length rest.now < length text.now) }
     ensures refused { (tokens : List QueryToken) (depth : ℕ)
         → IsAt schema.now parser.old tokens depth
-        → IfErr result (Tells Memory (TakesMemoryAfter tokens)
+        → IfErr result (Tells Memory (TakesMemoryAfter schema.now tokens)
         (RefusesRest schema.now (state_of parser.old depth) text.now)) }
 {
     match next_token(text) {
@@ -138,8 +138,8 @@ impl Query {
     ///
     /// Errors: `QueryError`, with the reason for the first token that can't stand where it does or whose clause is refused, and the place in
     /// bytes where that begins; where the text ends too early, that is its length. `Memory` has the place of the token, or of the end, for which
-    /// memory was refused. It hides only a reason that takes memory to find: `Unopened` and `Unclosed` after an `AND` or `OR`, and a clause that is
-    /// refused for another reason than that its field isn't indexed or has no prefixes.
+    /// memory was refused. It hides only a reason that takes memory to find: `Unopened` and `Unclosed` after an `AND` or `OR`, and of a clause a path
+    /// that names no field, a text that is no value or no range, and bounds that run backwards in a field that isn't of JSON objects.
     pub fn parse(alloc: Global, schema: &Schema, text: &str) -> Result<Query, QueryError>
         ensures made { IfOk result (λ query. (tokens : List QueryToken) × (tree : QueryTree)
             × WritesTokens text.now tokens × WritesQuery schema.now any tokens tree

@@ -1,10 +1,9 @@
 //! The terms that a clause of a query wants.
 
-ghost use Rattle.std.specs.Prelude.{◌≡◌, ◌↔◌, ◌∷◌, [], Err, IfOk, IsTrue, true};
+ghost use Rattle.std.specs.Prelude.{◌≡◌, ◌↔◌, ◌∷◌, [], IfOk, IsTrue};
 ghost use Rattle.std.specs.List.{Any, Contains};
-ghost use Rattle.tv_indexing.specs.Unless.{Unless};
-ghost use Rattle.tv_query.specs.Tells.{UnlessFirst};
-ghost use Rattle.tv_query.specs.Selections.{AnswersClause, AnswersInField, AreOfFirst, HasTermsOfText, IsWanted, TakesMemory, has_prefixes, is_of_facets, reason_of};
+ghost use Rattle.tv_indexing.specs.Tells.{UnlessFirst};
+ghost use Rattle.tv_query.specs.Selections.{AnswersClause, AnswersInField, AreOfFirst, HasTermsOfText, IsWanted, TakesMemory, TakesMemoryAt, has_prefixes, is_of_facets, reason_of};
 ghost use Rattle.tv_query.specs.Tokens.{of_prefix, of_range, of_text, wanted_text};
 ghost use Rattle.tv_query.specs.declared.query_error.QueryReason.TheVariants.{Memory};
 ghost use Rattle.tv_term.specs.Range.{IsIn};
@@ -77,7 +76,8 @@ fn exact_terms(
     at: &IndexedField<'_, '_>,
     text: &str,
 ) -> Result<TermList, QueryReason>
-    ensures { Unless Memory (HasTermsOfText at.now text.now) result }
+    ensures { UnlessFirst Memory (TakesMemoryAt at.now.type)
+        (HasTermsOfText at.now text.now) result }
 {
     let mut exact = TermList::new(alloc);
     match at.terms(alloc, text, &mut exact) {
@@ -105,7 +105,8 @@ fn text_selection(
     at: &IndexedField<'_, '_>,
     text: &str,
 ) -> Result<Selection, QueryReason>
-    ensures { Unless Memory (AnswersInField at.now (of_text text.now)) result }
+    ensures { UnlessFirst Memory (TakesMemoryAt at.now.type)
+        (AnswersInField at.now (of_text text.now)) result }
 {
     let field = at.field();
     if is_of_facets(at.field_type()) {
@@ -134,8 +135,8 @@ fn prefix_selection(
     at: &IndexedField<'_, '_>,
     text: &str,
 ) -> Result<Selection, QueryReason>
-    ensures answers { Unless Memory (AnswersInField at.now (of_prefix text.now)) result }
-    ensures memory { result ≡ Err Memory → has_prefixes at.now.type ≡ true }
+    ensures { UnlessFirst Memory (TakesMemoryAt at.now.type)
+        (AnswersInField at.now (of_prefix text.now)) result }
 {
     if !has_prefixes(at.field_type()) {
         return Err(QueryReason::NoPrefix);
@@ -156,7 +157,8 @@ fn range_selection(
     at: &IndexedField<'_, '_>,
     text: &str,
 ) -> Result<Selection, QueryReason>
-    ensures { Unless Memory (AnswersInField at.now (of_range text.now)) result }
+    ensures { UnlessFirst Memory (TakesMemoryAt at.now.type)
+        (AnswersInField at.now (of_range text.now)) result }
 {
     match at.ranges_of_text(alloc, text) {
         Ok(ranges) => Ok(Selection {
@@ -172,14 +174,15 @@ impl Selection {
     /// The terms that are wanted at a path of `schema`. The path is looked up once, before what is wanted there is read.
     ///
     /// Errors: `Clause`, where the schema refuses the path or the text; `NoPrefix`, where a prefix is wanted of an indexed field that is neither of
-    /// texts nor of facets nor of JSON objects; or `Memory`.
+    /// texts nor of facets nor of JSON objects; or `Memory`, which hides only a `Clause` of a path that names no field, of a text that is no value or no
+    /// range, or of bounds that run backwards in a field that isn't of JSON objects.
     pub fn of(
         alloc: Global,
         schema: &Schema,
         path: &str,
         wanted: Wanted<'_>,
     ) -> Result<Selection, QueryReason>
-        ensures { UnlessFirst Memory TakesMemory
+        ensures { UnlessFirst Memory (TakesMemory schema.now)
             (AnswersClause schema.now path.now (wanted_text wanted.entry)) result }
     {
         let at = match IndexedField::of(alloc, schema, path) {

@@ -8,8 +8,9 @@ use Rattle.tv_format.specs.Tree.{Document}
 use Rattle.tv_format.specs.Version.{Version}
 
 -- what was taken encodes this many pairs, and these are added
-pub record AddsBufferedPairs (v : Version) (old new : HeapPairs) (taken : List ℕ) (count : ℕ) : Type 0 where
+pub record AddsBufferedPairs (version : Version) (old new : HeapPairs) (taken : List ℕ)
+    (count : ℕ) : Type 0 where
   pub pairs : Document
   pub counted : length pairs ≡ count
-  pub encoded : Each (EncodesPair NoLegacy v) taken pairs
+  pub encoded : Each (EncodesPair NoLegacy version) taken pairs
   pub document : document_of new ≡ document_of old ++ pairs

@@ -19,36 +19,38 @@ use Rattle.tv_reading.specs.ChosenFields.{is_among, chosen}
 
 -- the bytes begin with this field
 abbrev pub BeginsAsPair : List ℕ → ℕ → Type 0
-BeginsAsPair bytes number = (rest : List ℕ) × Begins (λ b. Fixed 4 b number) bytes rest
+BeginsAsPair bytes number = (rest : List ℕ) × Begins (λ prefix. Fixed 4 prefix number) bytes rest
 
 -- The bytes encode a pair, which stands after the old ones if its field is among these.
-pub record AddsChosen (v : Version) (fields : List Field) (old : Document) (taken : List ℕ)
+pub record AddsChosen (version : Version) (fields : List Field) (old : Document) (taken : List ℕ)
     (new : HeapPairs) : Type 0 where
   pub pair : ℕ × Tree
-  pub encoded : EncodesPair Legacy v taken pair
+  pub encoded : EncodesPair Legacy version taken pair
   pub document : document_of new ≡ old ++ chosen fields (pair ∷ [])
 
 -- or none was taken
 abbrev pub AddsIf : Version → List Field → HeapPairs → HeapPairs → List ℕ → Bool → Type 0
-AddsIf v fields old new taken true = AddsChosen v fields (document_of old) taken new
-AddsIf v fields old new taken false = (taken ≡ []) × (document_of new ≡ document_of old)
+AddsIf version fields old new taken true = AddsChosen version fields (document_of old) taken new
+AddsIf version fields old new taken false = (taken ≡ []) × (document_of new ≡ document_of old)
 
 -- what is found after pairs that can stand there
 abbrev pub FindsPair : Version → List Field → Document → List ℕ → HeapPairs → Type 0
-FindsPair v fields old taken new = CanStand v old → AddsChosen v fields old taken new
+FindsPair version fields old taken new = CanStand version old → AddsChosen version fields old taken new
 
 abbrev pub FindsNoPair : Version → Document → List ℕ → Refusal → Type 0
-FindsNoPair v old bytes r = CanStand v old → ErrorInPair Legacy ErrorInLegacy v bytes r
+FindsNoPair version old bytes refusal = CanStand version old
+    → ErrorInPair Legacy ErrorInLegacy version bytes refusal
 
 -- A prefix of the bytes encodes a chosen field and what has come of its value, and that has no room in a heap
 -- after the pairs.
-pub record PairHasNoRoom (v : Version) (fields : List Field) (old : Document) (whole : List ℕ) : Type 0 where
+pub record PairHasNoRoom (version : Version) (fields : List Field) (old : Document)
+    (whole : List ℕ) : Type 0 where
   pub number : ℕ
   pub state : State
   pub prefix : List ℕ
   pub rest : List ℕ
   pub joined : whole ≡ prefix ++ rest
   pub is : IsState state
-  pub encoded : Encoded Legacy v prefix (field number ∷ parts_of state)
+  pub encoded : Encoded Legacy version prefix (field number ∷ parts_of state)
   pub among : is_among fields number ≡ true
   pub no_room : 4294967295 < document_room old + state_room state

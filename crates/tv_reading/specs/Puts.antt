@@ -26,35 +26,35 @@ use Rattle.tv_reading.specs.declared.reading.Reading.{Reading}
 -- ---- before what is finished is closed
 
 abbrev pub MayStand : State → Type 0
-MayStand (complete t) = Unit {0}
+MayStand (complete tree) = Unit {0}
 MayStand (in_lists ls) = Unit {0}
-MayStand (in_bytes ls kind n bs) = length bs < n
+MayStand (in_bytes ls kind number bs) = length bs < number
 
 abbrev pub IsWithinPair : Option ℕ → Document → Option ℕ → State → Type 0
-IsWithinPair (Some n) d (Some f) s = (length d < n) × MayStand s
-IsWithinPair _ d f s = ⊥
+IsWithinPair (Some announced) finished (Some number) state = (length finished < announced) × MayStand state
+IsWithinPair _ finished number state = ⊥
 
 -- within a pair
-pub record IsOpen (r : Reading) : Type 0 where
-  pub not_failed : r.builder.failed ≡ false
-  pub counted : r.finished ≡ length (built r.builder)
-  pub within : IsWithinPair r.announced (built r.builder) r.field (state_of r.builder)
+pub record IsOpen (reading : Reading) : Type 0 where
+  pub not_failed : reading.builder.failed ≡ false
+  pub counted : reading.finished ≡ length (built reading.builder)
+  pub within : IsWithinPair reading.announced (built reading.builder) reading.field (state_of reading.builder)
 
 abbrev pub IsEnding : Option ℕ → Document → Option ℕ → State → Type 0
-IsEnding (Some n) d (Some f) s = (length d < n) × HasAllBytes s
-IsEnding _ d f s = ⊥
+IsEnding (Some announced) finished (Some number) state = (length finished < announced) × HasAllBytes state
+IsEnding _ finished number state = ⊥
 
 -- within a pair, and all open bytes have come
-pub record AtEnd (r : Reading) : Type 0 where
-  pub not_failed : r.builder.failed ≡ false
-  pub counted : r.finished ≡ length (built r.builder)
-  pub ending : IsEnding r.announced (built r.builder) r.field (state_of r.builder)
+pub record AtEnd (reading : Reading) : Type 0 where
+  pub not_failed : reading.builder.failed ≡ false
+  pub counted : reading.finished ≡ length (built reading.builder)
+  pub ending : IsEnding reading.announced (built reading.builder) reading.field (state_of reading.builder)
 
 -- within a pair this comes next
-pub record Awaiting (r : Reading) (what : Awaits) : Type 0 where
-  pub sound : IsSound r
-  pub field : HasField r.field
-  pub next : awaited (state_of r.builder) ≡ what
+pub record Awaiting (reading : Reading) (what : Awaits) : Type 0 where
+  pub sound : IsSound reading
+  pub field : HasField reading.field
+  pub next : awaited (state_of reading.builder) ≡ what
 
 -- ---- what a call leaves
 
@@ -76,40 +76,40 @@ pub record LacksRoom (old : Reading) (ps : List Part) : Type 0 where
   pub no_room : 4294967295 < document_room finished + state_room state
 
 abbrev pub PutsParts : Reading → Reading → List Part → Result (Unit {0}) DeserializeError → Type 0
-PutsParts old new ps (Ok x) = PartsPut old new ps
+PutsParts old new ps (Ok done) = PartsPut old new ps
 PutsParts old new ps (Err errors.HeapFull) = LacksRoom old ps
 PutsParts old new ps (Err errors.Memory) = Unit {0}
 PutsParts old new ps (Err _) = ⊥
 
 -- they are no text
 abbrev pub NoContent : Cause → State → Type 0
-NoContent causes.NotUtf8 s = ¬ HasContent s
-NoContent _ s = ⊥
+NoContent causes.NotUtf8 state = ¬ HasContent state
+NoContent _ state = ⊥
 
 -- the same where open bytes end
 abbrev pub PutsEnd : Reading → Reading → Result (Unit {0}) DeserializeError → Type 0
-PutsEnd old new (Ok x) = PartsPut old new []
+PutsEnd old new (Ok done) = PartsPut old new []
 PutsEnd old new (Err errors.HeapFull) = LacksRoom old []
 PutsEnd old new (Err errors.Memory) = Unit {0}
-PutsEnd old new (Err (errors.CorruptedValue c)) = NoContent c (state_of old.builder)
+PutsEnd old new (Err (errors.CorruptedValue cause)) = NoContent cause (state_of old.builder)
 PutsEnd old new (Err _) = ⊥
 
 -- open bytes have all come with these, and are no text
 abbrev pub EndNoText : State → List ℕ → Type 0
-EndNoText (in_bytes ls kind n bs) more = IsTextKind kind × (length bs + length more ≡ n)
+EndNoText (in_bytes ls kind number bs) more = IsTextKind kind × (length bs + length more ≡ number)
     × ¬ IsUtf8 (bs ++ more)
 EndNoText _ more = ⊥
 
 abbrev pub NoText : Cause → State → List ℕ → Type 0
-NoText causes.NotUtf8 s more = EndNoText s more
-NoText _ s more = ⊥
+NoText causes.NotUtf8 state more = EndNoText state more
+NoText _ state more = ⊥
 
 -- the same of bytes, which may be no text
 abbrev pub PutsBytes : Reading → Reading → List ℕ → List Part → Result (Unit {0}) DeserializeError → Type 0
-PutsBytes old new more ps (Ok x) = PartsPut old new ps
+PutsBytes old new more ps (Ok done) = PartsPut old new ps
 PutsBytes old new more ps (Err errors.HeapFull) = LacksRoom old ps
 PutsBytes old new more ps (Err errors.Memory) = Unit {0}
-PutsBytes old new more ps (Err (errors.CorruptedValue c)) = NoText c (state_of old.builder) more
+PutsBytes old new more ps (Err (errors.CorruptedValue cause)) = NoText cause (state_of old.builder) more
 PutsBytes old new more ps (Err _) = ⊥
 
 -- all but codes alone
@@ -126,9 +126,9 @@ bytes_kind _ = kinds.Str
 
 -- what is taken of a value at once, as parts
 abbrev pub head_parts : HeadPart → List Part
-head_parts (leaf_head l) = value (leaf l) ∷ []
-head_parts (length_head t n) = bytes_head (bytes_kind t) n ∷ []
-head_parts (array_number n) = array_head n ∷ []
-head_parts (object_number n) = object_head n ∷ []
+head_parts (leaf_head content) = value (leaf content) ∷ []
+head_parts (length_head kind announced) = bytes_head (bytes_kind kind) announced ∷ []
+head_parts (array_number announced) = array_head announced ∷ []
+head_parts (object_number announced) = object_head announced ∷ []
 head_parts tokenized_head = []
 head_parts legacy_head = []

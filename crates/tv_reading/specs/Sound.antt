@@ -10,29 +10,33 @@ use Rattle.tv_format.specs.TreeCode.{coded_document}
 use Rattle.tv_reading.specs.Prefix.{IsBetweenParts, IsPlace, IsSound}
 use Rattle.tv_reading.specs.declared.reading.Reading.{Reading}
 
-IsBetweenParts-prop : (s : State) → IsProp (IsBetweenParts s)
-IsBetweenParts-prop (complete t) x y = absurd x
-IsBetweenParts-prop (in_lists ls) x y = refl
-IsBetweenParts-prop (in_bytes ls kind n bs) x y = le_prop x y
+IsBetweenParts-prop : (state : State) → IsProp (IsBetweenParts state)
+IsBetweenParts-prop (complete tree) one other = absurd one
+IsBetweenParts-prop (in_lists ls) one other = refl
+IsBetweenParts-prop (in_bytes ls kind number bs) one other = le_prop one other
 
-IsPlace-prop : (a : Option ℕ) (d : Document) (f : Option ℕ) (s : State) → IsProp (IsPlace a d f s)
-IsPlace-prop None d None s x y = λ i. (
-  Coded-set coded_document _ _ x.0 y.0 i,
-  Coded-set coded_state _ _ x.1 y.1 i,
+IsPlace-prop : (announced : Option ℕ) (document : Document) (field : Option ℕ) (state : State)
+    → IsProp (IsPlace announced document field state)
+IsPlace-prop None document None state one other = λ i. (
+  Coded-set coded_document _ _ one.0 other.0 i,
+  Coded-set coded_state _ _ one.1 other.1 i,
 )
-IsPlace-prop None d (Some f) s x y = absurd x
-IsPlace-prop (Some n) d None s x y = λ i. (le_prop x.0 y.0 i, Coded-set coded_state _ _ x.1 y.1 i)
-IsPlace-prop (Some n) d (Some f) s x y = λ i. (le_prop x.0 y.0 i, IsBetweenParts-prop s x.1 y.1 i)
+IsPlace-prop None document (Some field) state one other = absurd one
+IsPlace-prop (Some number) document None state one other =
+    λ i. (le_prop one.0 other.0 i, Coded-set coded_state _ _ one.1 other.1 i)
+IsPlace-prop (Some number) document (Some field) state one other =
+    λ i. (le_prop one.0 other.0 i, IsBetweenParts-prop state one.1 other.1 i)
 
-IsSound-prop : (r : Reading) → IsProp (IsSound r)
-IsSound-prop r x y =
-    let place = IsPlace-prop r.announced (built r.builder) r.field (state_of r.builder) x.place y.place in
+IsSound-prop : (reading : Reading) → IsProp (IsSound reading)
+IsSound-prop reading one other =
+    let place = IsPlace-prop reading.announced (built reading.builder) reading.field
+    (state_of reading.builder) one.place other.place in
     λ i. record {
-      not_failed = Coded-set coded_bool _ _ x.not_failed y.not_failed i;
-      counted = ℕ_set _ _ x.counted y.counted i;
+      not_failed = Coded-set coded_bool _ _ one.not_failed other.not_failed i;
+      counted = ℕ_set _ _ one.counted other.counted i;
       place = place i;
     }
 
 -- as long as no step has failed
-pub SoundUnless-prop : (failed : Bool) (r : Reading) → IsProp (failed ≡ false → IsSound r)
-SoundUnless-prop failed r x y = λ i e. IsSound-prop r (x e) (y e) i
+pub SoundUnless-prop : (failed : Bool) (reading : Reading) → IsProp (failed ≡ false → IsSound reading)
+SoundUnless-prop failed reading one other = λ i live. IsSound-prop reading (one live) (other live) i

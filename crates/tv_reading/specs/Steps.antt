@@ -17,16 +17,16 @@ use Rattle.tv_reading.specs.declared.reading.Reading.{Reading}
 
 -- whatever encodes what had come, with these bytes after it, encodes what has come now
 abbrev pub Advances : (List ℕ → Entries → Type 0) → Version → Reading → Reading → List ℕ → Type 0
-Advances L v old new taken = (bytes : List ℕ) → Encoded L v bytes (parts_read old)
-    → Encoded L v (bytes ++ taken) (parts_read new)
+Advances IsLegacy version old new taken = (bytes : List ℕ) → Encoded IsLegacy version bytes (parts_read old)
+    → Encoded IsLegacy version (bytes ++ taken) (parts_read new)
 
 abbrev pub HasFirstByte : ℕ → List ℕ → Type 0
 HasFirstByte code [] = ⊥
-HasFirstByte code (b ∷ bytes) = b ≡ code
+HasFirstByte code (first ∷ bytes) = first ≡ code
 
 -- a pre-tokenized text, or an object as older stores hold it
 abbrev pub IsTakenWhole : Reading → List ℕ → Type 0
-IsTakenWhole r bytes = ValueNext r × (HasFirstByte 7 bytes ⊎ HasFirstByte 8 bytes)
+IsTakenWhole reading bytes = ValueNext reading × (HasFirstByte 7 bytes ⊎ HasFirstByte 8 bytes)
 
 -- this many bytes of those that were left were taken, whatever came of them: at most 4096, unless a value is
 -- taken whole
@@ -35,16 +35,17 @@ IsFew old left before after = (after ≤ before + 4096) ⊎ IsTakenWhole old lef
 
 -- one value of this kind, and nothing after it
 abbrev pub TakesWhole : Version → Reading → List ℕ → Type 0
-TakesWhole v r taken = IsTakenWhole r taken × IsValueEncoding v taken
+TakesWhole version reading taken = IsTakenWhole reading taken × IsValueEncoding version taken
 
 -- A step took these bytes: one at least, and at most 4096 unless a value was taken whole. Where no object of
 -- an older store was seen, none
 -- is encoded by them.
-pub record Stepped (v : Version) (legacy_seen : Bool) (old new : Reading) (taken : List ℕ) : Type 0 where
+pub record Stepped (version : Version) (legacy_seen : Bool) (old new : Reading)
+    (taken : List ℕ) : Type 0 where
   pub some : 0 < length taken
-  pub in_pieces : (length taken ≤ 4096) ⊎ TakesWhole v old taken
-  pub goes : Advances Legacy v old new taken
-  pub plain : legacy_seen ≡ false → Advances NoLegacy v old new taken
+  pub in_pieces : (length taken ≤ 4096) ⊎ TakesWhole version old taken
+  pub goes : Advances Legacy version old new taken
+  pub plain : legacy_seen ≡ false → Advances NoLegacy version old new taken
 
 -- Whether an object of an older store was seen: it still is, where it was; and one is seen where a value is
 -- awaited and its code comes first.

@@ -2,9 +2,8 @@
 
 ghost use Rattle.std.specs.Prelude.{◌≡◌, [], Ok, IfSome, IsErrOf, true};
 ghost use Rattle.tv_builder.specs.HeldPairs.{document_of};
-ghost use Rattle.tv_reading.specs.ChosenFields.{EncodesChosen, HasNoRoomChosen};
+ghost use Rattle.tv_reading.specs.ChosenFields.{ChosenHaveNoRoom, FindsChosen};
 ghost use Rattle.tv_reading.specs.ChosenPair.{BeginsAsPair, AddsIf, FindsPair, FindsNoPair, PairHasNoRoom};
-ghost use Rattle.tv_reading.specs.Documents.{NoDocument};
 ghost use Rattle.tv_reading.specs.PairValue.{CanStand};
 ghost use Rattle.tv_reader.specs.Finds.{Finds, Nothing};
 ghost use Rattle.tv_reader.specs.Version.{version_of};
@@ -125,10 +124,9 @@ pub fn take_chosen_into<S: ByteSource>(
     fields: &[Field],
 ) -> Result<HeapPairs, DeserializeError>
     requires { document_of empty ≡ [] }
-    ensures finds { Finds S.ByteSource source.old count.old source.new count.new
-        result (EncodesChosen (version_of version) fields.now) (NoDocument (version_of version)) }
-    ensures no_room { S.is_known source.old → IsErrOf result HeapFull
-        → HasNoRoomChosen (version_of version) fields.now (S.left source.old) }
+    ensures finds { FindsChosen version fields.now S.ByteSource source.old count.old source.new
+        count.new result }
+    ensures no_room { ChosenHaveNoRoom version fields.now S.ByteSource source.old result }
 {
     let announced = take_document_head(source, count)?;
     let mut document = empty;

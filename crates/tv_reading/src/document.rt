@@ -2,9 +2,9 @@
 
 ghost use Rattle.std.specs.Prelude.{◌≡◌, [], IsErrOf};
 ghost use Rattle.tv_builder.specs.HeldPairs.{document_of};
-ghost use Rattle.tv_reading.specs.Documents.{EncodesRead, EncodesRest, NoDocument};
-ghost use Rattle.tv_reading.specs.PairValue.{CanStand, FindsValue, FindsNoValue, ValueHasNoRoom};
-ghost use Rattle.tv_reading.specs.Prefix.{IsSound, IsMalformedNext, HasNoRoom, NoRoomBehind};
+ghost use Rattle.tv_reading.specs.Documents.{DocumentHasNoRoom, EncodesRest, FindsDocument};
+ghost use Rattle.tv_reading.specs.PairValue.{FindsPairValue, PairValueHasNoRoom};
+ghost use Rattle.tv_reading.specs.Prefix.{IsSound, IsMalformedNext, NoRoomBehind};
 ghost use Rattle.tv_reader.specs.Finds.{Finds};
 ghost use Rattle.tv_reader.specs.Version.{version_of};
 ghost use Rattle.tv_reader.specs.declared.error.DeserializeError.TheVariants.{HeapFull};
@@ -62,10 +62,9 @@ pub fn take_document<S: ByteSource>(
     count: &mut u64,
     version: DocStoreVersion,
 ) -> Result<HeapPairs, DeserializeError>
-    ensures finds { Finds S.ByteSource source.old count.old source.new count.new
-        result (EncodesRead (version_of version)) (NoDocument (version_of version)) }
-    ensures no_room { S.is_known source.old → IsErrOf result HeapFull
-        → HasNoRoom (version_of version) (S.left source.old) }
+    ensures finds { FindsDocument version S.ByteSource source.old count.old source.new count.new
+        result }
+    ensures no_room { DocumentHasNoRoom version S.ByteSource source.old result }
 {
     take_document_into(alloc, HeapPairs::new(alloc), source, count, version)
 }
@@ -80,10 +79,9 @@ pub fn take_document_into<S: ByteSource>(
     version: DocStoreVersion,
 ) -> Result<HeapPairs, DeserializeError>
     requires { document_of empty ≡ [] }
-    ensures finds { Finds S.ByteSource source.old count.old source.new count.new
-        result (EncodesRead (version_of version)) (NoDocument (version_of version)) }
-    ensures no_room { S.is_known source.old → IsErrOf result HeapFull
-        → HasNoRoom (version_of version) (S.left source.old) }
+    ensures finds { FindsDocument version S.ByteSource source.old count.old source.new count.new
+        result }
+    ensures no_room { DocumentHasNoRoom version S.ByteSource source.old result }
 {
     let announced = take_document_head(source, count)?;
     let mut document = empty;
@@ -112,12 +110,9 @@ pub fn take_pair_value<S: ByteSource>(
     field: u32,
     bytes: &mut Vec<u8>,
 ) -> Result<HeapPairs, DeserializeError>
-    ensures finds { Finds S.ByteSource source.old count.old source.new count.new
-        result (FindsValue (version_of version) (document_of document) field)
-        (FindsNoValue (version_of version) (document_of document)) }
-    ensures no_room { S.is_known source.old → IsErrOf result HeapFull
-        → CanStand (version_of version) (document_of document)
-        → ValueHasNoRoom (version_of version) (document_of document) (S.left source.old) }
+    ensures finds { FindsPairValue version document field S.ByteSource source.old count.old
+        source.new count.new result }
+    ensures no_room { PairValueHasNoRoom version document S.ByteSource source.old result }
 {
     let begun = Reading::before_value(document, field);
     take_rest(alloc, source, count, version, begun, bytes)

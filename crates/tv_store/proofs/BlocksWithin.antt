@@ -71,7 +71,7 @@ module _ {count : ℕ} {before after : BlockReader} {read : Result (Unit {0}) Li
       parts_placed (Ok x) h = h
       parts_placed (Err e) h = h
 
-same_most : (most : Option ℕ) → most ≢ Some 0 → at_least_one most ≡ most
+pub same_most : (most : Option ℕ) → most ≢ Some 0 → at_least_one most ≡ most
 same_most None some = refl
 same_most (Some zero) some = absurd (some refl)
 same_most (Some (suc n)) some = refl

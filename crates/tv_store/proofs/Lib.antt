@@ -19,4 +19,7 @@ pub mod WithinDepth
 pub mod WithinLimits
 pub mod TestedParts
 pub mod StepsPaid
+pub mod Standing
 pub mod Alike
+pub mod WithinAlike
+pub mod MigratedAlike

@@ -3,7 +3,7 @@ use Rattle.std.proofs.Common.{◌≡◌, ℕ, ◌+◌, ◌-◌, ◌^◌, ◌<◌
 use Rattle.std.specs.Prelude.{IfErr, IsErrOf, OnOk, OnErr, Vec, cond}
 use Rattle.std.specs.declared.alloc.Global.{Global}
 use Rattle.std.proofs.lemmas.Result.{IfErr-at_err}
-use Rattle.tv_base.specs.ReadsAs.{Grammar, Reads}
+use Rattle.tv_base.specs.ReadsAs.{Grammar, Reads, Shows}
 use Rattle.tv_base.specs.Stop.{Counts, CountsBy, CountsStop}
 use Rattle.tv_base.specs.declared.cause.Cause.{Cause}
 use Rattle.tv_base.specs.declared.cause.Cause.TheVariants.{TooLong, UnexpectedEnd}
@@ -38,7 +38,7 @@ use Rattle.tv_store.specs.declared.limits.ReadLimit.TheVariants as limit
 use Rattle.tv_store.specs.declared.limits.ReadLimits.{ReadLimits}
 use Rattle.tv_store.specs.declared.projection.Projection.{Projection}
 use Rattle.tv_store.specs.declared.projection.Projection.TheVariants.{All, Fields}
-use Rattle.tv_store.proofs.Promises.{refusal_is_true}
+use Rattle.tv_store.proofs.Promises.{refusal_is_shown, refusal_is_true}
 use Rattle.tv_value.specs.declared.field.Field.{Field}
 
 -- ---- why a document is refused
@@ -59,6 +59,10 @@ none_after : (prefix rest : List ℕ) → [] ≡ prefix ++ rest → rest ≡ []
 none_after [] rest is = sym is
 none_after (b ∷ bs) rest is = absurd (cc)
 
+-- the same bytes show an error that is told in other words
+shows_as : {P Q : List ℕ → Refusal → Type 0} {old new : List ℕ} {r : Refusal} → ((bytes : List ℕ) (r : Refusal) → P bytes r → Q bytes r) → Shows (corrupted UnexpectedEnd) P old new r → Shows (corrupted UnexpectedEnd) Q old new r
+shows_as {r = r} to s = record { taken = s.taken; joined = s.joined; shown = to s.taken r s.shown; all = s.all; early = λ other prefix byte last. to prefix (corrupted UnexpectedEnd) (s.early other prefix byte last) }
+
 -- ---- without limits
 
 -- every document is within no limits
@@ -70,6 +74,7 @@ module _ {S Y X : Type 0} {source : Ghosts S} {grammar : Grammar Refusal Y} {old
   reason_of : (result : Result X DeserializeError) (e : DeserializeError) → result ≡ Err e → Reads reading grammar source old new view result → ((bytes : List ℕ) (r : Refusal) → grammar.HasError bytes r → NoDocument v bytes r)
       → (grammar.NoRoom (source.left old) → NoRoomFor v projection (source.left old)) → source.is_known old → (source.left old ≡ [] → SaysNothing e) → IsReason v projection (source.left old) (source.left new) (limited.Read e)
   reason_of result e is reads to room known ends = record {
+    shown = λ few r refusal. shows_as to (refusal_is_shown (known, few) reads e r is refusal);
     true_of = λ few.
         is_refused_by (NoRoomFor v projection) v (source.left old) e (λ r refusal. to _ r (refusal_is_true (known, few) reads e r is refusal)) (λ full. room (reads.no_room known e is full))
         (IfErr-at_err IsReadingError is reads.errors);
@@ -106,7 +111,7 @@ module _ {S : Type 0} (source : Ghosts S) {old new : S} (v : Version) where
 -- ---- within limits
 
 -- an error of the bytes is true of them
-refused_within : {S X : Type 0} {source : Ghosts S} {old new : S} {view : X → Document} {result : Result X LimitedReadError} (v : Version) (limits : ReadLimits) → source.is_known old → length (source.left old) < 2 ^ 64 - 1
+pub refused_within : {S X : Type 0} {source : Ghosts S} {old new : S} {view : X → Document} {result : Result X LimitedReadError} (v : Version) (limits : ReadLimits) → source.is_known old → length (source.left old) < 2 ^ 64 - 1
     → Reads (within limits) (documents v) source old new view result → (e : DeserializeError) (r : Refusal) → IsErrOf result (limited.Read e) → IsRefusal e r → NoDocument v (source.left old) r
 refused_within {source = source} {old = old} {new = new} {result = result} v limits known few reads _ _ is (is_corrupted {c = c}) = by_cause c is
   where
@@ -116,6 +121,18 @@ refused_within {source = source} {old = old} {new = new} {result = result} v lim
         absurd (omega (arith, few, ap length t.1, length-append t.0 (source.left new), t.2))
     by_cause c is = reads.error known (limited.Read (errors.CorruptedValue c)) (corrupted c) is refl
 refused_within v limits known few reads _ _ is (is_no_text {actual = actual}) = reads.error known (limited.Read (errors.TypeMismatch types.String actual)) (no_text_key (value_type_code actual)) is refl
+
+-- and just the bytes that show it were taken
+pub shown_within : {S X : Type 0} {source : Ghosts S} {old new : S} {view : X → Document} {result : Result X LimitedReadError} (v : Version) (limits : ReadLimits) → source.is_known old → length (source.left old) < 2 ^ 64 - 1
+    → Reads (within limits) (documents v) source old new view result → (e : DeserializeError) (r : Refusal) → IsErrOf result (limited.Read e) → IsRefusal e r → Shows (corrupted UnexpectedEnd) (NoDocument v) (source.left old) (source.left new) r
+shown_within {source = source} {old = old} {new = new} {result = result} v limits known few reads _ _ is (is_corrupted {c = c}) = by_cause c is
+  where
+    by_cause : (c : Cause) → IsErrOf result (limited.Read (errors.CorruptedValue c)) → Shows (corrupted UnexpectedEnd) (NoDocument v) (source.left old) (source.left new) (corrupted c)
+    by_cause TooLong is =
+        let t = reads.too_long known (limited.Read (errors.CorruptedValue TooLong)) (corrupted UnexpectedEnd) is refl in
+        absurd (omega (arith, few, ap length t.1, length-append t.0 (source.left new), t.2))
+    by_cause c is = reads.shows known (limited.Read (errors.CorruptedValue c)) (corrupted c) is refl
+shown_within v limits known few reads _ _ is (is_no_text {actual = actual}) = reads.shows known (limited.Read (errors.TypeMismatch types.String actual)) (no_text_key (value_type_code actual)) is refl
 
 module _ {S : Type 0} (source : Ghosts S) {old new : S} (v : Version) (limits : ReadLimits) where
   pub one_within : (result : Result Bool LimitedReadError) (document : CompactDoc) → Reads (within limits) (documents v) source old new document_of (as_read_within result document) → StopsNextWithin v limits source old new result
@@ -143,10 +160,11 @@ module _ {S : Type 0} (source : Ghosts S) {old new : S} (v : Version) (limits : 
     true_of = λ few.
         is_refused_by (NoRoomFor v (All limits)) v (source.left old) e (λ r refusal. refused_within v limits known few reads e r refl refusal) (λ full. reads.no_room known (limited.Read e) refl (ap limited.Read full)) reads.errors;
     at_end = ends known;
+    shown = λ few r refusal. shown_within v limits known few reads e r refl refusal;
   }
-  one_within (Err (limited.Limit limit.Bytes)) document reads stops fits end ends known = record { true_of = stops.bytes known refl; at_end = ends known }
-  one_within (Err (limited.Limit limit.HeapBytes)) document reads stops fits end ends known = record { true_of = stops.heap known refl; at_end = ends known }
-  one_within (Err (limited.Limit limit.Depth)) document reads stops fits end ends known = record { true_of = stops.depth known refl; at_end = ends known }
+  one_within (Err (limited.Limit limit.Bytes)) document reads stops fits end ends known = record { true_of = stops.bytes known refl; at_end = ends known; shown = tt }
+  one_within (Err (limited.Limit limit.HeapBytes)) document reads stops fits end ends known = record { true_of = stops.heap known refl; at_end = ends known; shown = tt }
+  one_within (Err (limited.Limit limit.Depth)) document reads stops fits end ends known = record { true_of = stops.depth known refl; at_end = ends known; shown = tt }
 
 -- what is kept needn't be said
 pub any_document : (v : Version) (projection : Projection) (IsKept : Document → Type 0) (old new : List ℕ) (result : Result Bool LimitedReadError) → ReadsOne v projection IsKept old new result → ReadsOne v projection (λ d. Unit {0}) old new result

@@ -8,7 +8,7 @@ use Rattle.tv_base.specs.declared.cause.Cause.TheVariants.{UnexpectedEnd, TooLon
 use Rattle.tv_base.specs.declared.source.ByteSource.{Ghosts}
 use Rattle.tv_base.specs.Parts.{Begins}
 use Rattle.tv_base.specs.Source.{Failures}
-use Rattle.tv_base.specs.ReadsAs.{Grammar, IsReadUnless, Known, Reads}
+use Rattle.tv_base.specs.ReadsAs.{Grammar, IsReadUnless, Known, Reads, Shows}
 use Rattle.tv_base.specs.Stop.{Stop, CountsStop, Counts}
 use Rattle.tv_base.specs.Stop.Stop.{InputError, Uncounted}
 use Rattle.tv_base.proofs.ByGrammar.{few_taken}
@@ -177,6 +177,15 @@ refused_cause known h c is = h.error known.0 (errors.CorruptedValue c) (corrupte
 pub refusal_is_true : {Y S X : Type 0} {grammar : Grammar Refusal Y} {source : Ghosts S} {old new : S} {view : X → Y} {result : Result X DeserializeError} → Known source old → Reads reading grammar source old new view result → (e : DeserializeError) (r : Refusal) → IsErrOf result e → IsRefusal e r → grammar.HasError (source.left old) r
 refusal_is_true known h _ _ is (is_corrupted {c = c}) = refused_cause known h c is
 refusal_is_true known h _ _ is (is_no_text {actual = actual}) = h.error known.0 (errors.TypeMismatch types.String actual) (no_text_key (value_type_code actual)) is refl
+
+cause_shows : {Y S X : Type 0} {grammar : Grammar Refusal Y} {source : Ghosts S} {old new : S} {view : X → Y} {result : Result X DeserializeError} → Known source old → Reads reading grammar source old new view result → (c : Cause) → IsErrOf result (errors.CorruptedValue c) → Shows end grammar.HasError (source.left old) (source.left new) (corrupted c)
+cause_shows known h TooLong is = absurd (never_long known h (errors.CorruptedValue TooLong) end is refl)
+cause_shows known h c is = h.shows known.0 (errors.CorruptedValue c) (corrupted c) is refl
+
+-- just the bytes that show it were taken
+pub refusal_is_shown : {Y S X : Type 0} {grammar : Grammar Refusal Y} {source : Ghosts S} {old new : S} {view : X → Y} {result : Result X DeserializeError} → Known source old → Reads reading grammar source old new view result → (e : DeserializeError) (r : Refusal) → IsErrOf result e → IsRefusal e r → Shows end grammar.HasError (source.left old) (source.left new) r
+refusal_is_shown known h _ _ is (is_corrupted {c = c}) = cause_shows known h c is
+refusal_is_shown known h _ _ is (is_no_text {actual = actual}) = h.shows known.0 (errors.TypeMismatch types.String actual) (no_text_key (value_type_code actual)) is refl
 
 -- ---- in place of what is there
 

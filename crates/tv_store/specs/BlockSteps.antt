@@ -29,9 +29,9 @@ use Rattle.tv_store.specs.declared.limits.LimitedReadError.{LimitedReadError}
 -- ---- what is counted
 
 -- the reader begins after this number of documents, which take this number of bytes, and has read nothing
-pub record StartsAt (v : DocStoreVersion) (number bytes : ℕ) (reader : BlockReader) : Type 0 where
+pub record StartsAt (store_version : DocStoreVersion) (number bytes : ℕ) (reader : BlockReader) : Type 0 where
   pub document : document_of reader.document ≡ []
-  pub version : reader.version ≡ v
+  pub version : reader.version ≡ store_version
   pub documents : reader.documents ≡ number
   pub start : reader.start ≡ bytes
   pub unread : reader.taken ≡ 0
@@ -43,8 +43,8 @@ place_of reader = cond reader.failed (min (reader.start + reader.taken) (2 ^ 64 
 
 -- the next document, refused for this reason
 abbrev pub refusal_of : BlockReader → LimitedReadError → RefusedDocument
-refusal_of reader e =
-    record { document = reader.documents; start = reader.start; place = place_of reader; error = e }
+refusal_of reader reason =
+    record { document = reader.documents; start = reader.start; place = place_of reader; error = reason }
 
 -- both numbers stay
 pub record KeepsCounts (old new : BlockReader) : Type 0 where
@@ -59,7 +59,7 @@ pub record CountsDocument (old new : BlockReader) : Type 0 where
 abbrev pub CountsNext : {E : Type 0} → BlockReader → BlockReader → Result Bool E → Type 0
 CountsNext old new (Ok true) = CountsDocument old new
 CountsNext old new (Ok false) = KeepsCounts old new
-CountsNext old new (Err e) = KeepsCounts old new
+CountsNext old new (Err error) = KeepsCounts old new
 
 -- ---- the promise
 

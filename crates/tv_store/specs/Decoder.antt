@@ -52,9 +52,9 @@ pub record Steps {E S : Type 0} (kind : Errors Refusal E) (MayStop : E → ℕ �
   pub finds : old.failed ≡ false → ¬ IsDone old.reading
       → FindsBy kind.stop MayStop kind.end source.is_known source.left source.failures source_old old.count
       source_new new.count result
-      (λ b _. Stepped (version_of old.version) new.legacy_seen old.reading new.reading b)
+      (λ bytes _. Stepped (version_of old.version) new.legacy_seen old.reading new.reading bytes)
       (IsMalformedNext (version_of old.version) old.reading)
-  pub no_room : source.is_known source_old → (e : E) → IsErrOf result e → kind.IsFull e
+  pub no_room : source.is_known source_old → (error : E) → IsErrOf result error → kind.IsFull error
       → NoRoomBehind (version_of old.version) old.reading (source.left source_old)
   pub done : IfOk result (λ step. SaysDone step ↔ IsDone new.reading)
   pub not_failed : OnOk result (new.failed ≡ false)
@@ -87,25 +87,26 @@ StaysPaid old new =
 
 -- What has come is paid for by the bytes that were read. As long as no step was
 -- refused, as many bytes encode it.
-pub record IsPaidFor (d : DirectDecoder) : Type 0 where
-  pub paid : PaidBy d.reading.builder d.count
-  pub encoded : d.failed ≡ false → (bytes : List ℕ)
-      × Encoded NoLegacy (version_of d.version) bytes (parts_read d.reading) × (d.count ≡ length bytes)
+pub record IsPaidFor (decoder : DirectDecoder) : Type 0 where
+  pub paid : PaidBy decoder.reading.builder decoder.count
+  pub encoded : decoder.failed ≡ false → (bytes : List ℕ)
+      × Encoded NoLegacy (version_of decoder.version) bytes (parts_read decoder.reading)
+      × (decoder.count ≡ length bytes)
 
 -- The decoder and its source come to this by that many steps, whatever each of them returned.
 abbrev pub StepsTo : {S : Type 0} (source : Ghosts S) → ℕ → S → DirectDecoder → S → DirectDecoder → Type 0
 StepsTo source zero source_old old source_new new = (source_new ≡ source_old) × (new ≡ old)
-StepsTo {S} source (suc n) source_old old source_new new =
+StepsTo {S} source (suc steps) source_old old source_new new =
     (source_mid : S) × (mid : DirectDecoder) × (result : Result Step DeserializeError)
-    × StepsTo source n source_old old source_mid mid
+    × StepsTo source steps source_old old source_mid mid
     × ReadsStep source source_mid source_new mid new result
 
 -- a decoder of this version that had read nothing, after that many steps
 pub record IsStepped {S : Type 0} (source : Ghosts S) (version : DocStoreVersion) (steps : ℕ)
-    (source_old source_new : S) (d : DirectDecoder) : Type 0 where
+    (source_old source_new : S) (decoder : DirectDecoder) : Type 0 where
   pub start : DirectDecoder
   pub nothing : parts_read start.reading ≡ []
   pub uncounted : start.count ≡ 0
   pub not_failed : start.failed ≡ false
   pub same_version : start.version ≡ version
-  pub stepped : StepsTo source steps source_old start source_new d
+  pub stepped : StepsTo source steps source_old start source_new decoder

@@ -49,8 +49,8 @@ use Rattle.tv_store.specs.declared.limits.LimitedReadError.TheVariants as limite
 -- ---- which limit is passed
 
 abbrev pub IsPast : Option ℕ → ℕ → Type 0
-IsPast None n = ⊥
-IsPast (Some most) n = most < n
+IsPast None number = ⊥
+IsPast (Some most) number = most < number
 
 -- The limit that is passed where the heap has this many bytes and this many lists are open: that of the lists
 -- before that of the heap.
@@ -71,10 +71,11 @@ first_count (Some most) = 2 ^ 64 - 1 - most
 -- What is said of an error: where all bytes were taken that may be and more are needed, that the limit is
 -- passed, and else the error itself.
 abbrev pub Told : Bool → DeserializeError → LimitedReadError → Type 0
-Told took_all e (limited.Read told) = (told ≡ e) × (e ≡ errors.CorruptedValue TooLong → ¬ IsTrue took_all)
-Told took_all e (limited.Limit limit.Bytes) = IsTrue took_all × (e ≡ errors.CorruptedValue TooLong)
-Told took_all e (limited.Limit limit.HeapBytes) = ⊥
-Told took_all e (limited.Limit limit.Depth) = ⊥
+Told took_all error (limited.Read told) = (told ≡ error)
+    × (error ≡ errors.CorruptedValue TooLong → ¬ IsTrue took_all)
+Told took_all error (limited.Limit limit.Bytes) = IsTrue took_all × (error ≡ errors.CorruptedValue TooLong)
+Told took_all error (limited.Limit limit.HeapBytes) = ⊥
+Told took_all error (limited.Limit limit.Depth) = ⊥
 
 -- ---- what is found
 
@@ -96,8 +97,8 @@ FindsWithin source old old_count new new_count result Encodes HasError =
 
 -- why it stopped, as its source sees it
 abbrev pub limited_stop : LimitedReadError → Stop Refusal
-limited_stop (limited.Read e) = store_stop e
-limited_stop (limited.Limit l) = Short
+limited_stop (limited.Read error) = store_stop error
+limited_stop (limited.Limit passed) = Short
 
 -- the same of a part, where a limit may be passed
 abbrev pub FindsPartBy : {S X : Type 0} (is_known : S → Type 0) (left : S → List ℕ) (failures : S → Failures)
@@ -116,7 +117,7 @@ FindsPart source old old_count new new_count result Encodes HasError =
 
 -- no limit is passed but that of the bytes, and that one where just as many were taken
 abbrev pub IsCapped : Option ℕ → ℕ → LimitedReadError → Type 0
-IsCapped most count (limited.Read e) = Unit {0}
+IsCapped most count (limited.Read error) = Unit {0}
 IsCapped most count (limited.Limit limit.Bytes) = most ≡ Some count
 IsCapped most count (limited.Limit limit.HeapBytes) = ⊥
 IsCapped most count (limited.Limit limit.Depth) = ⊥
@@ -124,25 +125,26 @@ IsCapped most count (limited.Limit limit.Depth) = ⊥
 -- What a part's bytes, the heap and the open lists are once it has come, or which of them passes its limit.
 -- `old` bytes were taken before it, and `new` with it.
 abbrev pub TestsLimits : {X : Type 0} → ReadLimits → ℕ → ℕ → ℕ → ℕ → Result X LimitedReadError → Type 0
-TestsLimits limits old new heap open_lists (Ok x) = Checks limits heap open_lists None
-TestsLimits limits old new heap open_lists (Err (limited.Read e)) = Unit {0}
+TestsLimits limits old new heap open_lists (Ok value) = Checks limits heap open_lists None
+TestsLimits limits old new heap open_lists (Err (limited.Read error)) = Unit {0}
 TestsLimits limits old new heap open_lists (Err (limited.Limit limit.Bytes)) = (limits.bytes ≡ Some new)
     ⊎ (IsPast limits.bytes old × (new ≡ old))
-TestsLimits limits old new heap open_lists (Err (limited.Limit l)) = Checks limits heap open_lists (Some l)
+TestsLimits limits old new heap open_lists (Err (limited.Limit passed)) =
+    Checks limits heap open_lists (Some passed)
 
 -- what a part leaves of what had come: where it has come itself that grows, and else the finished pairs stay
 abbrev pub KeepsOrGrows : {X : Type 0} → Reading → Reading → Result X LimitedReadError → Type 0
-KeepsOrGrows old new (Ok x) = Grows old new
-KeepsOrGrows old new (Err (limited.Read e)) = KeepsPairs old new
+KeepsOrGrows old new (Ok value) = Grows old new
+KeepsOrGrows old new (Err (limited.Read error)) = KeepsPairs old new
 KeepsOrGrows old new (Err (limited.Limit limit.Bytes)) = KeepsPairs old new
-KeepsOrGrows old new (Err (limited.Limit l)) = Grows old new
+KeepsOrGrows old new (Err (limited.Limit passed)) = Grows old new
 
 -- ---- what comes of a document
 
 -- each tree of the document nests within this many lists, if that is limited
 abbrev pub AllNestWithinLimit : Option ℕ → Document → Type 0
-AllNestWithinLimit None d = Unit {0}
-AllNestWithinLimit (Some most) d = AllNestWithin most d
+AllNestWithinLimit None document = Unit {0}
+AllNestWithinLimit (Some most) document = AllNestWithin most document
 
 -- each tree of the document and its heap are within their limits
 pub record FitsLimits (limits : ReadLimits) (document : CompactDoc) : Type 0 where
@@ -152,132 +154,139 @@ pub record FitsLimits (limits : ReadLimits) (document : CompactDoc) : Type 0 whe
 -- What is returned where a document was read: itself, if its trees nest within the limit, and else that they
 -- don't. Or memory was refused.
 abbrev pub TestsDepth : Option ℕ → CompactDoc → Result CompactDoc LimitedReadError → Type 0
-TestsDepth most read (Ok d) = (d ≡ read) × AllNestWithinLimit most (document_of read)
-TestsDepth most read (Err (limited.Read e)) = e ≡ errors.Memory
+TestsDepth most read (Ok document) = (document ≡ read) × AllNestWithinLimit most (document_of read)
+TestsDepth most read (Err (limited.Read error)) = error ≡ errors.Memory
 TestsDepth most read (Err (limited.Limit limit.Depth)) = ¬ AllNestWithinLimit most (document_of read)
-TestsDepth most read (Err (limited.Limit l)) = ⊥
+TestsDepth most read (Err (limited.Limit passed)) = ⊥
 
 -- The bytes encode a document of which a tree nests deeper: an object of an older store may, in which no list
 -- is open while it is read, and so may a list without children, which is never open.
-pub record NestsDeeper (v : Version) (most : Option ℕ) (taken : List ℕ) : Type 0 where
+pub record NestsDeeper (version : Version) (most : Option ℕ) (taken : List ℕ) : Type 0 where
   pub document : Document
-  pub encoded : EncodesDocument Legacy v taken document
+  pub encoded : EncodesDocument Legacy version taken document
   pub deeper : ¬ AllNestWithinLimit most document
 
 -- More than this many lists are open in what the bytes encode: the finished pairs, a field, and what
 -- has come of its value.
-pub record IsDeep (v : Version) (most : Option ℕ) (taken : List ℕ) : Type 0 where
+pub record IsDeep (version : Version) (most : Option ℕ) (taken : List ℕ) : Type 0 where
   pub announced : ℕ
   pub finished : Document
   pub field : ℕ
   pub state : State
   pub less : length finished < announced
   pub is : IsState state
-  pub encoded : Encoded Legacy v taken (open_parts announced finished field state)
+  pub encoded : Encoded Legacy version taken (open_parts announced finished field state)
   pub deep : IsPast most (length (lists_of state))
 
 -- More lists are open than may be, or the whole document nests deeper.
 abbrev pub PassesDepth : Version → Option ℕ → List ℕ → Type 0
-PassesDepth v most taken = IsDeep v most taken ⊎ NestsDeeper v most taken
+PassesDepth version most taken = IsDeep version most taken ⊎ NestsDeeper version most taken
 
 -- What is written of what the bytes encode takes more than this many bytes of a heap: the finished pairs, and
 -- what has come of a value.
-pub record IsLarge (v : Version) (most : Option ℕ) (taken : List ℕ) : Type 0 where
+pub record IsLarge (version : Version) (most : Option ℕ) (taken : List ℕ) : Type 0 where
   pub announced : Option ℕ
   pub finished : Document
   pub field : Option ℕ
   pub state : State
   pub place : IsPlace announced finished field state
-  pub encoded : Encoded Legacy v taken (parts_at announced finished field state)
+  pub encoded : Encoded Legacy version taken (parts_at announced finished field state)
   pub large : IsPast most (length (state_heap (document_heap [] finished) state))
 
 -- ---- that limits are tested as bytes come
 
 -- The bytes encode what has come of a document, and that passes neither the limit of the open
 -- lists nor that of the heap.
-pub record StandsWithin (v : Version) (limits : ReadLimits) (bytes : List ℕ) : Type 0 where
+pub record StandsWithin (version : Version) (limits : ReadLimits) (bytes : List ℕ) : Type 0 where
   pub announced : Option ℕ
   pub finished : Document
   pub field : Option ℕ
   pub state : State
   pub is : IsState state
   pub place : IsPlace announced finished field state
-  pub encoded : Encoded Legacy v bytes (parts_at announced finished field state)
+  pub encoded : Encoded Legacy version bytes (parts_at announced finished field state)
   pub tested : Checks limits (length (state_heap (document_heap [] finished) state))
       (length (lists_of state)) None
 
 -- where a value is awaited, the code of a pre-tokenized text or of an object of an older
 -- store, which are taken whole
-abbrev pub BeginsWhole : {v : Version} {limits : ReadLimits} {bytes : List ℕ} → StandsWithin v limits bytes
+abbrev pub BeginsWhole : {version : Version} {limits : ReadLimits} {bytes : List ℕ}
+    → StandsWithin version limits bytes
     → List ℕ → Type 0
 BeginsWhole within part = HasField within.field × (awaited within.state ≡ awaits.Value)
     × (HasFirstByte 7 part ⊎ HasFirstByte 8 part)
 
 -- after what has come, a part, or a beginning of one: at most 4096 bytes, unless a value is taken whole
-abbrev pub IsNextPart : {v : Version} {limits : ReadLimits} {bytes : List ℕ} → Bool
-    → StandsWithin v limits bytes → List ℕ → Type 0
-IsNextPart {v = v} true within part = (length part ≤ 4096)
-    ⊎ (BeginsWhole within part × IsValueEncoding v part)
+abbrev pub IsNextPart : {version : Version} {limits : ReadLimits} {bytes : List ℕ} → Bool
+    → StandsWithin version limits bytes → List ℕ → Type 0
+IsNextPart {version = version} true within part = (length part ≤ 4096)
+    ⊎ (BeginsWhole within part × IsValueEncoding version part)
 IsNextPart false within part = (length part ≤ 4096) ⊎ BeginsWhole within part
 
 -- The bytes came part by part, and before each part what had come was within the limits.
-pub data CameWithin (v : Version) (limits : ReadLimits) : List ℕ → Type 0 where
-  nothing : CameWithin v limits []
-  and_part : (before part : List ℕ) → CameWithin v limits before → (within : StandsWithin v limits before)
+pub data CameWithin (version : Version) (limits : ReadLimits) : List ℕ → Type 0 where
+  nothing : CameWithin version limits []
+  and_part : (before part : List ℕ) → CameWithin version limits before
+      → (within : StandsWithin version limits before)
       → IsNextPart true within part
-      → CameWithin v limits (before ++ part)
+      → CameWithin version limits (before ++ part)
 
 -- The bytes came in this way, and then one more part came, or a beginning of one. So no limit is passed
 -- before that last part.
-pub record TakenWithin (v : Version) (limits : ReadLimits) (is_whole : Bool) (taken : List ℕ) : Type 0 where
+pub record TakenWithin (version : Version) (limits : ReadLimits) (is_whole : Bool)
+    (taken : List ℕ) : Type 0 where
   pub before : List ℕ
   pub last : List ℕ
   pub joined : taken ≡ before ++ last
-  pub came : CameWithin v limits before
-  pub within : StandsWithin v limits before
+  pub came : CameWithin version limits before
+  pub within : StandsWithin version limits before
   pub part : IsNextPart is_whole within last
 
 -- whether the last part has come: not where it can't be read, nor where more bytes are
 -- needed for it than may be taken
 abbrev pub ends_part : LimitedReadError → Bool
-ends_part (limited.Read e) = false
+ends_part (limited.Read error) = false
 ends_part (limited.Limit limit.Bytes) = false
 ends_part (limited.Limit limit.HeapBytes) = true
 ends_part (limited.Limit limit.Depth) = true
 
 abbrev pub has_come : {X : Type 0} → Result X LimitedReadError → Bool
-has_come (Ok x) = true
-has_come (Err e) = ends_part e
+has_come (Ok value) = true
+has_come (Err error) = ends_part error
 
 -- as many bytes as may be taken
 abbrev pub IsAll : Option ℕ → List ℕ → Type 0
 IsAll most taken = most ≡ Some (length taken)
 
 -- What couldn't be read, of bytes of which this many were taken.
-pub record Unread (v : Version) (old new : List ℕ) (count : ℕ) (e : DeserializeError) : Type 0 where
-  pub stop : GivesStop (corrupted UnexpectedEnd) (NoDocument v) old new count (store_stop e)
-  pub no_room : e ≡ errors.HeapFull → HasNoRoom v old
+pub record Unread (version : Version) (old new : List ℕ) (count : ℕ) (error : DeserializeError) : Type 0 where
+  pub stop : GivesStop (corrupted UnexpectedEnd) (NoDocument version) old new count (store_stop error)
+  pub no_room : error ≡ errors.HeapFull → HasNoRoom version old
 
 -- by what was taken
 abbrev pub OutcomeWithin : Version → ReadLimits → List ℕ → List ℕ → List ℕ
     → Result CompactDoc LimitedReadError → Type 0
-OutcomeWithin v limits old new taken (Ok d) = EncodesDocument Legacy v taken (document_of d)
-OutcomeWithin v limits old new taken (Err (limited.Read e)) = Unread v old new (length taken) e
-OutcomeWithin v limits old new taken (Err (limited.Limit limit.HeapBytes)) = IsLarge v limits.heap_bytes taken
-OutcomeWithin v limits old new taken (Err (limited.Limit limit.Depth)) = PassesDepth v limits.depth taken
-OutcomeWithin v limits old new taken (Err (limited.Limit limit.Bytes)) = IsAll limits.bytes taken
-    × NoDocument v taken (corrupted UnexpectedEnd)
+OutcomeWithin version limits old new taken (Ok document) =
+    EncodesDocument Legacy version taken (document_of document)
+OutcomeWithin version limits old new taken (Err (limited.Read error)) =
+    Unread version old new (length taken) error
+OutcomeWithin version limits old new taken (Err (limited.Limit limit.HeapBytes)) =
+    IsLarge version limits.heap_bytes taken
+OutcomeWithin version limits old new taken (Err (limited.Limit limit.Depth)) =
+    PassesDepth version limits.depth taken
+OutcomeWithin version limits old new taken (Err (limited.Limit limit.Bytes)) = IsAll limits.bytes taken
+    × NoDocument version taken (corrupted UnexpectedEnd)
 
-pub record ReadsByLimits (v : Version) (limits : ReadLimits) (old new : List ℕ)
+pub record ReadsByLimits (version : Version) (limits : ReadLimits) (old new : List ℕ)
     (result : Result CompactDoc LimitedReadError) : Type 0 where
   pub taken : List ℕ
   pub joined : old ≡ taken ++ new
   pub most : ¬ IsPast limits.bytes (length taken)
-  pub outcome : OutcomeWithin v limits old new taken result
+  pub outcome : OutcomeWithin version limits old new taken result
 
 -- the errors that come: those of reading, and a limit that is set
 abbrev pub IsLimitedError : ReadLimits → LimitedReadError → Type 0
-IsLimitedError limits (limited.Read e) = IsReadingError e
+IsLimitedError limits (limited.Read error) = IsReadingError error
 IsLimitedError limits (limited.Limit limit.HeapBytes) = IsSome limits.heap_bytes
 IsLimitedError limits (limited.Limit limit.Depth) = IsSome limits.depth
 IsLimitedError limits (limited.Limit limit.Bytes) = IsSome limits.bytes
@@ -285,9 +294,9 @@ IsLimitedError limits (limited.Limit limit.Bytes) = IsSome limits.bytes
 -- an error that may come although this prefix encodes a document: that of a limit, that of the bytes only
 -- where the prefix has more, or one that says nothing of the bytes
 abbrev pub MayPass : Option ℕ → List ℕ → LimitedReadError → Type 0
-MayPass most prefix (limited.Read e) = SaysNothing e
+MayPass most prefix (limited.Read error) = SaysNothing error
 MayPass most prefix (limited.Limit limit.Bytes) = IsPast most (length prefix)
-MayPass most prefix (limited.Limit l) = Unit {0}
+MayPass most prefix (limited.Limit passed) = Unit {0}
 
 -- the errors of reading within limits
 abbrev pub within : ReadLimits → Errors Refusal LimitedReadError
@@ -295,17 +304,17 @@ within limits =
     record {
       end = corrupted UnexpectedEnd;
       stop = limited_stop;
-      IsFull = λ e. e ≡ limited.Read errors.HeapFull;
+      IsFull = λ error. error ≡ limited.Read errors.HeapFull;
       MayCome = IsLimitedError limits;
       MayComeStill = MayPass limits.bytes;
-      IsCounted = λ e. CountsStop (limited_stop e);
+      IsCounted = λ error. CountsStop (limited_stop error);
     }
 
 -- a document is read within limits
 abbrev pub ReadsWithin : Version → ReadLimits
     → {S : Type 0} (source : Ghosts S) (old new : S) (result : Result CompactDoc LimitedReadError) → Type 0
-ReadsWithin v limits source old new result =
-    Reads (within limits) (documents v) source old new document_of result
+ReadsWithin version limits source old new result =
+    Reads (within limits) (documents version) source old new document_of result
 
 -- a reader of blocks read the next document within limits
 abbrev pub ReadsNextWithin : ReadLimits
@@ -317,22 +326,23 @@ ReadsNextWithin limits source source_old source_new old new result =
     (as_read_within result new.document)
 
 -- what was taken where a limit is passed, and that no more was than may be, whatever is returned
-pub record StopsWithin {S X : Type 0} (v : Version) (limits : ReadLimits) (source : Ghosts S) (old new : S)
+pub record StopsWithin {S X : Type 0} (version : Version) (limits : ReadLimits) (source : Ghosts S)
+    (old new : S)
     (result : Result X LimitedReadError) : Type 0 where
   pub depth : source.is_known old → IsErrOf result (limited.Limit limit.Depth)
-      → Begins (PassesDepth v limits.depth) (source.left old) (source.left new)
+      → Begins (PassesDepth version limits.depth) (source.left old) (source.left new)
   pub heap : source.is_known old → IsErrOf result (limited.Limit limit.HeapBytes)
-      → Begins (IsLarge v limits.heap_bytes) (source.left old) (source.left new)
+      → Begins (IsLarge version limits.heap_bytes) (source.left old) (source.left new)
   pub bytes : source.is_known old → IsErrOf result (limited.Limit limit.Bytes)
       → Begins (IsAll limits.bytes) (source.left old) (source.left new)
   -- a document needs more
   pub ends : source.is_known old → IsErrOf result (limited.Limit limit.Bytes)
-      → EndsEarly (corrupted UnexpectedEnd) (NoDocument v) (source.left old) (source.left new)
+      → EndsEarly (corrupted UnexpectedEnd) (NoDocument version) (source.left old) (source.left new)
   pub most : source.is_known old
-      → Begins (λ b. ¬ IsPast limits.bytes (length b)) (source.left old) (source.left new)
+      → Begins (λ prefix. ¬ IsPast limits.bytes (length prefix)) (source.left old) (source.left new)
   -- the limits of the heap and of the open lists are tested after each part
   pub parts : source.is_known old
-      → Begins (TakenWithin v limits (has_come result)) (source.left old) (source.left new)
+      → Begins (TakenWithin version limits (has_come result)) (source.left old) (source.left new)
 
 -- ---- the next document of a block within limits
 
@@ -344,25 +354,27 @@ at_least_one most = most
 -- The document with which the bytes begin passes the limit of its bytes: all that may be taken were, and it
 -- needs more. Where none may be, one byte was taken, so that there is a document.
 abbrev pub PassesBytesLimit : Version → Option ℕ → List ℕ → List ℕ → Type 0
-PassesBytesLimit v most old new = Begins (IsAll (at_least_one most)) old new
-    × (most ≢ Some 0 → EndsEarly (corrupted UnexpectedEnd) (NoDocument v) old new)
+PassesBytesLimit version most old new = Begins (IsAll (at_least_one most)) old new
+    × (most ≢ Some 0 → EndsEarly (corrupted UnexpectedEnd) (NoDocument version) old new)
 
 -- what was taken where a limit is passed, and that no more was than may be, whatever is returned
-pub record StopsNextWithin {S : Type 0} (v : Version) (limits : ReadLimits) (source : Ghosts S) (old new : S)
+pub record StopsNextWithin {S : Type 0} (version : Version) (limits : ReadLimits) (source : Ghosts S)
+    (old new : S)
     (result : Result Bool LimitedReadError) : Type 0 where
   pub depth : source.is_known old → IsErrOf result (limited.Limit limit.Depth)
-      → Begins (PassesDepth v limits.depth) (source.left old) (source.left new)
+      → Begins (PassesDepth version limits.depth) (source.left old) (source.left new)
   pub heap : source.is_known old → IsErrOf result (limited.Limit limit.HeapBytes)
-      → Begins (IsLarge v limits.heap_bytes) (source.left old) (source.left new)
+      → Begins (IsLarge version limits.heap_bytes) (source.left old) (source.left new)
   pub bytes : source.is_known old → IsErrOf result (limited.Limit limit.Bytes)
-      → PassesBytesLimit v limits.bytes (source.left old) (source.left new)
+      → PassesBytesLimit version limits.bytes (source.left old) (source.left new)
   pub small : source.is_known old → result ≡ Ok true
-      → Begins (λ b. ¬ IsPast limits.bytes (length b)) (source.left old) (source.left new)
+      → Begins (λ prefix. ¬ IsPast limits.bytes (length prefix)) (source.left old) (source.left new)
   pub most : source.is_known old
-      → Begins (λ b. ¬ IsPast (at_least_one limits.bytes) (length b)) (source.left old) (source.left new)
+      → Begins (λ prefix. ¬ IsPast (at_least_one limits.bytes) (length prefix)) (source.left old)
+      (source.left new)
   -- the limits of the heap and of the open lists are tested after each part
   pub parts : source.is_known old
-      → Begins (TakenWithin v limits (has_come (as_read_within result (tt {0})))) (source.left old)
+      → Begins (TakenWithin version limits (has_come (as_read_within result (tt {0})))) (source.left old)
       (source.left new)
 
 -- ---- a step within limits

@@ -25,21 +25,21 @@ use Rattle.tv_writer.specs.declared.serializers.SerializeError.TheVariants as wr
 
 -- why writing stopped
 abbrev pub sink_stop : MigrateError → Stop Unwritten
-sink_stop (Read e) = Never
-sink_stop (Write e) = write_stop e
+sink_stop (Read error) = Never
+sink_stop (Write error) = write_stop error
 
 -- the sink failed, or memory was refused in writing
 abbrev pub IsWriteError : MigrateError → Type 0
-IsWriteError (Read e) = ⊥
-IsWriteError (Write e) = IsIoOrMemory e
+IsWriteError (Read error) = ⊥
+IsWriteError (Write error) = IsIoOrMemory error
 
 -- what is written of what was read
 abbrev pub Rewrites : {K : Type 0} → Version → Sink K → K → K → Result CompactDoc DeserializeError
     → Result (Unit {0}) MigrateError → Type 0
-Rewrites to sink old new (Ok d) result = IsDocument (document_of d)
+Rewrites to sink old new (Ok document) result = IsDocument (document_of document)
     × WritesBy sink_stop sink.is_known sink.held sink.failures old new result
-    (Ok (short_document to (document_of d))) × IfErr result IsWriteError
-Rewrites to sink old new (Err e) result = (result ≡ Err (Read e)) × (new ≡ old)
+    (Ok (short_document to (document_of document))) × IfErr result IsWriteError
+Rewrites to sink old new (Err error) result = (result ≡ Err (Read error)) × (new ≡ old)
 
 pub record Migrates {S K : Type 0} (from to : Version) (source : Source S) (source_old source_new : S)
     (sink : Sink K) (sink_old sink_new : K) (result : Result (Unit {0}) MigrateError) : Type 0 where

@@ -7,12 +7,12 @@ use Rattle.tv_value.specs.Nesting.{NestsWithin}
 
 -- a value without children
 abbrev pub HoldsNoList : Encoded → Type 0
-HoldsNoList (held.Array n items) = ⊥
-HoldsNoList (held.Object n members) = ⊥
+HoldsNoList (held.Array number items) = ⊥
+HoldsNoList (held.Object number members) = ⊥
 HoldsNoList _ = Unit {0}
 
 -- how deep the children nest that a value holds
 abbrev pub HeldNestsWithin : ℕ → Encoded → Type 0
-HeldNestsWithin n (held.Array count items) = NestsWithin n (array (elements items.held.0))
-HeldNestsWithin n (held.Object count members) = NestsWithin n (object (entries members.held.0))
-HeldNestsWithin n _ = Unit {0}
+HeldNestsWithin number (held.Array count items) = NestsWithin number (array (elements items.held.0))
+HeldNestsWithin number (held.Object count members) = NestsWithin number (object (entries members.held.0))
+HeldNestsWithin number _ = Unit {0}

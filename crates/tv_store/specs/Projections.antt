@@ -13,13 +13,16 @@
 use Rattle.std.specs.Prelude.{◌≡◌, ◌+◌, ◌-◌, ◌^◌, ◌<◌, ℕ, Bool, true, false, List, [], length, None, Result}
 use Rattle.std.specs.Prelude.{Ok, Err, IfErr}
 use Rattle.tv_base.specs.Parts.{Begins, Each}
+use Rattle.tv_base.specs.ReadsAs.{Shows}
 use Rattle.tv_base.specs.Stop.{Counts, Stop}
+use Rattle.tv_base.specs.declared.cause.Cause.TheVariants.{UnexpectedEnd}
 use Rattle.tv_base.specs.declared.source.ByteSource.{Ghosts}
 use Rattle.tv_builder.specs.TreeBytes.{document_heap}
 use Rattle.tv_format.specs.Encoding.{EncodesDocument}
 use Rattle.tv_format.specs.InputError.{Refusal, corrupted, no_text_key}
 use Rattle.tv_format.specs.Tree.{Document}
 use Rattle.tv_format.specs.Version.{Version}
+use Rattle.tv_reader.specs.Error.{IsRefusal}
 use Rattle.tv_reader.specs.Legacy.{Legacy}
 use Rattle.tv_reader.specs.ValueType.{value_type_code}
 use Rattle.tv_reader.specs.Version.{version_of}
@@ -53,85 +56,95 @@ limits_of (Fields fields) = no_limits
 
 -- what is kept of a document: all of it, or the pairs of chosen fields
 abbrev pub kept : Projection → Document → Document
-kept (All limits) d = d
-kept (Fields fields) d = chosen fields.items d
+kept (All limits) document = document
+kept (Fields fields) document = chosen fields.items document
 
 -- the bytes announce what is to be kept of a document and has no room in a heap
 abbrev pub NoRoomFor : Version → Projection → List ℕ → Type 0
-NoRoomFor v (All limits) bytes = HasNoRoom v bytes
-NoRoomFor v (Fields fields) bytes = HasNoRoomChosen v fields.items bytes
+NoRoomFor version (All limits) bytes = HasNoRoom version bytes
+NoRoomFor version (Fields fields) bytes = HasNoRoomChosen version fields.items bytes
 
 -- ---- documents within limits
 
 -- The bytes encode the document. They are within the limits, and so are its heap and the lists in
 -- which its values nest.
-pub record EncodesWithinLimits (v : Version) (limits : ReadLimits) (bytes : List ℕ)
-    (d : Document) : Type 0 where
-  pub encoded : EncodesDocument Legacy v bytes d
+pub record EncodesWithinLimits (version : Version) (limits : ReadLimits) (bytes : List ℕ)
+    (document : Document) : Type 0 where
+  pub encoded : EncodesDocument Legacy version bytes document
   pub small : ¬ IsPast limits.bytes (length bytes)
-  pub light : ¬ IsPast limits.heap_bytes (length (document_heap [] d))
-  pub shallow : AllNestWithinLimit limits.depth d
+  pub light : ¬ IsPast limits.heap_bytes (length (document_heap [] document))
+  pub shallow : AllNestWithinLimit limits.depth document
 
 -- the bytes encode these documents, one after the other, each within the limits
 abbrev pub EncodesBlockWithin : Version → ReadLimits → List ℕ → List Document → Type 0
-EncodesBlockWithin v limits block documents = Each (EncodesWithinLimits v limits) block documents
+EncodesBlockWithin version limits block documents = Each (EncodesWithinLimits version limits) block documents
 
 -- the document with which the bytes begin passes this limit, as those of them show that were
 -- taken: `left` follows them
 abbrev pub PassesLimit : Version → ReadLimits → List ℕ → List ℕ → ReadLimit → Type 0
-PassesLimit v limits bytes left limit.Bytes = PassesBytesLimit v limits.bytes bytes left
-PassesLimit v limits bytes left limit.HeapBytes = Begins (IsLarge v limits.heap_bytes) bytes left
-PassesLimit v limits bytes left limit.Depth = Begins (PassesDepth v limits.depth) bytes left
+PassesLimit version limits bytes left limit.Bytes = PassesBytesLimit version limits.bytes bytes left
+PassesLimit version limits bytes left limit.HeapBytes = Begins (IsLarge version limits.heap_bytes) bytes left
+PassesLimit version limits bytes left limit.Depth = Begins (PassesDepth version limits.depth) bytes left
 
 -- ---- why a document is refused
 
 -- the bytes begin with no document, or with one that has no room, unless a read failed or memory was refused
 abbrev pub IsRefusedBy : (List ℕ → Type 0) → Version → List ℕ → DeserializeError → Type 0
-IsRefusedBy NoRoom v bytes (errors.CorruptedValue cause) = NoDocument v bytes (corrupted cause)
-IsRefusedBy NoRoom v bytes (errors.TypeMismatch String actual) =
-    NoDocument v bytes (no_text_key (value_type_code actual))
-IsRefusedBy NoRoom v bytes errors.HeapFull = NoRoom bytes
-IsRefusedBy NoRoom v bytes (errors.Io kind) = Unit {0}
-IsRefusedBy NoRoom v bytes errors.Memory = Unit {0}
-IsRefusedBy NoRoom v bytes _ = ⊥
+IsRefusedBy NoRoom version bytes (errors.CorruptedValue cause) = NoDocument version bytes (corrupted cause)
+IsRefusedBy NoRoom version bytes (errors.TypeMismatch String actual) =
+    NoDocument version bytes (no_text_key (value_type_code actual))
+IsRefusedBy NoRoom version bytes errors.HeapFull = NoRoom bytes
+IsRefusedBy NoRoom version bytes (errors.Io kind) = Unit {0}
+IsRefusedBy NoRoom version bytes errors.Memory = Unit {0}
+IsRefusedBy NoRoom version bytes _ = ⊥
 
 -- the error is true of the bytes
 abbrev pub IsTrueOf : Version → Projection → List ℕ → List ℕ → LimitedReadError → Type 0
-IsTrueOf v projection bytes left (limited.Read e) = length bytes < 2 ^ 64 - 1
-    → IsRefusedBy (NoRoomFor v projection) v bytes e
-IsTrueOf v projection bytes left (limited.Limit l) = PassesLimit v (limits_of projection) bytes left l
+IsTrueOf version projection bytes left (limited.Read error) = length bytes < 2 ^ 64 - 1
+    → IsRefusedBy (NoRoomFor version projection) version bytes error
+IsTrueOf version projection bytes left (limited.Limit passed) =
+    PassesLimit version (limits_of projection) bytes left passed
+
+-- Reading stopped at the byte that shows a refusal: of what was taken without that byte only the end is
+-- missing.
+abbrev pub StopsWhereShown : Version → List ℕ → List ℕ → LimitedReadError → Type 0
+StopsWhereShown version bytes left (limited.Read error) = length bytes < 2 ^ 64 - 1 → (refusal : Refusal)
+    → IsRefusal error refusal → Shows (corrupted UnexpectedEnd) (NoDocument version) bytes left refusal
+StopsWhereShown version bytes left (limited.Limit passed) = Unit {0}
 
 -- Why the next document can't be read. The end of the bytes is no reason.
-pub record IsReason (v : Version) (projection : Projection) (bytes left : List ℕ)
-    (e : LimitedReadError) : Type 0 where
-  pub true_of : IsTrueOf v projection bytes left e
-  pub at_end : bytes ≡ [] → SaysNothingWithin e
+pub record IsReason (version : Version) (projection : Projection) (bytes left : List ℕ)
+    (error : LimitedReadError) : Type 0 where
+  pub true_of : IsTrueOf version projection bytes left error
+  pub at_end : bytes ≡ [] → SaysNothingWithin error
+  pub shown : StopsWhereShown version bytes left error
 
 -- The document with which the bytes begin is refused, after this number of bytes: the reason is true of it,
 -- and the places are right. `left` is what was left of the bytes.
-pub record IsRefusedAt (v : Version) (projection : Projection) (bytes left : List ℕ) (start : ℕ)
-    (e : RefusedDocument) : Type 0 where
-  pub reason : IsReason v projection bytes left e.error
-  pub begins : start + length bytes < 2 ^ 64 - 1 → e.start ≡ start
-  pub placed : start + length bytes < 2 ^ 64 - 1 → e.place + length left ≡ start + length bytes
+pub record IsRefusedAt (version : Version) (projection : Projection) (bytes left : List ℕ) (start : ℕ)
+    (refused : RefusedDocument) : Type 0 where
+  pub reason : IsReason version projection bytes left refused.error
+  pub begins : start + length bytes < 2 ^ 64 - 1 → refused.start ≡ start
+  pub placed : start + length bytes < 2 ^ 64 - 1 → refused.place + length left ≡ start + length bytes
 
 -- ---- the next document
 
 -- a document was read, of which this is kept; or there was none; or there is a reason why not
 abbrev pub ReadsOne : Version → Projection → (Document → Type 0) → List ℕ → List ℕ
     → Result Bool LimitedReadError → Type 0
-ReadsOne v projection IsKept bytes left (Ok true) = (d : Document)
-    × Begins (λ b. EncodesWithinLimits v (limits_of projection) b d) bytes left × IsKept d
-ReadsOne v projection IsKept bytes left (Ok false) = (bytes ≡ []) × (left ≡ [])
-ReadsOne v projection IsKept bytes left (Err e) = IsReason v projection bytes left e
+ReadsOne version projection IsKept bytes left (Ok true) = (document : Document)
+    × Begins (λ prefix. EncodesWithinLimits version (limits_of projection) prefix document) bytes left
+    × IsKept document
+ReadsOne version projection IsKept bytes left (Ok false) = (bytes ≡ []) × (left ≡ [])
+ReadsOne version projection IsKept bytes left (Err error) = IsReason version projection bytes left error
 
 -- the error without its number and its places
 abbrev pub error_of : Result Bool RefusedDocument → Result Bool LimitedReadError
 error_of (Ok more) = Ok more
-error_of (Err e) = Err e.error
+error_of (Err refused) = Err refused.error
 
 abbrev pub refused_stop : RefusedDocument → Stop Refusal
-refused_stop e = limited_stop e.error
+refused_stop refused = limited_stop refused.error
 
 pub record ReadsProjected {S : Type 0} (projection : Projection) (IsKept : Document → Type 0)
     (source : Ghosts S) (source_old source_new : S) (old new : BlockReader)
@@ -139,7 +152,7 @@ pub record ReadsProjected {S : Type 0} (projection : Projection) (IsKept : Docum
   pub one : source.is_known source_old
       → ReadsOne (version_of old.version) projection IsKept (source.left source_old) (source.left source_new)
       (error_of result)
-  pub placed : IfErr result (λ e. e ≡ refusal_of new e.error)
+  pub placed : IfErr result (λ refused. refused ≡ refusal_of new refused.error)
   pub failures : Counts refused_stop result (source.failures source_old) (source.failures source_new)
   pub stays_known : source.is_known source_old → source.is_known source_new
 
@@ -148,7 +161,7 @@ pub record ReadsProjected {S : Type 0} (projection : Projection) (IsKept : Docum
 -- the same, with each error said in another way
 abbrev pub with_error : {E F : Type 0} → (E → F) → Result Bool E → Result Bool F
 with_error told (Ok more) = Ok more
-with_error told (Err e) = Err (told e)
+with_error told (Err error) = Err (told error)
 
 -- what was read of the next document, without its number and its places
 pub record ReadsNextOf {S : Type 0} (projection : Projection) (IsKept : Document → Type 0) (source : Ghosts S)

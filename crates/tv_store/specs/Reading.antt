@@ -30,10 +30,10 @@ abbrev pub reading : Errors Refusal DeserializeError
 reading = record {
   end = corrupted UnexpectedEnd;
   stop = store_stop;
-  IsFull = λ e. e ≡ HeapFull;
+  IsFull = λ error. error ≡ HeapFull;
   MayCome = IsReadingError;
   MayComeStill = λ prefix. SaysNothing;
-  IsCounted = λ e. CountsStop (store_stop e);
+  IsCounted = λ error. CountsStop (store_stop error);
 }
 
 -- The errors of a reader that may have failed before. Then it returns this one error and
@@ -43,48 +43,51 @@ resumed failed again kind = record {
   end = kind.end;
   stop = kind.stop;
   IsFull = kind.IsFull;
-  MayCome = λ e. kind.MayCome e ⊎ ((failed ≡ true) × (e ≡ again));
-  MayComeStill = λ prefix e. kind.MayComeStill prefix e ⊎ ((failed ≡ true) × (e ≡ again));
-  IsCounted = λ e old new. kind.IsCounted e old new ⊎ ((failed ≡ true) × ((e ≡ again) × (new ≡ old)));
+  MayCome = λ error. kind.MayCome error ⊎ ((failed ≡ true) × (error ≡ again));
+  MayComeStill = λ prefix error. kind.MayComeStill prefix error ⊎ ((failed ≡ true) × (error ≡ again));
+  IsCounted = λ error old new. kind.IsCounted error old new
+      ⊎ ((failed ≡ true) × ((error ≡ again) × (new ≡ old)));
 }
 
 -- ---- documents
 
 abbrev pub documents : Version → Grammar Refusal Document
-documents v =
+documents version =
     record {
-      Encodes = EncodesDocument Legacy v;
-      HasError = NoDocument v;
-      HasRoom = λ d. document_room d ≤ 4294967295;
-      NoRoom = HasNoRoom v;
+      Encodes = EncodesDocument Legacy version;
+      HasError = NoDocument version;
+      HasRoom = λ document. document_room document ≤ 4294967295;
+      NoRoom = HasNoRoom version;
     }
 
 abbrev pub ReadsDocument : Version
     → {S X : Type 0} (source : Ghosts S) (old new : S) (view : X → Document)
     (result : Result X DeserializeError) → Type 0
-ReadsDocument v source old new view result = Reads reading (documents v) source old new view result
+ReadsDocument version source old new view result =
+    Reads reading (documents version) source old new view result
 
 -- ---- the chosen pairs of documents
 
 -- the bytes encode a document, of which the chosen pairs are these
 abbrev pub EncodesChosenPairs : Version → List Field → List ℕ → Document → Type 0
-EncodesChosenPairs v fields bytes pairs = (d : Document) × EncodesDocument Legacy v bytes d
-    × (pairs ≡ chosen fields d)
+EncodesChosenPairs version fields bytes pairs = (document : Document)
+    × EncodesDocument Legacy version bytes document
+    × (pairs ≡ chosen fields document)
 
 abbrev pub chosen_pairs : Version → List Field → Grammar Refusal Document
-chosen_pairs v fields =
+chosen_pairs version fields =
     record {
-      Encodes = EncodesChosenPairs v fields;
-      HasError = NoDocument v;
-      HasRoom = λ d. document_room d ≤ 4294967295;
-      NoRoom = HasNoRoomChosen v fields;
+      Encodes = EncodesChosenPairs version fields;
+      HasError = NoDocument version;
+      HasRoom = λ document. document_room document ≤ 4294967295;
+      NoRoom = HasNoRoomChosen version fields;
     }
 
 abbrev pub ReadsFields : Version → List Field
     → {S X : Type 0} (source : Ghosts S) (old new : S) (view : X → Document)
     (result : Result X DeserializeError) → Type 0
-ReadsFields v fields source old new view result =
-    Reads reading (chosen_pairs v fields) source old new view result
+ReadsFields version fields source old new view result =
+    Reads reading (chosen_pairs version fields) source old new view result
 
 -- ---- what is passed over: nothing is kept, so there is always room
 
@@ -94,13 +97,14 @@ passed IsOne HasError =
 
 abbrev pub PassesDocument : Version
     → {S : Type 0} (source : Ghosts S) (old new : S) (result : Result (Unit {0}) DeserializeError) → Type 0
-PassesDocument v source old new result =
-    Reads reading (passed (IsDocumentEncoding v) (NoDocument v)) source old new (λ x. x) result
+PassesDocument version source old new result =
+    Reads reading (passed (IsDocumentEncoding version) (NoDocument version)) source old new
+    (λ value. value) result
 
 abbrev pub PassesValue : Version
     → {S : Type 0} (source : Ghosts S) (old new : S) (result : Result (Unit {0}) DeserializeError) → Type 0
-PassesValue v source old new result =
-    Reads reading (passed (IsValueEncoding v) (NoValue v)) source old new (λ x. x) result
+PassesValue version source old new result =
+    Reads reading (passed (IsValueEncoding version) (NoValue version)) source old new (λ value. value) result
 
 -- ---- the documents of a block, where the end of the block is read as a document that is cut off
 
@@ -127,4 +131,4 @@ abbrev pub PassesNext : {S : Type 0} (source : Ghosts S) (source_old source_new 
 PassesNext source source_old source_new old result =
     Reads (resumed old.failed AlreadyFailed reading)
     (passed (IsDocumentEncoding (version_of old.version)) (NoDocument (version_of old.version))) source
-    source_old source_new (λ x. x) (as_passed result)
+    source_old source_new (λ value. value) (as_passed result)

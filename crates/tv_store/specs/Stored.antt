@@ -16,18 +16,19 @@ is_stored_field schema field = is_stored_entry (slice_get schema field)
 
 -- a pre-tokenised text is written as its text where it is a pair's value
 abbrev pub leaf_written : Leaf → Leaf
-leaf_written (tokenized t ts) = text t
-leaf_written l = l
+leaf_written (tokenized content ts) = text content
+leaf_written other = other
 
 abbrev pub tree_written : Tree → Tree
-tree_written (leaf l) = leaf (leaf_written l)
+tree_written (leaf held) = leaf (leaf_written held)
 tree_written (array ts) = array ts
 tree_written (object es) = object es
 
 -- the pairs whose field is stored, in order
 abbrev pub stored : List Entry → Document → Document
-stored schema d = map (λ p. (p.0, tree_written p.1)) (filter (λ p. is_stored_field schema p.0) d)
+stored schema document = map (λ pair. (pair.0, tree_written pair.1))
+    (filter (λ pair. is_stored_field schema pair.0) document)
 
 -- the stored pairs, as they are written
 abbrev pub written_pairs : Version → List Entry → Document → List ℕ
-written_pairs v schema d = flat_map (short_pair v) (stored schema d)
+written_pairs version schema document = flat_map (short_pair version) (stored schema document)

@@ -1,10 +1,8 @@
 //! Blocks of documents that are read in one version of the store and written in another.
 
-ghost use Rattle.std.specs.Prelude.{◌≡◌, [], IfErr, IfOk, OnOk};
-ghost use Rattle.tv_base.specs.Stop.{Counts};
 ghost use Rattle.tv_format.specs.WriteVersion.{written_version};
 ghost use Rattle.tv_reader.specs.Version.{version_of};
-ghost use Rattle.tv_store.specs.BlockMigration.{MigratesAll, MigratesBefore, migration_sink_stop, migration_source_stop};
+ghost use Rattle.tv_store.specs.BlockMigration.{MigratesBlock};
 
 use crate::block::{BlockReader, RefusedDocument};
 use crate::limits::LimitedReadError;
@@ -78,22 +76,8 @@ pub fn migrate_block<S: ByteSource, K: ByteSink, W: Watch>(
     to: WriteVersion,
     watch: &mut W,
 ) -> Result<u64, MigrateBlockError>
-    // what is left encodes this many documents, and their shortest encodings are appended
-    ensures all { S.is_known source.old → IfOk result
-        (MigratesAll (version_of from) (written_version to) (S.left source.old) K.ByteSink sink.old
-        sink.new) }
-    ensures ended { S.is_known source.old → OnOk result (S.left source.new ≡ []) }
-
-    // the documents before the one that is reported are carried over, and that one isn't, for the reason that is reported
-    ensures before { S.is_known source.old → IfErr result
-        (MigratesBefore (version_of from) (written_version to) (S.left source.old)
-        (S.left source.new) K.ByteSink sink.old sink.new) }
-    ensures source_failures { Counts migration_source_stop result (S.failures source.old)
-        (S.failures source.new) }
-    ensures sink_failures { Counts migration_sink_stop result (K.failures sink.old)
-        (K.failures sink.new) }
-    ensures source_is_known { S.is_known source.old → S.is_known source.new }
-    ensures sink_is_known { K.is_known sink.old → K.is_known sink.new }
+    ensures { MigratesBlock (version_of from) (written_version to) S.ByteSource source.old source.new
+        K.ByteSink sink.old sink.new result }
 {
     documents_are_valid();
     let mut reader = BlockReader::new(alloc, from);

@@ -1,21 +1,20 @@
 //! Laws of the pairs that are written, each the contract of a function that does nothing; and what decoders take that are stepped,
 //! however often.
 
-ghost use Rattle.std.specs.Prelude.{◌≡◌, ◌≤◌, ℕ, Bool, List, Result, false};
+ghost use Rattle.std.specs.Prelude.{◌≡◌, ◌≤◌, ℕ, List, false};
 ghost use Rattle.tv_base.specs.Stop.{Taken};
 ghost use Rattle.tv_heap.specs.Room.{document_room};
 ghost use Rattle.tv_field.specs.Entry.{Entry};
 ghost use Rattle.tv_reading.specs.Paid.{PaidBy};
 ghost use Rattle.tv_doc.specs.Document.{document_of};
 ghost use Rattle.tv_reader.specs.Trees.{NoValue};
-ghost use Rattle.tv_reader.specs.declared.error.DeserializeError.{DeserializeError};
 ghost use Rattle.tv_reading.specs.Skip.{IsDocumentEncoding, IsValueEncoding};
-ghost use Rattle.tv_store.specs.Alike.{AreNextAlike, Decides, ReadsDecided};
+ghost use Rattle.tv_store.specs.Alike.{Decides, DecidesBlocks, DecidesMigrations, DecidesNext, DecidesNextWithin, DecidesWithin};
 ghost use Rattle.tv_store.specs.Decoder.{IsStepped};
 ghost use Rattle.tv_store.specs.Documents.{NoDocument};
 ghost use Rattle.tv_store.specs.Reading.{chosen_pairs, documents, passed};
 ghost use Rattle.tv_store.specs.Stored.{stored};
-ghost use Rattle.tv_store.specs.declared.block.BlockReader.{BlockReader};
+ghost use Rattle.tv_store.specs.declared.limits.ReadLimits.{ReadLimits};
 ghost use Rattle.tv_value.specs.declared.field.Field.{Field};
 ghost use Rattle.tv_format.specs.InputError.{Refusal};
 ghost use Rattle.tv_format.specs.Short.{IsDocument};
@@ -24,7 +23,7 @@ ghost use Rattle.tv_format.specs.Tree.{Document};
 
 use crate::direct_decoder::DirectDecoder;
 use std::alloc::Global;
-use tv_base::ByteSource;
+use tv_base::{ByteSink, ByteSource};
 use tv_reader::DocStoreVersion;
 
 /// The stored pairs of a document that has an encoding have one.
@@ -45,25 +44,47 @@ pub fn refusals_are_unique()
 {}
 
 /// The bytes decide what reading them returns. Of two calls that read the same ones, of which neither says that the source failed, that memory was
-/// refused or that there is no room, both return the same document and leave the same bytes, or both return the same error: where a document is
-/// read, or its pairs of chosen fields, and where a document or a value is passed over.
+/// refused or that there is no room, both return the same document, or both return the same error, and both leave the same bytes: where a document
+/// is read, or its pairs of chosen fields, and where a document or a value is passed over.
 pub fn readings_are_alike<S: ByteSource>()
-    ensures documents { (v : Version) → Decides (documents v) S.ByteSource document_of }
-    ensures fields { (v : Version) (fields : List Field)
-        → Decides (chosen_pairs v fields) S.ByteSource document_of }
-    ensures passed_documents { (v : Version) → Decides
-        (passed (IsDocumentEncoding v) (NoDocument v)) S.ByteSource (λ x. x) }
-    ensures passed_values { (v : Version) → Decides
-        (passed (IsValueEncoding v) (NoValue v)) S.ByteSource (λ x. x) }
+    ensures documents { (version : Version) → Decides (documents version) S.ByteSource document_of }
+    ensures fields { (version : Version) (fields : List Field)
+        → Decides (chosen_pairs version fields) S.ByteSource document_of }
+    ensures passed_documents { (version : Version) → Decides
+        (passed (IsDocumentEncoding version) (NoDocument version)) S.ByteSource (λ x. x) }
+    ensures passed_values { (version : Version) → Decides
+        (passed (IsValueEncoding version) (NoValue version)) S.ByteSource (λ x. x) }
 {}
 
-/// The same of the next document of a block: whether there is one, which it is and what is left after it, or which error it has.
+/// The same of the next document of a block: whether there is one, which it is or which error it has, and what is left and counted after it.
 pub fn next_readings_are_alike<S: ByteSource>()
-    ensures { (begun ended other : S) (old new twin : BlockReader)
-        (result answer : Result Bool DeserializeError)
-        → ReadsDecided S.ByteSource begun ended old new result
-        → ReadsDecided S.ByteSource begun other old twin answer
-        → AreNextAlike (S.left ended) (S.left other) new twin result answer }
+    ensures documents { DecidesNext documents S.ByteSource document_of }
+    ensures fields { (fields : List Field)
+        → DecidesNext (λ version. chosen_pairs version fields) S.ByteSource document_of }
+    ensures passed { DecidesNext
+        (λ version. passed (IsDocumentEncoding version) (NoDocument version)) S.ByteSource (λ x. x) }
+{}
+
+/// The same of a document that is read within limits, where neither says that the limit of the heap or of the open lists is passed: these are tested
+/// after each part, and where a part ends isn't decided. Where the bytes end just where no more may be taken and the document needs more, one call may
+/// say that they end and the other that their limit is passed.
+pub fn limited_readings_are_alike<S: ByteSource>()
+    ensures { (version : Version) (limits : ReadLimits) → DecidesWithin version limits S.ByteSource }
+{}
+
+/// The same of the next document of a block, where a byte of it at least may be taken.
+pub fn limited_next_readings_are_alike<S: ByteSource>()
+    ensures { (limits : ReadLimits) → DecidesNextWithin limits S.ByteSource }
+{}
+
+/// The same of a document that is migrated: what is returned, left and written, where the sink doesn't fail either.
+pub fn migrations_are_alike<S: ByteSource, K: ByteSink>()
+    ensures { (from to : Version) → DecidesMigrations from to S.ByteSource K.ByteSink }
+{}
+
+/// And of a block that is migrated: how many documents it has, or which of them isn't migrated, where it begins, where reading stopped and why.
+pub fn block_migrations_are_alike<S: ByteSource, K: ByteSink>()
+    ensures { (from to : Version) → DecidesBlocks from to S.ByteSource K.ByteSink }
 {}
 
 /// A decoder of a document of this version, after this many steps over one source, whatever each of them returned.

@@ -1,11 +1,8 @@
 //! Documents that are read of the pairs that something gives.
 
-ghost use Rattle.std.specs.Prelude.{◌≡◌, true, false, is_err, IfOk, IfErr, IsErrOf};
-ghost use Rattle.tv_base.specs.Stop.{Counts};
+ghost use Rattle.std.specs.Prelude.{◌≡◌, IfErr};
 ghost use Rattle.tv_doc.specs.Document.{document_of};
-ghost use Rattle.tv_reader.specs.declared.error.DeserializeError.TheVariants as errors;
-ghost use Rattle.tv_store.specs.PairsGiven.{IsGiven, PairsRefused};
-ghost use Rattle.tv_typed.specs.Typed.{document_stop};
+ghost use Rattle.tv_store.specs.PairsGiven.{PairsRefused, ReadsGiven};
 ghost use Rattle.tv_format.specs.Tree.{Document};
 
 use std::alloc::Global;
@@ -25,18 +22,7 @@ pub trait DocumentDeserialize: Sized {
         alloc: Global,
         deserializer: &mut D,
     ) -> Result<Self, DeserializeError>
-        ensures found { D.is_known deserializer.old
-            → IfOk result
-            (λ d. (pairs : Document) × holds d pairs
-            × IsGiven D.gives D.remaining deserializer.old pairs deserializer.new) }
-        ensures marks_failure { D.has_failed deserializer.new ≡ is_err result }
-        ensures counts { D.has_failed deserializer.old ≡ false
-            → Counts document_stop result (D.failures deserializer.old)
-            (D.failures deserializer.new) }
-        ensures closed { D.has_failed deserializer.old ≡ true
-            → IsErrOf result errors.AlreadyFailed
-            × (D.failures deserializer.new ≡ D.failures deserializer.old) }
-        ensures same_reader { D.borrow_name deserializer.new ≡ D.borrow_name deserializer.old };
+        ensures reads { ReadsGiven D.DocumentDeserializer holds deserializer.old deserializer.new result };
 }
 
 impl DocumentDeserialize for CompactDoc {
@@ -49,20 +35,10 @@ impl DocumentDeserialize for CompactDoc {
         alloc: Global,
         deserializer: &mut D,
     ) -> Result<CompactDoc, DeserializeError>
-        ensures found { D.is_known deserializer.old
-            → IfOk result
-            (λ d. (pairs : Document) × (document_of d ≡ pairs)
-            × IsGiven D.gives D.remaining deserializer.old pairs deserializer.new) }
+        ensures reads { ReadsGiven D.DocumentDeserializer (λ d pairs. document_of d ≡ pairs)
+            deserializer.old deserializer.new result }
         ensures refused { D.is_known deserializer.old
             → IfErr result (PairsRefused D.gives D.remaining D.has_failed D.refuses_into deserializer.old) }
-        ensures marks_failure { D.has_failed deserializer.new ≡ is_err result }
-        ensures counts { D.has_failed deserializer.old ≡ false
-            → Counts document_stop result (D.failures deserializer.old)
-            (D.failures deserializer.new) }
-        ensures closed { D.has_failed deserializer.old ≡ true
-            → IsErrOf result errors.AlreadyFailed
-            × (D.failures deserializer.new ≡ D.failures deserializer.old) }
-        ensures same_reader { D.borrow_name deserializer.new ≡ D.borrow_name deserializer.old }
     {
         let mut pairs = HeapPairs::new(alloc);
         let mut bytes = Vec::new(alloc);

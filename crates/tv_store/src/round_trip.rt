@@ -1,12 +1,12 @@
 //! What comes of values that are added to a document, stored, and read back.
 
-ghost use Rattle.std.specs.Prelude.{◌≡◌, ◌<◌, ◌⊎◌, ◌++◌, ℕ, List, length, map, slice_get, IfErr, IfOk, IsErrOf};
+ghost use Rattle.std.specs.Prelude.{◌≡◌, ◌<◌, ◌⊎◌, ◌++◌, ℕ, List, length, map, IfErr, IfOk, IsErrOf};
 ghost use Rattle.std.specs.List.{AllByRecursion};
 ghost use Rattle.tv_doc.specs.Belongs.{Belongs};
-ghost use Rattle.tv_doc.specs.Document.{ReadsAt, document_of, places_of};
+ghost use Rattle.tv_doc.specs.Document.{document_of};
 ghost use Rattle.tv_heap.specs.Room.{document_room};
 ghost use Rattle.tv_reader.specs.Version.{version_of};
-ghost use Rattle.tv_store.specs.RoundTrip.{IsCalled, IsKept, pair_of_value};
+ghost use Rattle.tv_store.specs.RoundTrip.{IsCalled, IsRoundTrip, pair_of_value};
 ghost use Rattle.tv_store.specs.Stored.{stored};
 ghost use Rattle.tv_format.specs.Short.{short_document, IsDocument};
 ghost use Rattle.tv_format.specs.Tree.{Document};
@@ -146,15 +146,7 @@ pub fn additions_are_stored_and_read_back(
     rest: &[u8],
 ) -> Result<RoundTrip, RoundTripError>
     requires { AllByRecursion (λ value. value.0.id < length schema.now) values.now }
-    ensures added { IfOk result (λ trip. IsKept values.now trip.added) }
-    ensures places { IfOk result
-        (λ trip. (i : ℕ) → ReadsAt trip.added i (slice_get (places_of trip.added) i)) }
-    ensures written { IfOk result
-        (λ trip. trip.written.items
-        ≡ short_document V2 (stored schema.now (document_of trip.added))) }
-    ensures back { IfOk result
-        (λ trip. document_of trip.back ≡ stored schema.now (document_of trip.added)) }
-    ensures rest_left { IfOk result (λ trip. trip.left.items ≡ rest.now) }
+    ensures trip { IfOk result (IsRoundTrip schema.now values.now rest.now) }
     ensures no_room { IsErrOf result RoundTripError.HeapFull
         → 4294967295 < document_room (map pair_of_value values.now) }
 {

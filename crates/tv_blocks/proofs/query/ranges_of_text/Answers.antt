@@ -31,4 +31,4 @@ returns-in-Err-clause-fills c =
     let refuses = λ (e : TextTermsError). AnswersRanges schema c.args.path.now c.args.text.now (Err e) in
     subst (λ e. FillsBuffer (AreTextRanges schema c.args.path.now c.args.text.now) (IsRangesRefusal schema c.args.path.now c.args.text.now) c.args.ranges.now c.args.ranges.now (Err e)) (sym c.query_error.ensures)
     (query_refused (AreTextRanges schema c.args.path.now c.args.text.now) refuses c.args.path.now c.args.text.now c.args.ranges.now why path.1 text.1
-    (λ some. of_bytes (λ p t. AnswersRanges schema p t (Err why)) c.in-Ok.path.now c.args.path.now c.in-Ok-from_utf8.text.now c.args.text.now path.0 text.0 (c.in-Err.ensures some)))
+    (λ some. of_bytes (λ p t. AnswersRanges schema p t (Err why)) c.in-Ok.path.now c.args.path.now c.in-Ok-from_utf8.text.now c.args.text.now path.0 text.0 (c.in-Err.ensures.0 some)))

@@ -31,4 +31,4 @@ returns-in-Err-clause-fills c =
     let refuses = λ (e : TextTermsError). AnswersText schema c.args.path.now c.args.text.now (Err e) in
     subst (λ e. FillsBuffer (AreTextTerms schema c.args.path.now c.args.text.now) (IsTermsRefusal schema c.args.path.now c.args.text.now) c.args.terms.now c.args.terms.now (Err e)) (sym c.query_error.ensures)
     (query_refused (AreTextTerms schema c.args.path.now c.args.text.now) refuses c.args.path.now c.args.text.now c.args.terms.now why path.1 text.1
-    (λ some. of_bytes (λ p t. AnswersText schema p t (Err why)) c.in-Ok.path.now c.args.path.now c.in-Ok-from_utf8.text.now c.args.text.now path.0 text.0 (c.in-Err.ensures.answers some)))
+    (λ some. of_bytes (λ p t. AnswersText schema p t (Err why)) c.in-Ok.path.now c.args.path.now c.in-Ok-from_utf8.text.now c.args.text.now path.0 text.0 (c.in-Err.ensures.answers.0 some)))

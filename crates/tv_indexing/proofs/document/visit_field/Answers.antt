@@ -11,6 +11,7 @@ use Rattle.tv_indexing.specs.LeafTerms.{tree_value}
 use Rattle.tv_options.specs.declared.own_part.DotExpansion.{DotExpansion}
 use Rattle.tv_options.specs.declared.textual_options.TextualOptions.{TextualOptions}
 use Rattle.tv_value.specs.declared.field.Field.{Field}
+use Rattle.tv_indexing.proofs.Late.{is_looked_at, pair_late}
 use Rattle.tv_indexing.proofs.document.visit_field.Goals as goal
 
 plain_type : (field : Field) (type : FieldType) (tree : Tree) → ((options : TextualOptions DotExpansion) → type ≢ types.JsonObject options) → typed_terms field type tree ≡ plain_terms field (value_type type) (tree_value tree)
@@ -46,5 +47,15 @@ returns-in_default g c =
     record {
       made = rw pair c.visit_value.ensures.made;
       refused = rw pair c.visit_value.ensures.refused;
+      memory = λ is. (is_looked_at c.args.schema.now field c.get_field_entry.result.now type c.get_field_entry.ensures c.field_type-field_type.ensures indexed, λ why e. absurd (c.visit_value.ensures.memory is why (sym pair ∙ e)));
       kept = still_some g.V.TermVisitor.has_taken c.visit_value.result c.args.visitor.now c.visit_value.new.visitor c.visit_value.ensures.untaken;
     }
+
+pub returns-in-JsonObject-clause-memory : goal.returns-in-JsonObject-clause-memory
+returns-in-JsonObject-clause-memory g c = λ is.
+    let field = c.args.field in
+    let type = c.field_type-field_type.result.now in
+    let indexed : is_indexed_type type ≡ true = cc in (
+      is_looked_at c.args.schema.now field c.get_field_entry.result.now type c.get_field_entry.ensures c.field_type-field_type.ensures indexed,
+      pair_late c.args.schema.now field (tree_of c.args.value) c.get_field_entry.result.now type c.in-JsonObject.options c.get_field_entry.ensures c.field_type-field_type.ensures indexed c.in-JsonObject.is,
+    )

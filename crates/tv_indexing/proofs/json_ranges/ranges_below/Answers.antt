@@ -4,8 +4,8 @@ use Rattle.tv_indexing.specs.JsonBounds.{RunBackwards}
 use Rattle.tv_indexing.proofs.JsonRangeSteps.{five_appended}
 use Rattle.tv_indexing.proofs.json_ranges.ranges_below.Goals as goal
 
-pub returns : goal.returns
-returns c =
+pub returns-clause-answers : goal.returns-clause-answers
+returns-clause-answers c =
     let some : c.args.path.now ≢ [] = search (rules, c.if-is_empty.false, c.is_empty.ensures) in
     let plain : has_zero c.args.path.now ≡ false = search (rules, c.if-contains.false, c.contains.ensures.value, c.as_bytes.ensures.value) in
     let forwards = subst (RunBackwards _ _) c.if-run_backwards.false c.run_backwards.ensures in

@@ -1,15 +1,28 @@
+use Rattle.std.proofs.Common.{Err, ap}
+use Rattle.tv_indexing.specs.TakesMemory.{TakesMemory, TakesMemoryIn}
 use Rattle.tv_indexing.specs.TextRange.{AnswersBounds, RangeInField, bound_text}
 use Rattle.tv_indexing.specs.declared.text_terms_error.TextTermsError.TheVariants.{Memory}
-use Rattle.tv_indexing.proofs.Answering.{answers-weaker, in_found, path_refused}
+use Rattle.tv_indexing.proofs.Answering.{first-weaker, in_found, path_refused}
+use Rattle.tv_indexing.proofs.TakingMemory.{found_takes, in_schema, range_of_field, unnamed_takes}
 use Rattle.tv_indexing.proofs.text_range.range_between_texts.Goals as goal
 
 pub returns-in-Ok : goal.returns-in-Ok
 returns-in-Ok c =
+    let schema = c.args.schema.now in
+    let path = c.args.path.now in
     let start = bound_text c.args.start in
     let end = bound_text c.args.end in
-    answers-weaker Memory (RangeInField c.in-Ok.at start end) (AnswersBounds c.args.schema.now c.args.path.now start end) c.range.result
-    (λ answer h. in_found (λ e. e) (λ at. RangeInField at start end) c.args.schema.now c.args.path.now c.in-Ok.at answer c.in-Ok.ensures.field h) c.range.ensures
+    let at = c.in-Ok.at in
+    first-weaker Memory (TakesMemoryIn at.type) (TakesMemory schema) (RangeInField at start end) (AnswersBounds schema path start end) c.range.result
+    (λ answer h. in_found (λ e. e) (λ found. RangeInField found start end) schema path at answer c.in-Ok.ensures.field h)
+    (λ told why h. found_takes (λ e. e) (λ found. RangeInField found start end) schema path at (TakesMemory schema) why c.in-Ok.ensures.field
+    (λ names x. in_schema schema path at why names (λ field is. range_of_field at start end why field x is) (told why x)) h) c.range.ensures
 
 pub returns-in-Err : goal.returns-in-Err
-returns-in-Err c = λ some.
-    path_refused (λ e. e) (λ at. RangeInField at (bound_text c.args.start) (bound_text c.args.end)) c.args.schema.now c.args.path.now c.in-Err.error (c.in-Err.ensures.field some)
+returns-in-Err c =
+    let schema = c.args.schema.now in
+    let start = bound_text c.args.start in
+    let end = bound_text c.args.end in (
+      λ some. path_refused (λ e. e) (λ at. RangeInField at start end) schema c.args.path.now c.in-Err.error (c.in-Err.ensures.field some),
+      λ is why h. unnamed_takes (λ e. e) (λ at. RangeInField at start end) schema c.args.path.now (TakesMemory schema) why (λ start. tt) (c.in-Err.ensures.memory (ap Err is)) h,
+    )

@@ -24,10 +24,18 @@ returns-in_err-back-clause-no_room c = λ e.
     let full = c.read_back.ensures.no_room d c.args.rest.now (c.stored_pairs_are_valid.ensures c.args.schema.now (document_of added) (c.documents_are_valid.ensures added)) same (search (rules, e)) in
     omega (arith, full, kept_room values added kept, c.stored_pairs_need_no_more_room.ensures c.args.schema.now (document_of added))
 
-pub returns-clause-added : goal.returns-clause-added
-returns-clause-added c =
+pub returns-clause-trip : goal.returns-clause-trip
+returns-clause-trip c =
     let start = c.new-added.result in
-    kept_of c.args.values.now start c.add_all.new.document (record { document = c.new-added.ensures.document; heap = c.new-added.ensures.heap }) c.add_all.ensures
-
-pub returns-clause-places : goal.returns-clause-places
-returns-clause-places c = each_read c.add_all.new.document
+    let added = c.add_all.new.document in
+    let d = stored c.args.schema.now (document_of added) in
+    let copied = c.in_ok-bytes.ensures.items ∙ c.as_slice.ensures.value ∙ c.in_ok-written.ensures.bytes in
+    let same = c.as_slice-2.ensures.value ∙ c.in_ok-extend_from_slice.ensures.items ∙ ap (λ l. l ++ c.args.rest.now) copied in
+    let found = c.in_ok-back.ensures.found d c.args.rest.now (c.stored_pairs_are_valid.ensures c.args.schema.now (document_of added) (c.documents_are_valid.ensures added)) same in
+    record {
+      added = kept_of c.args.values.now start added (record { document = c.new-added.ensures.document; heap = c.new-added.ensures.heap }) c.add_all.ensures;
+      places = each_read added;
+      written = c.in_ok-written.ensures.bytes;
+      back = found.0;
+      rest = found.1;
+    }

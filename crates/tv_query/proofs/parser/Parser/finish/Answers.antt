@@ -15,7 +15,7 @@ returns-then-not-is_empty-clause-refused c = λ schema tokens depth at.
     let w = rw c.if-parser.false at at in
     let a = c.in_ok-write_or.ensures.written schema tokens depth w.0 w.1 in
     let not_empty : c.write_or.new.self.operators.items ≢ [] = rw c.as_slice.ensures.value at (not_empty c.as_slice.result.now c.if-not-is_empty.ensures) in
-    rw c.if-parser.false (tells Memory (TakesMemoryAfter tokens) (RefusesEnd (wants_operator depth)) Unclosed (λ e. cc) (is_open a.0 a.1 a.2 a.3 not_empty, refl))
+    rw c.if-parser.false (tells Memory (TakesMemoryAfter schema tokens) (RefusesEnd (wants_operator depth)) Unclosed (λ e. cc) (is_open a.0 a.1 a.2 a.3 not_empty, refl))
 
 pub returns-clause-made : goal.returns-clause-made
 returns-clause-made c = λ schema tokens depth at.
@@ -29,7 +29,7 @@ pub returns-in_err-write_or-clause-refused : goal.returns-in_err-write_or-clause
 returns-in_err-write_or-clause-refused c = λ schema tokens depth at.
     let w = rw c.if-parser.false at at in
     let p = err_from_is_err_and c.from_residual.result c.from_residual.ensures.1 in
-    rw c.if-parser.false (memory_told c.from_residual.result p.0 (TakesMemoryAfter tokens) (RefusesEnd (wants_operator depth)) p.1 p.2 (λ why h. subst (TakesMemoryAfter tokens) (sym h.1) (c.in_err-write_or.ensures.memory schema tokens depth w.0 w.1)))
+    rw c.if-parser.false (memory_told c.from_residual.result p.0 (TakesMemoryAfter schema tokens) (RefusesEnd (wants_operator depth)) p.1 p.2 (λ why h. subst (TakesMemoryAfter schema tokens) (sym h.1) (c.in_err-write_or.ensures.memory schema tokens depth w.0 w.1)))
 
 pub returns-in_err-of_steps-clause-refused : goal.returns-in_err-of_steps-clause-refused
 returns-in_err-of_steps-clause-refused c = λ schema tokens depth at.
@@ -38,4 +38,4 @@ returns-in_err-of_steps-clause-refused c = λ schema tokens depth at.
     let empty : c.write_or.new.self.operators.items ≡ [] = sym c.as_slice.ensures.value ∙ is_empty c.as_slice.result.now c.if-not-is_empty.ensures in
     let none : depth ≡ 0 = none_open a.0 a.1 a.2 a.3 (λ before e. no_push before Open (sym empty ∙ e)) in
     let p = err_from_is_err_and c.from_residual-in_err-of_steps.result c.from_residual-in_err-of_steps.ensures.1 in
-    rw c.if-parser.false (memory_told c.from_residual-in_err-of_steps.result p.0 (TakesMemoryAfter tokens) (RefusesEnd (wants_operator depth)) p.1 p.2 (λ why h. absurd (omega (arith, h.0, none))))
+    rw c.if-parser.false (memory_told c.from_residual-in_err-of_steps.result p.0 (TakesMemoryAfter schema tokens) (RefusesEnd (wants_operator depth)) p.1 p.2 (λ why h. absurd (omega (arith, h.0, none))))

@@ -7,7 +7,7 @@ use Rattle.tv_query.specs.Selections.{RefusesClause, TakesMemory}
 use Rattle.tv_query.specs.Tokens.{clause, not_word, opened, wanted_text}
 use Rattle.tv_query.specs.declared.query_error.QueryReason.TheVariants.{Memory}
 use Rattle.tv_query.proofs.Refusing.{clause_refused, takes_after, memory_told, tells-weaker}
-use Rattle.tv_query.proofs.Selecting.{selected_takes}
+use Rattle.tv_query.proofs.OneQuery.{clause_or_refused}
 use Rattle.tv_query.proofs.parser.Parser.take_operand.Goals as goal
 
 pub returns-in_ok-wait-in-Open-clause-made : goal.returns-in_ok-wait-in-Open-clause-made
@@ -27,8 +27,8 @@ returns-in-Err-clause-refused c = λ tokens depth.
     let schema = c.args.schema.now in
     let path = c.in-Clause.path.now in
     let wanted = wanted_text c.in-Clause.wanted in
-    rw c.in-Clause.is (tells-weaker Memory TakesMemory (TakesMemoryAfter tokens) (RefusesClause schema path wanted) (RefusesTaken schema (wants_operand depth) (clause path wanted)) c.in-Err.reason
-    (λ r. refused refl (λ e. cc) r) (λ takes why r. takes_after tokens why (takes why (clause_refused (wants_operand depth) path wanted why (λ e. cc) r))) c.in-Err.ensures)
+    rw c.in-Clause.is (tells-weaker Memory (TakesMemory schema) (TakesMemoryAfter c.args.schema.now tokens) (RefusesClause schema path wanted) (RefusesTaken schema (wants_operand depth) (clause path wanted)) c.in-Err.reason
+    (λ r. refused refl (λ e. cc) r) (λ takes why r. takes_after schema tokens why (takes why (clause_refused (wants_operand depth) path wanted why (λ e. cc) r))) c.in-Err.ensures)
 
 pub returns-in_err-add_clause-in-Ok-clause-refused : goal.returns-in_err-add_clause-in-Ok-clause-refused
 returns-in_err-add_clause-in-Ok-clause-refused c = λ tokens depth.
@@ -36,5 +36,5 @@ returns-in_err-add_clause-in-Ok-clause-refused c = λ tokens depth.
     let path = c.in-Clause.path.now in
     let wanted = wanted_text c.in-Clause.wanted in
     let p = err_from_is_err_and c.from_residual-in_err-add_clause-in-Ok.result c.from_residual-in_err-add_clause-in-Ok.ensures.1 in
-    rw c.in-Clause.is (memory_told c.from_residual-in_err-add_clause-in-Ok.result p.0 (TakesMemoryAfter tokens) (RefusesTaken schema (wants_operand depth) (clause path wanted)) p.1 p.2
-    (λ why r. takes_after tokens why (selected_takes schema path wanted c.in-Ok.selection why c.in-Ok.ensures (clause_refused (wants_operand depth) path wanted why (λ e. cc) r))))
+    rw c.in-Clause.is (memory_told c.from_residual-in_err-add_clause-in-Ok.result p.0 (TakesMemoryAfter c.args.schema.now tokens) (RefusesTaken schema (wants_operand depth) (clause path wanted)) p.1 p.2
+    (λ why r. absurd (clause_or_refused schema path wanted c.in-Ok.selection why c.in-Ok.ensures (clause_refused (wants_operand depth) path wanted why (λ e. cc) r))))

@@ -18,4 +18,4 @@ returns-in-Close-clause-made c = λ schema tokens depth follows no_not. rw c.in-
 
 pub returns-in-Close-clause-refused : goal.returns-in-Close-clause-refused
 returns-in-Close-clause-refused c = λ schema tokens depth follows no_not.
-    rw c.in-Close.is (IfErr-weaker c.take_close.result _ _ (λ e h. tells-weaker Memory (λ _. HaveOperator tokens) (TakesMemoryAfter tokens) (λ e. (e ≡ Unopened) × (depth ≡ 0)) (RefusesTaken schema (wants_operator depth) closed) e (λ k. misplaced (k.1, k.0)) (λ takes why r. let k = closed_refused depth why r in subst (TakesMemoryAfter tokens) (sym k.0) (takes why k)) h) (c.take_close.ensures.refused schema tokens depth follows no_not))
+    rw c.in-Close.is (IfErr-weaker c.take_close.result _ _ (λ e h. tells-weaker Memory (λ _. HaveOperator tokens) (TakesMemoryAfter schema tokens) (λ e. (e ≡ Unopened) × (depth ≡ 0)) (RefusesTaken schema (wants_operator depth) closed) e (λ k. misplaced (k.1, k.0)) (λ takes why r. let k = closed_refused depth why r in subst (TakesMemoryAfter schema tokens) (sym k.0) (takes why k)) h) (c.take_close.ensures.refused schema tokens depth follows no_not))
