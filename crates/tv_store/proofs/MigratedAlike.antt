@@ -128,6 +128,15 @@ no_next v d rest left none begins = at_prefix begins.prefix (sym begins.joined �
     at_prefix [] is encoded = no_document v [] d refl encoded
     at_prefix (b ∷ bytes) is encoded = absurd (cc)
 
+-- nothing is left of either
+same_whole : {v : Version} {ds es : List Document} → Compared v ds es [] [] → ds ≡ es
+same_whole (same_documents same left) = same
+same_whole {v = v} (first_ends d left begins) = absurd (no_next v d [] left refl begins)
+same_whole {v = v} (second_ends d left begins) = absurd (no_next v d [] left refl begins)
+
+pub one_block : (v : Version) (block : List ℕ) (ds es : List Document) → EncodesBlock v block ds → EncodesBlock v block es → ds ≡ es
+one_block v block ds es first second = same_whole (compared v ds es block [] block [] first second refl)
+
 -- ---- reasons
 
 -- no limit is passed where none is set

@@ -10,6 +10,7 @@ ghost use Rattle.tv_doc.specs.Document.{document_of};
 ghost use Rattle.tv_reader.specs.Trees.{NoValue};
 ghost use Rattle.tv_reading.specs.Skip.{IsDocumentEncoding, IsValueEncoding};
 ghost use Rattle.tv_store.specs.Alike.{Decides, DecidesBlocks, DecidesMigrations, DecidesNext, DecidesNextWithin, DecidesWithin};
+ghost use Rattle.tv_store.specs.BlockMigration.{EncodesBlock};
 ghost use Rattle.tv_store.specs.Decoder.{IsStepped};
 ghost use Rattle.tv_store.specs.Documents.{NoDocument};
 ghost use Rattle.tv_store.specs.Reading.{chosen_pairs, documents, passed};
@@ -35,6 +36,13 @@ pub fn stored_pairs_are_valid()
 pub fn stored_pairs_need_no_more_room()
     ensures { (schema : List Entry) (d : Document)
         → document_room (stored schema d) ≤ document_room d }
+{}
+
+/// A block encodes one list of documents.
+pub fn blocks_have_one_reading()
+    ensures { (version : Version) (block : List ℕ) (documents others : List Document)
+        → EncodesBlock version block documents → EncodesBlock version block others
+        → documents ≡ others }
 {}
 
 /// Bytes of a store are refused in one way only.
