@@ -1,13 +1,13 @@
 -- A text at a path has one answer: two that the definitions allow agree.
 use Rattle.std.proofs.Common.{◌≡◌, ◌≢◌, ◌⊎◌, ◌+◌, ℕ, Bool, true, false, List, [], ◌∷◌, ◌++◌, Option, Some, None, Result, Ok, Err, IfSome, refl, sym, subst, ap, ◌∙◌, inl, inr, string_bytes}
-use Rattle.std.proofs.NetLemmas.Theorems.{IsIpText_unique}
 use Rattle.std.specs.Fmt.{take_chars}
 use Rattle.std.specs.Prelude.{slice_get}
 use Rattle.serde_json.specs.Data as json
 use Rattle.tv_date.specs.Rfc3339.{rfc}
+use Rattle.tv_field.proofs.OneOutcome.{text_outcome}
 use Rattle.tv_field.specs.Entry.{Entry, is_indexed_type, value_type}
 use Rattle.tv_field.specs.JsonAnswer.{RefusesText, WritesValue, refusal_of}
-use Rattle.tv_field.specs.JsonTable.{Chooses, IpText, IsSignedText, IsUnsignedText, Outcome, TableRefusal, TextRow, truth_in}
+use Rattle.tv_field.specs.JsonTable.{IsSignedText, IsUnsignedText, Outcome, TableRefusal, TextRow, truth_in}
 use Rattle.tv_field.specs.declared.field_type.FieldType.{FieldType}
 use Rattle.tv_field.specs.declared.field_type.FieldType.TheVariants as types
 use Rattle.tv_field.specs.declared.json_value.JsonRefusal.{JsonRefusal}
@@ -24,7 +24,6 @@ use Rattle.tv_options.specs.declared.types.TypeTag.{TypeTag}
 use Rattle.tv_schema.specs.Path.{find_or}
 use Rattle.std.specs.Str.Parse.{digits_value, signed_digits_value, without_leading_plus}
 use Rattle.tv_base.specs.JsonPath.{joined_path}
-use Rattle.tv_value.specs.IpAddress.{address_number}
 use Rattle.tv_value.specs.declared.field.Field.{Field}
 
 -- two errors, and two lists of terms
@@ -33,31 +32,8 @@ SameTerms one other = Agree SaySame (λ made also. made ≡ also) one other
 
 -- ---- a text as a value of a field
 
-chosen : (P : Type 0) (l : Leaf) (r : TableRefusal) (a b : Outcome) → Chooses P l r a → Chooses P l r b → a ≡ b
-chosen P l r a b (inl x) (inl y) = x.1 ∙ sym y.1
-chosen P l r a b (inl x) (inr y) = absurd (y.0 x.0)
-chosen P l r a b (inr x) (inl y) = absurd (x.0 y.0)
-chosen P l r a b (inr x) (inr y) = x.1 ∙ sym y.1
-
-address_one : (s : List ℕ) (a b : Outcome) → IpText s a → IpText s b → a ≡ b
-address_one s a b (inl x) (inl y) = x.2 ∙ ap (λ i. Ok (leaf (ip_address (address_number i)))) (IsIpText_unique s x.0 y.0 x.1 y.1) ∙ sym y.2
-address_one s a b (inl x) (inr y) = absurd (y.0 x.0 x.1)
-address_one s a b (inr x) (inl y) = absurd (x.0 y.0 y.1)
-address_one s a b (inr x) (inr y) = x.1 ∙ sym y.1
-
-row_one : (type : FieldType) (s : List ℕ) (a b : Outcome) → TextRow type s a → TextRow type s b → a ≡ b
-row_one (types.Str options) s a b x y = x ∙ sym y
-row_one (types.U64 options) s a b x y = chosen _ _ _ a b x y
-row_one (types.I64 options) s a b x y = chosen _ _ _ a b x y
-row_one (types.Bool options) s a b x y = x ∙ sym y
-row_one (types.Date options) s a b x y = x ∙ sym y
-row_one (types.Facet options) s a b x y = x ∙ sym y
-row_one (types.Bytes options) s a b x y = x ∙ sym y
-row_one (types.JsonObject options) s a b x y = x ∙ sym y
-row_one (types.IpAddr options) s a b x y = address_one s a b x y
-
 pub leaf_one : (type : FieldType) (s : List ℕ) (l m : Leaf) → WritesValue type s l → WritesValue type s m → l ≡ m
-leaf_one type s l m x y = let same : ◌≡◌ {A = Outcome} (Ok (leaf l)) (Ok (leaf m)) = row_one type s (Ok (leaf l)) (Ok (leaf m)) x y in cc
+leaf_one type s l m x y = let same : ◌≡◌ {A = Outcome} (Ok (leaf l)) (Ok (leaf m)) = text_outcome type s (Ok (leaf l)) (Ok (leaf m)) x y in cc
 
 -- a refusal that isn't for memory says why
 says : (s : List ℕ) (why : JsonRefusal) → why ≢ refusals.Memory → (r : TableRefusal) × (refusal_of (json.string s) why ≡ Some r)
@@ -95,7 +71,7 @@ refusal_one field type s e f x y =
     let b = wrong_text_is field (value_type type) y.0 s f y.2 in
     let r = row_refused type s x.0 x.1 a.2 in
     let q = row_refused type s y.0 y.1 b.2 in
-    let same : ◌≡◌ {A = Outcome} (Err r.0) (Err q.0) = row_one type s (Err r.0) (Err q.0) r.2 q.2 in
+    let same : ◌≡◌ {A = Outcome} (Err r.0) (Err q.0) = text_outcome type s (Err r.0) (Err q.0) r.2 q.2 in
     let one : r.0 ≡ q.0 = cc in
     rw (a.1, b.1) (refl, refl, (s, r.1 ∙ ap Some one ∙ sym q.1), a.3 ∙ sym b.3)
 
@@ -103,7 +79,7 @@ pub no_value : (field : Field) (type : FieldType) (s : List ℕ) (l : Leaf) (e :
 no_value field type s l e writes x =
     let a = wrong_text_is field (value_type type) x.0 s e x.2 in
     let r = row_refused type s x.0 x.1 a.2 in
-    let same : ◌≡◌ {A = Outcome} (Ok (leaf l)) (Err r.0) = row_one type s (Ok (leaf l)) (Err r.0) writes r.2 in
+    let same : ◌≡◌ {A = Outcome} (Ok (leaf l)) (Err r.0) = text_outcome type s (Ok (leaf l)) (Err r.0) writes r.2 in
     absurd (cc)
 
 plain_one : (field : Field) (type : FieldType) (s : List ℕ) (a b : TermsAnswer) → TermOfText field type s a → TermOfText field type s b → SameTerms a b
