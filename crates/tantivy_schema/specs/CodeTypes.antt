@@ -100,3 +100,4 @@ pub use Rattle.tv_typed.specs.declared.document.BinaryDocumentDeserializer
 -- how a run over lines ends
 pub use Rattle.tv_lines.specs.declared.errors.Halt
 pub use Rattle.tv_lines.specs.declared.runs.RunEnd
+pub use Rattle.tv_store.specs.declared.block.BlockReader

@@ -42,6 +42,7 @@ pub use Rattle.tv_value.specs.JsonTree
 pub use Rattle.tv_format.specs.Size
 pub use Rattle.tv_value.specs.JsonOf
 pub use Rattle.tv_json.specs.Named as NamedJson
+pub use Rattle.tv_json.specs.Grammar as JsonGrammar
 pub use Rattle.tv_json.specs.Syntax as JsonSyntax
 pub use Rattle.tv_json.specs.Faults as JsonFaults
 pub use Rattle.tv_json.specs.LargeNumber as LargeJsonNumber
@@ -111,6 +112,7 @@ pub use Rattle.tv_base.specs.Greatest as GreatestCounts
 pub use Rattle.tv_base.specs.Printed as CountPrinted
 -- documents
 pub use Rattle.tv_doc.specs.AdditionError
+pub use Rattle.tv_doc.specs.Alike as DocumentsAlike
 pub use Rattle.tv_doc.specs.Additions
 pub use Rattle.tv_doc.specs.Belongs
 pub use Rattle.tv_doc.specs.Builder

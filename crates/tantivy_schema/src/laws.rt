@@ -27,10 +27,13 @@ pub use tv_builder::laws::{
 };
 use tv_doc::document::CompactDoc;
 pub use tv_doc::laws::{
-    additions_are_kept, builders_hold_their_state, built_values_are_as_added, documents_are_valid,
-    heaps_are_within_room, heaps_are_written_in_order, named_documents_are_converted_back,
-    named_values_make_the_same_pairs,
+    additions_are_kept, builders_hold_their_state, built_values_are_as_added,
+    documents_are_listed_in_one_way, documents_are_valid, heaps_are_within_room,
+    heaps_are_written_in_order, named_documents_are_converted_back,
+    named_values_make_the_same_pairs, objects_make_one_document, strict_texts_make_one_document,
+    texts_have_one_fault, texts_make_one_document, values_by_name_make_one_document,
 };
+pub use tv_field::laws::values_have_one_outcome;
 pub use tv_format::laws::{
     documents_have_one_reading, errors_of_documents_are_unique, errors_of_values_are_unique,
     malformed_documents_derive_none, malformed_values_encode_none, short_documents_are_shortest,
@@ -46,6 +49,7 @@ pub use tv_indexing::laws::{
 };
 pub use tv_json::laws::{
     no_text_goes_on_from_a_fault, syntax_faults_are_unique, texts_that_are_read_have_the_syntax,
+    texts_with_the_syntax_are_read, the_syntax_is_the_grammar,
 };
 pub use tv_options::laws::{
     comparisons_of_facet_options_agree, comparisons_of_flag_lists_agree,
@@ -72,8 +76,10 @@ pub use tv_schema::laws::{
     written_schemas_are_read_back, written_schemas_tell_all,
 };
 pub use tv_store::laws::{
-    next_readings_are_alike, readings_are_alike, refusals_are_unique,
-    stepped_decoders_are_paid_for, stored_pairs_are_valid, stored_pairs_need_no_more_room,
+    block_migrations_are_alike, blocks_have_one_reading, limited_next_readings_are_alike,
+    limited_readings_are_alike, migrations_are_alike, next_readings_are_alike, readings_are_alike,
+    refusals_are_unique, stepped_decoders_are_paid_for, stored_pairs_are_valid,
+    stored_pairs_need_no_more_room,
 };
 pub use tv_store::migration_trip::{MigrationTrip, migrations_are_read_back};
 pub use tv_store::round_trip::{RoundTrip, RoundTripError, additions_are_stored_and_read_back};
