@@ -12,7 +12,8 @@ use tv_base::Facet;
 
 /// Writes the encoded facet that a text such as `/first/second` names, see `Facet::from_text`, and returns its length in bytes.
 ///
-/// Errors: `NotUtf8`, `NotFacet` where the text doesn't begin with `/`, `TooSmall`, `Memory`. The buffer then stays as it is.
+/// Errors: `NotUtf8` exactly where the text isn't UTF-8; else `NotFacet` where it doesn't begin with `/`, `TooSmall`, `Memory`. The buffer then stays as
+/// it is.
 pub fn facet_of_text(alloc: Global, text: &[u8], encoded: &mut [u8]) -> Result<u64, BlockError>
     ensures fills { FillsBuffer (λ content. IsUtf8 text.now × (parse text.now ≡ Some content))
         (IsFacetRefusal text.now) encoded.old encoded.new result }
@@ -30,7 +31,7 @@ pub fn facet_of_text(alloc: Global, text: &[u8], encoded: &mut [u8]) -> Result<u
 
 /// Writes the text that names the facet with these encoded bytes, see `Facet::to_path_string`, and returns its length in bytes.
 ///
-/// Errors: `NotUtf8`, `TooSmall`, `Memory`. The buffer then stays as it is.
+/// Errors: `NotUtf8` exactly where `encoded` isn't UTF-8; else `TooSmall`, `Memory`. The buffer then stays as it is.
 pub fn text_of_facet(alloc: Global, encoded: &[u8], text: &mut [u8]) -> Result<u64, BlockError>
     ensures fills { FillsBuffer (λ content. IsUtf8 encoded.now × (content ≡ printed encoded.now))
         (IsTextRefusal encoded.now) text.old text.new result }

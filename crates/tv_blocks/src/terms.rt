@@ -114,7 +114,7 @@ pub fn terms_of_block(
 /// Writes the term of a text, see `Term::from_field_text`, and returns its length in bytes. All terms of the field's texts that begin
 /// with the text begin with it.
 ///
-/// Errors: `NotUtf8`, `TooSmall`, `Memory`. The buffer then stays as it is.
+/// Errors: `NotUtf8` exactly where the text isn't UTF-8; else `TooSmall`, `Memory`. The buffer then stays as it is.
 pub fn term_of_text(
     alloc: Global,
     field: u32,
