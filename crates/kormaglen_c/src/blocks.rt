@@ -1,12 +1,12 @@
 //! Calls for C over blocks that write records by a schema that a handle holds.
 
-ghost use Rattle.kormaglen_c.specs.Answers.{AnswersFill, IsWrongVersion};
+ghost use Rattle.kormaglen_c.specs.Answers.{AnswersFill, ByVersion};
 ghost use Rattle.kormaglen_c.specs.Handles.{IsClosedHandle};
 ghost use Rattle.std.specs.Prelude.{◌≡◌, ◌==◌, not, MatchOption};
 ghost use Rattle.tv_blocks.specs.FieldValues.{AreNamedValues, IsNamedValuesRefusal};
 ghost use Rattle.tv_blocks.specs.SchemaTerms.{AreSchemaTerms, IsSchemaTermsRefusal};
 ghost use Rattle.tv_blocks.specs.Held.{entries_of};
-ghost use Rattle.tv_reader.specs.Version.{version_of_number, version_of};
+ghost use Rattle.tv_reader.specs.Version.{version_of};
 
 use crate::handles::closed;
 use std::alloc::Global;
@@ -41,9 +41,9 @@ fn write_values(
     block: &[u8],
     values: &mut [u8],
 ) -> Answer
-    ensures { MatchOption (version_of_number version) (IsWrongVersion values.old values.new result)
-        (λ v. AnswersFill (AreNamedValues schema.now name.now (version_of v) block.now)
-        (IsNamedValuesRefusal schema.now name.now (version_of v) block.now) values.old values.new
+    ensures { ByVersion version values.old values.new result
+        (λ known. AnswersFill (AreNamedValues schema.now name.now known block.now)
+        (IsNamedValuesRefusal schema.now name.now known block.now) values.old values.new
         result) }
 {
     match DocStoreVersion::from_u32(version) {
@@ -64,10 +64,9 @@ pub extern "C" fn raw_schema_values_of_block(
 ) -> Answer
     ensures handle { entries_of handle.new ≡ entries_of handle.old }
     ensures answer { MatchOption (entries_of handle.old) (IsClosedHandle values.old values.new result)
-        (λ entries. MatchOption (version_of_number version)
-        (IsWrongVersion values.old values.new result)
-        (λ v. AnswersFill (AreNamedValues entries name.now (version_of v) block.now)
-        (IsNamedValuesRefusal entries name.now (version_of v) block.now) values.old values.new
+        (λ entries. ByVersion version values.old values.new result
+        (λ known. AnswersFill (AreNamedValues entries name.now known block.now)
+        (IsNamedValuesRefusal entries name.now known block.now) values.old values.new
         result)) }
 {
     match handle.take(alloc) {
@@ -89,9 +88,9 @@ fn write_terms(
     block: &[u8],
     terms: &mut [u8],
 ) -> Answer
-    ensures { MatchOption (version_of_number version) (IsWrongVersion terms.old terms.new result)
-        (λ v. AnswersFill (AreSchemaTerms with_faults schema.now (version_of v) block.now)
-        (IsSchemaTermsRefusal with_faults schema.now (version_of v) block.now)
+    ensures { ByVersion version terms.old terms.new result
+        (λ known. AnswersFill (AreSchemaTerms with_faults schema.now known block.now)
+        (IsSchemaTermsRefusal with_faults schema.now known block.now)
         terms.old terms.new result) }
 {
     match DocStoreVersion::from_u32(version) {
@@ -121,9 +120,9 @@ pub extern "C" fn raw_schema_terms_of_block(
 ) -> Answer
     ensures handle { entries_of handle.new ≡ entries_of handle.old }
     ensures answer { MatchOption (entries_of handle.old) (IsClosedHandle terms.old terms.new result)
-        (λ entries. MatchOption (version_of_number version) (IsWrongVersion terms.old terms.new result)
-        (λ v. AnswersFill (AreSchemaTerms (not (with_faults == 0)) entries (version_of v) block.now)
-        (IsSchemaTermsRefusal (not (with_faults == 0)) entries (version_of v) block.now)
+        (λ entries. ByVersion version terms.old terms.new result
+        (λ known. AnswersFill (AreSchemaTerms (not (with_faults == 0)) entries known block.now)
+        (IsSchemaTermsRefusal (not (with_faults == 0)) entries known block.now)
         terms.old terms.new result)) }
 {
     match handle.take(alloc) {

@@ -1,13 +1,12 @@
 //! Calls for C by a document that a handle holds. A handle is used by one call at a time. One that is all zeros holds nothing.
 
-ghost use Rattle.kormaglen_c.specs.Answers.{AnswersFill, IsWrongVersion, write_numbered};
+ghost use Rattle.kormaglen_c.specs.Answers.{AnswersFill, ByWrittenVersion};
 ghost use Rattle.kormaglen_c.specs.Documents.{AnswersParsed, AnswersRead, HoldsNone, ParsesOr, ReadsOr};
 ghost use Rattle.kormaglen_c.specs.Handles.{IsClosedHandle, closed_answer};
 ghost use Rattle.std.specs.Prelude.{◌≡◌, MatchOption, None};
 ghost use Rattle.tv_blocks.specs.Documents.{IsForeignRefusal, IsPrintedBy, IsStoredDocument};
 ghost use Rattle.tv_blocks.specs.Status.{wrong_version};
 ghost use Rattle.tv_doc.specs.Document.{document_of};
-ghost use Rattle.tv_format.specs.WriteVersion.{written_version};
 ghost use Rattle.tv_blocks.specs.Held.{entries_of};
 ghost use Rattle.tv_reader.specs.Version.{version_of_number, version_of};
 
@@ -171,9 +170,9 @@ fn write_numbered_version(
     document: &CompactDoc,
     bytes: &mut [u8],
 ) -> Answer
-    ensures { MatchOption (write_numbered version) (IsWrongVersion bytes.old bytes.new result)
-        (λ w. AnswersFill
-        (IsStoredDocument schema.now (written_version w) (document_of document.now))
+    ensures { ByWrittenVersion version bytes.old bytes.new result
+        (λ written. AnswersFill
+        (IsStoredDocument schema.now written (document_of document.now))
         (IsForeignRefusal schema.now (document_of document.now)) bytes.old bytes.new result) }
 {
     match write_version(version) {
@@ -194,9 +193,8 @@ fn write(
 ) -> Answer
     ensures handle { handle.new.document ≡ handle.old.document }
     ensures answer { MatchOption handle.old.document (IsClosedHandle bytes.old bytes.new result)
-        (λ document. MatchOption (write_numbered version)
-        (IsWrongVersion bytes.old bytes.new result)
-        (λ w. AnswersFill (IsStoredDocument schema.now (written_version w) (document_of document))
+        (λ document. ByWrittenVersion version bytes.old bytes.new result
+        (λ written. AnswersFill (IsStoredDocument schema.now written (document_of document))
         (IsForeignRefusal schema.now (document_of document)) bytes.old bytes.new result)) }
 {
     match handle.take(alloc) {
@@ -224,9 +222,8 @@ pub extern "C" fn raw_document_write(
     ensures schema { entries_of schema.new ≡ entries_of schema.old }
     ensures answer { MatchOption (entries_of schema.old) (IsClosedHandle bytes.old bytes.new result)
         (λ entries. MatchOption handle.old.document (IsClosedHandle bytes.old bytes.new result)
-        (λ document. MatchOption (write_numbered version)
-        (IsWrongVersion bytes.old bytes.new result)
-        (λ w. AnswersFill (IsStoredDocument entries (written_version w) (document_of document))
+        (λ document. ByWrittenVersion version bytes.old bytes.new result
+        (λ written. AnswersFill (IsStoredDocument entries written (document_of document))
         (IsForeignRefusal entries (document_of document)) bytes.old bytes.new result))) }
 {
     match schema.take(alloc) {

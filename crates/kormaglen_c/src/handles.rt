@@ -1,6 +1,6 @@
 //! Calls for C by a schema that a handle holds. A handle is used by one call at a time. One that is all zeros holds nothing.
 
-ghost use Rattle.kormaglen_c.specs.Answers.{AnswersFill, AnswersFound, AnswersImport, IsWrongVersion};
+ghost use Rattle.kormaglen_c.specs.Answers.{AnswersFill, AnswersFound, AnswersImport, ByVersion};
 ghost use Rattle.kormaglen_c.specs.Handles.{AnswersOpened, OpensOr, closed_answer, IsClosedHandle, IsClosedFound, IsClosedImport};
 ghost use Rattle.std.specs.Prelude.{◌≡◌, MatchOption, None};
 ghost use Rattle.tv_blocks.specs.Blocks.{IsPrintedBlock};
@@ -9,7 +9,6 @@ ghost use Rattle.tv_blocks.specs.Imports.{ImportsBy};
 ghost use Rattle.tv_blocks.specs.Refusals.{IsBlockRefusal, IsUnfound};
 ghost use Rattle.tv_blocks.specs.Schemas.{IsSchemaText};
 ghost use Rattle.tv_blocks.specs.Held.{entries_of};
-ghost use Rattle.tv_reader.specs.Version.{version_of_number, version_of};
 
 use crate::{NOTHING_FOUND, found_answer};
 use std::alloc::Global;
@@ -150,9 +149,9 @@ pub extern "C" fn raw_schema_import_lines(
 
 // Writes the documents of a block as lines of JSON by a schema.
 fn export(alloc: Global, schema: &Schema, version: u32, block: &[u8], lines: &mut [u8]) -> Answer
-    ensures { MatchOption (version_of_number version) (IsWrongVersion lines.old lines.new result)
-        (λ v. AnswersFill (IsPrintedBlock schema.now (version_of v) block.now)
-        (IsBlockRefusal (version_of v) block.now) lines.old lines.new result) }
+    ensures { ByVersion version lines.old lines.new result
+        (λ known. AnswersFill (IsPrintedBlock schema.now known block.now)
+        (IsBlockRefusal known block.now) lines.old lines.new result) }
 {
     match DocStoreVersion::from_u32(version) {
         Ok(version) => written_answer(tv_blocks::export_block_by(
@@ -173,9 +172,9 @@ pub extern "C" fn raw_schema_export_block(
 ) -> Answer
     ensures handle { entries_of handle.new ≡ entries_of handle.old }
     ensures answer { MatchOption (entries_of handle.old) (IsClosedHandle lines.old lines.new result)
-        (λ entries. MatchOption (version_of_number version) (IsWrongVersion lines.old lines.new result)
-        (λ v. AnswersFill (IsPrintedBlock entries (version_of v) block.now)
-        (IsBlockRefusal (version_of v) block.now) lines.old lines.new result)) }
+        (λ entries. ByVersion version lines.old lines.new result
+        (λ known. AnswersFill (IsPrintedBlock entries known block.now)
+        (IsBlockRefusal known block.now) lines.old lines.new result)) }
 {
     match handle.take(alloc) {
         Some(memory) => {

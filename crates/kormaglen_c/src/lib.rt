@@ -3,7 +3,7 @@
 //! handles keep something between two calls. A handle is used by one call at a time, on any thread.
 #![tactic(auto)]
 
-ghost use Rattle.std.specs.Prelude.{◌≡◌, Some, IsUtf8, MatchOption};
+ghost use Rattle.std.specs.Prelude.{◌≡◌, Some, IsUtf8};
 ghost use Rattle.tv_base.specs.Facet.{parse, printed};
 ghost use Rattle.tv_blocks.specs.Blocks.{IsExported};
 ghost use Rattle.tv_blocks.specs.FacetCounts.{AreFacetCounts, IsCountsRefusal};
@@ -11,9 +11,7 @@ ghost use Rattle.tv_blocks.specs.Fields.{FindsInText, IsPathAnswer};
 ghost use Rattle.tv_blocks.specs.Imports.{ImportsInto};
 ghost use Rattle.tv_blocks.specs.Refusals.{IsBlockRefusal, IsExportRefusal, IsFacetRefusal, IsTextRefusal};
 ghost use Rattle.tv_blocks.specs.Terms.{IsEnd, IsEndRefusal, IsTermList, IsTermRefusal, IsTermText, IsTextTerm};
-ghost use Rattle.kormaglen_c.specs.Answers.{AnswersFill, AnswersFound, AnswersImport, IsWrongVersion, TellsField, write_numbered};
-ghost use Rattle.tv_format.specs.WriteVersion.{written_version};
-ghost use Rattle.tv_reader.specs.Version.{version_of_number, version_of};
+ghost use Rattle.kormaglen_c.specs.Answers.{AnswersFill, AnswersFound, AnswersImport, ByVersion, ByWrittenVersion, TellsField, write_numbered};
 ghost use Rattle.tv_store.specs.BlockMigration.{IsMigrated};
 
 pub mod blocks;
@@ -116,9 +114,9 @@ pub extern "C" fn raw_export_block(
     block: &[u8],
     lines: &mut [u8],
 ) -> Answer
-    ensures { MatchOption (version_of_number version) (IsWrongVersion lines.old lines.new result)
-        (λ v. AnswersFill (IsExported schema.now (version_of v) block.now)
-        (IsExportRefusal schema.now (version_of v) block.now) lines.old lines.new result) }
+    ensures { ByVersion version lines.old lines.new result
+        (λ known. AnswersFill (IsExported schema.now known block.now)
+        (IsExportRefusal schema.now known block.now) lines.old lines.new result) }
 {
     match DocStoreVersion::from_u32(version) {
         Ok(version) => written_answer(tv_blocks::export_block(
@@ -148,10 +146,10 @@ pub extern "C" fn raw_migrate_block(
     to: u32,
     migrated: &mut [u8],
 ) -> Answer
-    ensures { MatchOption (version_of_number from) (IsWrongVersion migrated.old migrated.new result)
-        (λ v. MatchOption (write_numbered to) (IsWrongVersion migrated.old migrated.new result)
-        (λ w. AnswersFill (IsMigrated (version_of v) (written_version w) block.now)
-        (IsBlockRefusal (version_of v) block.now) migrated.old migrated.new result)) }
+    ensures { ByVersion from migrated.old migrated.new result
+        (λ known. ByWrittenVersion to migrated.old migrated.new result
+        (λ written. AnswersFill (IsMigrated known written block.now)
+        (IsBlockRefusal known block.now) migrated.old migrated.new result)) }
 {
     match (DocStoreVersion::from_u32(from), write_version(to)) {
         (Ok(from), Some(to)) => {
@@ -170,9 +168,9 @@ pub extern "C" fn raw_terms_of_block(
     block: &[u8],
     terms: &mut [u8],
 ) -> Answer
-    ensures { MatchOption (version_of_number version) (IsWrongVersion terms.old terms.new result)
-        (λ v. AnswersFill (IsTermList (version_of v) field block.now)
-        (IsBlockRefusal (version_of v) block.now) terms.old terms.new result) }
+    ensures { ByVersion version terms.old terms.new result
+        (λ known. AnswersFill (IsTermList known field block.now)
+        (IsBlockRefusal known block.now) terms.old terms.new result) }
 {
     match DocStoreVersion::from_u32(version) {
         Ok(version) => written_answer(tv_blocks::terms_of_block(
