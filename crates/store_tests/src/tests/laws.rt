@@ -6,12 +6,13 @@ use std::io::Read;
 use std::test::Fail;
 use tantivy_schema::common::ReadSource;
 use tantivy_schema::laws::{
-    additions_are_stored_and_read_back, built_values_are_as_added, stored_pairs_are_read_back,
-    written_documents_are_shortest,
+    additions_are_stored_and_read_back, built_values_are_as_added, migrations_are_read_back,
+    stored_pairs_are_read_back, written_documents_are_shortest,
 };
 use tantivy_schema::schema::{
     CompactDoc, Field, OwnedValue, STORED, Schema, SchemaError, TEXT, Value,
 };
+use tantivy_schema::store::{DocStoreVersion, WriteVersion};
 
 // Gives one byte at a time.
 #[derive(Drop)]
@@ -121,5 +122,15 @@ fn built_values_in_memory(rt: HostRuntime) -> Result<(), Fail> {
     let made = built_values_are_as_added(&named, Field::from_field_id(AGE), &&age)?;
     assert!(rt; is_read_back(&made.0) && is_read_back(&made.1));
     assert!(rt; made.0.node_data() == made.1.node_data() && named.len() == 1);
+    Ok(())
+}
+
+#[test]
+fn migrations_in_memory(rt: HostRuntime) -> Result<(), Fail> {
+    let alloc = rt.alloc();
+    let (old, new) = (DocStoreVersion::V1, DocStoreVersion::V3);
+    let trip = migrations_are_read_back(alloc, b"\x80", old, WriteVersion::V3, new)?;
+    assert!(rt; trip.written.as_slice() == b"\x80".as_slice() && trip.left.is_empty());
+    assert!(rt; trip.back.is_empty());
     Ok(())
 }
