@@ -34,5 +34,6 @@ pub mod JsonPaths
 pub mod Growing
 pub mod FacetCounts
 pub mod Documents
+pub mod OneCount
 pub mod Prints
 mod Overlaps

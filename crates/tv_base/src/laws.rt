@@ -9,6 +9,9 @@ ghost use Rattle.tv_base.specs.Number.{VNum, vnum, Fixed, one_byte, four_bytes, 
 ghost use Rattle.tv_base.specs.Parts.{OneReading, Sized, Text, short_sized};
 ghost use Rattle.tv_base.specs.Escapes.{without_escapes};
 ghost use Rattle.tv_base.specs.Facet.{parse, path, printed, IsStep, Descends};
+ghost use Rattle.tv_base.specs.FacetCounting.{AreChildCounts};
+ghost use Rattle.tv_base.specs.DocumentCounting.{AreDocumentCounts};
+ghost use Rattle.tv_base.specs.Greatest.{AreGreatest};
 
 use crate::facet::Facet;
 use std::hash::Hash;
@@ -114,6 +117,19 @@ pub fn descendants_are_a_range()
         → Descends f g
         ↔ (IsTrue (is_le (slice_cmp nat_cmp (f ++ 0 ∷ []) g))
         × IsTrue (is_lt (slice_cmp nat_cmp g (f ++ 1 ∷ [])))) }
+{}
+
+/// A facet's children have one list of counts, be it of facets or of documents, and a list of counts has one list of its `most` greatest.
+pub fn facets_have_one_count()
+    ensures facets { (ancestor : List ℕ) (facets : List (List ℕ)) (counts other : List (List ℕ × ℕ))
+        → AreChildCounts ancestor facets counts → AreChildCounts ancestor facets other
+        → counts ≡ other }
+    ensures documents { (ancestor : List ℕ) (facets counts other : List (List ℕ × ℕ))
+        → AreDocumentCounts ancestor facets counts → AreDocumentCounts ancestor facets other
+        → counts ≡ other }
+    ensures greatest { (counts : List (List ℕ × ℕ)) (most : ℕ)
+        (greatest other : List (List ℕ × ℕ)) → AreGreatest counts most greatest
+        → AreGreatest counts most other → greatest ≡ other }
 {}
 
 /// Facets are ordered as the bytes of their encoded texts. Those that the order calls equal are one facet, as `==` says, and equal
