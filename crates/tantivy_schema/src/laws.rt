@@ -17,8 +17,8 @@ ghost use Rattle.tv_format.specs.Version.{V2};
 use std::alloc::Global;
 pub use tv_base::laws::{
     all_facets_descend_from_the_root, comparisons_of_facets_agree, descendants_are_a_range,
-    numbers_have_one_reading, printed_facets_are_read, short_numbers_are_shortest,
-    short_numbers_encode,
+    facets_have_one_count, numbers_have_one_reading, printed_facets_are_read,
+    short_numbers_are_shortest, short_numbers_encode,
 };
 use tv_base::{ByteSource, VecSink};
 pub use tv_builder::laws::{

@@ -1,5 +1,5 @@
 -- Tokens that are encoded one after the other, and the view of their encoding.
-use Rattle.std.proofs.Common.{◌≡◌, ℕ, suc, codes, ◌<◌, ◌^◌, List, [], ◌∷◌, ◌++◌, take, drop, length, Option, Some, None, option_map, option_and_then, Bool, true, false, Result, Ok, Err, refl, sym, ap, ◌∙◌, arith, append_assoc, append-nil}
+use Rattle.std.proofs.Common.{◌≡◌, ℕ, suc, codes, ◌<◌, ◌^◌, List, [], ◌∷◌, ◌++◌, take, drop, length, Option, Some, None, option_map, option_and_then, Bool, true, false, Ok, refl, sym, ap, ◌∙◌, arith, append_assoc, append-nil}
 use Rattle.tv_value.proofs.GatheredTokens.{each_more, short_more}
 use Rattle.std.specs.List.{AllByRecursion, flat_map}
 use Rattle.std.proofs.lemmas.List.{take-append-drop}
@@ -59,11 +59,11 @@ tokens_count json.no_items ts e = ap length (sym (same_Some [] ts e))
 tokens_count (json.item d ds) ts e = count_at (token_in d) (tokens_in ds) (items_len ds) (tokens_count ds) ts e
 
 -- a text and its tokens, encoded one after the other
-pub encoded_all : {E : Type 0} (d : Data) (content : List ℕ) (items : List Value) (mid new : List ℕ) (r : Result Bool E) → text_at (codes "text") d ≡ Some content
+pub encoded_all : (E : Type 0) (d : Data) (content : List ℕ) (items : List Value) (mid new : List ℕ) → text_at (codes "text") d ≡ Some content
     → option_and_then as_array (get (codes "tokens") d) ≡ Some (items_view items) → IsText content → length items < 2 ^ 63 → mid ≡ short_sized content ++ vnum (length items)
-    → AreTokensEncoded (items_view items) mid new r → IsTokenizedEncoded d new r
+    → AreTokensEncoded {E = E} (items_view items) mid new (Ok true) → IsTokenizedEncoded {E = E} d new (Ok true)
 unfolding tokenized_in
-encoded_all d content items mid new (Ok true) named listed text few start (ts, is, valid, grown) =
+encoded_all E d content items mid new named listed text few start (ts, is, valid, grown) =
     let count : length ts ≡ length items = tokens_count (items_view items) ts is ∙ items_len-items_view items in
     let few_tokens : length ts < 2 ^ 63 = omega arith in (
       content,
@@ -73,5 +73,20 @@ encoded_all d content items mid new (Ok true) named listed text few start (ts, i
       record { count = few_tokens; each = valid },
       grown ∙ ap (λ bs. bs ++ flat_map short_token ts) (start ∙ ap (λ n. short_sized content ++ vnum n) (sym count)) ∙ append_assoc (short_sized content) (vnum (length ts)) (flat_map short_token ts),
     )
-encoded_all d content items mid new (Ok false) named listed text few start none = rw (named, listed, none)
-encoded_all d content items mid new (Err e) named listed text few start h = tt
+
+pub not_tokenized : (d : Data) (content : List ℕ) (items : List Value) → text_at (codes "text") d ≡ Some content
+    → option_and_then as_array (get (codes "tokens") d) ≡ Some (items_view items) → tokens_in (items_view items) ≡ None → tokenized_in d ≡ None
+unfolding tokenized_in
+not_tokenized d content items named listed none = rw (named, listed, none)
+
+-- two outcomes of one value are the same one
+pub one_encoding : (E : Type 0) (d : Data) (encoded other : List ℕ) (result twin : Bool) → IsTokenizedEncoded {E = E} d encoded (Ok result) → IsTokenizedEncoded {E = E} d other (Ok twin)
+    → (result ≡ twin) × (encoded ≡ other)
+one_encoding E d encoded other true true (content, tokens, is, text, each, whole) (second, others, twin_is, twin_text, twin_each, twin_whole) =
+    let same : tokenized content tokens ≡ tokenized second others = same_Some (tokenized content tokens) (tokenized second others) (sym is ∙ twin_is) in
+    let texts : content ≡ second = cc in
+    let lists : tokens ≡ others = cc in
+    (refl, whole ∙ (λ i. short_tokenized (texts i) (lists i)) ∙ sym twin_whole)
+one_encoding E d encoded other true false (content, tokens, is, text, each, whole) (none, empty) = absurd (let no : Some (tokenized content tokens) ≡ None = sym is ∙ none in cc)
+one_encoding E d encoded other false true (none, empty) (content, tokens, is, text, each, whole) = absurd (let no : Some (tokenized content tokens) ≡ None = sym is ∙ none in cc)
+one_encoding E d encoded other false false (none, empty) (twin_none, twin_empty) = (refl, empty ∙ sym twin_empty)

@@ -58,11 +58,11 @@ AreTokensEncoded items old new (Ok true) = (ts : List Token) × (tokens_in items
 AreTokensEncoded items old new (Ok false) = tokens_in items ≡ None
 AreTokensEncoded items old new (Err e) = Unit {0}
 
--- whether the value is a text with tokens, whose shortest encoding these bytes then are
+-- whether the value is a text with tokens, whose shortest encoding these bytes then are; else there are none
 abbrev pub IsTokenizedEncoded : {E : Type 0} → Data → List ℕ → Result Bool E → Type 0
 IsTokenizedEncoded datum encoded (Ok true) =
     (content : List ℕ) × (ts : List Token) × (tokenized_in datum ≡ Some (tokenized content ts))
     × IsText content
     × AreTokens ts × (encoded ≡ short_tokenized content ts)
-IsTokenizedEncoded datum encoded (Ok false) = tokenized_in datum ≡ None
+IsTokenizedEncoded datum encoded (Ok false) = (tokenized_in datum ≡ None) × (encoded ≡ [])
 IsTokenizedEncoded datum encoded (Err e) = Unit {0}

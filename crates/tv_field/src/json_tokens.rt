@@ -74,20 +74,24 @@ fn push_json_tokens(bytes: &mut ByteBuffer, items: &Vec<Value>) -> Result<bool, 
     Ok(true)
 }
 
-/// Writes the encoding of a text with its tokens, in place of what is there. Returns whether the value is one. Errors: memory was
-/// refused.
+/// Writes the encoding of a text with its tokens, in place of what is there. Returns whether `json` is one; where it isn't, `bytes` is left
+/// empty. Errors: memory was refused.
 #[tactic(auto, unfolding(crate::specs::JsonTokens::tokenized_in))]
 pub fn encode_tokenized(json: &Value, bytes: &mut ByteBuffer) -> Result<bool, AllocError>
     ensures { IsTokenizedEncoded (data_of json.now) bytes.new.items result }
 {
+    bytes.clear();
     let Some(content) = text_at(json, "text") else {
         return Ok(false);
     };
     let Some(items) = items_at(json, "tokens") else {
         return Ok(false);
     };
-    bytes.clear();
     push_text(bytes, content)?;
     push_number(bytes, items.len() as u64)?;
-    push_json_tokens(bytes, items)
+    if push_json_tokens(bytes, items)? {
+        return Ok(true);
+    }
+    bytes.clear();
+    Ok(false)
 }

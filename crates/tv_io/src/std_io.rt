@@ -1,6 +1,7 @@
 //! A source over a reader of std, and a sink over a writer.
 
-ghost use Rattle.std.specs.Prelude.{◌≡◌, [], None, IsSome, unwrap_or};
+ghost use Rattle.std.specs.Prelude.{◌≡◌, [], false, None, IsSome, unwrap_or};
+ghost use Rattle.tv_base.specs.Sink.{IsPrefix};
 ghost use Rattle.tv_base.specs.Source.{AllBytes};
 ghost use Rattle.tv_io.specs.Calls.{failures_of};
 
@@ -50,6 +51,24 @@ impl<R: Read> ByteSource for ReadSource<R> {
     fn read(&mut self, buf: &mut [u8]) -> Result<usize, io::ErrorKind> {
         let call = read_by_kind(self.inner.read(buf));
         self.failures.count(call)
+    }
+
+    /// No byte: what the reader has isn't known before it is read.
+    fn buffered(&self) -> &[u8]
+        ensures none { result.now ≡ [] }
+        ensures prefix { ⟦<ReadSource<R> as ByteSource>⟧.is_known self.now
+            → IsPrefix result.now (⟦<ReadSource<R> as ByteSource>⟧.left self.now) }
+    {
+        &[]
+    }
+
+    /// Takes no byte, and returns `false`.
+    fn pass(&mut self, len: usize) -> bool
+        ensures none { result ≡ false }
+        ensures unchanged { self.new ≡ self.old }
+    {
+        let _len = len;
+        false
     }
 
     ghost are_bytes = { λ s told. told.1 };

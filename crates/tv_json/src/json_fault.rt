@@ -21,9 +21,9 @@ pub enum JsonFaultKind {
 /// Where and why a text is no JSON object. (Not in tantivy.)
 #[derive(Clone, Copy, Debug, PartialEq, Eq, Drop)]
 pub struct JsonFault {
-    /// How many bytes of the text come before the place where it is refused. Where it goes wrong, that is the first byte that can't come after those
-    /// before it, or the bracket of the list that nests too deep; where a number is too large, the first byte of the first one. It is the text's
-    /// length where the text ends early and where no number is found that is too large, and 0 where it is no object.
+    /// How many bytes of the text come before the place where it is refused. Where it goes wrong, that is the first byte that can't come after
+    /// those before it, or the bracket of the list that nests too deep. Where a number is too large, it is the first byte of the first such
+    /// number. It is the text's length where the text ends early, and 0 where the text is no object.
     pub offset: usize,
     /// Why it is refused there.
     pub kind: JsonFaultKind,

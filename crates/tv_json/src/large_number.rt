@@ -37,8 +37,9 @@ fn begins_large(bytes: &[u8]) -> bool
     read_numeral(number, &mut false).is_none()
 }
 
-/// At which byte the first number begins that is too large for a float, in a text that is JSON by its syntax. `None` where none is
-/// too large, or the text isn't. It takes no memory. (Not in tantivy.)
+/// At which byte of `text` the first number begins that is too large for a float, where what comes before it is JSON by its syntax. `None`
+/// of a text that is JSON by its syntax says that no number in it is too large; of another text it says nothing. It takes no memory.
+/// (Not in tantivy.)
 pub fn large_number(text: &str) -> Option<usize>
     ensures { MatchOption result (IsSyntax text.now → NoLargeNumber text.now)
         (λ offset. IsFirstLargeNumber text.now offset) }

@@ -132,7 +132,7 @@ impl Term {
         bytes
     }
 
-    /// A term of field 0 with the type's code 0, which is no type's, and no value bytes, with room for as many value bytes.
+    /// A term of field 0 with the type's code 0, which is no type's, and no value bytes. Memory for `capacity` value bytes is asked for at once.
     pub fn with_capacity(alloc: Global, capacity: usize) -> Result<Term, TermError>
         ensures { GivesExactly (0 ∷ 0 ∷ 0 ∷ 0 ∷ 0 ∷ []) result }
     {
