@@ -1,5 +1,5 @@
 -- What is written of a leaf at the end of a heap, and where it stands then.
-use Rattle.std.specs.Prelude.{ℕ, List, []}
+use Rattle.std.specs.Prelude.{◌≡◌, ℕ, List, []}
 use Rattle.std.specs.Int.{w64, cast_unsigned}
 use Rattle.tv_base.specs.Number.{eight_bytes, sixteen_bytes}
 use Rattle.tv_base.specs.Parts.{short_sized}
@@ -8,6 +8,8 @@ use Rattle.tv_format.specs.Content.{wide_content, text_content, bytes_content, t
 use Rattle.tv_format.specs.Leaves.{type_of, content}
 use Rattle.tv_format.specs.Short.{short_tokenized}
 use Rattle.tv_format.specs.Tree.{Leaf}
+use Rattle.tv_format.specs.declared.leaf_type.LeafType.{LeafType}
+use Rattle.tv_heap.specs.declared.value_type.Place.{Place}
 use Rattle.tv_heap.specs.declared.value_type.ValueType.{ValueType}
 use Rattle.tv_heap.specs.Reads.{flag}
 use Rattle.tv_heap.specs.TypeCode.{leaf_heap_type}
@@ -37,3 +39,8 @@ content_address len _ = len
 
 abbrev pub leaf_address : ℕ → Leaf → ℕ
 leaf_address len the_leaf = content_address len (content the_leaf)
+
+-- the place of a value of this type and content that was written at the end of a heap of this length
+abbrev pub IsPlaceAtEnd : (len : ℕ) → LeafType → Content → Place → Type 0
+IsPlaceAtEnd len kind held place = (place.value_type ≡ leaf_heap_type kind)
+    × (place.address ≡ content_address len held)

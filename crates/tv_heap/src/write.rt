@@ -12,9 +12,9 @@ ghost use Rattle.tv_value.specs.LeafParts.{content_of};
 ghost use Rattle.tv_format.specs.Leaves.{type_of, content};
 ghost use Rattle.tv_format.specs.Short.{short_tokenized, IsContent};
 ghost use Rattle.tv_format.specs.Tree.{Leaf, leaf};
-ghost use Rattle.tv_heap.specs.LeafBytes.{content_bytes, content_address, leaf_bytes, leaf_value_type, leaf_address};
-ghost use Rattle.tv_heap.specs.TypeCode.{leaf_heap_type, type_code};
-ghost use Rattle.tv_heap.specs.Wrote.{Wrote};
+ghost use Rattle.tv_heap.specs.LeafBytes.{content_bytes, content_address, leaf_bytes, IsPlaceAtEnd};
+ghost use Rattle.tv_heap.specs.TypeCode.{type_code};
+ghost use Rattle.tv_heap.specs.Wrote.{WroteAt};
 
 use crate::value_type::{Place, ValueType};
 use std::alloc::AllocError;
@@ -134,12 +134,10 @@ pub fn write_leaf(
 ) -> Result<Place, AllocError>
     requires { length heap.old.items + length (leaf_bytes (leaf_of value.now)) < 2 ^ 32 }
     ensures heap { OnOk result (heap.new.items ≡ heap.old.items ++ leaf_bytes (leaf_of value.now)) }
-    ensures place { IfOk result
-        (λ place. (place.value_type ≡ leaf_value_type (leaf_of value.now))
-        × (place.address ≡ leaf_address (length heap.old.items) (leaf_of value.now))) }
+    ensures place { let written = leaf_of value.now in
+        IfOk result (IsPlaceAtEnd (length heap.old.items) (type_of written) (content written)) }
     ensures ok { IfOk result
-        (λ place. Wrote heap.old.items heap.new.items (type_code place.value_type) place.address
-        (leaf (leaf_of value.now))) }
+        (λ place. WroteAt heap.old.items heap.new.items place (leaf (leaf_of value.now))) }
     ensures err { OnErr result (IsPrefix heap.old.items heap.new.items) }
     ensures grows { GrowsWithin (length heap.old.items + length (leaf_bytes (leaf_of value.now)))
         heap.old heap.new }
@@ -165,12 +163,10 @@ pub fn write_content(
     ensures heap { OnOk result
         (heap.new.items ≡ heap.old.items ++ content_bytes (content_of held.entry)) }
     ensures place { IfOk result
-        (λ place. (place.value_type ≡ leaf_heap_type leaf_type)
-        × (place.address ≡ content_address (length heap.old.items) (content_of held.entry))) }
+        (IsPlaceAtEnd (length heap.old.items) leaf_type (content_of held.entry)) }
     ensures ok { IfOk result
         (λ place. (l : Leaf) → type_of l ≡ leaf_type → content l ≡ content_of held.entry
-        → Wrote heap.old.items heap.new.items (type_code place.value_type) place.address
-        (leaf l)) }
+        → WroteAt heap.old.items heap.new.items place (leaf l)) }
     ensures err { OnErr result (IsPrefix heap.old.items heap.new.items) }
 {
     let address = content_address(heap.len() as u32, held);

@@ -1,9 +1,9 @@
 //! Values at the end of a heap.
 
 ghost use Rattle.std.specs.Prelude.{◌≡◌, ◌+◌, ◌<◌, ◌^◌, ◌++◌, OnOk, IfOk, length};
-ghost use Rattle.tv_heap.specs.Wrote.{Wrote};
+ghost use Rattle.tv_base.specs.Buffer.{GrowsWithin};
+ghost use Rattle.tv_heap.specs.Wrote.{WroteAt};
 ghost use Rattle.tv_heap.specs.LeafBytes.{leaf_bytes};
-ghost use Rattle.tv_heap.specs.TypeCode.{type_code};
 ghost use Rattle.tv_value.specs.Lent.{leaf_of};
 ghost use Rattle.tv_format.specs.Tree.{leaf};
 
@@ -36,10 +36,23 @@ pub fn values_stand_in_the_heap(
     requires heap { length heap.old.items + length (leaf_bytes (leaf_of value.now)) < 2 ^ 32 }
     requires beside { length beside.old.items + length (leaf_bytes (leaf_of value.now)) < 2 ^ 32 }
     ensures { IfOk result
-        (λ place. Wrote heap.old.items heap.new.items (type_code place.value_type) place.address
-        (leaf (leaf_of value.now))) }
+        (λ place. WroteAt heap.old.items heap.new.items place (leaf (leaf_of value.now))) }
 {
     let place = write_leaf(heap, value)?;
     beside.clear();
     Ok(place)
+}
+
+/// A value takes memory for itself alone, also where the list that it belongs to announces many values.
+pub fn announced_values_take_no_memory(
+    heap: &mut ByteBuffer,
+    announced: usize,
+    value: &ReferenceValueLeaf<'_>,
+) -> Result<Place, AllocError>
+    requires { length heap.old.items + length (leaf_bytes (leaf_of value.now)) < 2 ^ 32 }
+    ensures { GrowsWithin (length heap.old.items + length (leaf_bytes (leaf_of value.now)))
+        heap.old heap.new }
+{
+    let _announced = announced;
+    write_leaf(heap, value)
 }
