@@ -92,7 +92,7 @@ ReadsItems source Made Item Refused TooDeep Nests count old new result =
     (λ version levels. AtEach (Nests version levels) count) old new result
 
 -- The next of several items, of which some are announced: the place goes on by one where one was
--- given, each refusal is marked, and where none is left that is the answer.
+-- given, and each refusal is marked. Where none is left, None is the answer.
 pub record ReadsItem {S X : Type 0} (source : Ghosts S)
     (Item : Version → List ℕ → X → Type 0) (Refused : Version → List ℕ → DeserializeError → Type 0)
     (TooDeep Nests : Version → ℕ → List ℕ → List ℕ → Type 0)

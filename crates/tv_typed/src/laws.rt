@@ -36,7 +36,7 @@ pub fn objects_agree<V: ValueDeserialize>()
     ensures { ObjectsAgree V.is }
 {}
 
-/// Bytes begin with one code of a value at most, which leaves one rest, and with none where they are refused. They are refused with one error.
+/// Bytes begin with one code of a value at most, which leaves one rest. Where they are refused, they begin with none, and there is one error.
 pub fn codes_are_determined()
     ensures { AreDetermined IsCoded CodeRefused }
 {}
