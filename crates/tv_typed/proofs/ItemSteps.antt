@@ -95,7 +95,7 @@ collection_fails collection total kind Item Refused B p = goes_fails B (ItemsRef
 
 -- ---- arrays
 
-trees_of : {X : Type 0} (is : Tree → X → Type 0) (v : Version) (b : List ℕ) (xs : List X) → Each (EncodesAs is v) b xs → (ts : List Tree) × AllZip is ts xs × (length ts ≡ length xs) × EncodesElements Legacy v b (elements ts)
+pub trees_of : {X : Type 0} (is : Tree → X → Type 0) (v : Version) (b : List ℕ) (xs : List X) → Each (EncodesAs is v) b xs → (ts : List Tree) × AllZip is ts xs × (length ts ≡ length xs) × EncodesElements Legacy v b (elements ts)
 trees_of is v b [] p = ([], tt, refl, p)
 trees_of is v b (x ∷ xs) p =
     let rest = trees_of is v p.rest xs p.second in
@@ -123,7 +123,7 @@ array_then {X = X} {old = old} {n = n} is refused kind p h =
 
 -- ---- objects
 
-entries_of : {X : Type 0} (is : Tree → X → Type 0) (v : Version) (b : List ℕ) (xs : List (String Global × X)) → Each (EncodesEntry is v) b xs → (es : List (List ℕ × Tree)) × AllZip (IsEntry is) es xs × (length es ≡ length xs) × EncodesEntries Legacy v b (entries es)
+pub entries_of : {X : Type 0} (is : Tree → X → Type 0) (v : Version) (b : List ℕ) (xs : List (String Global × X)) → Each (EncodesEntry is v) b xs → (es : List (List ℕ × Tree)) × AllZip (IsEntry is) es xs × (length es ≡ length xs) × EncodesEntries Legacy v b (entries es)
 entries_of is v b [] p = ([], tt, refl, p)
 entries_of is v b (x ∷ xs) p =
     let rest = entries_of is v p.rest xs p.second in

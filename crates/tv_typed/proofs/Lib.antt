@@ -11,3 +11,4 @@ pub mod DepthSteps
 pub mod NextSteps
 pub mod IntoSteps
 pub mod Agreeing
+pub mod Determining

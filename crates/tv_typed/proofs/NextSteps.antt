@@ -28,6 +28,7 @@ item_refused {old = old} {e = e} Item Refused TooDeep Nests announced position f
   deep = λ o t is. (fewer, deep o t (err_of e _ is));
   within = λ o t is. absurd cc;
   marks_failure = marks;
+  ended = λ o none. absurd (omega (arith, fewer, none));
 }
 
 -- it is read, and the place goes on
@@ -41,6 +42,7 @@ item_given {old = old} {x = x} Item Refused TooDeep Nests announced position few
   deep = λ o t is. absurd cc;
   within = λ o t is. (fewer, within o t refl);
   marks_failure = marks;
+  ended = λ o none. absurd (omega (arith, fewer, none));
 }
 
 -- the next value, whole

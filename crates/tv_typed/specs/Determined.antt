@@ -1,11 +1,12 @@
 -- What two reads of the same bytes agree in.
-use Rattle.std.specs.Prelude.{◌≡◌, List, ℕ, String, string_bytes}
+use Rattle.std.specs.Prelude.{◌≡◌, List, ℕ, String, string_bytes, Vec}
 use Rattle.std.specs.declared.alloc.Global.{Global}
 use Rattle.tv_base.specs.Parts.{Begins}
 use Rattle.tv_format.specs.Tree.{Tree}
 use Rattle.tv_format.specs.Version.{Version}
+use Rattle.tv_reader.specs.declared.error.DeserializeError.{DeserializeError}
 use Rattle.tv_typed.specs.Documents.{EncodesField}
-use Rattle.tv_typed.specs.Lists.{EncodesEntry}
+use Rattle.tv_typed.specs.Lists.{ArrayOf, EncodesEntry, EncodesInto, IsListOf, ObjectOf}
 use Rattle.tv_typed.specs.Values.{EncodesAs}
 use Rattle.tv_value.specs.declared.field.Field.{Field}
 
@@ -39,3 +40,30 @@ FieldsAgree {X} is =
     → Begins (λ part. EncodesField is version part first) bytes rest
     → Begins (λ part. EncodesField is version part second) bytes other
     → (first.0.id ≡ second.0.id) × AgreeIn is first.1 second.1 rest other
+
+-- two lists of this many values at the front of the same bytes are read of one array
+abbrev pub ListsAgree : {X : Type 0} → (Tree → X → Type 0) → Type 0
+ListsAgree {X} is =
+    (version : Version) (count : ℕ) (bytes rest other : List ℕ) (first second : Vec X Global)
+    → Begins (λ part. EncodesInto IsListOf (EncodesAs is version) count part first) bytes rest
+    → Begins (λ part. EncodesInto IsListOf (EncodesAs is version) count part second) bytes other
+    → AgreeIn (λ tree list. ArrayOf is tree list.items) first second rest other
+
+-- two lists of this many keys with values at the front of the same bytes are read of one object
+abbrev pub ObjectsAgree : {X : Type 0} → (Tree → X → Type 0) → Type 0
+ObjectsAgree {X} is =
+    (version : Version) (count : ℕ) (bytes rest other : List ℕ)
+    (first second : Vec (String Global × X) Global)
+    → Begins (λ part. EncodesInto IsListOf (EncodesEntry is version) count part first) bytes rest
+    → Begins (λ part. EncodesInto IsListOf (EncodesEntry is version) count part second) bytes other
+    → AgreeIn (λ tree list. ObjectOf is tree list.items) first second rest other
+
+-- What is read of bytes and left of them is determined by them, and so is why nothing is read.
+pub record AreDetermined {X : Type 0} (Encodes : List ℕ → X → Type 0)
+    (HasError : List ℕ → DeserializeError → Type 0) : Type 0 where
+  pub one_value : (bytes rest other : List ℕ) (first second : X) → Begins (λ part. Encodes part first) bytes rest
+      → Begins (λ part. Encodes part second) bytes other → (first ≡ second) × (rest ≡ other)
+  pub not_both : (bytes rest : List ℕ) (value : X) (error : DeserializeError)
+      → Begins (λ part. Encodes part value) bytes rest → HasError bytes error → ⊥
+  pub one_error : (bytes : List ℕ) (error other : DeserializeError) → HasError bytes error
+      → HasError bytes other → error ≡ other

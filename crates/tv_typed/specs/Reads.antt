@@ -1,6 +1,6 @@
 -- What calls promise that read values, whole: what each reads, or why it reads none, and how deep
 -- values of any type in it nest.
-use Rattle.std.specs.Prelude.{◌≡◌, ℕ, ◌+◌, is_err, List, Option, Result, if◌then◌else◌}
+use Rattle.std.specs.Prelude.{◌≡◌, ◌≤◌, ℕ, ◌+◌, false, is_err, List, Option, None, Result, Ok, if◌then◌else◌}
 use Rattle.tv_base.specs.declared.source.ByteSource.{Ghosts}
 use Rattle.tv_base.specs.ErrorInPart.{InEach}
 use Rattle.tv_format.specs.Tree.{Tree}
@@ -92,7 +92,7 @@ ReadsItems source Made Item Refused TooDeep Nests count old new result =
     (λ version levels. AtEach (Nests version levels) count) old new result
 
 -- The next of several items, of which some are announced: the place goes on by one where one was
--- given, and each refusal is marked.
+-- given, and each refusal is marked. Where none is left, None is the answer.
 pub record ReadsItem {S X : Type 0} (source : Ghosts S)
     (Item : Version → List ℕ → X → Type 0) (Refused : Version → List ℕ → DeserializeError → Type 0)
     (TooDeep Nests : Version → ℕ → List ℕ → List ℕ → Type 0)
@@ -107,3 +107,4 @@ pub record ReadsItem {S X : Type 0} (source : Ghosts S)
   pub deep : WhereTooDeep source old new result (AtItem TooDeep old_position old_announced)
   pub within : WhereGiven source old new result (AtItem Nests old_position old_announced)
   pub marks_failure : new.has_failed ≡ is_err result
+  pub ended : old.has_failed ≡ false → old_announced ≤ old_position → result ≡ Ok None

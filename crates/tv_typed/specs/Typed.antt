@@ -1,5 +1,5 @@
 -- What a read through a reader of a store returns and does.
-use Rattle.std.specs.Prelude.{◌≡◌, ◌≢◌, ℕ, Bool, true, false, is_err, List, Result, Ok, Err, OnOk, IsErrOf}
+use Rattle.std.specs.Prelude.{◌≡◌, ◌≢◌, ℕ, Bool, true, false, is_err, List, Result, Ok, Err, IfErr, OnOk, IsErrOf}
 use Rattle.std.specs.Borrow.{MutBor}
 use Rattle.tv_base.specs.declared.cause.Cause.TheVariants.{UnexpectedEnd, TooLong}
 use Rattle.tv_base.specs.declared.cause.ReadError.{ReadError}
@@ -93,12 +93,20 @@ abbrev pub Deserializes : {S X : Type 0} (source : Ghosts S)
 Deserializes source old new result Encodes HasError =
     DeserializesBy source.is_known source.left source.failures old new result Encodes HasError
 
--- nothing is read of items, and that they are is the error
-abbrev pub RefusesItems : {S X : Type 0} (source : Ghosts S) (collection : ValueType)
+-- why such a read gave nothing, where it did
+abbrev pub RefusesThrough : {S X Y : Type 0} (source : Ghosts S)
+    (Encodes : List ℕ → Y → Type 0) (HasError : List ℕ → DeserializeError → Type 0)
     (old new : StoreReader S) (result : Result X DeserializeError) → Type 0
-RefusesItems source collection old new result =
-    Deserializes source old new result (λ bytes value. ⊥)
-    (λ whole error. error ≡ errors.UnsupportedType collection)
+RefusesThrough {Y = Y} source Encodes HasError old new result =
+    IfErr result (λ error. ReadsThrough {X = Y} source old new (Err error) Encodes HasError)
+
+-- Items are refused: that they are is the error, and the reader is left as it is.
+pub record RefusesItems {S X : Type 0} (source : Ghosts S) (collection : ValueType)
+    (old new : StoreReader S) (result : Result X DeserializeError) : Type 0 where
+  pub refuses : result ≡ Err (errors.UnsupportedType collection)
+  pub nothing_taken : new ≡ old
+  pub deserializes : Deserializes source old new result (λ bytes value. ⊥)
+      (λ whole error. error ≡ errors.UnsupportedType collection)
 
 -- ---- the reader behind what a call takes
 

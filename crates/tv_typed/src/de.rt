@@ -1,6 +1,6 @@
 //! Reading values out of a store: of the type that a type of this program reads, and of any type.
 
-ghost use Rattle.std.specs.Prelude.{◌≡◌, Ok, Err, IfOk, IfErr, List, ℕ, IsErrOf};
+ghost use Rattle.std.specs.Prelude.{◌≡◌, Ok, IfOk, List, ℕ, IsErrOf};
 ghost use Rattle.std.specs.Borrow.{sem, RestsIfErr};
 ghost use Rattle.tv_format.specs.Tree.{Tree};
 ghost use Rattle.tv_format.specs.Version.{Version};
@@ -11,7 +11,7 @@ ghost use Rattle.tv_reader.specs.declared.value_type.ValueType.{ValueType};
 ghost use Rattle.tv_typed.specs.Depths.{NestsBehind, OpensBehind};
 ghost use Rattle.tv_typed.specs.Excluding.{tree_excludes};
 ghost use Rattle.tv_typed.specs.Reads.{DeserializesTree, DeserializesValue};
-ghost use Rattle.tv_typed.specs.Typed.{ReadsThrough};
+ghost use Rattle.tv_typed.specs.Typed.{ReadsThrough, RefusesThrough};
 ghost use Rattle.tv_typed.specs.Values.{CodeRefused, IsTree, TreeRefused, RefusalsExclude};
 
 pub use crate::leaf_values::ValueVisitor;
@@ -42,10 +42,9 @@ impl<'de, S: ByteSource> BinaryValueDeserializer<'de, S> {
     pub fn from_reader(
         reader: &'de mut StoreReader<S>,
     ) -> Result<BinaryValueDeserializer<'de, S>, DeserializeError>
-        ensures* rests { sem 𝓛
-            (RestsIfErr (the_row S.row) reader.entry (λ made. made.reader.ghost_name) result
-            (λ now. IfErr result (λ error. ReadsThrough {X = ValueType} S.ByteSource
-            reader.entry.now now (Err error) IsCoded CodeRefused))) }
+        ensures* rests { sem 𝓛 (RestsIfErr (the_row S.row) reader.entry
+            (λ made. made.reader.ghost_name) result
+            (λ now. RefusesThrough S.ByteSource IsCoded CodeRefused reader.entry.now now result)) }
         ensures same_reader { IfOk result
             (λ made. made.reader.ghost_name ≡ reader.entry.ghost_name) }
         ensures reads { IfOk result (λ made. ReadsThrough S.ByteSource reader.entry.now

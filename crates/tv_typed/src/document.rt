@@ -1,6 +1,6 @@
 //! Documents in a store, whose pairs are read one after the other.
 
-ghost use Rattle.std.specs.Prelude.{[], ◌≡◌, ◌+◌, ◌-◌, List, ℕ, Bool, false, true, Ok, Err, OnErr, is_err, IfOk};
+ghost use Rattle.std.specs.Prelude.{[], ◌≡◌, ◌+◌, ◌-◌, List, ℕ, Bool, false, true, Ok, OnErr, is_err, IfOk};
 ghost use Rattle.std.specs.Prelude.{IfErr, IsErrOf, if◌then◌else◌};
 ghost use Rattle.std.specs.Borrow.{sem, RestsIfErr};
 ghost use Rattle.tv_base.specs.Number.{Fixed, VNum};
@@ -15,7 +15,7 @@ ghost use Rattle.tv_format.specs.Version.{Version};
 ghost use Rattle.tv_typed.specs.Documents.{FieldEnds, GivesField, GivesInto, GivesPair, GivesPairInto, NumberRefused};
 ghost use Rattle.tv_typed.specs.Documents.{RefusesInto, RefusesPair};
 ghost use Rattle.tv_typed.specs.Items.{ReadsNextPair, ReadsPair};
-ghost use Rattle.tv_typed.specs.Typed.{document_stop, ReadsThrough};
+ghost use Rattle.tv_typed.specs.Typed.{document_stop, ReadsThrough, RefusesThrough};
 ghost use Rattle.tv_typed.specs.contracts.store_reader.StoreReader.{the_row};
 
 use crate::de::ValueDeserialize;
@@ -164,10 +164,9 @@ impl<'de, S: ByteSource> BinaryDocumentDeserializer<'de, S> {
     pub fn from_reader(
         reader: &'de mut StoreReader<S>,
     ) -> Result<BinaryDocumentDeserializer<'de, S>, DeserializeError>
-        ensures* rests { sem 𝓛
-            (RestsIfErr (the_row S.row) reader.entry (λ made. made.reader.ghost_name) result
-            (λ now. IfErr result (λ error. ReadsThrough {X = ℕ} S.ByteSource
-            reader.entry.now now (Err error) VNum NumberRefused))) }
+        ensures* rests { sem 𝓛 (RestsIfErr (the_row S.row) reader.entry
+            (λ made. made.reader.ghost_name) result
+            (λ now. RefusesThrough S.ByteSource VNum NumberRefused reader.entry.now now result)) }
         ensures same_reader { IfOk result
             (λ made. made.reader.ghost_name ≡ reader.entry.ghost_name) }
         ensures reads { IfOk result (λ made. ReadsThrough S.ByteSource reader.entry.now
