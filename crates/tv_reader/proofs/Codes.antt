@@ -6,7 +6,6 @@ use Rattle.tv_format.specs.Leaves as leaf_codes
 use Rattle.tv_format.specs.Leaves.{store_code, last_code, leaf_types, first_with}
 use Rattle.tv_format.specs.LeavesLaws.{leaf_coded}
 use Rattle.tv_format.specs.declared.leaf_type.LeafType.{LeafType}
-use Rattle.tv_format.specs.declared.leaf_type.LeafType.TheVariants as leaves
 use Rattle.tv_reader.specs.ValueType.{of_leaf, value_type_with}
 
 pub differs : (m n : ℕ) → m ≢ n → eqb m n ≡ false

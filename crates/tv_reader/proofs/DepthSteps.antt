@@ -2,7 +2,6 @@
 use Rattle.std.proofs.Common.{◌≡◌, ◌≢◌, ℕ, zero, suc, ◌<◌, List, [], ◌∷◌, ◌++◌, length, map, Vec, String, string_bytes, Result, Ok, Err, IfOk, IsErrOf, refl, sym, ap, subst, ◌∙◌, arith, inl, inr, append_assoc}
 use Rattle.std.specs.declared.alloc.Global.{Global}
 use Rattle.std.proofs.lemmas.List.{append-nil, length-map, map_push}
-use Rattle.tv_base.specs.declared.cause.ReadError.TheVariants as reads_errors
 use Rattle.tv_base.specs.Number.{VNum}
 use Rattle.tv_base.specs.Parts.{Begins, Then}
 use Rattle.tv_base.specs.Reading.{vint_at}

@@ -190,7 +190,7 @@ part_shown {reading = reading} (reads.Corrupted c) Q agrees map old taken new co
 part_shown (reads.Io kind) Q agrees map old taken new count small joined h = tt
 part_shown reads.Memory Q agrees map old taken new count small joined h = tt
 
-raised_counts : (e : ReadError) (old new : Failures) → CountsStop (read_stop e) old new → CountsStop (store_stop (read_error e)) old new
+pub raised_counts : (e : ReadError) (old new : Failures) → CountsStop (read_stop e) old new → CountsStop (store_stop (read_error e)) old new
 raised_counts (reads.Corrupted TooLong) old new h = h
 raised_counts (reads.Corrupted c) old new h = h
 raised_counts (reads.Io kind) old new h = h

@@ -12,6 +12,7 @@ pub mod EarlyParts
 pub mod EarlyObjects
 pub mod EarlyTrees
 pub mod Finding
+pub mod Raised
 pub mod Lending
 pub mod Codes
 pub mod AgreeKinds

@@ -90,3 +90,11 @@ abbrev pub StoreTakesLean : {S X Y : Type 0} (source : Ghosts S) (old : S) (old_
 StoreTakesLean source old old_count new new_count view result reading =
     StoreTakesIf StoreMayStopLean source.is_known source.left source.failures old old_count new new_count view
     result reading
+
+-- a reader that fills no heap
+abbrev pub StoreTakesRoomy : {S X Y : Type 0} (source : Ghosts S) (old : S) (old_count : ℕ) (new : S)
+    (new_count : ℕ) (view : X → Y) (result : Result X DeserializeError)
+    (reading : List ℕ → Result (Y × List ℕ) (Refusal × List ℕ)) → Type 0
+StoreTakesRoomy source old old_count new new_count view result reading =
+    StoreTakesIf StoreMayStopRoomy source.is_known source.left source.failures old old_count new new_count
+    view result reading

@@ -2,10 +2,11 @@
 
 ghost use Rattle.std.specs.Prelude.{◌≤◌, ◌+◌};
 ghost use Rattle.tv_base.specs.Number.{VNum};
+ghost use Rattle.tv_base.specs.Reading.{vint_at};
 ghost use Rattle.tv_base.specs.ErrorInPart.{ErrorInNumber};
 ghost use Rattle.tv_reader.specs.Finds.{FindsLean};
 ghost use Rattle.tv_reader.specs.Heads.{EncodesHead, EncodesKeyHead, CodedLength};
-ghost use Rattle.tv_reader.specs.HeadReading.{head_part};
+ghost use Rattle.tv_reader.specs.HeadReading.{coded_text_by, head_part, key_by, value_head_at};
 ghost use Rattle.tv_reader.specs.Trees.{NoValue};
 ghost use Rattle.tv_reader.specs.Version.{version_of};
 ghost use Rattle.tv_reader.specs.Error.{StoreTakesLean};
@@ -46,6 +47,8 @@ pub fn take_head<S: ByteSource>(
     count: &mut u64,
     version: DocStoreVersion,
 ) -> Result<Head, DeserializeError>
+    ensures takes { StoreTakesLean S.ByteSource source.old count.old source.new count.new
+        head_part result (value_head_at (version_of version)) }
     ensures finds { FindsLean S.ByteSource source.old count.old source.new count.new
         result (λ b head. EncodesHead (version_of version) b (head_part head))
         (NoValue (version_of version)) }
@@ -60,11 +63,14 @@ pub fn take_head<S: ByteSource>(
 ///
 /// Errors: `CorruptedValue` with the first error in the head, `Io`, and in versions 1 and 2 `TypeMismatch` where a value of another type
 /// stands there.
+#[tactic(auto, unfolding(crate::specs::HeadReading::key_by))]
 pub fn take_key_head<S: ByteSource>(
     source: &mut S,
     count: &mut u64,
     version: DocStoreVersion,
 ) -> Result<u64, DeserializeError>
+    ensures takes { StoreTakesLean S.ByteSource source.old count.old source.new count.new
+        (λ x. x) result (key_by vint_at (version_of version)) }
     ensures finds { FindsLean S.ByteSource source.old count.old source.new count.new
         result (EncodesKeyHead (version_of version)) (ErrorInKey (version_of version)) }
     ensures at_most { count.new ≤ count.old + 12 }
@@ -83,6 +89,8 @@ fn take_coded_key_head<S: ByteSource>(
     source: &mut S,
     count: &mut u64,
 ) -> Result<u64, DeserializeError>
+    ensures takes { StoreTakesLean S.ByteSource source.old count.old source.new count.new
+        (λ x. x) result (coded_text_by vint_at) }
     ensures finds { FindsLean S.ByteSource source.old count.old source.new count.new
         result CodedLength ErrorInCodedKey }
     ensures at_most { count.new ≤ count.old + 12 }

@@ -2,6 +2,7 @@
 
 ghost use Rattle.std.specs.Prelude.{◌≡◌, ◌≤◌, ◌+◌, ◌++◌, map, suc, IfErr, IfOk, IsErrOf, string_bytes};
 ghost use Rattle.tv_base.specs.Parts.{Begins, Then};
+ghost use Rattle.tv_base.specs.Reading.{text_at};
 ghost use Rattle.tv_base.specs.Take as reads;
 ghost use Rattle.tv_format.specs.Encoding.{Key};
 ghost use Rattle.tv_format.specs.Tree.{elements, entries};
@@ -9,7 +10,9 @@ ghost use Rattle.tv_format.specs.Version.{Version};
 ghost use Rattle.tv_format.specs.InputError.{ErrorInCodedKey, ErrorInKey};
 ghost use Rattle.tv_reader.specs.Counts.{half_at, entry_count_at};
 ghost use Rattle.tv_reader.specs.Depth.{Opens, EncodesWithin, ElementsWithin, EntriesWithin, BehindKey, AmongElements, AmongEntries};
+ghost use Rattle.tv_reader.specs.Error.{StoreTakesRoomy};
 ghost use Rattle.tv_reader.specs.Finds.{FindsRoomy, FindsDeep};
+ghost use Rattle.tv_reader.specs.HeadReading.{coded_text_by, key_by};
 ghost use Rattle.tv_reader.specs.Trees.{EncodesValue, NoValue, EncodesBehind, NoneBehind, EncodesItems, NoItems, EncodesMember, NoMember, EncodesMembers};
 ghost use Rattle.tv_reader.specs.Trees.{NoMembers, CodedKey};
 ghost use Rattle.tv_reader.specs.ValueType.{type_prefix};
@@ -67,12 +70,15 @@ pub fn take_entry_count<S: ByteSource>(
 ///
 /// Errors: those of `take_string`, and in versions 1 and 2 also those of `take_kind`, and `TypeMismatch` where a value of another
 /// type stands there.
+#[tactic(auto, unfolding(crate::specs::HeadReading::key_by))]
 pub fn take_key<S: ByteSource>(
     alloc: Global,
     source: &mut S,
     count: &mut u64,
     version: DocStoreVersion,
 ) -> Result<String, DeserializeError>
+    ensures takes { StoreTakesRoomy S.ByteSource source.old count.old source.new count.new
+        (λ s. string_bytes s) result (key_by text_at (version_of version)) }
     ensures finds { FindsRoomy S.ByteSource source.old count.old source.new
         count.new result (λ b key. Key (version_of version) b (string_bytes key))
         (ErrorInKey (version_of version)) }
@@ -94,6 +100,8 @@ fn take_coded_key<S: ByteSource>(
     source: &mut S,
     count: &mut u64,
 ) -> Result<String, DeserializeError>
+    ensures takes { StoreTakesRoomy S.ByteSource source.old count.old source.new count.new
+        (λ s. string_bytes s) result (coded_text_by text_at) }
     ensures finds { FindsRoomy S.ByteSource source.old count.old source.new
         count.new result CodedKey ErrorInCodedKey }
 {

@@ -2,7 +2,7 @@
 use Rattle.std.proofs.Common.{◌≡◌, ◌⊎◌, inl, inr, ℕ, zero, suc, ◌+◌, ◌<◌, ◌≤◌, List, [], ◌∷◌, ◌++◌, length, map, Option, Result, Ok, Err, Some, None, refl, sym, ◌∙◌, ap, subst, append_assoc, arith}
 use Rattle.std.specs.Prelude.{slice_get}
 use Rattle.std.specs.List.{AllByRecursion}
-use Rattle.std.proofs.lemmas.List.{map-append}
+use Rattle.std.proofs.lemmas.List.{length-map, map-append}
 use Rattle.tv_base.specs.Source.{Failures}
 use Rattle.tv_base.specs.declared.cause.Cause.TheVariants.{UnexpectedEnd, TooLong}
 use Rattle.tv_base.specs.Stop.{CountsStop}
@@ -15,6 +15,7 @@ use Rattle.tv_builder.specs.declared.errors.AddError.TheVariants as adds
 use Rattle.tv_doc.specs.declared.document.CompactDoc.{CompactDoc}
 use Rattle.tv_builder.specs.declared.heap_pairs.HeapPair.{HeapPair}
 use Rattle.tv_doc.proofs.Additions.{runs_keep, unchanged_same, unchanged_from, adds_from}
+use Rattle.tv_builder.specs.TreeBytes.{document_heap}
 use Rattle.tv_builder.proofs.Documents.{read_at, none_at, place_at, no_place}
 use Rattle.tv_field.specs.Entry.{Entry}
 use Rattle.tv_heap.specs.Room.{room, document_room}
@@ -25,9 +26,13 @@ use Rattle.tv_reader.specs.declared.error.DeserializeError.{DeserializeError}
 use Rattle.tv_reader.specs.declared.error.DeserializeError.TheVariants as errors
 use Rattle.tv_reader.specs.declared.value_type.ValueType.TheVariants as types
 use Rattle.tv_store.specs.Documents.{IsReadingError, SaysNothing}
-use Rattle.tv_store.specs.RoundTrip.{asked, pair_of_value, IsCalled, IsKept}
+use Rattle.tv_store.specs.RoundTrip.{AcceptsAll, AreTripsAlike, IsCalled, IsKept, IsRoundTrip, asked, pair_of_value}
+use Rattle.tv_store.specs.Stored.{stored}
+use Rattle.tv_store.specs.declared.round_trip.RoundTrip.{RoundTrip}
 use Rattle.tv_format.specs.InputError.{Refusal, corrupted, no_text_key}
+use Rattle.tv_format.specs.Short.{short_document}
 use Rattle.tv_format.specs.Tree.{Tree, Document}
+use Rattle.tv_format.specs.Version.{V2}
 use Rattle.tv_value.specs.declared.field.Field.{Field}
 use Rattle.tv_value.specs.declared.owned_value.OwnedValue.{OwnedValue}
 
@@ -144,3 +149,40 @@ full_answers_none e is h = subst SaysNothing is h
 
 pub err_is : {T E : Type 0} (r : Result T E) (x y : E) → r ≡ Err x → r ≡ Err y → x ≡ y
 err_is r x y e f = cc
+
+-- ---- where each value was accepted
+
+few_more : (answer : Result (Unit {0}) AddError) (field : ℕ) (t : Tree) (d : Document) → length (pair_of answer field t ++ d) ≤ suc (length d)
+few_more (Ok x) field t d = omega arith
+few_more (Err e) field t d = omega arith
+
+few_accepted : (additions : List Addition) → length (accepted_pairs additions) ≤ length additions
+few_accepted [] = omega arith
+few_accepted (a ∷ rest) = omega (arith, few_more a.answer a.field a.tree (accepted_pairs rest), few_accepted rest)
+
+one_accepted : (answer : Result (Unit {0}) AddError) (field : ℕ) (t : Tree) (d : Document) → suc (length d) ≤ length (pair_of answer field t ++ d) → pair_of answer field t ++ d ≡ (field, t) ∷ d
+one_accepted (Ok x) field t d many = refl
+one_accepted (Err e) field t d many = absurd (omega (arith, many))
+
+all_accepted : (additions : List Addition) → length (accepted_pairs additions) ≡ length additions → accepted_pairs additions ≡ map asked additions
+all_accepted [] is = refl
+all_accepted (a ∷ rest) is =
+    let few = few_more a.answer a.field a.tree (accepted_pairs rest) in
+    one_accepted a.answer a.field a.tree (accepted_pairs rest) (omega (arith, is, few_accepted rest)) ∙ ap (λ (d : Document). asked a ∷ d) (all_accepted rest (omega (arith, is, few, few_accepted rest)))
+
+-- then the document has just their pairs
+all_kept : (values : List (Field × OwnedValue)) (new : CompactDoc) → length (document_of new) ≡ length values → IsKept values new → document_of new ≡ map pair_of_value values
+all_kept values new all k =
+    let many : length (accepted_pairs k.additions) ≡ length k.additions = omega (arith, all, ap length k.document, ap length k.called, length-map k.additions asked, length-map values pair_of_value) in
+    k.document ∙ all_accepted k.additions many ∙ k.called
+
+pub trips_alike : (schema : List Entry) (values : List (Field × OwnedValue)) (behind : List ℕ) (trip twin : RoundTrip) → AcceptsAll values trip → AcceptsAll values twin → IsRoundTrip schema values behind trip → IsRoundTrip schema values behind twin → AreTripsAlike trip twin
+trips_alike schema values behind trip twin all too first second =
+    let same = all_kept values trip.added all first.added ∙ sym (all_kept values twin.added too second.added) in
+    record {
+      added = same;
+      heap = trip.added.values.bytes ∙ ap (λ (d : Document). document_heap [] d) same ∙ sym twin.added.values.bytes;
+      written = first.written ∙ ap (λ (d : Document). short_document V2 (stored schema d)) same ∙ sym second.written;
+      back = first.back ∙ ap (stored schema) same ∙ sym second.back;
+      rest = first.rest ∙ sym second.rest;
+    }

@@ -1,7 +1,7 @@
 -- Values that are added to a document, one after the other, whatever is returned for each.
-use Rattle.std.specs.Prelude.{◌≡◌, ℕ, List, map, slice_get}
+use Rattle.std.specs.Prelude.{◌≡◌, ℕ, List, length, map, slice_get}
 use Rattle.tv_doc.specs.Additions.{Addition, IsEmpty, Runs, accepted_pairs}
-use Rattle.tv_doc.specs.Document.{ReadsAt, document_of, places_of}
+use Rattle.tv_doc.specs.Document.{ReadsAt, document_of, heap_of, places_of}
 use Rattle.tv_doc.specs.declared.document.CompactDoc.{CompactDoc}
 use Rattle.tv_field.specs.Entry.{Entry}
 use Rattle.tv_format.specs.Short.{short_document}
@@ -49,3 +49,16 @@ pub record IsRoundTrip (schema : List Entry) (values : List (Field × OwnedValue
   pub written : trip.written.items ≡ short_document V2 (stored schema (document_of trip.added))
   pub back : document_of trip.back ≡ stored schema (document_of trip.added)
   pub rest : trip.left.items ≡ behind
+
+-- each of the values was accepted
+abbrev pub AcceptsAll : List (Field × OwnedValue) → RoundTrip → Type 0
+AcceptsAll values trip = length (document_of trip.added) ≡ length values
+
+-- The documents have the same pairs and the same heap, the same is written and read back, and the same bytes
+-- are left.
+pub record AreTripsAlike (trip twin : RoundTrip) : Type 0 where
+  pub added : document_of trip.added ≡ document_of twin.added
+  pub heap : heap_of trip.added ≡ heap_of twin.added
+  pub written : trip.written.items ≡ twin.written.items
+  pub back : document_of trip.back ≡ document_of twin.back
+  pub rest : trip.left.items ≡ twin.left.items

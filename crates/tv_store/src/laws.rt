@@ -14,9 +14,12 @@ ghost use Rattle.tv_store.specs.BlockMigration.{EncodesBlock};
 ghost use Rattle.tv_store.specs.Decoder.{IsStepped};
 ghost use Rattle.tv_store.specs.Documents.{NoDocument};
 ghost use Rattle.tv_store.specs.Reading.{chosen_pairs, documents, passed};
+ghost use Rattle.tv_store.specs.RoundTrip.{AcceptsAll, AreTripsAlike, IsRoundTrip};
 ghost use Rattle.tv_store.specs.Stored.{stored};
 ghost use Rattle.tv_store.specs.declared.limits.ReadLimits.{ReadLimits};
+ghost use Rattle.tv_store.specs.declared.round_trip.RoundTrip.{RoundTrip};
 ghost use Rattle.tv_value.specs.declared.field.Field.{Field};
+ghost use Rattle.tv_value.specs.declared.owned_value.OwnedValue.{OwnedValue};
 ghost use Rattle.tv_format.specs.InputError.{Refusal};
 ghost use Rattle.tv_format.specs.Short.{IsDocument};
 ghost use Rattle.tv_format.specs.Version.{Version};
@@ -93,6 +96,15 @@ pub fn migrations_are_alike<S: ByteSource, K: ByteSink>()
 /// And of a block that is migrated: how many documents it has, or which of them isn't migrated, where it begins, where reading stopped and why.
 pub fn block_migrations_are_alike<S: ByteSource, K: ByteSink>()
     ensures { (from to : Version) → DecidesBlocks from to S.ByteSource K.ByteSink }
+{}
+
+/// Two round trips of the same values of one schema, with the same bytes behind, come to the same where each value was accepted: a value is
+/// refused only where memory is, or where there is no room.
+pub fn trips_are_alike()
+    ensures { (schema : List Entry) (values : List (Field × OwnedValue)) (behind : List ℕ)
+        (trip twin : RoundTrip) → AcceptsAll values trip → AcceptsAll values twin
+        → IsRoundTrip schema values behind trip → IsRoundTrip schema values behind twin
+        → AreTripsAlike trip twin }
 {}
 
 /// A decoder of a document of this version, after this many steps over one source, whatever each of them returned.
