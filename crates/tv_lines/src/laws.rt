@@ -44,7 +44,8 @@ pub fn lines_have_one_outcome()
         → IsOutcome schema rules line other also → (text ≡ other) × SaySame said also }
 {}
 
-/// So all lines of an input have one block, and as many of them are stored, can't be searched, and are refused.
+/// So all lines of an input have one block: `block` and `other` are the same. And `said` and `also` count as many lines that are stored, that can't be
+/// searched, and that are refused.
 pub fn lines_have_one_block()
     ensures { (schema : List Entry) (rules : ImportRules) (lines : List (List ℕ))
         (block other : List ℕ) (said also : List LineOutcome)
