@@ -18,3 +18,4 @@ mod RunPairs
 mod Taking
 mod Told
 pub mod WholeImports
+pub mod OnePrint
