@@ -7,6 +7,12 @@ pub mod Documents
 pub mod Importing
 pub mod Records
 pub mod OneContent
+pub mod OneBreak
+pub mod SchemaAnswers
+pub mod DocumentAnswers
+pub mod BlockAnswers
+pub mod TermAnswers
+pub mod TextAnswers
 pub mod FacetPairs
 pub mod Queries
 pub mod Stops

@@ -1,5 +1,5 @@
 -- What is written of a block is one content.
-use Rattle.std.proofs.Common.{◌≡◌, ◌∙◌, ◌∷◌, ◌++◌, ℕ, Bool, List, [], Ok, refl, sym, ap, subst, map}
+use Rattle.std.proofs.Common.{◌≡◌, ◌∙◌, ℕ, Bool, List, sym, ap, subst, map}
 use Rattle.std.specs.List.{flat_map}
 use Rattle.tv_blocks.specs.Blocks.{IsExported, IsPrintedBlock}
 use Rattle.tv_blocks.specs.FieldValues.{IsValueList, values_from}
@@ -7,31 +7,19 @@ use Rattle.tv_blocks.specs.SchemaTerms.{AreSchemaTerms}
 use Rattle.tv_blocks.specs.SchemaTerms as schema_terms
 use Rattle.tv_blocks.specs.Terms.{IsTermList}
 use Rattle.tv_blocks.specs.Terms as field_terms
-use Rattle.tv_doc.specs.Named.{IsJsonText, field_names}
 use Rattle.tv_field.specs.Entry.{Entry}
 use Rattle.tv_format.specs.Short.{short_document}
 use Rattle.tv_format.specs.Tree.{Document}
 use Rattle.tv_format.specs.Version.{Version}
 use Rattle.tv_indexing.specs.DocumentTerms.{document_terms}
 use Rattle.tv_lines.specs.Answers.{ReadsSchema}
-use Rattle.tv_lines.specs.Printing.{ArePrinted, laid_out}
-use Rattle.tv_lines.specs.Printing.ArePrinted.{next_printed, none_printed}
-use Rattle.tv_lines.specs.declared.export.JsonLayout.{JsonLayout}
+use Rattle.tv_lines.proofs.OnePrint.{OneText, printed_one}
+use Rattle.tv_lines.specs.Printing.{ArePrinted}
 use Rattle.tv_lines.specs.declared.export.JsonLayout.TheVariants.{Compact}
 use Rattle.tv_store.specs.BlockMigration.{EncodesBlock, IsMigrated}
 
 abbrev pub OneBlock : Type 0
 OneBlock = (version : Version) (block : List ℕ) (documents others : List Document) → EncodesBlock version block documents → EncodesBlock version block others → documents ≡ others
-
-abbrev pub OneText : Type 0
-OneText = (names : List (List ℕ)) (document : Document) (text other : List ℕ) → IsJsonText names document text → IsJsonText names document other → text ≡ other
-
-printed_one : OneText → (schema : List Entry) (layout : JsonLayout) (documents : List Document) (content other : List ℕ) → ArePrinted schema layout documents content → ArePrinted schema layout documents other → content ≡ other
-printed_one text schema layout [] content other none_printed none_printed = refl
-printed_one text schema layout (d ∷ ds) content other (next_printed {json = json} {rest = rest} is more) (next_printed {json = twin} {rest = behind} be others) =
-    let same = text (field_names schema) d json twin is be in
-    let left = printed_one text schema layout ds rest behind more others in
-    λ i. laid_out layout (same i) ++ 10 ∷ left i
 
 pub schema_one : (text : List ℕ) (schema other : List Entry) → ReadsSchema text schema → ReadsSchema text other → schema ≡ other
 schema_one text schema other h k = cc (h.1.1, k.1.1, h.2, k.2)

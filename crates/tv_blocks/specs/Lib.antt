@@ -9,6 +9,7 @@ pub mod Blocks
 pub mod Imports
 pub mod QueryRefusals
 pub mod Query
+pub mod Alike
 pub mod TermsRefusals
 pub mod Status
 pub mod Terms

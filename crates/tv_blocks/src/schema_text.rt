@@ -1,8 +1,9 @@
 //! Schemas out of bytes, and into them.
 
-ghost use Rattle.std.specs.Prelude.{◌≡◌, IfErr, IfOk};
+ghost use Rattle.std.specs.Prelude.{◌≡◌, IfErr, IfOk, IsErrOf, IsUtf8};
 ghost use Rattle.tv_blocks.specs.Buffer.{FillsBuffer};
 ghost use Rattle.tv_blocks.specs.Schemas.{IsRefusedSchema, IsSchemaText, schema_refusal};
+ghost use Rattle.tv_blocks.specs.declared.block_error.BlockError.TheVariants.{InvalidJson};
 ghost use Rattle.tv_lines.specs.Answers.{ReadsSchema};
 
 use crate::block_error::BlockError;
@@ -28,10 +29,12 @@ fn refused(error: SchemaJsonError) -> BlockError
 /// those of one document.
 ///
 /// Errors: `InvalidJson` where the text isn't JSON, `BadSchemaKey` where a key of an entry is at fault, see `Schema::from_json_value_by_key`,
-/// `BadSchemaEntry` where one is refused as a field, `BadSchema` where the JSON describes no schema for another reason, `Memory`.
+/// `BadSchemaEntry` where one is refused as a field, `BadSchema` where the JSON describes no schema for another reason, `Memory`. A text that
+/// isn't UTF-8 is refused as `InvalidJson`, whether or not there is memory.
 pub fn read_schema(alloc: Global, text: &[u8]) -> Result<Schema, BlockError>
     ensures ok { IfOk result (λ schema. ReadsSchema text.now schema) }
     ensures err { IfErr result (IsRefusedSchema text.now) }
+    ensures not_utf8 { ¬ IsUtf8 text.now → IsErrOf result InvalidJson }
 {
     let Ok(text) = str::from_utf8(text) else {
         return Err(BlockError::InvalidJson);

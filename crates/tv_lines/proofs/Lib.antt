@@ -18,3 +18,7 @@ mod RunPairs
 mod Taking
 mod Told
 pub mod WholeImports
+pub mod OneMerge
+pub mod OnePrint
+pub mod OneStop
+pub mod OneSearch

@@ -89,7 +89,8 @@ fn append_pretty(
     text.push_str(lines.as_str())
 }
 
-/// Appends the document's JSON by the names of the schema's fields to `text`, in the layout `layout`, and a line feed, see `Document::to_json`. (Not in tantivy.)
+/// Appends the document's JSON by the names of the schema's fields to `text`, in the layout `layout`, and a line feed, see `Document::to_json`.
+/// (Not in tantivy.)
 ///
 /// The only error is that memory was refused, and then `text` is as it was.
 pub fn append_json(
@@ -136,9 +137,9 @@ pub(crate) fn write_json<K: ByteSink>(
     }
 }
 
-/// Appends what `projection` keeps of the documents of a block to `sink`. The block is what `source` has left: documents in the version `version`, one after the
-/// other. Each is printed as JSON by the names of the schema's fields, in the layout `layout`, and a line feed follows it. Returns how many documents there
-/// are. `watch` is advanced after each document that is appended, with the bytes from the first on. (Not in tantivy.)
+/// Appends what `projection` keeps of the documents of a block to `sink`. The block is what `source` has left: documents in the version `version`,
+/// one after the other. Each is printed as JSON by the names of the schema's fields, in the layout `layout`, and a line feed follows it. Returns
+/// how many documents there are. `watch` is advanced after each document that is appended, with the bytes from the first on. (Not in tantivy.)
 ///
 /// Errors: `Read` for the first document that can't be read or passes a limit, with its number and place; `Write` where a write failed; `Memory`;
 /// `TooMany` after 2^64 - 1 documents. The sink then holds what is printed of the documents before that one, and after `Write` and `Memory` also a

@@ -155,9 +155,9 @@ fn counted(found: Found, outcome: DocumentOutcome) -> Found
     }
 }
 
-/// Appends the lines of those documents of a block that the query matches, in order, as `export_block` prints what `projection` keeps of them, and tells the report what
-/// became of each document, by its number and place. Returns how many documents there are, how many match, and how many can't be searched.
-/// `watch` is advanced after each document that was gone over, with the bytes from the first on. (Not in tantivy.)
+/// Appends the lines of those documents of a block that the query matches, in order, as `export_block` prints what `projection` keeps of them,
+/// and tells the report what became of each document, by its number and place. Returns how many documents there are, how many match, and how many
+/// can't be searched. `watch` is advanced after each document that was gone over, with the bytes from the first on. (Not in tantivy.)
 ///
 /// Of what is kept of a document, it matches by the terms of those fields that the query names, as `term_values_of_fields` gives them, and no others are
 /// made. One of which a value of these fields has no term is told as `Faulty`, with the error for the first such value, and passed over.

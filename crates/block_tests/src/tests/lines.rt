@@ -1,4 +1,5 @@
-//! Lines of JSON that are imported to a block, which is then tested and searched. The printed lines and the numbers of lines and documents are worked out by hand.
+//! Lines of JSON that are imported to a block, which is then tested and searched. The printed lines and the numbers of lines and documents are
+//! worked out by hand.
 
 ghost use Rattle.std.specs.Prelude.{[]};
 

@@ -1,5 +1,5 @@
-//! Terms of the values of a block's documents, and the ends of prefixes. The expected bytes are worked out by hand: of a term the field's number with its highest
-//! byte first, the letter of the type and the value.
+//! Terms of the values of a block's documents, and the ends of prefixes. The expected bytes are worked out by hand: of a term the field's number
+//! with its highest byte first, the letter of the type and the value.
 
 use std::alloc::Global;
 use std::test::Fail;
