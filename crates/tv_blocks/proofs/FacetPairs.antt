@@ -68,7 +68,7 @@ parts_of bytes facet rest document is =
 -- ---- where no record stands
 
 -- the length that is reported, which is that of the facet
-told : (bytes facet rest : List ℕ) (document len : ℕ) (size : List ℕ) → bytes ≡ record_of document facet ++ rest → length bytes < 2 ^ 64 → size ≡ take 8 (drop 8 bytes) → len ≡ from_le_bytes w64 size → len ≡ length facet
+pub told : (bytes facet rest : List ℕ) (document len : ℕ) (size : List ℕ) → bytes ≡ record_of document facet ++ rest → length bytes < 2 ^ 64 → size ≡ take 8 (drop 8 bytes) → len ≡ from_le_bytes w64 size → len ≡ length facet
 told bytes facet rest document len size is few is_size is_len =
     let parts = parts_of bytes facet rest document is in
     let small : length facet < 2 ^ 64 = omega (arith, parts.long, few) in

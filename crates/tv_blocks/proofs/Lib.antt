@@ -14,6 +14,7 @@ pub mod BlockAnswers
 pub mod TermAnswers
 pub mod TextAnswers
 pub mod FacetPairs
+pub mod FacetAnswers
 pub mod Queries
 pub mod Stops
 pub mod SchemaTerms

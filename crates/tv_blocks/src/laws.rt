@@ -1,11 +1,12 @@
 //! Laws of what is written of a block, each the contract of a function that does nothing.
 
-ghost use Rattle.std.specs.Prelude.{◌≡◌, ◌≢◌, ℕ, Bool, List, IsUtf8};
+ghost use Rattle.std.specs.Prelude.{◌≡◌, ◌≢◌, ◌<◌, ◌^◌, ℕ, Bool, List, IsUtf8, length};
 ghost use Rattle.tv_base.specs.Facet.{printed};
 ghost use Rattle.tv_base.specs.Source.{AllBytes};
 ghost use Rattle.tv_blocks.specs.Alike.{AnswersAlike, BoundSame, HasOneAnswer};
 ghost use Rattle.tv_blocks.specs.Blocks.{IsExported, IsPrintedBlock};
 ghost use Rattle.tv_blocks.specs.Documents.{IsForeignRefusal, IsStoredDocument, IsUnread, ReadsFirst};
+ghost use Rattle.tv_blocks.specs.FacetCounts.{AreFacetCounts, IsCountsRefusal};
 ghost use Rattle.tv_blocks.specs.FieldValues.{AreNamedValues, IsNamedValuesRefusal, IsValueList};
 ghost use Rattle.tv_blocks.specs.Fields.{FindsInText, IsPathAnswer};
 ghost use Rattle.tv_blocks.specs.Query.{AreTextRanges, AreTextTerms, IsRangesRefusal, IsTermsRefusal};
@@ -118,3 +119,9 @@ pub fn texts_have_one_answer()
     terms_of_texts_are_determined();
     ranges_of_texts_are_determined();
 }
+
+/// By the records of documents' facets, the children of a facet have one list of counts, or the call is refused in one way.
+pub fn facets_are_counted_in_one_way()
+    ensures { (parent pairs : List ℕ) → length pairs < 2 ^ 64 → HasOneAnswer
+        (AreFacetCounts parent pairs) (IsCountsRefusal parent pairs) }
+{}
