@@ -61,8 +61,9 @@ ObjectsAgree {X} is =
 -- What is read of bytes and left of them is determined by them, and so is why nothing is read.
 pub record AreDetermined {X : Type 0} (Encodes : List ℕ → X → Type 0)
     (HasError : List ℕ → DeserializeError → Type 0) : Type 0 where
-  pub one_value : (bytes rest other : List ℕ) (first second : X) → Begins (λ part. Encodes part first) bytes rest
-      → Begins (λ part. Encodes part second) bytes other → (first ≡ second) × (rest ≡ other)
+  pub one_value : (bytes rest other : List ℕ) (first second : X)
+      → Begins (λ part. Encodes part first) bytes rest → Begins (λ part. Encodes part second) bytes other
+      → (first ≡ second) × (rest ≡ other)
   pub not_both : (bytes rest : List ℕ) (value : X) (error : DeserializeError)
       → Begins (λ part. Encodes part value) bytes rest → HasError bytes error → ⊥
   pub one_error : (bytes : List ℕ) (error other : DeserializeError) → HasError bytes error
