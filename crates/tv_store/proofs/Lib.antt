@@ -22,4 +22,5 @@ pub mod StepsPaid
 pub mod Standing
 pub mod Alike
 pub mod WithinAlike
+pub mod ProjectedAlike
 pub mod MigratedAlike

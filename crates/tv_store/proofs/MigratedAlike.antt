@@ -1,11 +1,11 @@
 -- Two calls that migrate the same bytes return, write and leave the same.
-use Rattle.std.proofs.Common.{◌≡◌, ◌⊎◌, ℕ, zero, suc, ◌+◌, ◌-◌, ◌^◌, ◌<◌, ◌≤◌, List, [], ◌∷◌, ◌++◌, inl, inr, length, Result, Ok, Err, refl, sym, ap, subst, ◌∙◌, arith, append_assoc, append-nil, length-append}
+use Rattle.std.proofs.Common.{◌≡◌, ℕ, ◌+◌, ◌-◌, ◌^◌, ◌<◌, ◌≤◌, List, [], ◌∷◌, ◌++◌, inl, inr, length, Result, Ok, Err, refl, sym, ap, subst, ◌∙◌, arith, append_assoc, append-nil, length-append}
 use Rattle.std.specs.List.{flat_map}
 use Rattle.std.proofs.lemmas.List.{append_cancel_left}
 use Rattle.tv_base.specs.declared.cause.Cause.TheVariants.{UnexpectedEnd}
 use Rattle.tv_base.specs.declared.sink.ByteSink.{Ghosts as Sink}
 use Rattle.tv_base.specs.declared.source.ByteSource.{Ghosts}
-use Rattle.tv_base.specs.Parts.{Begins, Each}
+use Rattle.tv_base.specs.Parts.{Begins}
 use Rattle.tv_base.specs.ReadsAs.{Known, Shows}
 use Rattle.tv_base.specs.Sink.{AppendsPrefix}
 use Rattle.tv_doc.specs.Document.{document_of}
@@ -29,11 +29,11 @@ use Rattle.tv_store.proofs.Blocks.{no_document}
 use Rattle.tv_store.proofs.Promises.{excluded}
 use Rattle.tv_store.proofs.Standing.{left_alike, stands_document}
 use Rattle.tv_store.specs.Alike.{AreAlike, AreMigratedAlike, IsBlockDecided, IsDecided, IsDecidedError, IsMigrationDecided, IsReasonDecided}
-use Rattle.tv_store.specs.BlockMigration.{EncodesBlock, IsUnmigrated, MigratesAll, MigratesBefore, MigratesBlock}
-use Rattle.tv_store.specs.Documents.{NoDocument, SaysNothing}
+use Rattle.tv_store.specs.BlockMigration.{EncodesBlock, MigratesAll, MigratesBefore, MigratesBlock}
+use Rattle.tv_store.specs.Documents.{NoDocument}
 use Rattle.tv_store.specs.Migrate.{Migrates, Rewrites}
 use Rattle.tv_store.specs.Projections.{IsReason, IsRefusedAt, PassesLimit, no_limits}
-use Rattle.tv_store.specs.Reading.{ReadsDocument, documents}
+use Rattle.tv_store.specs.Reading.{documents}
 use Rattle.tv_store.specs.declared.block.RefusedDocument.{RefusedDocument}
 use Rattle.tv_store.specs.declared.block_migration.MigrateBlockError.{MigrateBlockError}
 use Rattle.tv_store.specs.declared.block_migration.MigrateBlockError.TheVariants as block

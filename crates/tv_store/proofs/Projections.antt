@@ -27,8 +27,8 @@ use Rattle.tv_reading.specs.Skip.{IsDocumentEncoding}
 use Rattle.tv_store.specs.BlockSteps.{CountsNext, LeavesNone, StepsBlock, place_of, refusal_of}
 use Rattle.tv_store.specs.Blocks.{SaysEndBut, SaysNothingWithin, as_passed, as_read, as_read_within}
 use Rattle.tv_store.specs.Documents.{IsReadingError, NoDocument, SaysNothing}
-use Rattle.tv_store.specs.Limits.{FitsLimits, IsPast, StopsNextWithin, limited_stop, within}
-use Rattle.tv_store.specs.Projections.{EncodesWithinLimits, IsReason, IsRefusedBy, NoRoomFor, ReadsNextOf, ReadsOne, ReadsProjected, error_of, kept, limits_of, no_limits, refused_stop, with_error}
+use Rattle.tv_store.specs.Limits.{FitsLimits, IsPast, StopsNextWithin, at_least_one, limited_stop, within}
+use Rattle.tv_store.specs.Projections.{EncodesWithinLimits, IsReason, IsRefusedBy, NoRoomFor, ReadsNextOf, ReadsOne, ReadsProjected, TakesNoMore, error_of, kept, limits_of, no_limits, refused_stop, with_error}
 use Rattle.tv_store.specs.Reading.{chosen_pairs, documents, passed, reading}
 use Rattle.tv_store.specs.declared.block.BlockReader.{BlockReader}
 use Rattle.tv_store.specs.declared.block.RefusedDocument.{RefusedDocument}
@@ -228,9 +228,16 @@ module _ {S : Type 0} {projection : Projection} {IsKept : Document → Type 0} {
   -- without limits
   pub next_read : {D : Type 0} (result : Result Bool DeserializeError) (said : Result Bool LimitedReadError) (document : D) → said ≡ with_error limited.Read result
       → (source.is_known source_old → ReadsOne (version_of old.version) projection IsKept (source.left source_old) (source.left source_new) (with_error limited.Read result))
+      → limits_of projection ≡ no_limits → (source.is_known source_old → (prefix : List ℕ) × (source.left source_old ≡ prefix ++ source.left source_new))
       → CountsBy (λ e. CountsStop (store_stop e)) (as_read result document) (source.failures source_old) (source.failures source_new) → (source.is_known source_old → source.is_known source_new) → ReadsNextOf projection IsKept source source_old source_new old said
-  next_read {D} result said document is one counts stays =
-      subst (λ (r : Result Bool LimitedReadError). ReadsNextOf projection IsKept source source_old source_new old r) (sym is) (record { one = one; failures = counts_read result counts; stays_known = stays })
+  next_read {D} result said document is one none taken counts stays =
+      subst (λ (r : Result Bool LimitedReadError). ReadsNextOf projection IsKept source source_old source_new old r) (sym is)
+      (record {
+        one = one;
+        most = λ known. let t = taken known in record { prefix = t.0; joined = t.1; encoded = subst (λ (l : ReadLimits). ¬ IsPast (at_least_one l.bytes) (length t.0)) (sym none) (λ past. past) };
+        failures = counts_read result counts;
+        stays_known = stays;
+      })
     where
       counts_read : (result : Result Bool DeserializeError) → CountsBy (λ e. CountsStop (store_stop e)) (as_read result document) (source.failures source_old) (source.failures source_new)
           → Counts limited_stop (with_error limited.Read result) (source.failures source_old) (source.failures source_new)
@@ -240,8 +247,9 @@ module _ {S : Type 0} {projection : Projection} {IsKept : Document → Type 0} {
 
   -- within limits
   pub next_within : {D : Type 0} (result : Result Bool LimitedReadError) (document : D) → (source.is_known source_old → ReadsOne (version_of old.version) projection IsKept (source.left source_old) (source.left source_new) result)
+      → (source.is_known source_old → TakesNoMore (limits_of projection) (source.left source_old) (source.left source_new))
       → CountsBy (λ e. CountsStop (limited_stop e)) (as_read_within result document) (source.failures source_old) (source.failures source_new) → (source.is_known source_old → source.is_known source_new) → ReadsNextOf projection IsKept source source_old source_new old result
-  next_within {D} result document one counts stays = record { one = one; failures = counts_read result counts; stays_known = stays }
+  next_within {D} result document one most counts stays = record { one = one; most = most; failures = counts_read result counts; stays_known = stays }
     where
       counts_read : (result : Result Bool LimitedReadError) → CountsBy (λ e. CountsStop (limited_stop e)) (as_read_within result document) (source.failures source_old) (source.failures source_new) → Counts limited_stop result (source.failures source_old) (source.failures source_new)
       counts_read (Ok true) h = h
@@ -255,6 +263,7 @@ module _ {S : Type 0} {projection : Projection} {IsKept : Document → Type 0} {
       (record {
         one = λ known. subst (λ (r : Result Bool LimitedReadError). ReadsOne (version_of old.version) projection IsKept (source.left source_old) (source.left source_new) r) (sym (untold read)) (h.one known);
         placed = placed_at read;
+        most = h.most;
         failures = counts_told read h.failures;
         stays_known = h.stays_known;
       })

@@ -1,6 +1,5 @@
 -- An error of bytes stands whatever follows them, unless it is that they end too early. So just one beginning of the bytes shows it.
-use Rattle.std.proofs.Common.{◌≡◌, ◌≢◌, ◌⊎◌, ℕ, zero, suc, List, [], ◌∷◌, ◌++◌, refl, sym, ap, subst, ◌∙◌, inl, inr, append_assoc}
-use Rattle.std.proofs.lemmas.List.{append-nil}
+use Rattle.std.proofs.Common.{◌≡◌, ◌≢◌, ◌⊎◌, ℕ, zero, suc, List, [], ◌∷◌, ◌++◌, refl, sym, ap, ◌∙◌, inl, inr, append_assoc}
 use Rattle.tv_base.specs.declared.cause.Cause.{Cause}
 use Rattle.tv_base.specs.declared.cause.Cause.TheVariants.{UnexpectedEnd}
 use Rattle.tv_base.specs.ErrorInPart.{InThen, InEach, ErrorInNumber, number_ends, number_large, ErrorInBytes, bytes_end, ErrorInTruth, truth_ends, truth_large, ErrorInSized, ErrorInText, in_sized, no_text}
@@ -11,7 +10,7 @@ use Rattle.tv_base.proofs.Agrees.{empty, ends, ends_in}
 use Rattle.tv_format.specs.declared.leaf_type.Form.{Form}
 use Rattle.tv_format.specs.declared.leaf_type.Form.TheVariants as forms
 use Rattle.tv_format.specs.Encoding.{EncodesPair, TokenEncoding}
-use Rattle.tv_format.specs.InputError.{Refusal, corrupted, no_text_key, Corrupt, corrupt, ErrorInToken, ErrorInTokenized, ErrorInMicroseconds, date_ends, date_range, ErrorInScaled, ErrorInExtension, no_extension, other_extension, in_tokenized, ErrorInContent, ErrorInLeaf, ErrorInCodedKey, key_ends, key_unknown, key_float, key_other, key_no_extension, key_tokenized, key_other_extension, in_key, ErrorInKey, ErrorInValue, value_ends, unknown_code, float_code, in_leaf, in_legacy, in_count, in_element, in_entry_count, odd_count, in_entry_key, in_entry, ErrorInPair, ErrorInDocument}
+use Rattle.tv_format.specs.InputError.{Refusal, corrupted, no_text_key, Corrupt, corrupt, ErrorInToken, ErrorInTokenized, ErrorInMicroseconds, date_ends, date_range, ErrorInScaled, ErrorInExtension, no_extension, other_extension, in_tokenized, ErrorInContent, ErrorInCodedKey, key_ends, key_unknown, key_float, key_other, key_no_extension, key_tokenized, key_other_extension, in_key, ErrorInKey, value_ends, unknown_code, float_code, in_leaf, in_legacy, in_count, in_element, in_entry_count, odd_count, in_entry_key, in_entry, ErrorInPair}
 use Rattle.tv_format.specs.Leaves.{form, scale}
 use Rattle.tv_format.specs.Version.{Version, V1, V2, V3, Scale, plain, thousands}
 use Rattle.tv_reader.specs.Legacy.{Legacy, ErrorInLegacy, only_blanks, not_closed, no_brace, no_object, not_whole}

@@ -122,10 +122,10 @@ no_part v limits r sound passes c = behind v limits r sound passes c false [] re
 
 -- ---- what is said of it
 
-begun_part : {v : Version} {limits : ReadLimits} {bytes : List ℕ} (within : StandsWithin v limits bytes) (is_whole : Bool) (part : List ℕ) → IsNextPart true within part → IsNextPart is_whole within part
-begun_part within true part next = next
-begun_part within false part (inl few) = inl few
-begun_part within false part (inr whole) = inr whole.0
+begun_part : {v : Version} {limits : ReadLimits} {bytes : List ℕ} (stands : StandsWithin v limits bytes) (is_whole : Bool) (part : List ℕ) → IsNextPart true stands part → IsNextPart is_whole stands part
+begun_part stands true part next = next
+begun_part stands false part (inl few) = inl few
+begun_part stands false part (inr whole) = inr whole.0
 
 pub taken_part : {v : Version} {limits : ReadLimits} {old new : List ℕ} (is_whole : Bool) → Begins (TakenWithin v limits true) old new → Begins (TakenWithin v limits is_whole) old new
 taken_part is_whole b =

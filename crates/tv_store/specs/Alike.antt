@@ -7,6 +7,7 @@ use Rattle.tv_base.specs.ReadsAs.{Grammar, Known, Reads}
 use Rattle.tv_doc.specs.Document.{document_of}
 use Rattle.tv_doc.specs.declared.document.CompactDoc.{CompactDoc}
 use Rattle.tv_format.specs.InputError.{Refusal}
+use Rattle.tv_format.specs.Tree.{Document}
 use Rattle.tv_format.specs.Version.{Version}
 use Rattle.tv_reader.specs.Version.{version_of}
 use Rattle.tv_reader.specs.declared.error.DeserializeError.{DeserializeError}
@@ -14,12 +15,14 @@ use Rattle.tv_reader.specs.declared.error.DeserializeError.TheVariants.{AlreadyF
 use Rattle.tv_reader.specs.declared.error.DeserializeError.TheVariants.{HeapFull}
 use Rattle.tv_store.specs.BlockMigration.{MigratesBlock}
 use Rattle.tv_store.specs.Blocks.{SaysNothingWithin, as_read}
-use Rattle.tv_store.specs.BlockSteps.{StepsBlock}
+use Rattle.tv_store.specs.BlockSteps.{StepsBlock, refusal_of}
 use Rattle.tv_store.specs.Documents.{SaysNothing}
 use Rattle.tv_store.specs.Limits.{ReadsNextWithin, ReadsWithin, StopsNextWithin, StopsWithin}
 use Rattle.tv_store.specs.Migrate.{Migrates}
+use Rattle.tv_store.specs.Projections.{ReadsProjected, error_of, kept, limits_of}
 use Rattle.tv_store.specs.Reading.{reading, resumed}
 use Rattle.tv_store.specs.declared.block.BlockReader.{BlockReader}
+use Rattle.tv_store.specs.declared.block.RefusedDocument.{RefusedDocument}
 use Rattle.tv_store.specs.declared.block_migration.MigrateBlockError.{MigrateBlockError}
 use Rattle.tv_store.specs.declared.block_migration.MigrateBlockError.TheVariants as block
 use Rattle.tv_store.specs.declared.limits.LimitedReadError.{LimitedReadError}
@@ -28,6 +31,7 @@ use Rattle.tv_store.specs.declared.limits.ReadLimit.TheVariants as limit
 use Rattle.tv_store.specs.declared.limits.ReadLimits.{ReadLimits}
 use Rattle.tv_store.specs.declared.migration.MigrateError.{MigrateError}
 use Rattle.tv_store.specs.declared.migration.MigrateError.TheVariants as migration
+use Rattle.tv_store.specs.declared.projection.Projection.{Projection}
 
 -- ---- documents and values
 
@@ -159,6 +163,49 @@ DecidesNextWithin {S} limits source =
     → ReadsDecidedWithin limits source begun ended old reader result
     → ReadsDecidedWithin limits source begun other old twin answer
     → AreNextAlikeWithin (source.left ended) (source.left other) reader twin result answer
+
+-- ---- by what is kept of the next document
+
+-- A reader of blocks that hasn't failed reads the next document by a projection, by what the bytes decide.
+-- `IsKept` holds of the documents of which it keeps what it has then.
+pub record ReadsDecidedBy {S : Type 0} (projection : Projection) (IsKept : Document → Type 0)
+    (source : Ghosts S) (source_old source_new : S) (old new : BlockReader)
+    (result : Result Bool RefusedDocument) : Type 0 where
+  pub known : Known source source_old
+  pub not_failed : old.failed ≡ false
+  pub decided : IsDecidedWithin (error_of result)
+  pub steps : StepsBlock (λ e. SaysNothingWithin e.error) (refusal_of old (limited.Read AlreadyFailed)) source
+      source_old source_new old new result
+  pub reads : ReadsProjected projection IsKept source source_old source_new old new result
+
+-- The same is returned, or both are refusals that say that more bytes are needed. The same bytes are left and
+-- counted.
+pub record ArePlacedAlike (left other : List ℕ) (reader twin : BlockReader)
+    (result answer : Result Bool RefusedDocument) : Type 0 where
+  pub same : (result ≡ answer) ⊎ BothNeedMore (error_of result) (error_of answer)
+  pub rest : left ≡ other
+  pub counts : AreCountedAlike reader twin
+
+-- two calls of `advance_by` that may take a byte at least return, keep and leave alike what the bytes decide
+abbrev pub DecidesKept : {S : Type 0} → Projection → Ghosts S → Type 0
+DecidesKept {S} projection source =
+    (begun ended other : S) (old reader twin : BlockReader) (result answer : Result Bool RefusedDocument)
+    → (limits_of projection).bytes ≢ Some 0
+    → ReadsDecidedBy projection (λ d. document_of reader.document ≡ kept projection d) source begun ended old
+    reader result
+    → ReadsDecidedBy projection (λ d. document_of twin.document ≡ kept projection d) source begun other old
+    twin answer
+    → ArePlacedAlike (source.left ended) (source.left other) reader twin result answer
+    × (result ≡ Ok true → document_of reader.document ≡ document_of twin.document)
+
+-- and so do two of `pass_by`, of which it isn't said what they keep
+abbrev pub DecidesPassed : {S : Type 0} → Projection → Ghosts S → Type 0
+DecidesPassed {S} projection source =
+    (begun ended other : S) (old reader twin : BlockReader) (result answer : Result Bool RefusedDocument)
+    → (limits_of projection).bytes ≢ Some 0
+    → ReadsDecidedBy projection (λ d. Unit {0}) source begun ended old reader result
+    → ReadsDecidedBy projection (λ d. Unit {0}) source begun other old twin answer
+    → ArePlacedAlike (source.left ended) (source.left other) reader twin result answer
 
 -- ---- what is migrated
 

@@ -7,6 +7,8 @@
 --                refused, for a reason that is true of them.
 --   placed       An error says how many documents come before the one that is refused, where it begins, and
 --                where reading stopped.
+--   most         No more bytes were taken than may be. Where none may be, one may, which shows that there is a
+--                document.
 --   failures     It says that the source failed exactly where the source did, with the kind that the source
 --                returned.
 --   stays_known  What is known of the source stays known.
@@ -34,7 +36,7 @@ use Rattle.tv_store.specs.BlockSteps.{refusal_of}
 use Rattle.tv_store.specs.Blocks.{SaysNothingWithin}
 use Rattle.tv_store.specs.Documents.{HasNoRoom, NoDocument}
 use Rattle.tv_store.specs.Limits.{AllNestWithinLimit, IsLarge, IsPast, PassesBytesLimit, PassesDepth}
-use Rattle.tv_store.specs.Limits.{limited_stop}
+use Rattle.tv_store.specs.Limits.{at_least_one, limited_stop}
 use Rattle.tv_store.specs.declared.block.BlockReader.{BlockReader}
 use Rattle.tv_store.specs.declared.block.RefusedDocument.{RefusedDocument}
 use Rattle.tv_store.specs.declared.limits.LimitedReadError.{LimitedReadError}
@@ -138,6 +140,11 @@ ReadsOne version projection IsKept bytes left (Ok true) = (document : Document)
 ReadsOne version projection IsKept bytes left (Ok false) = (bytes ≡ []) × (left ≡ [])
 ReadsOne version projection IsKept bytes left (Err error) = IsReason version projection bytes left error
 
+-- no more bytes were taken than may be, or one
+abbrev pub TakesNoMore : ReadLimits → List ℕ → List ℕ → Type 0
+TakesNoMore limits bytes left = Begins (λ prefix. ¬ IsPast (at_least_one limits.bytes) (length prefix)) bytes
+    left
+
 -- the error without its number and its places
 abbrev pub error_of : Result Bool RefusedDocument → Result Bool LimitedReadError
 error_of (Ok more) = Ok more
@@ -153,6 +160,8 @@ pub record ReadsProjected {S : Type 0} (projection : Projection) (IsKept : Docum
       → ReadsOne (version_of old.version) projection IsKept (source.left source_old) (source.left source_new)
       (error_of result)
   pub placed : IfErr result (λ refused. refused ≡ refusal_of new refused.error)
+  pub most : source.is_known source_old
+      → TakesNoMore (limits_of projection) (source.left source_old) (source.left source_new)
   pub failures : Counts refused_stop result (source.failures source_old) (source.failures source_new)
   pub stays_known : source.is_known source_old → source.is_known source_new
 
@@ -169,5 +178,7 @@ pub record ReadsNextOf {S : Type 0} (projection : Projection) (IsKept : Document
   pub one : source.is_known source_old
       → ReadsOne (version_of old.version) projection IsKept (source.left source_old)
       (source.left source_new) result
+  pub most : source.is_known source_old
+      → TakesNoMore (limits_of projection) (source.left source_old) (source.left source_new)
   pub failures : Counts limited_stop result (source.failures source_old) (source.failures source_new)
   pub stays_known : source.is_known source_old → source.is_known source_new

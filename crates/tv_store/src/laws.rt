@@ -9,7 +9,7 @@ ghost use Rattle.tv_reading.specs.Paid.{PaidBy};
 ghost use Rattle.tv_doc.specs.Document.{document_of};
 ghost use Rattle.tv_reader.specs.Trees.{NoValue};
 ghost use Rattle.tv_reading.specs.Skip.{IsDocumentEncoding, IsValueEncoding};
-ghost use Rattle.tv_store.specs.Alike.{Decides, DecidesBlocks, DecidesMigrations, DecidesNext, DecidesNextWithin, DecidesWithin};
+ghost use Rattle.tv_store.specs.Alike.{Decides, DecidesBlocks, DecidesKept, DecidesMigrations, DecidesNext, DecidesNextWithin, DecidesPassed, DecidesWithin};
 ghost use Rattle.tv_store.specs.BlockMigration.{EncodesBlock};
 ghost use Rattle.tv_store.specs.Decoder.{IsStepped};
 ghost use Rattle.tv_store.specs.Documents.{NoDocument};
@@ -17,6 +17,7 @@ ghost use Rattle.tv_store.specs.Reading.{chosen_pairs, documents, passed};
 ghost use Rattle.tv_store.specs.RoundTrip.{AcceptsAll, AreTripsAlike, IsRoundTrip};
 ghost use Rattle.tv_store.specs.Stored.{stored};
 ghost use Rattle.tv_store.specs.declared.limits.ReadLimits.{ReadLimits};
+ghost use Rattle.tv_store.specs.declared.projection.Projection.{Projection};
 ghost use Rattle.tv_store.specs.declared.round_trip.RoundTrip.{RoundTrip};
 ghost use Rattle.tv_value.specs.declared.field.Field.{Field};
 ghost use Rattle.tv_value.specs.declared.owned_value.OwnedValue.{OwnedValue};
@@ -86,6 +87,12 @@ pub fn limited_readings_are_alike<S: ByteSource>()
 /// The same of the next document of a block, where a byte of it at least may be taken.
 pub fn limited_next_readings_are_alike<S: ByteSource>()
     ensures { (limits : ReadLimits) → DecidesNextWithin limits S.ByteSource }
+{}
+
+/// The same of the next document by what is kept of it, with the number and the places of one that is refused.
+pub fn projected_readings_are_alike<S: ByteSource>()
+    ensures kept { (projection : Projection) → DecidesKept projection S.ByteSource }
+    ensures passed { (projection : Projection) → DecidesPassed projection S.ByteSource }
 {}
 
 /// The same of a document that is migrated: what is returned, left and written, where the sink doesn't fail either.

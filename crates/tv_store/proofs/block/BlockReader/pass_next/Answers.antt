@@ -21,7 +21,7 @@ returns-in-Fields-clause-reads g c = λ live.
     let steps = read.ensures.steps in
     let reads = reads_live reading AlreadyFailed live read.ensures.reads in
     next_read read.result c.tell.result tt c.tell.ensures
-    (λ known. one_passed g.S.ByteSource (version_of c.args.self.now.version) c.args.projection.now (ap limits_of c.in-Fields.is) read.result reads (steps.end live) (steps.ended live) known) reads.failures reads.stays_known
+    (λ known. one_passed g.S.ByteSource (version_of c.args.self.now.version) c.args.projection.now (ap limits_of c.in-Fields.is) read.result reads (steps.end live) (steps.ended live) known) (ap limits_of c.in-Fields.is) reads.taken reads.failures reads.stays_known
 
 pub returns-then-is_unlimited-clause-steps : goal.returns-then-is_unlimited-clause-steps
 returns-then-is_unlimited-clause-steps g c = steps_told Read c.skip-then-is_unlimited.result c.tell-then-is_unlimited.result c.tell-then-is_unlimited.ensures (λ e says. says) (λ _ _. refl) c.skip-then-is_unlimited.ensures.steps
@@ -34,7 +34,7 @@ returns-then-is_unlimited-clause-reads g c = λ live.
     let reads = reads_live reading AlreadyFailed live read.ensures.reads in
     next_read read.result said.result tt said.ensures
     (λ known. one_passed g.S.ByteSource (version_of c.args.self.now.version) c.args.projection.now (ap limits_of (c.in-All.is ∙ ap All (c.is_unlimited.ensures.0 c.if-is_unlimited.true))) read.result reads (steps.end live) (steps.ended live) known)
-    reads.failures reads.stays_known
+    (ap limits_of (c.in-All.is ∙ ap All (c.is_unlimited.ensures.0 c.if-is_unlimited.true))) reads.taken reads.failures reads.stays_known
 
 pub returns-else-is_unlimited-clause-reads : goal.returns-else-is_unlimited-clause-reads
 returns-else-is_unlimited-clause-reads g c = λ live.
@@ -48,4 +48,4 @@ returns-else-is_unlimited-clause-reads g c = λ live.
     (λ known.
     any_document _ (All c.in-All.limits) (λ d. document_of document ≡ d) _ _ read.result
     (one_within source (version_of c.args.self.now.version) c.in-All.limits read.result document reads read.ensures.stops read.ensures.fits (steps.end live) (steps.ended live) known))
-    reads.failures reads.stays_known)
+    read.ensures.stops.most reads.failures reads.stays_known)

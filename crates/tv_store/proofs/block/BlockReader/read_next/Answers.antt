@@ -26,7 +26,7 @@ returns-in-Fields-clause-reads g c = λ live.
     let document = read.new.self.document in
     let reads = reads_live reading AlreadyFailed live (rw c.as_slice.ensures.value at read.ensures.reads) in
     subst (λ (p : Projection). ReadsNextOf p (λ d. document_of document ≡ kept p d) source c.args.source.now read.new.source c.args.self.now c.tell.result) (sym c.in-Fields.is)
-    (next_read read.result c.tell.result document c.tell.ensures (λ known. one_chosen source (version_of c.args.self.now.version) read.result document c.in-Fields.fields reads (steps.end live) (steps.ended live) known) reads.failures reads.stays_known)
+    (next_read read.result c.tell.result document c.tell.ensures (λ known. one_chosen source (version_of c.args.self.now.version) read.result document c.in-Fields.fields reads (steps.end live) (steps.ended live) known) refl reads.taken reads.failures reads.stays_known)
 
 pub returns-then-is_unlimited-clause-steps : goal.returns-then-is_unlimited-clause-steps
 returns-then-is_unlimited-clause-steps g c = steps_told Read c.advance.result c.tell-then-is_unlimited.result c.tell-then-is_unlimited.ensures (λ e says. says) (λ _ _. refl) c.advance.ensures.steps
@@ -43,7 +43,7 @@ returns-then-is_unlimited-clause-reads g c = λ live.
     let said = c.tell-then-is_unlimited in
     let reads = reads_live reading AlreadyFailed live read.ensures.reads in
     subst (λ (p : Projection). ReadsNextOf p (λ d. document_of document ≡ kept p d) source c.args.source.now read.new.source c.args.self.now said.result) (sym (c.in-All.is ∙ ap All (c.is_unlimited.ensures.0 c.if-is_unlimited.true)))
-    (next_read read.result said.result document said.ensures (λ known. one_whole source (version_of c.args.self.now.version) read.result document reads (steps.end live) (steps.ended live) known) reads.failures reads.stays_known)
+    (next_read read.result said.result document said.ensures (λ known. one_whole source (version_of c.args.self.now.version) read.result document reads (steps.end live) (steps.ended live) known) refl reads.taken reads.failures reads.stays_known)
 
 pub returns-else-is_unlimited-clause-reads : goal.returns-else-is_unlimited-clause-reads
 returns-else-is_unlimited-clause-reads g c = λ live.
@@ -54,4 +54,4 @@ returns-else-is_unlimited-clause-reads g c = λ live.
     let reads = reads_live (within c.in-All.limits) (Read AlreadyFailed) live read.ensures.reads in
     subst (λ (p : Projection). ReadsNextOf p (λ d. document_of document ≡ kept p d) source c.args.source.now read.new.source c.args.self.now read.result) (sym c.in-All.is)
     (next_within read.result document
-    (λ known. one_within source (version_of c.args.self.now.version) c.in-All.limits read.result document reads read.ensures.stops read.ensures.fits (steps.end live) (steps.ended live) known) reads.failures reads.stays_known)
+    (λ known. one_within source (version_of c.args.self.now.version) c.in-All.limits read.result document reads read.ensures.stops read.ensures.fits (steps.end live) (steps.ended live) known) read.ensures.stops.most reads.failures reads.stays_known)
