@@ -77,9 +77,10 @@ pub use tv_schema::laws::{
 };
 pub use tv_store::laws::{
     block_migrations_are_alike, blocks_have_one_reading, limited_next_readings_are_alike,
-    limited_readings_are_alike, migrations_are_alike, next_readings_are_alike, readings_are_alike,
-    refusals_are_unique, stepped_decoders_are_paid_for, stored_pairs_are_valid,
-    stored_pairs_need_no_more_room,
+    limited_readings_are_alike, migrations_are_alike, next_readings_are_alike,
+    projected_readings_are_alike, readings_are_alike, refusals_are_unique,
+    stepped_decoders_are_paid_for, stored_pairs_are_valid, stored_pairs_need_no_more_room,
+    trips_are_alike,
 };
 pub use tv_store::migration_trip::{MigrationTrip, migrations_are_read_back};
 pub use tv_store::round_trip::{RoundTrip, RoundTripError, additions_are_stored_and_read_back};
@@ -94,7 +95,10 @@ pub use tv_term::laws::{
     joined_paths_have_no_zero, json_paths_are_read_back, signed_terms_compare_as_numbers,
     terms_are_ordered, terms_compare_as_fields_and_values, written_values_are_read,
 };
-pub use tv_typed::laws::{entries_agree, fields_agree, values_agree};
+pub use tv_typed::laws::{
+    codes_are_determined, entries_agree, fields_agree, lists_agree, objects_agree,
+    pair_counts_are_determined, values_agree,
+};
 pub use tv_value::laws::comparisons_of_fields_agree;
 
 /// What `serialize_doc` writes of a document is its stored pairs in the shortest encoding: here, in memory.
