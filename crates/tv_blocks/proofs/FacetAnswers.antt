@@ -1,5 +1,5 @@
 -- Facets of documents are counted in one way, or refused in one way.
-use Rattle.std.proofs.Common.{◌≡◌, ◌≢◌, ◌∙◌, ◌∷◌, ◌++◌, ◌<◌, ◌^◌, ℕ, List, [], refl, sym, ap, arith, length, length-append, append-nil, append_assoc, take, drop, subst}
+use Rattle.std.proofs.Common.{◌≡◌, ◌∙◌, ◌∷◌, ◌++◌, ◌<◌, ◌^◌, ℕ, List, [], refl, sym, ap, arith, length, length-append, append-nil, append_assoc, take, drop, subst}
 use Rattle.std.proofs.lemmas.List.{append_cancel_left}
 use Rattle.std.proofs.lemmas.Nat.{from_le_bytes-to_le_bytes_8}
 use Rattle.std.proofs.Math.Seq.{take-append_seam}
@@ -9,7 +9,7 @@ use Rattle.tv_base.specs.DocumentCounting.{AreDocumentCounts}
 use Rattle.tv_base.proofs.OneCount.{same-document_counts}
 use Rattle.tv_blocks.proofs.FacetPairs.{parts_of, told}
 use Rattle.tv_blocks.specs.Alike.{HasOneAnswer, IsDecided}
-use Rattle.tv_blocks.specs.FacetCounts.{AreDocumentFacets, AreFacetCounts, BeginsWithNoPair, IsCountsRefusal, IsDocumentFacet, StopsPairs, facet_record}
+use Rattle.tv_blocks.specs.FacetCounts.{AreDocumentFacets, AreFacetCounts, IsCountsRefusal, IsDocumentFacet, StopsPairs, facet_record}
 use Rattle.tv_blocks.specs.declared.block_error.BlockError.{BlockError}
 use Rattle.tv_blocks.specs.declared.block_error.BlockError.TheVariants as errors
 
