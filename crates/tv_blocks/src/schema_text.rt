@@ -1,6 +1,6 @@
 //! Schemas out of bytes, and into them.
 
-ghost use Rattle.std.specs.Prelude.{◌≡◌, IfErr, IfOk, IsErrOf, IsUtf8};
+ghost use Rattle.std.specs.Prelude.{◌≡◌, IfErr, IfOk, IsUtf8};
 ghost use Rattle.tv_blocks.specs.Buffer.{FillsBuffer};
 ghost use Rattle.tv_blocks.specs.Schemas.{IsRefusedSchema, IsSchemaText, schema_refusal};
 ghost use Rattle.tv_blocks.specs.declared.block_error.BlockError.TheVariants.{InvalidJson};
@@ -34,7 +34,7 @@ fn refused(error: SchemaJsonError) -> BlockError
 pub fn read_schema(alloc: Global, text: &[u8]) -> Result<Schema, BlockError>
     ensures ok { IfOk result (λ schema. ReadsSchema text.now schema) }
     ensures err { IfErr result (IsRefusedSchema text.now) }
-    ensures not_utf8 { ¬ IsUtf8 text.now → IsErrOf result InvalidJson }
+    ensures not_utf8 { IfErr result (λ error. ¬ IsUtf8 text.now → error ≡ InvalidJson) }
 {
     let Ok(text) = str::from_utf8(text) else {
         return Err(BlockError::InvalidJson);
